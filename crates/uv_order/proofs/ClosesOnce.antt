@@ -14,10 +14,10 @@ use Rattle.uv_model.specs.Ops as ops
 use Rattle.uv_model.specs.Next as step
 use Rattle.uv_model.specs.Next.{next}
 use Rattle.uv_order.proofs.OpCases.{kind_as, IsRefusal, cancel_both, make_both}
-use Rattle.uv_order.proofs.IdLists.{Each, each_back, same, itself, turned, has_new_middle, distinct_back}
+use Rattle.uv_order.proofs.IdLists.{on_list, Each, each_back, same, itself, turned, has_new_middle, distinct_back}
 use Rattle.uv_order.proofs.Holding.{names_turned, same_handles, is_held, put_same, Fits, its_handle, Everyone}
 use Rattle.uv_order.proofs.Asked.{request_turns, freed_turns, FrontRequest, TakesFront, RunsWork}
-use Rattle.uv_order.proofs.Works.{AllAsk, IsOpen, has_middle, once_middle, Takes, takes, LetsGo, lets_go, none_run}
+use Rattle.uv_order.proofs.Works.{once_middle, takes, lets_go, none_run, waits_open, runs_now, fewer_wait, more_run, fewer_run}
 use Rattle.uv_order.proofs.Working.{Working}
 use Rattle.uv_order.proofs.Keeping.{has_number, Watches, Closes, Rests, Kept, members, not_free}
 use Rattle.uv_order.proofs.Did as row
@@ -27,7 +27,7 @@ use Rattle.uv_order.proofs.Gone.{IsGone, gone_turned}
 use Rattle.uv_order.proofs.Started.{StartedAt, gone_freed, freed_gone, new_id, ready_started, watcher_is_started}
 use Rattle.uv_order.proofs.Worked.{Worked, IsIdle, worked_ended, worked_taken, worked_finished, worked_collected, not_called, says_true}
 use Rattle.uv_order.proofs.Known.{id_in, counted_ids, Known, not_closed, not_over, known_names, IsQuiet, known_told, known_quiet, known_gone}
-use Rattle.uv_order.proofs.OpsOnce.{KnownAt, on_list, changed, cancel_told, send_known, op_known}
+use Rattle.uv_order.proofs.OpsOnce.{KnownAt, changed, cancel_told, send_known, op_known}
 
 -- ---- steps
 
@@ -68,8 +68,8 @@ call_known : (p : Program) (past : List Seen) (s : State) (run : Run) (id : Id) 
     h.closing ≡ false → (activity p past id).started ≡ true → KnownAt p past s → Follows p past (call p s run id v)
 call_known p past s run id v h e stays begun k = (
   (not_closed p past s.arena s.names id h e stays k, begun),
-  known_quiet p past (seen.Call v id) s.arena _ (record { binding = λ u b. refl; made = λ i. refl; closing = refl; closed = λ i. refl })
-      (record { queued = λ i. refl; taken = λ i. refl; finished = λ i. refl; over = λ i. refl; cancelled = λ i. refl })
+  known_quiet p past (seen.Call v id) s.arena _ (assumption)
+      (assumption)
       (called_known p past s v _ refl k),
 )
 
@@ -103,12 +103,10 @@ front_stays s q w t every f kept =
     opened t.1 (its_handle s.arena.slots (Watches q) t.0 t.1 f.holds its).active (kept.sound t.0 t.1 f.holds)
 
 moved_known : (p : Program) (past : List Seen) (s : State) (q : WatcherKind) (id : Id) → KnownAt p past s → KnownAt p past (front_moved s q id)
-moved_known p past s watcher.Idle id k = k
-moved_known p past s each id k = k
+moved_known p past s q id k = grind arith
 
 moved_holds : (s : State) (q : WatcherKind) (id i : Id) → handle (front_moved s q id) i ≡ handle s i
-moved_holds s watcher.Idle id i = refl
-moved_holds s each id i = refl
+moved_holds s q id i = grind arith
 
 watched_stays : (s : State) (q : WatcherKind) (t : Id × HandleRecord) → FrontOf s (watched s q).yet t → Kept s → t.1.closing ≡ false
 watched_stays s q t f kept = front_stays s (kind_as q) (watched s q) t (everyone s q kept) f kept
@@ -148,7 +146,8 @@ freed_known p past s t e kept k = cond_both (t.0.generation == (arena_size p).la
 closed_known : (p : Program) (past : List Seen) (s : State) (run : Run) (t : Id × HandleRecord) → FrontOf s s.closing.yet t → Kept s →
     KnownAt p past s → Follows p past (calls p (record s {
       arena = freed (arena_size p).last_generation t.0 s.arena;
-      closing = record s.closing { yet = drop 1 s.closing.yet };
+      closing = record s.closing
+          { yet = drop 1 s.closing.yet };
     }) run callback.Close t.1.name (seen.Closed t.1.name t.0))
 closed_known p past s run t f kept k =
     let yet = each_back (Fits s.arena.slots Closes) s.closing.list s.closing.yet kept.closing.lists.each in
@@ -163,7 +162,8 @@ closed_known p past s run t f kept k =
 ended_known : (p : Program) (past : List Seen) (s : State) (run : Run) (t : Id × Request) → FrontRequest s s.done.yet t → Kept s → Working s →
     KnownAt p past s → Follows p past (calls p (record s {
       arena = freed (arena_size p).last_generation t.0 s.arena;
-      done = record s.done { yet = drop 1 s.done.yet };
+      done = record s.done
+          { yet = drop 1 s.done.yet };
     }) run callback.After t.1.name (seen.After (digest_in t.1.outcome) t.1.name t.0))
 ended_known p past s run t f kept work k =
     let last = (arena_size p).last_generation in
@@ -182,7 +182,7 @@ ended_known p past s run t f kept work k =
       known_names p (seen.After (digest_in t.1.outcome) t.1.name t.0 ∷ past) (freed last t.0 s.arena) _ s.names
           (counted_ids s.names t.1.name _ refl)
           (known_told p past (seen.After (digest_in t.1.outcome) t.1.name t.0) s.arena (freed last t.0 s.arena) s.names
-          (record { binding = λ u b. refl; made = λ i. refl; closing = refl; closed = λ i. refl })
+          (assumption)
           (same_handles s.arena.slots _ t.0 _ _ turns refl refl) (names_turned s.arena.slots _ t.0 _ _ turns (λ u g. cc g)) gone
           (worked_collected p past s.arena (freed last t.0 s.arena) s.waiting (run_ids s.running) (digest_in t.1.outcome) t.1.name t.0 t.1 turns
           (freed_gone s last t.0 (content.Request t.1) f.holds kept) gone k.worked) k),
@@ -195,8 +195,7 @@ refused_says : (p : Program) (past : List Seen) (v : Var) (c : Code) → IsRefus
 refused_says p past v code.Ok no_success = absurd (no_success refl)
 refused_says p past v each no_success = tt
 
-cancel_says : (p : Program) (past : List Seen) (s : State) (v : Var) → KnownAt p past s →
-    CancelSays p past v (ops.cancel s (live_request s v)).answer
+cancel_says : (p : Program) (past : List Seen) (s : State) (v : Var) → KnownAt p past s → CancelSays p past v (ops.cancel s (live_request s v)).answer
 cancel_says p past s v k = cancel_both s v (λ (d : ops.Done). CancelSays p past v d.answer) (refused_says p past v)
     (λ t live on. record {
       names = k.binding v t.0 live.bound;
@@ -226,104 +225,58 @@ op_line : (p : Program) (past : List Seen) (s : State) (place : Site) (o : Op) �
 op_line p past s place o e kept begun k =
     subst (λ (x : Option Op). OpSays p past x (do_op s o).answer) (sym e) (op_says p past s o kept begun k)
 
--- no request stands twice on the lists of those that wait and are run
-apart_ids : (ids : List Id) (id i : Id) → AreDistinct (id ∷ ids) → has_id ids i ≡ true → same_id id i ≡ false
-apart_ids ids id i d e = false_from_ne_true (same_id id i) (λ s. both_ways (has_id ids id) d.0 (ap (has_id ids) (same id i s) ∙ e))
-
 taken_known : (p : Program) (past : List Seen) (s : State) (n : ℕ) (t : Id × Request) → TakesFront s n t → Working s → KnownAt p past s →
     Follows p past (step.take s n (Ok t))
 taken_known p past s n t f work k =
-    let rest = f.front.rest in
     let waits : has_id s.waiting t.0 ≡ true = ap (λ (ids : List Id). has_id ids t.0) f.front.are ∙ rw (itself t.0 t.0 refl) refl in
-    let all : AllAsk s.arena.slots IsOpen ((t.0 ∷ rest) ++ run_ids s.running) =
-    subst (λ (ids : List Id). AllAsk s.arena.slots IsOpen (ids ++ run_ids s.running)) f.front.are work.open_ones in
-    let asked = all.each t.0 (rw (itself t.0 t.0 refl) refl) in
-    let opened : is_open t.1.outcome ≡ true =
-    ap (λ (x : Request). is_open x.outcome) (same_Some _ _ (sym (ap request_in f.front.holds) ∙ asked.holds)) ∙ asked.fits in
+    let apart : AreDistinct ((t.0 ∷ f.front.rest) ++ run_ids s.running) =
+    subst (λ (ids : List Id). AreDistinct (ids ++ run_ids s.running)) f.front.are work.open_ones.distinct in
     let r = takes s.running n t.0 f.idle in (
       (
         k.worked.waits t.0 waits,
         not_called p past s.arena s.waiting (run_ids s.running) t.0 t.1 f.front.holds k.worked,
         k.worked.uncancelled t.0 waits,
       ),
-      known_told p past (seen.Take n t.1.name t.0) s.arena s.arena s.names
-          (record { binding = λ u b. refl; made = λ i. refl; closing = refl; closed = λ i. refl })
-          (λ i. refl) (λ i u g. g) (λ i g. g)
+      known_told p past (seen.Take n t.1.name t.0) s.arena s.arena s.names (assumption) (λ i. refl) (λ i u g. g) (λ i g. g)
           (worked_taken p past s.arena s.waiting (run_ids s.running) (drop 1 s.waiting) (run_ids (slice_set s.running n (Some t.0))) n t.1.name t.0
-          t.1 (ap request_in f.front.holds) opened waits
-          (λ i e. fewer_wait t f i (ap (λ (ids : List Id). has_id ids i) (sym f.front.behind) ∙ e) all.distinct)
-          (λ i e. most t r i (ap (λ (ids : List Id). has_id ids i) (sym r.are) ∙ e)) k.worked) k,
+          t.1 (ap request_in f.front.holds) (waits_open s.arena.slots s.waiting s.running s.done t.0 t.1 f.front.holds waits work) waits
+          (λ i e. fewer_wait s.waiting (run_ids s.running) f.front.rest (drop 1 s.waiting) t.0 i f.front.are f.front.behind apart.0 e)
+          (λ i e. more_run (run_ids s.running) _ r.front r.behind t.0 i r.were r.are e) k.worked) k,
     )
-  where
-    in_front : (xs ys : List Id) (i : Id) → has_id xs i ≡ true → has_id (xs ++ ys) i ≡ true
-    in_front [] ys i e = cc e
-    in_front (x ∷ xs) ys i e = by (same_id x i) e (in_front xs ys i) where
-      by : (b : Bool) → (b || has_id xs i) ≡ true → (has_id xs i ≡ true → has_id (xs ++ ys) i ≡ true) → (b || has_id (xs ++ ys) i) ≡ true
-      by true g rest = refl
-      by false g rest = rest g
-
-    fewer_wait : (u : Id × Request) (g : TakesFront s n u) (i : Id) → has_id g.front.rest i ≡ true →
-        AreDistinct ((u.0 ∷ g.front.rest) ++ run_ids s.running) → (has_id s.waiting i ≡ true) × (same_id u.0 i ≡ false)
-    fewer_wait u g i e d = (
-      ap (λ (ids : List Id). has_id ids i) g.front.are ∙ or_right (same_id u.0 i) (has_id g.front.rest i) e,
-      apart_ids (g.front.rest ++ run_ids s.running) u.0 i d (in_front g.front.rest (run_ids s.running) i e),
-    )
-
-    most : (u : Id × Request) (r : Takes s.running n u.0) (i : Id) → has_id (r.front ++ u.0 ∷ r.behind) i ≡ true →
-        (u.0 ≡ i) ⊎ (has_id (run_ids s.running) i ≡ true)
-    most u r i e = by (same_id i u.0) refl where
-      by : (b : Bool) → same_id i u.0 ≡ b → (u.0 ≡ i) ⊎ (has_id (run_ids s.running) i ≡ true)
-      by true s = inl (sym (same i u.0 s))
-      by false s = inr (ap (λ (ids : List Id). has_id ids i) r.were ∙ sym (has_middle r.front r.behind u.0 i s) ∙ e)
 
 finished_known : (p : Program) (past : List Seen) (s : State) (n : ℕ) (t : Id × Request) → RunsWork s n t → Working s → KnownAt p past s →
     Follows p past (step.finish s n (Ok t))
 finished_known p past s n t f work k =
     let x : Request = record t.1 { outcome = Finished (digest_of t.1.task.rounds (text_of t.1.task)) } in
+    let runs : List Id = run_ids (slice_set s.running n None) in
     let g = lets_go s.running n t.0 f.busy in
-    let on : has_id (run_ids s.running) t.0 ≡ true =
-    ap (λ (ids : List Id). has_id ids t.0) g.were ∙ has_new_middle g.front g.behind t.0 in
+    let on = runs_now s.running n t.0 f.busy in
     let was = k.worked.runs_now t.0 on in
-    let apart : AreDistinct (g.front ++ t.0 ∷ g.behind) = subst AreDistinct g.were (distinct_back s.waiting
-    (run_ids s.running) work.open_ones.distinct)
-    in
-    let told : Worked p (seen.Finish n t.1.name t.0 ∷ past) s.arena s.waiting (run_ids (slice_set s.running n None)) =
-    worked_finished p past s.arena s.waiting (run_ids s.running) (run_ids (slice_set s.running n None)) n t.1.name t.0 on
-    (λ i e. fewer_run t g apart i (ap (λ (ids : List Id). has_id ids i) (sym g.are) ∙ e)) k.worked in
-    let ends : SaysTrue p (seen.Finish n t.1.name t.0 ∷ past) t.0 t.1.task (Some (digest_of t.1.task.rounds (text_of t.1.task))) =
-    (was.0, rw (itself t.0 t.0 refl) refl, refl) in
+    let apart : has_id (g.front ++ g.behind) t.0 ≡ false =
+    once_middle g.front g.behind t.0 (subst AreDistinct g.were (distinct_back s.waiting (run_ids s.running) work.open_ones.distinct)) in
+    let told : Worked p (seen.Finish n t.1.name t.0 ∷ past) s.arena s.waiting runs =
+    worked_finished p past s.arena s.waiting (run_ids s.running) runs n t.1.name t.0 on
+    (λ i e. fewer_run (run_ids s.running) runs g.front g.behind t.0 i g.were g.are apart e) k.worked in
     let gone : (i : Id) → IsGone s.arena.slots s.arena.free i → IsGone (with_request s t.0 x).arena.slots (with_request s t.0 x).arena.free i =
-    λ i h. gone_turned s.arena.slots s.arena.free t.0 (content.Request t.1) (Some (content.Request x)) i f.holds h in (
+    λ i h. gone_turned s.arena.slots s.arena.free t.0 (content.Request t.1) (Some (content.Request x)) i f.holds h in
+    let turns = request_turns s.arena.slots t.0 t.1 x f.holds in (
       was,
-      known_told p past (seen.Finish n t.1.name t.0) s.arena (with_request s t.0 x).arena s.names
-          (record { binding = λ u b. refl; made = λ i. refl; closing = refl; closed = λ i. refl })
-          (same_handles s.arena.slots _ t.0 _ _ (request_turns s.arena.slots t.0 t.1 x f.holds) refl refl)
-          (names_turned s.arena.slots _ t.0 _ _ (request_turns s.arena.slots t.0 t.1 x f.holds) (λ u h. h)) gone
-          (worked_ended p (seen.Finish n t.1.name t.0 ∷ past) s.arena (with_request s t.0 x).arena s.waiting
-          (run_ids (slice_set s.running n None)) t.0 t.1 x (request_turns s.arena.slots t.0 t.1 x f.holds) refl ends gone told) k,
+      known_told p past (seen.Finish n t.1.name t.0) s.arena (with_request s t.0 x).arena s.names (assumption)
+          (same_handles s.arena.slots _ t.0 _ _ turns refl refl) (names_turned s.arena.slots _ t.0 _ _ turns (λ u h. h)) gone
+          (worked_ended p (seen.Finish n t.1.name t.0 ∷ past) s.arena (with_request s t.0 x).arena s.waiting runs t.0 t.1 x turns refl
+          (was.0, rw (itself t.0 t.0 refl) refl, refl) gone told) k,
     )
-  where
-    fewer_run : (u : Id × Request) (g : LetsGo s.running n u.0) → AreDistinct (g.front ++ u.0 ∷ g.behind) → (i : Id) →
-        has_id (g.front ++ g.behind) i ≡ true → (has_id (run_ids s.running) i ≡ true) × (same_id u.0 i ≡ false)
-    fewer_run u g d i e = by (same_id i u.0) refl where
-      by : (b : Bool) → same_id i u.0 ≡ b → (has_id (run_ids s.running) i ≡ true) × (same_id u.0 i ≡ false)
-      by true s = absurd (both_ways (has_id (g.front ++ g.behind) u.0) (once_middle g.front g.behind u.0 d)
-          (ap (has_id (g.front ++ g.behind)) (sym (same i u.0 s)) ∙ e))
-      by false s = (
-        ap (λ (ids : List Id). has_id ids i) g.were ∙ has_middle g.front g.behind u.0 i s ∙ e,
-        turned u.0 i ∙ s,
-      )
 
 -- a cancel from outside
 cancel_outside : (p : Program) (past : List Seen) (s : State) (v : Var) → KnownAt p past s →
     KnownAt p (seen.Cancel v (ops.cancel s (live_request s v)).answer ∷ past) (ops.cancel s (live_request s v)).state
 cancel_outside p past s v k = cancel_both s v (λ (d : ops.Done). KnownAt p (seen.Cancel v d.answer ∷ past) d.state)
     (λ c no_success. known_quiet p past (seen.Cancel v (answer.Code c)) s.arena s.names
-    (record { binding = λ u b. refl; made = λ i. refl; closing = refl; closed = λ i. refl })
-    (record { queued = λ i. refl; taken = λ i. refl; finished = λ i. refl; over = λ i. refl; cancelled = λ i. refl }) k)
+    (assumption)
+    (assumption) k)
     (λ t live on. cancel_told p past (seen.Cancel v (answer.Cancelled t.0)) s t
-    (record { queued = λ i. refl; taken = λ i. refl; finished = λ i. refl; over = λ i. refl; cancelled = λ i. refl })
-    (record { binding = λ u b. refl; made = λ i. refl; closing = refl; closed = λ i. refl }) live.holds on k)
+    (assumption)
+    (assumption) live.holds on k)
 
 pub did_known : (p : Program) (past : List Seen) (s : State) (n : Next) → Did p s n → Kept s → Working s → StartedAt p past s → KnownAt p past s →
     Follows p past n

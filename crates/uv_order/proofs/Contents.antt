@@ -1,7 +1,7 @@
 -- What the slots hold, by their ids, and how one of them changes.
-use Rattle.uv_order.proofs.Names.{◌≡◌, ℕ, zero, suc, ◌==◌, List, [], ◌∷◌, ◌++◌, Bool, true, false, cond, Option, Some, None, length, slice_get, slice_set, refl, ap, sym, ◌∙◌, arith, elements, option_and_then, eq-eqb, eqb-true, same_Some, slice_get_past, Id, HandleRecord, Slot, held_in, held, Content, Request, handle_in, request_in, same_id}
+use Rattle.uv_order.proofs.Names.{◌≡◌, ℕ, zero, suc, ◌==◌, List, [], ◌∷◌, ◌++◌, Bool, true, false, cond, Option, Some, None, length, slice_get, slice_set, refl, ap, sym, ◌∙◌, arith, elements, option_and_then, eq-eqb, eqb-true, same_Some, false_from_ne_true, if◌then◌else◌, slice_get_past, Id, HandleRecord, Slot, held_in, held, Content, Request, handle_in, request_in, same_id}
 use Rattle.uv_work.specs.declared.content.Content.TheVariants as content
-use Rattle.uv_order.proofs.IdLists.{same, other}
+use Rattle.uv_order.proofs.IdLists.{same, other, itself}
 
 -- ---- slots
 
@@ -29,9 +29,6 @@ past_end [] y z zero e f = (refl, same_Some y z f)
 past_end [] y z (suc i) e f = cc f
 past_end (s ∷ slots) y z zero e f = cc e
 past_end (s ∷ slots) y z (suc i) e f = let rest = past_end slots y z i e f in (ap suc rest.0, rest.1)
-
-at_end : (slots : List (Slot Content)) (y : Slot Content) → slice_get (slots ++ y ∷ []) (length slots) ≡ Some y
-at_end slots y = grind (arith, elements)
 
 none_at_end : (slots : List (Slot Content)) → slice_get slots (length slots) ≡ None
 none_at_end slots = slice_get_past slots (length slots) (omega arith)
@@ -61,16 +58,6 @@ holds slots id c e = holds_in slots id c (slice_get slots id.slot) refl e
 in_slot : (id : Id) (slot : Slot Content) → slot.generation ≡ id.generation → look id (Some slot) ≡ slot.content
 in_slot id slot e = rw (eq-eqb slot.generation id.generation e) refl
 
-ids_alike : (a b : Id) → a.slot ≡ b.slot → a.generation ≡ b.generation → same_id a b ≡ true
-ids_alike a b e f = rw (eq-eqb a.slot b.slot e, eq-eqb a.generation b.generation f) refl
-
-pub other_generation : (i : Id) (slot : Slot Content) → (slot.generation ≡ i.generation → ⊥) → look i (Some slot) ≡ None
-other_generation i slot d = grind arith
-
--- whatever is put into the slot, the ids of other slots are held as before
-elsewhere : (slots : List (Slot Content)) (n : ℕ) (i : Id) (y : Slot Content) → (i.slot == n) ≡ false → held (slice_set slots n y) i ≡ held slots i
-elsewhere slots n i y f = grind (arith, get_set_other)
-
 -- ---- one id turns
 
 -- what is held under an id turns from this into that, and every other id stands for what it did
@@ -79,78 +66,55 @@ pub record Turns (slots more : List (Slot Content)) (id : Id) (was is : Option C
   pub here : held more id ≡ is
   pub others : (i : Id) → (i ≡ id → ⊥) → held more i ≡ held slots i
 
+-- so it is one equation
+pub turned_to : {slots more : List (Slot Content)} {id : Id} {was is : Option Content} → Turns slots more id was is → (i : Id) →
+    held more i ≡ (if same_id i id then is else held slots i)
+turned_to {slots = slots} {more = more} {id = id} {is = is} t i = at (same_id i id) refl where
+  at : (b : Bool) → same_id i id ≡ b → held more i ≡ (if b then is else held slots i)
+  at true s = ap (held more) (same i id s) ∙ t.here
+  at false s = t.others i (other i id s)
+
+turns : (slots more : List (Slot Content)) (id : Id) (was is : Option Content) → held slots id ≡ was →
+    ((i : Id) → held more i ≡ (if same_id i id then is else held slots i)) → Turns slots more id was is
+turns slots more id was is e are = record {
+  before = e;
+  here = are id ∙ rw (itself id id refl) refl;
+  others = λ i d. are i ∙ rw (false_from_ne_true (same_id i id) (λ s. d (same i id s))) refl;
+}
+
 -- something is put into its slot
+set_held : (slots : List (Slot Content)) (id i : Id) (c : Option Content) (old : Slot Content) → slice_get slots id.slot ≡ Some old →
+    old.generation ≡ id.generation → held (slice_set slots id.slot (slot_with id c)) i ≡ (if same_id i id then c else held slots i)
+set_held slots id i c old e f = grind (arith, get_set_same, get_set_other)
+
 pub set_turns : (slots : List (Slot Content)) (id : Id) (c : Option Content) (k : IsThere slots id) →
     Turns slots (slice_set slots id.slot (slot_with id c)) id k.slot.content c
-set_turns slots id c k = record {
-  before = ap (look id) k.there ∙ in_slot id k.slot k.generation;
-  here = rw (get_set_same slots id.slot (slot_with id c) k.slot k.there) (in_slot id (slot_with id c) refl);
-  others = λ i d. by i d (i.slot == id.slot) refl;
-} where
-  by : (i : Id) → (i ≡ id → ⊥) → (b : Bool) → (i.slot == id.slot) ≡ b → held (slice_set slots id.slot (slot_with id c)) i ≡ held slots i
-  by i d false f = elsewhere slots id.slot i (slot_with id c) f
-  by i d true f =
-      let here : i.slot ≡ id.slot = eqb-true i.slot id.slot f in
-      let apart : id.generation ≡ i.generation → ⊥ = λ g. d (same i id (ids_alike i id here (sym g))) in
-      let after : slice_get (slice_set slots id.slot (slot_with id c)) i.slot ≡ Some (slot_with id c) =
-      rw here (get_set_same slots id.slot (slot_with id c) k.slot k.there) in
-      let before : slice_get slots i.slot ≡ Some k.slot = rw here k.there in
-      ap (look i) after ∙ other_generation i (slot_with id c) apart
-      ∙ sym (ap (look i) before ∙ other_generation i k.slot (λ g. apart (sym k.generation ∙ g)))
+set_turns slots id c k = turns slots _ id _ _ (ap (look id) k.there ∙ in_slot id k.slot k.generation)
+    (λ i. set_held slots id i c k.slot k.there k.generation)
 
 -- a slot that is emptied, whatever its generation is then
 abbrev pub emptied : List (Slot Content) → Id → ℕ → List (Slot Content)
 emptied slots id generation = slice_set slots id.slot (record { generation = generation; content = None })
 
--- nothing is held in an empty slot
-nothing_in : (i : Id) (generation : ℕ) → look i (Some (record { generation = generation; content = None })) ≡ None
-nothing_in i generation = grind arith
+emptied_held : (slots : List (Slot Content)) (id i : Id) (old : Slot Content) (n : ℕ) → slice_get slots id.slot ≡ Some old →
+    old.generation ≡ id.generation → held (emptied slots id n) i ≡ (if same_id i id then None else held slots i)
+emptied_held slots id i old n e f = grind (arith, get_set_same, get_set_other)
 
 pub emptied_turns : (slots : List (Slot Content)) (id : Id) (c : Content) (generation : ℕ) → held slots id ≡ Some c →
     Turns slots (emptied slots id generation) id (Some c) None
 emptied_turns slots id c generation e =
-    let k = (holds slots id c e).at in
-    record {
-      before = e;
-      here = ap (look id) (get_set_same slots id.slot (record { generation = generation; content = None }) k.slot k.there)
-          ∙ nothing_in id generation;
-      others = λ i d. by k i d (i.slot == id.slot) refl;
-    }
-  where
-    by : IsThere slots id → (i : Id) → (i ≡ id → ⊥) → (b : Bool) → (i.slot == id.slot) ≡ b → held (emptied slots id generation) i ≡ held slots i
-    by k i d false f = elsewhere slots id.slot i (record { generation = generation; content = None }) f
-    by k i d true f =
-        let here : i.slot ≡ id.slot = eqb-true i.slot id.slot f in
-        let apart : k.slot.generation ≡ i.generation → ⊥ = λ g. d (same i id (ids_alike i id here (sym g ∙ k.generation))) in
-        let after : slice_get (emptied slots id generation) i.slot ≡ Some (record { generation = generation; content = None }) =
-        rw here (get_set_same slots id.slot (record { generation = generation; content = None }) k.slot k.there) in
-        let before : slice_get slots i.slot ≡ Some k.slot = rw here k.there in
-        ap (look i) after ∙ nothing_in i generation ∙ sym (ap (look i) before ∙ other_generation i k.slot apart)
+    let k = (holds slots id c e).at in turns slots _ id _ _ e (λ i. emptied_held slots id i k.slot generation k.there k.generation)
 
 -- the next unused slot is taken
+pushed_held : (slots : List (Slot Content)) (id i : Id) (c : Option Content) → id.slot ≡ length slots →
+    held (slots ++ slot_with id c ∷ []) i ≡ (if same_id i id then c else held slots i)
+pushed_held slots id i c e = grind (arith, elements)
+
 pub pushed_turns : (slots : List (Slot Content)) (c : Option Content) →
     Turns slots (slots ++ slot_with (record { slot = length slots; generation = 0 }) c ∷ []) (record { slot = length slots; generation = 0 }) None c
-pushed_turns slots c = record {
-  before = ap (look id) (none_at_end slots);
-  here = ap (look id) (at_end slots y) ∙ in_slot id y refl;
-  others = λ i d. by i d (slice_get slots i.slot) refl (slice_get (slots ++ y ∷ []) i.slot) refl;
-} where
-  id : Id
-  id = record { slot = length slots; generation = 0 }
-
-  y : Slot Content
-  y = slot_with id c
-
-  by : (i : Id) → (i ≡ id → ⊥) → (o : Option (Slot Content)) → slice_get slots i.slot ≡ o → (q : Option (Slot Content)) → slice_get (slots ++ y ∷
-      []) i.slot ≡ q →
-      held (slots ++ y ∷ []) i ≡ held slots i
-  by i d (Some s) e q f = ap (look i) (get_push slots y s i.slot e) ∙ sym (ap (look i) e)
-  by i d None e None f = ap (look i) f ∙ sym (ap (look i) e)
-  by i d None e (Some z) f =
-      let end = past_end slots y z i.slot e f in
-      let apart : z.generation ≡ i.generation → ⊥ = λ g. d (same i id (ids_alike i id end.0 (sym g ∙ ap (λ (s : Slot Content). s.generation) (sym
-      end.1)))) in
-      ap (look i) f ∙ other_generation i z apart ∙ sym (ap (look i) e)
+pushed_turns slots c =
+    let id : Id = record { slot = length slots; generation = 0 } in
+    turns slots _ id _ _ (ap (look id) (none_at_end slots)) (λ i. pushed_held slots id i c refl)
 
 -- ---- handles and requests
 
@@ -162,19 +126,12 @@ pub record IsHeld (slots : List (Slot Content)) (id : Id) : Type 0 where
 -- it turns into something, or another id does
 pub held_turned : (slots more : List (Slot Content)) (id i : Id) (was : Option Content) (c : Content) → Turns slots more id was (Some c) →
     IsHeld slots i → IsHeld more i
-held_turned slots more id i was c t k = by (same_id i id) refl where
-  by : (b : Bool) → same_id i id ≡ b → IsHeld more i
-  by true s = record { content = c; holds = ap (held more) (same i id s) ∙ t.here }
-  by false s = record { content = k.content; holds = t.others i (other i id s) ∙ k.holds }
+held_turned slots more id i was c t k = grind (arith, turned_to t)
 
 -- a handle that is held
 pub as_handle : (c : Option Content) (h : HandleRecord) → handle_in c ≡ Some h → c ≡ Some (content.Handle h)
-as_handle None h e = cc e
-as_handle (Some (content.Handle x)) h e = ap (λ (y : HandleRecord). Some (content.Handle y)) (same_Some _ _ e)
-as_handle (Some (content.Request r)) h e = cc e
+as_handle c h e = grind arith
 
 -- a request that is held
 pub as_request : (c : Option Content) (r : Request) → request_in c ≡ Some r → c ≡ Some (content.Request r)
-as_request None r e = cc e
-as_request (Some (content.Handle x)) r e = cc e
-as_request (Some (content.Request x)) r e = ap (λ (y : Request). Some (content.Request y)) (same_Some _ _ e)
+as_request c r e = grind arith

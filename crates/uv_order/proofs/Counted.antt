@@ -16,30 +16,19 @@ pub counted_kept : (p : Program) (now was : List Named) (told : Told) → SameCa
 counted_kept p now was told same k = record { long = same.long ∙ k.long; calls = λ kind v l. ap (count_of kind) (same.each v) ∙ k.calls kind v l }
 
 no_calls : (kind : Callback) (n : ℕ) (i : ℕ) → count_of kind (unwrap_or (slice_get (replicate n unbound) i) unbound).calls ≡ 0
-no_calls callback.Handle zero i = refl
-no_calls callback.After zero i = refl
-no_calls callback.Close zero i = refl
-no_calls callback.Handle (suc n) zero = refl
-no_calls callback.After (suc n) zero = refl
-no_calls callback.Close (suc n) zero = refl
-no_calls callback.Handle (suc n) (suc i) = no_calls callback.Handle n i
-no_calls callback.After (suc n) (suc i) = no_calls callback.After n i
-no_calls callback.Close (suc n) (suc i) = no_calls callback.Close n i
+no_calls kind zero i = grind arith
+no_calls kind (suc n) zero = grind arith
+no_calls kind (suc n) (suc i) = no_calls kind n i
 
 replicate_long : (n : ℕ) → length (replicate n unbound) ≡ n
 replicate_long zero = refl
 replicate_long (suc n) = ap suc (replicate_long n)
 
 none_told : (kind : Callback) (v : Var) → times (told_of kind nothing_told) v ≡ 0
-none_told callback.Handle v = refl
-none_told callback.After v = refl
-none_told callback.Close v = refl
+none_told kind v = grind arith
 
 pub counted_fresh : (p : Program) → Counted p (fresh p).names nothing_told
-counted_fresh p = record {
-  long = replicate_long (length p.callbacks);
-  calls = λ kind v l. no_calls kind (length p.callbacks) v.0 ∙ sym (none_told kind v);
-}
+counted_fresh p = grind (arith, replicate_long, no_calls, none_told)
 
 set_here : (names : List Named) (i : ℕ) (x : Named) → i < length names → (unwrap_or (slice_get (slice_set names i x) i) unbound).calls ≡ x.calls
 set_here [] i x l = absurd (omega arith)
@@ -62,50 +51,17 @@ counted_sent p names told sent k = grind arith
 
 -- one more of a callback is none more of another
 told_more : (kind other : Callback) (v u : Var) (id : Id) (told : Told) (c : Calls) → (v.0 == u.0) ≡ true →
-    count_of other c ≡ times (told_of other told) u →
-    count_of other (counted kind c) ≡ times (told_of other (told_call kind v id told)) u
-told_more callback.Handle callback.Handle v u id told c e h = rw e (omega (arith, h))
-told_more callback.After callback.After v u id told c e h = rw e (omega (arith, h))
-told_more callback.Close callback.Close v u id told c e h = rw e (omega (arith, h))
-told_more callback.Handle callback.After v u id told c e h = h
-told_more callback.Handle callback.Close v u id told c e h = h
-told_more callback.After callback.Handle v u id told c e h = h
-told_more callback.After callback.Close v u id told c e h = h
-told_more callback.Close callback.Handle v u id told c e h = h
-told_more callback.Close callback.After v u id told c e h = h
+    count_of other c ≡ times (told_of other told) u → count_of other (counted kind c) ≡ times (told_of other (told_call kind v id told)) u
+told_more kind other v u id told c f one = grind arith
 
 told_same : (kind other : Callback) (v u : Var) (id : Id) (told : Told) → (v.0 == u.0) ≡ false →
-    times (told_of other (told_call kind v id told)) u ≡ times
-    (told_of other told) u
-told_same callback.Handle callback.Handle v u id told e = rw e refl
-told_same callback.After callback.After v u id told e = rw e refl
-told_same callback.Close callback.Close v u id told e = rw e refl
-told_same callback.Handle callback.After v u id told e = refl
-told_same callback.Handle callback.Close v u id told e = refl
-told_same callback.After callback.Handle v u id told e = refl
-told_same callback.After callback.Close v u id told e = refl
-told_same callback.Close callback.Handle v u id told e = refl
-told_same callback.Close callback.After v u id told e = refl
+    times (told_of other (told_call kind v id told)) u ≡ times (told_of other told) u
+told_same kind other v u id told f = grind arith
 
 -- a name is called once more
 pub counted_call : (p : Program) (names : List Named) (told : Told) (kind : Callback) (v : Var) (id : Id) (x : Named) →
-    x.calls ≡ counted kind (counts_in
-    names v) →
-    Counted p names told → Counted p (slice_set names v.0 x) (told_call kind v id told)
-counted_call p names told kind v id x e k = record { long = set_long names v.0 x ∙ k.long; calls = λ other u l. at other u l (v.0 == u.0) refl } where
-  at : (other : Callback) (u : Var) → u.0 < length p.callbacks → (b : Bool) → (v.0 == u.0) ≡ b →
-      count_of other (counts_in (slice_set names v.0 x) u) ≡ times (told_of other (told_call kind v id told)) u
-  at other u l true f =
-      let here : v.0 ≡ u.0 = eqb-true v.0 u.0 f in
-      let within : v.0 < length names = rw (here, k.long) l in
-      let one : count_of other (counts_in names v) ≡ times (told_of other told) u =
-      ap (λ (i : ℕ). count_of other (unwrap_or (slice_get names i) unbound).calls) here ∙ k.calls other u l in
-      ap (λ (i : ℕ). count_of other (unwrap_or (slice_get (slice_set names v.0 x) i) unbound).calls) (sym here)
-      ∙ ap (count_of other) (set_here names v.0 x within ∙ e) ∙ told_more kind other v u id told (counts_in names v) f one
-  at other u l false f =
-      let apart : u.0 ≡ v.0 → ⊥ = λ g. both_ways (v.0 == u.0) f (eq-eqb v.0 u.0 (sym g)) in
-      ap (λ (o : Option Named). count_of other (unwrap_or o unbound).calls) (set_there names v.0 u.0 x apart) ∙ k.calls other u l ∙ sym (told_same
-      kind other v u id told f)
+    x.calls ≡ counted kind (counts_in names v) → Counted p names told → Counted p (slice_set names v.0 x) (told_call kind v id told)
+counted_call p names told kind v id x e k = grind (arith, eqb-true, eq-eqb, set_long, set_here, set_there, told_more, told_same)
 
 -- a name without lines has the same body in each call
 past : (all : List Callbacks) (i : ℕ) → length all ≤ i → unwrap_or (slice_get all i) no_callbacks ≡ no_callbacks
@@ -114,9 +70,7 @@ past (x ∷ all) zero l = absurd (omega arith)
 past (x ∷ all) (suc i) l = past all i (omega arith)
 
 none_in : (kind : Callback) → lines_of kind no_callbacks ≡ []
-none_in callback.Handle = refl
-none_in callback.After = refl
-none_in callback.Close = refl
+none_in kind = grind arith
 
 empty_body : (p : Program) (kind : Callback) (v : Var) (call : ℕ) → lines_in p kind v ≡ [] → body_of p kind v call ≡ []
 empty_body p kind v call e = rw e refl
@@ -128,12 +82,4 @@ no_body p kind v call e = rw e refl
 pub next_body : (p : Program) (names : List Named) (told : Told) (kind : Callback) (v : Var) (call : ℕ) → call ≡ count_of kind (counts_in names v) +
     1 →
     Counted p names told → IsBody p (body_from p kind v call 0) (body_of p kind v (next_call told kind v))
-next_body p names told kind v call e k = elim (cases_lt v.0 (length p.callbacks)) [ inl l ↦ within l | inr l ↦ beyond l ] where
-  within : v.0 < length p.callbacks → IsBody p (body_from p kind v call 0) (body_of p kind v (next_call told kind v))
-  within l = subst (λ (n : ℕ). IsBody p (body_from p kind v call 0) (body_of p kind v n)) (e ∙ ap (λ (n : ℕ). n + 1) (k.calls kind v l)) (whole_body
-      p kind v call)
-
-  beyond : length p.callbacks ≤ v.0 → IsBody p (body_from p kind v call 0) (body_of p kind v (next_call told kind v))
-  beyond l =
-      let none : lines_in p kind v ≡ [] = ap (lines_of kind) (past p.callbacks v.0 l) ∙ none_in kind in
-      rw (no_body p kind v call none) (empty_body p kind v (next_call told kind v) none)
+next_body p names told kind v call e k = grind (arith, whole_body, past, none_in, no_body, empty_body, cases_lt)

@@ -21,8 +21,7 @@ not_held slots free id c k e = cc (none_held slots free id k, e)
 -- a slot changes that isn't empty for good, and no other one is freed
 pub gone_set : (slots : List (Slot Content)) (free more : List ℕ) (n : ℕ) (old new : Slot Content) (id : Id) → slice_get slots n ≡ Some old →
     old.generation ≤ new.generation → (old.content ≡ None → has_number free n ≡ true) →
-    ((m : ℕ) → (m ≡ n → ⊥) → has_number free m ≡ false → has_number more m ≡ false) → IsGone slots free id →
-    IsGone (slice_set slots n new) more id
+    ((m : ℕ) → (m ≡ n → ⊥) → has_number free m ≡ false → has_number more m ≡ false) → IsGone slots free id → IsGone (slice_set slots n new) more id
 gone_set slots free more n old new id e grows unless others k = grind (arith, get_set_same, get_set_other)
 
 -- a slot that holds something isn't empty

@@ -1,9 +1,9 @@
 -- What the slots hold, and the lists of ids of handles.
-use Rattle.uv_order.proofs.Names.{◌≡◌, ◌⊎◌, inl, inr, ℕ, ◌<◌, List, ◌∷◌, ◌++◌, Bool, true, false, Option, Some, None, slice_set, refl, ap, sym, subst, ◌∙◌, arith, same_Some, Id, Var, Due, HandleRecord, Slot, held, Content, handle_in, same_id, without_id, with_timer, without_timer, Has, InOrder, has_id, AreDistinct}
+use Rattle.uv_order.proofs.Names.{◌≡◌, ◌⊎◌, inl, inr, ℕ, ◌<◌, List, ◌∷◌, ◌++◌, Bool, true, false, Option, Some, None, slice_set, refl, ap, sym, subst, ◌∙◌, arith, same_Some, Id, Var, Due, HandleRecord, Slot, held, Content, handle_in, same_id, without_id, with_timer, without_timer, Has, InOrder, has_id, AreDistinct, if◌then◌else◌}
 use Rattle.std.specs.Prelude.{option_map}
 use Rattle.uv_ids.specs.declared.phase.Kind.TheVariants as kind
 use Rattle.uv_work.specs.declared.content.Content.TheVariants as content
-use Rattle.uv_order.proofs.Contents.{slot_with, holds, Turns, set_turns, emptied, emptied_turns, as_handle}
+use Rattle.uv_order.proofs.Contents.{slot_with, turned_to, holds, Turns, set_turns, emptied, emptied_turns, as_handle}
 use Rattle.uv_order.proofs.IdLists.{same, other, turned, Each, each_mapped, each_without, absent, distinct_without, still_there, without_absent, each_middle, distinct_middle, has_new_middle, has_old_middle, each_but, distinct_but, has_but}
 use Rattle.uv_order.proofs.TimerKeys.{one_id, not_before_itself, before_each, still_has, had, in_order_without, IsNew, has_new, has_old, new_or_old, in_order_with, is_new}
 
@@ -81,6 +81,19 @@ pub grown : (slots more : List (Slot Content)) (id : Id) (x : HandleRecord) → 
     Grown slots more id x
 grown slots more id x t = record { here = ap handle_in t.here; others = λ i d. ap handle_in (t.others i d); new = ap handle_in t.before }
 
+-- so what is held after each is one equation
+pub put_at : (slots : List (Slot Content)) (id : Id) (h x : HandleRecord) → held_at slots id ≡ Some h → (i : Id) →
+    held_at (put slots id x) i ≡ (if same_id i id then Some x else held_at slots i)
+put_at slots id h x e i = grind (arith, turned_to (put_turns slots id h x e))
+
+pub emptied_at : (slots : List (Slot Content)) (id : Id) (h : HandleRecord) (n : ℕ) → held_at slots id ≡ Some h → (i : Id) →
+    held_at (emptied slots id n) i ≡ (if same_id i id then None else held_at slots i)
+emptied_at slots id h n e i = grind (arith, turned_to (emptied_turns slots id (content.Handle h) n (is_held slots id h e)))
+
+pub grown_at : {slots more : List (Slot Content)} {id : Id} {x : HandleRecord} → Grown slots more id x → (i : Id) →
+    held_at more i ≡ (if same_id i id then Some x else held_at slots i)
+grown_at {slots = slots} {more = more} {id = id} {x = x} g i = grind (arith, same, other)
+
 -- no handle changes
 abbrev pub SameHandles : List (Slot Content) → List (Slot Content) → Type 0
 SameHandles more slots = (i : Id) → held_at more i ≡ held_at slots i
@@ -103,33 +116,21 @@ its_handle slots P id h e f = subst P (same_Some _ _ (sym f.holds ∙ e)) f.fits
 
 -- another handle is changed, or this one in a way that lets it fit
 pub fits_put : (slots : List (Slot Content)) (P : HandleRecord → Type 0) (id : Id) (h x : HandleRecord) → held_at slots id ≡ Some h → (P h → P x) →
-    (i : Id) →
-    Fits slots P i → Fits (put slots id x) P i
-fits_put slots P id h x e f i k = at (same_id i id) refl where
-  at : (b : Bool) → same_id i id ≡ b → Fits (put slots id x) P i
-  at true s = let is = same i id s in record {
-    handle = x;
-    holds = ap (held_at (put slots id x)) is ∙ put_same slots id h x e;
-    fits = f
-        (its_handle slots P id h e (subst (Fits slots P) is k));
-  }
-  at false s = record { handle = k.handle; holds = put_other slots id i h x e (other i id s) ∙ k.holds; fits = k.fits }
+    (i : Id) → Fits slots P i → Fits (put slots id x) P i
+fits_put slots P id h x e f i k = grind (arith, same, put_at slots id h x e)
 
 pub fits_other : (slots : List (Slot Content)) (P : HandleRecord → Type 0) (id : Id) (h x : HandleRecord) → held_at slots id ≡ Some h → (i : Id) →
-    (i ≡ id → ⊥) →
-    Fits slots P i → Fits (put slots id x) P i
+    (i ≡ id → ⊥) → Fits slots P i → Fits (put slots id x) P i
 fits_other slots P id h x e i d k = record { handle = k.handle; holds = put_other slots id i h x e d ∙ k.holds; fits = k.fits }
 
 -- it fitted before, unless it is the one that was changed
-pub fitted : (slots : List (Slot Content)) (P : HandleRecord → Type 0) (id : Id) (h x : HandleRecord) → held_at slots id ≡ Some h → (i : Id) → (i ≡
-    id → ⊥) →
-    Fits (put slots id x) P i → Fits slots P i
+pub fitted : (slots : List (Slot Content)) (P : HandleRecord → Type 0) (id : Id) (h x : HandleRecord) → held_at slots id ≡ Some h → (i : Id) →
+    (i ≡ id → ⊥) → Fits (put slots id x) P i → Fits slots P i
 fitted slots P id h x e i d k = record { handle = k.handle; holds = sym (put_other slots id i h x e d) ∙ k.holds; fits = k.fits }
 
 -- it fitted before, where the changed one did if it does now
 pub fits_back : (slots : List (Slot Content)) (P : HandleRecord → Type 0) (id : Id) (h x : HandleRecord) → held_at slots id ≡ Some h → (P x → P h) →
-    (i : Id) →
-    Fits (put slots id x) P i → Fits slots P i
+    (i : Id) → Fits (put slots id x) P i → Fits slots P i
 fits_back slots P id h x e g i l = grind (arith, holds, same, other, fitted, its_handle, put_same)
 
 -- no handle changes
@@ -142,18 +143,16 @@ pub record Lists (slots : List (Slot Content)) (P : HandleRecord → Type 0) (id
   pub each : Each (Fits slots P) ids
   pub distinct : AreDistinct ids
 
-pub lists_put : (slots : List (Slot Content)) (P : HandleRecord → Type 0) (id : Id) (h x : HandleRecord) (ids : List Id) → held_at slots id ≡ Some h
-    → (P h → P x) →
-    Lists slots P ids → Lists (put slots id x) P ids
+pub lists_put : (slots : List (Slot Content)) (P : HandleRecord → Type 0) (id : Id) (h x : HandleRecord) (ids : List Id) → held_at slots id ≡ Some h →
+    (P h → P x) → Lists slots P ids → Lists (put slots id x) P ids
 lists_put slots P id h x ids e f k = record {
   each = each_mapped (Fits slots P) (Fits (put slots id x) P)
       (fits_put slots P id h x e f) ids k.each;
   distinct = k.distinct;
 }
 
-pub lists_without : (slots : List (Slot Content)) (P : HandleRecord → Type 0) (id : Id) (h x : HandleRecord) (ids : List Id) → held_at slots id ≡
-    Some h →
-    Lists slots P ids → Lists (put slots id x) P (without_id ids id)
+pub lists_without : (slots : List (Slot Content)) (P : HandleRecord → Type 0) (id : Id) (h x : HandleRecord) (ids : List Id) →
+    held_at slots id ≡ Some h → Lists slots P ids → Lists (put slots id x) P (without_id ids id)
 lists_without slots P id h x ids e k = record {
   each = each_without (Fits slots P) (Fits (put slots id x) P) id
       (λ i d f. fits_other slots P id h x e i d f) ids k.each;
@@ -165,9 +164,8 @@ pub lists_same : (slots more : List (Slot Content)) (P : HandleRecord → Type 0
 lists_same slots more P ids f k = grind (arith, each_mapped, fits_same)
 
 -- a handle that doesn't fit is on no such list
-pub not_listed : (slots : List (Slot Content)) (P : HandleRecord → Type 0) (id : Id) (h : HandleRecord) (ids : List Id) → held_at slots id ≡ Some h
-    → (P h → ⊥) →
-    Lists slots P ids → has_id ids id ≡ false
+pub not_listed : (slots : List (Slot Content)) (P : HandleRecord → Type 0) (id : Id) (h : HandleRecord) (ids : List Id) → held_at slots id ≡ Some h →
+    (P h → ⊥) → Lists slots P ids → has_id ids id ≡ false
 not_listed slots P id h ids e f k = absent (Fits slots P) id (λ g. f (its_handle slots P id h e g)) ids k.each
 
 -- ---- all handles of which something holds
@@ -181,15 +179,13 @@ pub everyone_same : (slots more : List (Slot Content)) (P : HandleRecord → Typ
 everyone_same slots more P ids f k = grind (arith, fits_same, lists_same)
 
 -- a handle is changed that fits before and after, or doesn't
-pub everyone_put : (slots : List (Slot Content)) (P : HandleRecord → Type 0) (id : Id) (h x : HandleRecord) (ids : List Id) → held_at slots id ≡
-    Some h →
-    (P h → P x) → (P x → P h) → Everyone slots P ids → Everyone (put slots id x) P ids
+pub everyone_put : (slots : List (Slot Content)) (P : HandleRecord → Type 0) (id : Id) (h x : HandleRecord) (ids : List Id) →
+    held_at slots id ≡ Some h → (P h → P x) → (P x → P h) → Everyone slots P ids → Everyone (put slots id x) P ids
 everyone_put slots P id h x ids e f g k = grind (arith, fits_back, lists_put)
 
 -- one that doesn't fit any more is taken off
-pub everyone_without : (slots : List (Slot Content)) (P : HandleRecord → Type 0) (id : Id) (h x : HandleRecord) (ids : List Id) → held_at slots id ≡
-    Some h →
-    (P x → ⊥) → Everyone slots P ids → Everyone (put slots id x) P (without_id ids id)
+pub everyone_without : (slots : List (Slot Content)) (P : HandleRecord → Type 0) (id : Id) (h x : HandleRecord) (ids : List Id) →
+    held_at slots id ≡ Some h → (P x → ⊥) → Everyone slots P ids → Everyone (put slots id x) P (without_id ids id)
 everyone_without slots P id h x ids e g k = record {
   lists = lists_without slots P id h x ids e k.lists;
   all = λ i l. at i l
@@ -200,9 +196,8 @@ everyone_without slots P id h x ids e g k = record {
   at i l false s = still_there ids id i s (k.all i (fitted slots P id h x e i (other i id s) l))
 
 -- one that fits from now on is put in front
-pub everyone_front : (slots : List (Slot Content)) (P : HandleRecord → Type 0) (id : Id) (h x : HandleRecord) (ids : List Id) → held_at slots id ≡
-    Some h →
-    (P h → ⊥) → P x → Everyone slots P ids → Everyone (put slots id x) P (id ∷ ids)
+pub everyone_front : (slots : List (Slot Content)) (P : HandleRecord → Type 0) (id : Id) (h x : HandleRecord) (ids : List Id) →
+    held_at slots id ≡ Some h → (P h → ⊥) → P x → Everyone slots P ids → Everyone (put slots id x) P (id ∷ ids)
 everyone_front slots P id h x ids e f g k =
     let away : has_id ids id ≡ false = not_listed slots P id h ids e f k.lists in
     let rest : Lists (put slots id x) P ids = subst (Lists (put slots id x) P) (without_absent ids id away)
@@ -223,24 +218,20 @@ fits_grown slots more P id x g i k = grind arith
 
 -- it fitted before, unless it is the new one
 pub fitted_grown : (slots more : List (Slot Content)) (P : HandleRecord → Type 0) (id : Id) (x : HandleRecord) → Grown slots more id x → (i : Id) →
-    Fits more P i →
-    ((i ≡ id) × P x) ⊎ Fits slots P i
+    Fits more P i → ((i ≡ id) × P x) ⊎ Fits slots P i
 fitted_grown slots more P id x g i l = grind arith
 
-pub lists_grown : (slots more : List (Slot Content)) (P : HandleRecord → Type 0) (id : Id) (x : HandleRecord) (ids : List Id) → Grown slots more id
-    x →
-    Lists slots P ids → Lists more P ids
+pub lists_grown : (slots more : List (Slot Content)) (P : HandleRecord → Type 0) (id : Id) (x : HandleRecord) (ids : List Id) →
+    Grown slots more id x → Lists slots P ids → Lists more P ids
 lists_grown slots more P id x ids g k = grind (arith, each_mapped, fits_grown)
 
-pub everyone_grown : (slots more : List (Slot Content)) (P : HandleRecord → Type 0) (id : Id) (x : HandleRecord) (ids : List Id) → Grown slots more
-    id x → (P x → ⊥) →
-    Everyone slots P ids → Everyone more P ids
+pub everyone_grown : (slots more : List (Slot Content)) (P : HandleRecord → Type 0) (id : Id) (x : HandleRecord) (ids : List Id) →
+    Grown slots more id x → (P x → ⊥) → Everyone slots P ids → Everyone more P ids
 everyone_grown slots more P id x ids g d k = grind (arith, fitted_grown, lists_grown)
 
 -- the new one is listed, anywhere
-pub everyone_listed : (slots more : List (Slot Content)) (P : HandleRecord → Type 0) (id : Id) (x : HandleRecord) (xs ys : List Id) → Grown slots
-    more id x → P x →
-    Everyone slots P (xs ++ ys) → Everyone more P (xs ++ id ∷ ys)
+pub everyone_listed : (slots more : List (Slot Content)) (P : HandleRecord → Type 0) (id : Id) (x : HandleRecord) (xs ys : List Id) →
+    Grown slots more id x → P x → Everyone slots P (xs ++ ys) → Everyone more P (xs ++ id ∷ ys)
 everyone_listed slots more P id x xs ys g fits k = record {
   lists = record {
     each = each_middle (Fits more P) xs ys id (record {
@@ -259,46 +250,29 @@ everyone_listed slots more P id x xs ys g fits k = record {
   clash h e = cc (sym g.new ∙ e)
 
 -- a slot is emptied, whose handle fitted nowhere
-pub fits_emptied : (slots : List (Slot Content)) (P : HandleRecord → Type 0) (id : Id) (h : HandleRecord) (n : ℕ) → held_at slots id ≡ Some h → (i :
-    Id) → (i ≡ id → ⊥) →
-    Fits slots P i → Fits (emptied slots id n) P i
+pub fits_emptied : (slots : List (Slot Content)) (P : HandleRecord → Type 0) (id : Id) (h : HandleRecord) (n : ℕ) → held_at slots id ≡ Some h →
+    (i : Id) → (i ≡ id → ⊥) → Fits slots P i → Fits (emptied slots id n) P i
 fits_emptied slots P id h n e i d k = record { handle = k.handle; holds = emptied_other slots id i h n e d ∙ k.holds; fits = k.fits }
 
-pub fitted_emptied : (slots : List (Slot Content)) (P : HandleRecord → Type 0) (id : Id) (h : HandleRecord) (n : ℕ) → held_at slots id ≡ Some h → (i
-    : Id) →
-    Fits (emptied slots id n) P i → (i ≡ id → ⊥) × Fits slots P i
-fitted_emptied slots P id h n e i l = (
-  apart,
-  record {
-    handle = l.handle;
-    holds = sym (emptied_other slots id i h n e apart) ∙ l.holds;
-    fits = l.fits;
-  },
-) where
-  clash : held_at (emptied slots id n) id ≡ Some l.handle → ⊥
-  clash f = cc (sym (emptied_same slots id h n e) ∙ f)
+pub fitted_emptied : (slots : List (Slot Content)) (P : HandleRecord → Type 0) (id : Id) (h : HandleRecord) (n : ℕ) → held_at slots id ≡ Some h →
+    (i : Id) → Fits (emptied slots id n) P i → (i ≡ id → ⊥) × Fits slots P i
+fitted_emptied slots P id h n e i l = grind (arith, emptied_same, emptied_other)
 
-  apart : i ≡ id → ⊥
-  apart is = clash (ap (held_at (emptied slots id n)) (sym is) ∙ l.holds)
-
-pub lists_emptied : (slots : List (Slot Content)) (P : HandleRecord → Type 0) (id : Id) (h : HandleRecord) (n : ℕ) (ids : List Id) → held_at slots
-    id ≡ Some h → (P h → ⊥) →
-    Lists slots P ids → Lists (emptied slots id n) P ids
+pub lists_emptied : (slots : List (Slot Content)) (P : HandleRecord → Type 0) (id : Id) (h : HandleRecord) (n : ℕ) (ids : List Id) →
+    held_at slots id ≡ Some h → (P h → ⊥) → Lists slots P ids → Lists (emptied slots id n) P ids
 lists_emptied slots P id h n ids e d k = record {
   each = each_mapped (Fits slots P) (Fits (emptied slots id n) P) (λ i f. fits_emptied slots P id h n e i (λ is. d (its_handle slots P id h e (subst
       (Fits slots P) is f))) f) ids k.each;
   distinct = k.distinct;
 }
 
-pub everyone_emptied : (slots : List (Slot Content)) (P : HandleRecord → Type 0) (id : Id) (h : HandleRecord) (n : ℕ) (ids : List Id) → held_at
-    slots id ≡ Some h → (P h → ⊥) →
-    Everyone slots P ids → Everyone (emptied slots id n) P ids
+pub everyone_emptied : (slots : List (Slot Content)) (P : HandleRecord → Type 0) (id : Id) (h : HandleRecord) (n : ℕ) (ids : List Id) →
+    held_at slots id ≡ Some h → (P h → ⊥) → Everyone slots P ids → Everyone (emptied slots id n) P ids
 everyone_emptied slots P id h n ids e d k = grind (arith, fitted_emptied, lists_emptied)
 
 -- the one whose slot is emptied is the first of a list, and leaves it
-pub everyone_rest : (slots : List (Slot Content)) (P : HandleRecord → Type 0) (id : Id) (h : HandleRecord) (n : ℕ) (xs ys : List Id) → held_at slots
-    id ≡ Some h →
-    Everyone slots P (xs ++ id ∷ ys) → Everyone (emptied slots id n) P (xs ++ ys)
+pub everyone_rest : (slots : List (Slot Content)) (P : HandleRecord → Type 0) (id : Id) (h : HandleRecord) (n : ℕ) (xs ys : List Id) →
+    held_at slots id ≡ Some h → Everyone slots P (xs ++ id ∷ ys) → Everyone (emptied slots id n) P (xs ++ ys)
 everyone_rest slots P id h n xs ys e k = record {
   lists = record {
     each = each_but (Fits slots P) (Fits (emptied slots id n) P) xs ys id (λ i d f. fits_emptied slots P id h n e i d f) k.lists.distinct
@@ -331,9 +305,8 @@ pub times_put : (slots : List (Slot Content)) (drawn : ℕ) (ts : List (Due × I
 times_put slots drawn ts id h x e f g k = grind (arith, fits_back, fits_put)
 
 -- an active timer becomes inactive
-pub times_without : (slots : List (Slot Content)) (drawn : ℕ) (ts : List (Due × Id)) (key : Due) (id : Id) (h x : HandleRecord) → held_at slots id ≡
-    Some h →
-    IsSet key h → x.active ≡ false → Times slots drawn ts → Times (put slots id x) drawn (without_timer ts key)
+pub times_without : (slots : List (Slot Content)) (drawn : ℕ) (ts : List (Due × Id)) (key : Due) (id : Id) (h x : HandleRecord) →
+    held_at slots id ≡ Some h → IsSet key h → x.active ≡ false → Times slots drawn ts → Times (put slots id x) drawn (without_timer ts key)
 times_without slots drawn ts key id h x e a off k = record {
   each = λ other_key i l.
       let m = had ts key other_key i k.sorted l in
@@ -414,13 +387,11 @@ times_with slots drawn more ts key id h x e off a number less k = record {
   at other_key i l false s = has_old ts key other_key id i fresh (k.all other_key i (fitted slots (IsSet other_key) id h x e i (other i id s) l))
 
 -- one handle more, which is no active timer
-pub times_grown : (slots more : List (Slot Content)) (drawn : ℕ) (ts : List (Due × Id)) (id : Id) (x : HandleRecord) → Grown slots more id x → ((key
-    : Due) → IsSet key x → ⊥) →
-    Times slots drawn ts → Times more drawn ts
+pub times_grown : (slots more : List (Slot Content)) (drawn : ℕ) (ts : List (Due × Id)) (id : Id) (x : HandleRecord) → Grown slots more id x →
+    ((key : Due) → IsSet key x → ⊥) → Times slots drawn ts → Times more drawn ts
 times_grown slots more drawn ts id x g d k = grind arith
 
 -- and one less
-pub times_emptied : (slots : List (Slot Content)) (drawn : ℕ) (ts : List (Due × Id)) (id : Id) (h : HandleRecord) (n : ℕ) → held_at slots id ≡ Some
-    h →
-    ((key : Due) → IsSet key h → ⊥) → Times slots drawn ts → Times (emptied slots id n) drawn ts
+pub times_emptied : (slots : List (Slot Content)) (drawn : ℕ) (ts : List (Due × Id)) (id : Id) (h : HandleRecord) (n : ℕ) →
+    held_at slots id ≡ Some h → ((key : Due) → IsSet key h → ⊥) → Times slots drawn ts → Times (emptied slots id n) drawn ts
 times_emptied slots drawn ts id h n e d k = grind (arith, fits_emptied, fitted_emptied, its_handle)

@@ -1,5 +1,5 @@
 -- Lists of ids, and what was taken off them.
-use Rattle.uv_order.proofs.Names.{arith, ◌≡◌, List, [], ◌∷◌, ◌++◌, Bool, true, false, refl, ap, sym, ◌∙◌, if◌then◌else◌, filter, not, eq-eqb, or_parts, both_ways, Id, same_id, without_id, has_id, AreDistinct, AllOff}
+use Rattle.uv_order.proofs.Names.{arith, list_any, ◌≡◌, ◌&&◌, ◌||◌, List, [], ◌∷◌, ◌++◌, Bool, true, false, refl, ap, sym, ◌∙◌, if◌then◌else◌, filter, not, eq-eqb, or_parts, both_ways, Id, same_id, without_id, has_id, AreDistinct, AllOff}
 
 -- ---- one id and another
 
@@ -44,17 +44,23 @@ pub absent : (P : Id → Type 0) (x : Id) → (P x → ⊥) → (ids : List Id) 
 absent P x f [] h = refl
 absent P x f (id ∷ ids) h = grind (arith, same, absent P x f ids h.1)
 
+-- who is on two lists, and who on a list without one
+pub has_both : (xs ys : List Id) (i : Id) → has_id (xs ++ ys) i ≡ (has_id xs i || has_id ys i)
+has_both [] ys i = refl
+has_both (x ∷ xs) ys i = grind (arith, has_both xs ys i)
+
+pub has_but_one : (ids : List Id) (x i : Id) → has_id (without_id ids x) i ≡ (not (same_id i x) && has_id ids i)
+has_but_one [] x i = grind arith
+has_but_one (id ∷ ids) x i = grind (arith, has_but_one ids x i)
+
 pub without_itself : (ids : List Id) (x : Id) → has_id (without_id ids x) x ≡ false
-without_itself [] x = refl
-without_itself (id ∷ ids) x = grind (arith, without_itself ids x)
+without_itself ids x = grind (arith, itself, has_but_one)
 
 pub still_absent : (ids : List Id) (x i : Id) → has_id ids i ≡ false → has_id (without_id ids x) i ≡ false
-still_absent [] x i h = refl
-still_absent (id ∷ ids) x i h = grind (arith, or_parts, still_absent ids x i)
+still_absent ids x i h = grind (arith, has_but_one)
 
 pub still_there : (ids : List Id) (x i : Id) → same_id i x ≡ false → has_id ids i ≡ true → has_id (without_id ids x) i ≡ true
-still_there [] x i d h = h
-still_there (id ∷ ids) x i d h = grind (arith, itself, same, still_there ids x i d)
+still_there ids x i d h = grind (arith, has_but_one)
 
 -- what holds of each member holds of this one
 pub member : (P : Id → Type 0) (ids : List Id) → Each P ids → (id : Id) → has_id ids id ≡ true → P id
@@ -63,24 +69,25 @@ member P (x ∷ ids) h id e = grind (arith, same, member P ids h.1 id)
 
 -- whether another one is there
 pub has_without : (ids : List Id) (x i : Id) → same_id i x ≡ false → has_id (without_id ids x) i ≡ has_id ids i
-has_without ids x i d = grind (arith, still_there, still_absent)
+has_without ids x i d = grind (arith, has_but_one)
 
 pub without_absent : (ids : List Id) (x : Id) → has_id ids x ≡ false → without_id ids x ≡ ids
 without_absent [] x h = refl
-without_absent (id ∷ ids) x h = let parts = or_parts (same_id id x) (has_id ids x) h in rw parts.0
-    (ap (λ (rest : List Id). id ∷ rest) (without_absent ids x parts.1))
+without_absent (id ∷ ids) x h = grind (arith, without_absent ids x)
 
 pub has_push : (ids : List Id) (x i : Id) → has_id ids i ≡ false → same_id x i ≡ false → has_id (ids ++ x ∷ []) i ≡ false
-has_push [] x i h k = rw k refl
-has_push (id ∷ ids) x i h k = let parts = or_parts (same_id id i) (has_id ids i) h in rw (parts.0, has_push ids x i parts.1 k) refl
+has_push ids x i h k = grind (arith, has_both)
 
 pub has_front : (xs ys : List Id) (i : Id) → has_id (xs ++ ys) i ≡ false → has_id xs i ≡ false
-has_front [] ys i h = refl
-has_front (x ∷ xs) ys i h = let parts = or_parts (same_id x i) (has_id (xs ++ ys) i) h in rw (parts.0, has_front xs ys i parts.1) refl
+has_front xs ys i h = grind (arith, has_both)
 
 pub has_back : (xs ys : List Id) (i : Id) → has_id (xs ++ ys) i ≡ false → has_id ys i ≡ false
-has_back [] ys i h = h
-has_back (x ∷ xs) ys i h = has_back xs ys i (or_parts (same_id x i) (has_id (xs ++ ys) i) h).1
+has_back xs ys i h = grind (arith, has_both)
+
+-- who waits, as the loop asks it and as the lines do
+pub on_list : (ids : List Id) (id : Id) → list_any (same_id id) ids ≡ true → has_id ids id ≡ true
+on_list [] id e = cc e
+on_list (x ∷ ids) id e = grind (arith, turned, on_list ids id)
 
 -- ---- no id twice
 
@@ -98,8 +105,7 @@ distinct_without (id ∷ ids) x h = grind (arith, still_absent, distinct_without
 
 pub distinct_push : (ids : List Id) (x : Id) → AreDistinct ids → has_id ids x ≡ false → AreDistinct (ids ++ x ∷ [])
 distinct_push [] x h k = (refl, tt)
-distinct_push (id ∷ ids) x h k = let parts = or_parts (same_id id x) (has_id ids x) k in
-    (has_push ids x id h.0 (turned x id ∙ parts.0), distinct_push ids x h.1 parts.1)
+distinct_push (id ∷ ids) x h k = grind (arith, has_push, turned, distinct_push ids x h.1)
 
 -- ---- one in the middle
 
@@ -107,53 +113,37 @@ pub each_middle : (P : Id → Type 0) (xs ys : List Id) (id : Id) → P id → E
 each_middle P [] ys id p h = (p, h)
 each_middle P (x ∷ xs) ys id p h = (h.0, each_middle P xs ys id p h.1)
 
-has_no_middle : (xs ys : List Id) (id i : Id) → same_id id i ≡ false → has_id (xs ++ ys) i ≡ false → has_id (xs ++ id ∷ ys) i ≡ false
-has_no_middle [] ys id i d h = rw (d, h) refl
-has_no_middle (x ∷ xs) ys id i d h = let parts = or_parts (same_id x i) (has_id (xs ++ ys) i) h in rw (parts.0, has_no_middle xs ys id i d parts.1)
-    refl
-
 pub distinct_middle : (xs ys : List Id) (id : Id) → AreDistinct (xs ++ ys) → has_id (xs ++ ys) id ≡ false → AreDistinct (xs ++ id ∷ ys)
 distinct_middle [] ys id h d = (d, h)
-distinct_middle (x ∷ xs) ys id h d =
-    let parts = or_parts (same_id x id) (has_id (xs ++ ys) id) d in
-    (has_no_middle xs ys id x (turned id x ∙ parts.0) h.0, distinct_middle xs ys id h.1 parts.1)
+distinct_middle (x ∷ xs) ys id h d = grind (arith, has_both, turned, distinct_middle xs ys id h.1)
 
 pub has_new_middle : (xs ys : List Id) (id : Id) → has_id (xs ++ id ∷ ys) id ≡ true
-has_new_middle [] ys id = rw (itself id id refl) refl
-has_new_middle (x ∷ xs) ys id = grind (arith, has_new_middle xs ys id)
+has_new_middle xs ys id = grind (arith, itself, has_both)
 
 pub has_old_middle : (xs ys : List Id) (id i : Id) → has_id (xs ++ ys) i ≡ true → has_id (xs ++ id ∷ ys) i ≡ true
-has_old_middle [] ys id i h = grind arith
-has_old_middle (x ∷ xs) ys id i h = grind (arith, has_old_middle xs ys id i)
+has_old_middle xs ys id i h = grind (arith, has_both)
 
 -- the one in the middle goes
 has_no_other : (xs ys : List Id) (id i : Id) → has_id (xs ++ id ∷ ys) i ≡ false → has_id (xs ++ ys) i ≡ false
-has_no_other [] ys id i h = (or_parts (same_id id i) (has_id ys i) h).1
-has_no_other (x ∷ xs) ys id i h = let parts = or_parts (same_id x i) (has_id (xs ++ id ∷ ys) i) h in rw (parts.0, has_no_other xs ys id i parts.1)
-    refl
+has_no_other xs ys id i h = grind (arith, has_both)
 
 pub distinct_but : (xs ys : List Id) (id : Id) → AreDistinct (xs ++ id ∷ ys) → AreDistinct (xs ++ ys)
 distinct_but [] ys id h = h.1
 distinct_but (x ∷ xs) ys id h = (has_no_other xs ys id x h.0, distinct_but xs ys id h.1)
 
 pub has_but : (xs ys : List Id) (id i : Id) → (i ≡ id → ⊥) → has_id (xs ++ id ∷ ys) i ≡ true → has_id (xs ++ ys) i ≡ true
-has_but [] ys id i d h = grind (arith, same)
-has_but (x ∷ xs) ys id i d h = grind (arith, has_but xs ys id i d)
+has_but xs ys id i d h = grind (arith, same, has_both)
 
 -- none of the others is that one
 gone : (xs ys : List Id) (id x : Id) → has_id (xs ++ id ∷ ys) x ≡ false → x ≡ id → ⊥
-gone [] ys id x h e = both_ways (same_id id x) ((or_parts (same_id id x) (has_id ys x) h).0) (itself id x (sym e))
-gone (y ∷ xs) ys id x h e = gone xs ys id x ((or_parts (same_id y x) (has_id (xs ++ id ∷ ys) x) h).1) e
+gone xs ys id x h e = grind (arith, itself, has_both)
 
 each_apart : (P Q : Id → Type 0) (ys : List Id) (id : Id) → ((i : Id) → (i ≡ id → ⊥) → P i → Q i) → has_id ys id ≡ false → Each P ys → Each Q ys
 each_apart P Q [] id f h e = tt
-each_apart P Q (y ∷ ys) id f h e =
-    let parts = or_parts (same_id y id) (has_id ys id) h in
-    (f y (other y id parts.0) e.0, each_apart P Q ys id f parts.1 e.1)
+each_apart P Q (y ∷ ys) id f h e = grind (arith, other, each_apart P Q ys id f)
 
-pub each_but : (P Q : Id → Type 0) (xs ys : List Id) (id : Id) → ((i : Id) → (i ≡ id → ⊥) → P i → Q i) → AreDistinct (xs ++ id ∷ ys) → Each P (xs ++
-    id ∷ ys) →
-    Each Q (xs ++ ys)
+pub each_but : (P Q : Id → Type 0) (xs ys : List Id) (id : Id) → ((i : Id) → (i ≡ id → ⊥) → P i → Q i) → AreDistinct (xs ++ id ∷ ys) →
+    Each P (xs ++ id ∷ ys) → Each Q (xs ++ ys)
 each_but P Q [] ys id f d h = each_apart P Q ys id f d.0 h.1
 each_but P Q (x ∷ xs) ys id f d h = (f x (gone xs ys id x d.0) h.0, each_but P Q xs ys id f d.1 h.1)
 
@@ -187,7 +177,7 @@ pub record FirstLeft (ids away : List Id) (first : Id) (more : List Id) : Type 0
   pub list : ids ≡ passed ++ first ∷ behind
   pub off : AllOff away passed
   pub on : has_id away first ≡ false
-  pub rest : more ≡ left_of behind away
+  pub left : more ≡ left_of behind away
 
 pub first_left : (ids off : List Id) (first : Id) (more : List Id) → left_of ids off ≡ first ∷ more → FirstLeft ids off first more
 first_left [] off first more h = cc h
@@ -196,7 +186,7 @@ first_left (id ∷ ids) off first more h = at (has_id off id) refl h (first_left
       (left_of ids off ≡ first ∷ more → FirstLeft ids off first more) → FirstLeft (id ∷ ids) off first more
   at true e rest later =
       let f = later rest in
-      record { passed = id ∷ f.passed; behind = f.behind; list = ap (λ (is : List Id). id ∷ is) f.list; off = (e, f.off); on = f.on; rest = f.rest }
+      record { passed = id ∷ f.passed; behind = f.behind; list = ap (λ (is : List Id). id ∷ is) f.list; off = (e, f.off); on = f.on; left = f.left }
   at false e rest later =
       let one : id ≡ first = cc rest in
       let others : left_of ids off ≡ more = cc rest in
@@ -207,5 +197,5 @@ first_left (id ∷ ids) off first more h = at (has_id off id) refl h (first_left
         off = tt;
         on = ap (λ (i : Id). has_id off i) (sym one)
             ∙ e;
-        rest = sym others;
+        left = sym others;
       }

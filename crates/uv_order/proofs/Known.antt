@@ -6,8 +6,8 @@ use Rattle.uv_ids.specs.declared.seen.Seen.TheVariants as seen
 use Rattle.uv_script.specs.declared.op.Op.TheVariants as op
 use Rattle.uv_work.specs.declared.content.Content.TheVariants as content
 use Rattle.uv_order.proofs.IdLists.{same, other, itself}
-use Rattle.uv_order.proofs.Contents.{emptied, emptied_turns}
-use Rattle.uv_order.proofs.Holding.{name_at, NoNewNames, put_names, names_turned, held_at, is_held, put, put_same, put_other, emptied_same, emptied_other, Fits, fits_put, fits_same, SameHandles, Grown}
+use Rattle.uv_order.proofs.Contents.{Turns, emptied, emptied_turns}
+use Rattle.uv_order.proofs.Holding.{name_at, NoNewNames, put_names, names_turned, held_at, is_held, put, put_same, put_other, emptied_same, emptied_other, Fits, fits_put, fits_back, fitted, fits_emptied, fitted_emptied, fits_same, SameHandles, Grown}
 use Rattle.uv_order.proofs.Counted.{set_there}
 use Rattle.uv_order.proofs.Keeping.{has_number, Closes, open_shut}
 use Rattle.uv_order.proofs.Gone.{IsGone, gone_put, gone_emptied, gone_now}
@@ -71,39 +71,31 @@ not_over p past arena names id h e k = grind arith
 -- ---- changes without a line
 
 pub known_names : {waiting runs : List Id} (p : Program) (past : List Seen) (arena : Slots Content) (now was : List Named) → SameIds now was →
-    Known p past arena was waiting runs →
-    Known p past arena now waiting runs
+    Known p past arena was waiting runs → Known p past arena now waiting runs
 known_names p past arena now was same k = grind arith
+
+-- what is held turns: nothing is called otherwise, who closes then closed before, and who closed closes still, or is gone
+known_held : {waiting runs : List Id} (p : Program) (past : List Seen) (arena more : Slots Content) (names : List Named) →
+    NoNewNames more.slots arena.slots → ((i : Id) → Fits more.slots Closes i → Fits arena.slots Closes i) →
+    ((i : Id) → Fits arena.slots Closes i → IsShut more i) → ((i : Id) → IsGone arena.slots arena.free i → IsGone more.slots more.free i) →
+    SameRequests more.slots arena.slots → Known p past arena names waiting runs → Known p past more names waiting runs
+known_held p past arena more names called was still gone asks k = record {
+  binding = k.binding;
+  made = λ i v f. k.made i v (called i v f);
+  closing = λ i f. k.closing i (was i f);
+  closed = λ i c. elim (k.closed i c) [ inl f ↦ still i f | inr g ↦ inr (gone i g) ];
+  over = λ i c. gone i (k.over i c);
+  worked = worked_same p past arena more _ _ asks gone k.worked;
+}
 
 -- a handle changes that closes as before
 pub known_put : {waiting runs : List Id} (p : Program) (past : List Seen) (arena : Slots Content) (names : List Named) (id : Id)
-    (h x : HandleRecord) →
-    held_at arena.slots id ≡ Some h → x.closing ≡ h.closing → x.name ≡ h.name → Known p past arena names waiting runs →
+    (h x : HandleRecord) → held_at arena.slots id ≡ Some h → x.closing ≡ h.closing → x.name ≡ h.name → Known p past arena names waiting runs →
     Known p past (record arena { slots = put arena.slots id x }) names waiting runs
-known_put p past arena names id h x e o called k = record {
-  binding = k.binding;
-  made = λ i v f. k.made i v (put_names arena.slots id h x e called i v f);
-  closing = λ i f. closing i f (same_id i id) refl;
-  closed = λ i c. shut i (k.closed i c);
-  over = λ i c. gone_put arena.slots arena.free id h x i e (k.over i c);
-  worked = worked_same p past arena (record arena { slots = put arena.slots id x }) _ _ (same_put arena.slots id h x e)
-      (λ i g. gone_put arena.slots arena.free id h x i e g) k.worked;
-} where
-  closing : (i : Id) → Fits (put arena.slots id x) Closes i → (b : Bool) → same_id i id ≡ b → was_closed p past i ≡ true
-  closing i f true s =
-      let is : i ≡ id = same i id s in
-      let y : f.handle ≡ x = same_Some _ _ (sym f.holds ∙ ap (held_at (put arena.slots id x)) is ∙ put_same arena.slots id h x e) in
-      let was : h.closing ≡ true = sym o ∙ ap (λ (z : HandleRecord). z.closing) (sym y) ∙ f.fits in
-      subst (λ (j : Id). was_closed p past j ≡ true) (sym is) (k.closing id (record { handle = h; holds = e; fits = was }))
-  closing i f false s = k.closing i (record {
-    handle = f.handle;
-    holds = sym (put_other arena.slots id i h x e (other i id s)) ∙ f.holds;
-    fits = f.fits;
-  })
-
-  shut : (i : Id) → IsShut arena i → IsShut (record arena { slots = put arena.slots id x }) i
-  shut i (inl f) = inl (fits_put arena.slots Closes id h x e (λ c. o ∙ c) i f)
-  shut i (inr g) = inr (gone_put arena.slots arena.free id h x i e g)
+known_put p past arena names id h x e o called k =
+    known_held p past arena (record arena { slots = put arena.slots id x }) names (put_names arena.slots id h x e called)
+    (fits_back arena.slots Closes id h x e (λ c. sym o ∙ c)) (λ i f. inl (fits_put arena.slots Closes id h x e (λ c. o ∙ c) i f))
+    (λ i g. gone_put arena.slots arena.free id h x i e g) (same_put arena.slots id h x e) k
 
 -- ---- lines
 
@@ -147,10 +139,9 @@ idle_op p place o a e q = grind arith
 
 -- a handle that doesn't close is closed
 pub known_close : {waiting runs : List Id} (p : Program) (past : List Seen) (place : Site) (v : Var) (arena : Slots Content) (names : List Named)
-    (id : Id)
-    (h x : HandleRecord) → op_at p place ≡ Some (op.Close v) → id_in names v ≡ Some id → held_at arena.slots id ≡ Some h → x.closing ≡ true →
-    x.name ≡ h.name → Known p past arena names waiting runs →
-    Known p (seen.Op place (answer.Code code.Ok) ∷ past) (record arena { slots = put arena.slots id x }) names waiting runs
+    (id : Id) (h x : HandleRecord) → op_at p place ≡ Some (op.Close v) → id_in names v ≡ Some id → held_at arena.slots id ≡ Some h →
+    x.closing ≡ true → x.name ≡ h.name → Known p past arena names waiting runs → Known p (seen.Op place (answer.Code code.Ok) ∷ past)
+    (record arena { slots = put arena.slots id x }) names waiting runs
 known_close p past place v arena names id h x e is holds shut called k = record {
   binding = λ u i f. rw said (k.binding u i f);
   made = λ i u f. rw said (k.made i u (put_names arena.slots id h x holds called i u f));
@@ -175,11 +166,7 @@ known_close p past place v arena names id h x e is holds shut called k = record 
   closing : (i : Id) → Fits (put arena.slots id x) Closes i → (b : Bool) → same_id i id ≡ b →
       (is_some_id i (bound p past v) || was_closed p past i) ≡ true
   closing i f true s = or_left _ _ (ap (is_some_id i) its_id ∙ itself id i (sym (same i id s)))
-  closing i f false s = or_right _ _ (k.closing i (record {
-    handle = f.handle;
-    holds = sym (put_other arena.slots id i h x holds (other i id s)) ∙ f.holds;
-    fits = f.fits;
-  }))
+  closing i f false s = or_right _ _ (k.closing i (fitted arena.slots Closes id h x holds i (other i id s) f))
 
   closed : (i : Id) → (is_some_id i (bound p past v) ≡ true) ⊎ (was_closed p past i ≡ true) →
       IsShut (record arena { slots = put arena.slots id x }) i
@@ -188,10 +175,10 @@ known_close p past place v arena names id h x e is holds shut called k = record 
     holds = ap (held_at (put arena.slots id x)) (sym (same id i (sym (ap (is_some_id i) its_id) ∙ c))) ∙ put_same arena.slots id h x holds;
     fits = shut;
   })
-  closed i (inr c) = earlier (k.closed i c) where
-    earlier : IsShut arena i → IsShut (record arena { slots = put arena.slots id x }) i
-    earlier (inl f) = inl (fits_put arena.slots Closes id h x holds (λ g. shut) i f)
-    earlier (inr g) = inr (gone_put arena.slots arena.free id h x i holds g)
+  closed i (inr c) = elim (k.closed i c) [
+    | inl f ↦ inl (fits_put arena.slots Closes id h x holds (λ g. shut) i f)
+    | inr g ↦ inr (gone_put arena.slots arena.free id h x i holds g)
+  ]
 
 -- the line of an op binds a name
 pub known_bound : {waiting runs few : List Id} (p : Program) (past : List Seen) (place : Site) (v : Var) (o : Op) (arena now : Slots Content)
@@ -202,53 +189,28 @@ pub known_bound : {waiting runs few : List Id} (p : Program) (past : List Seen) 
     closes o (answer.Id id) ≡ None → n.id ≡ Some id → SameHandles now.slots arena.slots →
     ((i : Id) → IsGone arena.slots arena.free i → IsGone now.slots now.free i) → Worked p (seen.Op place (answer.Id id) ∷ past) now few runs →
     Known p past arena names waiting runs → Known p (seen.Op place (answer.Id id) ∷ past) now (slice_set names v.0 n) few runs
-known_bound p past place v o arena now names id n e bind make called quiet is handles gone w k = record {
-  binding = λ u i f. rw said (bind u (bound p past u) ∙ binding u i (v.0 == u.0) refl f);
-  made = λ i u f. rw said (ap (λ (x : Option Var). first_of x (made_as p past i)) (make i) ∙ made i u (same_id id i) (called i u f));
-  closing = λ i f. rw said (rw quiet (k.closing i (fits_same now.slots arena.slots Closes (λ j. sym (handles j)) i f)));
-  closed = λ i c. later i (k.closed i (sym (ap (λ (x : Option Var). is_bound p past i x || was_closed p past i) nobody) ∙ c));
-  over = λ i c. gone i (k.over i c);
-  worked = w;
-} where
-  later : (i : Id) → IsShut arena i → IsShut now i
-  later i (inl c) = inl (fits_same arena.slots now.slots Closes handles i c)
-  later i (inr g) = inr (gone i g)
-
-  said : answered p (seen.Op place (answer.Id id)) ≡ Some (record { op = o; answer = answer.Id id })
-  said = is_answered p place o (answer.Id id) e
-
-  nobody : closes_by (answered p (seen.Op place (answer.Id id))) ≡ None
-  nobody = ap closes_by said ∙ quiet
-
-  made : (i : Id) (u : Var) (b : Bool) → (if b then Some v else name_at arena.slots i) ≡ Some u →
-      first_of (if b then Some v else None) (made_as p past i) ≡ Some u
-  made i u true f = f
-  made i u false f = k.made i u f
-
-  binding : (u : Var) (i : Id) (b : Bool) → (v.0 == u.0) ≡ b → id_in (slice_set names v.0 n) u ≡ Some i →
-      (if v.0 == u.0 then Some id else bound p past u) ≡ Some i
-  binding u i true f g =
-      let here : v.0 ≡ u.0 = eqb-true v.0 u.0 f in
-      rw f (sym is ∙ own_id names v.0 n i (ap (λ (j : ℕ). (unwrap_or (slice_get (slice_set names v.0 n) j) unbound).id) here ∙ g))
-  binding u i false f g =
-      let apart : u.0 ≡ v.0 → ⊥ = λ is. both_ways (v.0 == u.0) f (eq-eqb v.0 u.0 (sym is)) in
-      rw f (k.binding u i (ap (λ (o : Option Named). (unwrap_or o unbound).id) (sym (set_there names v.0 u.0 n apart)) ∙ g))
+known_bound p past place v o arena now names id n e bind make called quiet is handles gone w k =
+    grind (arith, is_answered, fits_same, own_id, set_there, eqb-true, eq-eqb)
 
 -- a slot is taken for a handle that doesn't close
 pub known_grown : {waiting runs : List Id} (p : Program) (past : List Seen) (arena more : Slots Content) (names : List Named) (id : Id)
-    (x : HandleRecord) →
-    Grown arena.slots more.slots id x → SameRequests more.slots arena.slots → x.closing ≡ false →
+    (x : HandleRecord) → Grown arena.slots more.slots id x → SameRequests more.slots arena.slots → x.closing ≡ false →
     ((i : Id) (v : Var) → name_at more.slots i ≡ Some v → made_as p past i ≡ Some v) →
-    ((i : Id) → IsGone arena.slots arena.free i → IsGone more.slots more.free i) →
-    Known p past arena names waiting runs → Known p past more names waiting runs
+    ((i : Id) → IsGone arena.slots arena.free i → IsGone more.slots more.free i) → Known p past arena names waiting runs →
+    Known p past more names waiting runs
 known_grown p past arena more names id x grown same_asked stays called gone k = grind (arith, same, other, open_shut, worked_same)
 
--- no handle changes
-pub known_same : {waiting runs few more : List Id} (p : Program) (past : List Seen) (arena now : Slots Content) (names : List Named) →
-    SameHandles now.slots arena.slots → NoNewNames now.slots arena.slots →
-    ((i : Id) → IsGone arena.slots arena.free i → IsGone now.slots now.free i) → Worked p past now few more →
-    Known p past arena names waiting runs → Known p past now names few more
-known_same p past arena now names f called gone w k = grind arith
+-- the `closed` line of a handle that is gone
+known_over : {waiting runs : List Id} (p : Program) (past : List Seen) (v : Var) (arena : Slots Content) (names : List Named) (id : Id) →
+    IsGone arena.slots arena.free id → Known p past arena names waiting runs → Known p (seen.Closed v id ∷ past) arena names waiting runs
+known_over p past v arena names id g k = record {
+  binding = k.binding;
+  made = k.made;
+  closing = k.closing;
+  closed = k.closed;
+  over = λ i c. grind (arith, same);
+  worked = worked_idle p past (seen.Closed v id) arena _ _ (assumption) k.worked;
+}
 
 -- a closing handle has its `closed` line, and its slot is freed or retired
 pub known_gone : {waiting runs : List Id} (p : Program) (past : List Seen) (v : Var) (arena : Slots Content) (more : List ℕ) (names : List Named)
@@ -256,35 +218,21 @@ pub known_gone : {waiting runs : List Id} (p : Program) (past : List Seen) (v : 
     (n : ℕ) → held_at arena.slots id ≡ Some h → id.generation ≤ n → (id.generation < n) ⊎ (has_number more id.slot ≡ false) →
     ((m : ℕ) → (m ≡ id.slot → ⊥) → has_number arena.free m ≡ false → has_number more m ≡ false) → Known p past arena names waiting runs →
     Known p (seen.Closed v id ∷ past) (record arena { slots = emptied arena.slots id n; free = more }) names waiting runs
-known_gone p past v arena more names id h n e l last others k = record {
-  binding = k.binding;
-  made = λ i u f. k.made i u (names_turned arena.slots (emptied arena.slots id n) id _ _
-      (emptied_turns arena.slots id (content.Handle h) n (is_held arena.slots id h e)) (λ u g. cc g) i u f);
-  closing = λ i f. k.closing i (earlier i f (same_id i id) refl);
-  closed = λ i c. later i (same_id i id) refl (k.closed i c);
-  over = λ i c. over i (or_cases (same_id id i) (has_closed_line past i) c);
-  worked = worked_idle p past (seen.Closed v id) (record arena { slots = emptied arena.slots id n; free = more }) _ _
-      (record { queued = λ i. refl; taken = λ i. refl; finished = λ i. refl; over = λ i. refl; cancelled = λ i. refl })
-      (worked_same p past arena (record arena { slots = emptied arena.slots id n; free = more }) _ _
-      (same_requests arena.slots _ id _ _ (emptied_turns arena.slots id (content.Handle h) n (is_held arena.slots id h e)) refl refl) gone k.worked);
-} where
-  earlier : (i : Id) → Fits (emptied arena.slots id n) Closes i → (b : Bool) → same_id i id ≡ b → Fits arena.slots Closes i
-  earlier i f true s = absurd (none-some f.handle (sym (emptied_same arena.slots id h n e)
-      ∙ ap (held_at (emptied arena.slots id n)) (sym (same i id s)) ∙ f.holds))
-  earlier i f false s = record { handle = f.handle; holds = sym (emptied_other arena.slots id i h n e (other i id s)) ∙ f.holds; fits = f.fits }
+known_gone p past v arena more names id h n e l last others k =
+    known_over p past v now names id gone_id (known_held p past arena now names (names_turned arena.slots now.slots id _ _ turns (λ u g. cc g))
+    (λ i f. (fitted_emptied arena.slots Closes id h n e i f).1) (λ i f. still i f (same_id i id) refl)
+    (λ i g. gone_emptied arena.slots arena.free more id (content.Handle h) n i (is_held arena.slots id h e) l others g)
+    (same_requests arena.slots now.slots id _ _ turns refl refl) k)
+  where
+    now : Slots Content
+    now = record arena { slots = emptied arena.slots id n; free = more }
 
-  gone : (i : Id) → IsGone arena.slots arena.free i → IsGone (emptied arena.slots id n) more i
-  gone i g = gone_emptied arena.slots arena.free more id (content.Handle h) n i (is_held arena.slots id h e) l others g
+    turns : Turns arena.slots (emptied arena.slots id n) id (Some (content.Handle h)) None
+    turns = emptied_turns arena.slots id (content.Handle h) n (is_held arena.slots id h e)
 
-  now : (i : Id) → i ≡ id → IsGone (emptied arena.slots id n) more i
-  now i is = subst (IsGone (emptied arena.slots id n) more) (sym is) (gone_now arena.slots more id (content.Handle h) n
-      (is_held arena.slots id h e) last)
+    gone_id : IsGone now.slots now.free id
+    gone_id = gone_now arena.slots more id (content.Handle h) n (is_held arena.slots id h e) last
 
-  later : (i : Id) (b : Bool) → same_id i id ≡ b → IsShut arena i → IsShut (record arena { slots = emptied arena.slots id n; free = more }) i
-  later i true s k = inr (now i (same i id s))
-  later i false s (inl f) = inl (record { handle = f.handle; holds = emptied_other arena.slots id i h n e (other i id s) ∙ f.holds; fits = f.fits })
-  later i false s (inr g) = inr (gone i g)
-
-  over : (i : Id) → (same_id id i ≡ true) ⊎ (has_closed_line past i ≡ true) → IsGone (emptied arena.slots id n) more i
-  over i (inl s) = now i (sym (same id i s))
-  over i (inr c) = gone i (k.over i c)
+    still : (i : Id) → Fits arena.slots Closes i → (b : Bool) → same_id i id ≡ b → IsShut now i
+    still i f true s = inr (subst (IsGone now.slots now.free) (sym (same i id s)) gone_id)
+    still i f false s = inl (fits_emptied arena.slots Closes id h n e i (other i id s) f)

@@ -23,7 +23,6 @@ mod Quiet
 pub mod Reaching
 pub mod RefusedOnce
 pub mod RefusedOrder
-pub mod RefusedTimers
 mod Sends
 mod Standing
 mod Started

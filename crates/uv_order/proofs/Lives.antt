@@ -8,9 +8,7 @@ use Rattle.uv_order.proofs.Working.{Working}
 -- ---- words
 
 either_way : (a b : Bool) → (a ≡ true → b ≡ true) → (b ≡ true → a ≡ true) → a ≡ b
-either_way true b f g = sym (f refl)
-either_way false true f g = g refl
-either_way false false f g = refl
+either_way a b f g = grind arith
 
 -- ---- what a slot holds is a handle or a request
 
@@ -23,10 +21,7 @@ abbrev any_asked : List (Slot Content) → Bool
 any_asked slots = list_any (λ (slot : Slot Content). is_asked slot.content) slots
 
 one_split : (c : Option Content) (x a b : Bool) → x ≡ (a || b) → (content_keeps c || x) ≡ ((is_kept_by c || a) || (is_asked c || b))
-one_split None x a b e = e
-one_split (Some (content.Handle h)) x a b e =
-    ap (λ (y : Bool). keeps_alive h || y) e ∙ sym (or_assoc (keeps_alive h) a b)
-one_split (Some (content.Request r)) x a b e = sym (or-true a)
+one_split c x a b e = grind arith
 
 split : (slots : List (Slot Content)) → list_any (λ (slot : Slot Content). content_keeps slot.content) slots
     ≡ (list_any (λ (slot : Slot Content). is_kept_by slot.content) slots || any_asked slots)
@@ -58,16 +53,8 @@ found (x ∷ xs) e = at (is_asked x.content) refl (found xs) e where
       let r = more h in
       record { id = record { slot = suc r.id.slot; generation = r.id.generation }; request = r.request; holds = r.holds }
 
-asked_content : (c : Option Content) (r : Request) → request_in c ≡ Some r → is_asked c ≡ true
-asked_content None r e = cc e
-asked_content (Some (content.Handle h)) r e = cc e
-asked_content (Some (content.Request x)) r e = refl
-
 asked_slot : (x : Slot Content) (id : Id) (r : Request) → request_in (held_in id x) ≡ Some r → is_asked x.content ≡ true
-asked_slot x id r e = at (x.generation == id.generation) e where
-  at : (b : Bool) → request_in (if b then x.content else None) ≡ Some r → is_asked x.content ≡ true
-  at true f = asked_content x.content r f
-  at false f = cc f
+asked_slot x id r e = grind arith
 
 is_any : (slots : List (Slot Content)) (n g : ℕ) (r : Request) → asked_at slots (record { slot = n; generation = g }) ≡ Some r →
     any_asked slots ≡ true
@@ -78,8 +65,7 @@ is_any (x ∷ xs) (suc n) g r e = rw (is_any xs n g r e) (or-true (is_asked x.co
 -- ---- lists with members
 
 pub some_of : (ids : List Id) (id : Id) → has_id ids id ≡ true → has_some ids ≡ true
-some_of [] id e = cc e
-some_of (x ∷ xs) id e = refl
+some_of ids id e = grind arith
 
 record First (ids : List Id) : Type 0 where
   id : Id
@@ -90,8 +76,7 @@ first [] e = cc e
 first (x ∷ xs) e = record { id = x; on = rw (itself x x refl) refl }
 
 some_both : (xs ys : List Id) → has_some (xs ++ ys) ≡ (has_some xs || has_some ys)
-some_both [] ys = refl
-some_both (x ∷ xs) ys = refl
+some_both xs ys = grind arith
 
 some_runs : (running : List (Option Id)) → has_some (run_ids running) ≡ has_run running
 some_runs [] = refl
@@ -127,10 +112,5 @@ lives_is s w =
 pub goes_is : (s : State) → lives s ≡ is_alive s → (lives s && not s.stop_flag) ≡ goes s
 goes_is s e = ap (λ (b : Bool). b && not s.stop_flag) e
 
-waits_is : (s : State) (timers : List (Due × Id)) → lives s ≡ is_alive s → poll_timeout_by s timers Default ≡ waits s timers
-waits_is s timers e = grind arith
-
 pub may_wait_is : (s : State) (timers : List (Due × Id)) (m : Mode) → lives s ≡ is_alive s → poll_timeout_by s timers m ≡ may_wait s timers m
-may_wait_is s timers Default e = waits_is s timers e
-may_wait_is s timers Once e = ap (λ (n : Option ℕ). if s.idled then Some 0 else n) (waits_is s timers e)
-may_wait_is s timers Nowait e = refl
+may_wait_is s timers m e = grind arith

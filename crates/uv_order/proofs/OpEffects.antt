@@ -68,34 +68,16 @@ record SameLists (now was : State) : Type 0 where
   closing : now.closing.yet ≡ was.closing.yet
   done : now.done.yet ≡ was.done.yet
 
-lists : {now was : State} → now.ready ≡ was.ready → now.idle.yet ≡ was.idle.yet → now.prepare.yet ≡ was.prepare.yet →
-    now.check.yet ≡ was.check.yet → now.async.yet ≡ was.async.yet → now.closing.yet ≡ was.closing.yet → now.done.yet ≡ was.done.yet →
-    SameLists now was
-lists r i p c a cl d = record { ready = r; idle = i; prepare = p; check = c; async = a; closing = cl; done = d }
-
 same_lists : (s : State) → SameLists s s
-same_lists s = lists refl refl refl refl refl refl refl
+same_lists s = assumption
 
 -- nobody is taken off, and the lists stay
 quiet : (s : State) (o : Op) (d : ops.Done) → TakesNone (names_at s) o d.answer → lasting d.state ≡ after_op o s → SameCalls d.state.names s.names →
     SameLists d.state s → Effect s o d
-quiet s o d none lasts calls lists = record {
-  lasts = lasts;
-  calls = calls;
-  ready = same phase.Timers d.state.ready s.ready lists.ready;
-  idle = same phase.Idle d.state.idle.yet s.idle.yet lists.idle;
-  prepare = same phase.Prepare d.state.prepare.yet s.prepare.yet lists.prepare;
-  check = same phase.Check d.state.check.yet s.check.yet lists.check;
-  async = same phase.Async d.state.async.yet s.async.yet lists.async;
-  closing = lists.closing;
-  done = lists.done;
-} where
-  same : (word : Phase) (now was : List Id) → now ≡ was → now ≡ left_of was (taken_off word (names_at s) o d.answer)
-  same word now was e = rw (none word) (e ∙ sym (none_off was))
+quiet s o d none lasts calls lists = grind (arith, none_off)
 
 pub refusal_takes_none : (names : Names) (o : Op) (c : Code) → IsRefusal c → TakesNone names o (answer.Code c)
-refusal_takes_none names o code.Ok no_success word = absurd (no_success refl)
-refusal_takes_none names o each no_success word = refl
+refusal_takes_none names o c no_success word = grind arith
 
 -- an op that is refused, or that only answers
 says_effect : (s : State) (o : Op) (a : Answer) → TakesNone (names_at s) o a → after_op o s ≡ lasting s → Effect s o (ops.says s a)
@@ -108,8 +90,7 @@ refused_effect s o lasts c no_success = says_effect s o (answer.Code c) (refusal
 
 -- a handle of another kind isn't on a list of watchers
 not_yet : (s : State) (q : Kind) (w : Walk Id) (id : Id) (h : HandleRecord) → handle s id ≡ Some h → (h.kind ≡ q → ⊥) →
-    Everyone s.arena.slots (Watches q) (members w) →
-    without_id w.yet id ≡ left_of w.yet []
+    Everyone s.arena.slots (Watches q) (members w) → without_id w.yet id ≡ left_of w.yet []
 not_yet s q w id h e d l =
     let away : has_id w.yet id ≡ false = has_back w.list w.yet id (not_listed s.arena.slots (Watches q) id h (members w) e (λ x. d x.kind) l.lists) in
     without_absent w.yet id away ∙ sym (none_off w.yet)
@@ -127,17 +108,14 @@ taken_one s v t ids e = rw (one_taken s v t e) (left_one ids t.0)
 
 stop_effect : (s : State) (v : Var) (t : Id × HandleRecord) → live_handle s v ≡ Ok t → (t.1.kind ≡ kind.Async → ⊥) → Kept s →
     Effect s (op.Stop v) (ops.stop s t.0 t.1)
-stop_effect s v t e apart k = record {
-  lasts = refl;
-  calls = same_calls s.names;
-  ready = taken_one s v t s.ready e;
-  idle = taken_one s v t s.idle.yet e;
-  prepare = taken_one s v t s.prepare.yet e;
-  check = taken_one s v t s.check.yet e;
-  async = not_yet s kind.Async s.async t.0 t.1 (live_held s v t e) apart k.async;
-  closing = refl;
-  done = refl;
-}
+stop_effect s v t e apart k = assumption (
+  same_calls s.names,
+  taken_one s v t s.ready e,
+  taken_one s v t s.idle.yet e,
+  taken_one s v t s.prepare.yet e,
+  taken_one s v t s.check.yet e,
+  not_yet s kind.Async s.async t.0 t.1 (live_held s v t e) apart k.async,
+)
 
 close_effect : (s : State) (v : Var) (t : Id × HandleRecord) → live_handle s v ≡ Ok t → Effect s (op.Close v) (ops.close s t.0 t.1)
 close_effect s v t e = grind arith
@@ -173,24 +151,22 @@ timer_effect s u o v t e is k off lasts same names lists = record {
   none_by word ids none = ap (λ (x : Option Var). left_of ids (ids_of (names_at s) x)) (sym none ∙ sym (off word))
 
 pub start_off : (v : Var) (timeout repeat : ℕ) (word : Phase) → off_by word (op.Start v timeout repeat) ≡ off_by word (op.Again v)
-start_off v timeout repeat phase.Pending = refl
-start_off v timeout repeat each = refl
+start_off v timeout repeat word = grind arith
 
 start_effect : (s : State) (v : Var) (timeout repeat : ℕ) (t : Id × HandleRecord) → live_handle s v ≡ Ok t → t.1.kind ≡ kind.Timer → Kept s →
     Effect s (op.Start v timeout repeat) (ops.start s timeout repeat t.0 t.1)
 start_effect s v timeout repeat t e is k =
     timer_effect s (started (stopped s t.0 t.1) t.0 t.1 timeout repeat) (op.Start v timeout repeat) v t e is k
     (start_off v timeout repeat) refl refl refl
-    (lists refl refl refl refl refl refl refl)
+    (assumption)
 
-again_effect : (s : State) (v : Var) (t : Id × HandleRecord) → live_handle s v ≡ Ok t → t.1.kind ≡ kind.Timer → Kept s →
-    Effect s (op.Again v) (ops.again
-    s t.0 t.1)
+again_effect : (s : State) (v : Var) (t : Id × HandleRecord) → live_handle s v ≡ Ok t → t.1.kind ≡ kind.Timer → Kept s → Effect s (op.Again v)
+    (ops.again s t.0 t.1)
 again_effect s v t e is k =
     cond_both (t.1.repeat == 0) (stopped s t.0 t.1) (started (stopped s t.0 t.1) t.0 t.1 t.1.repeat t.1.repeat) (λ (u : State). Effect s (op.Again
     v) (ops.succeeds u))
-    (λ z. by (stopped s t.0 t.1) refl refl (lists refl refl refl refl refl refl refl))
-    (λ z. by (started (stopped s t.0 t.1) t.0 t.1 t.1.repeat t.1.repeat) refl refl (lists refl refl refl refl refl refl refl))
+    (λ z. by (stopped s t.0 t.1) refl refl (assumption))
+    (λ z. by (started (stopped s t.0 t.1) t.0 t.1 t.1.repeat t.1.repeat) refl refl (assumption))
   where
     by : (u : State) → lasting u ≡ lasting s → u.names ≡ s.names → SameLists u (stopped s t.0 t.1) → Effect s (op.Again v) (ops.succeeds u)
     by u same names lists = timer_effect s u (op.Again v) v t e is k (λ word. refl) refl same names lists
@@ -198,23 +174,11 @@ again_effect s v t e is k =
 -- ---- the other ops
 
 pub none_taken : (names : Names) (o : Op) (a : Answer) → ((word : Phase) → off_by word o ≡ None) → TakesNone names o a
-none_taken names o (answer.Code code.Ok) e word = ap (ids_of names) (e word)
-none_taken names o each e word = refl
+none_taken names o a e word = grind arith
 
 -- such an op takes nobody off in any section
 abbrev pub Harmless : Op → Type 0
 Harmless o = (word : Phase) → off_by word o ≡ None
-
-pub by_word : (o : Op) → off_by phase.Pending o ≡ None → off_by phase.Idle o ≡ None → off_by phase.Prepare o ≡ None → off_by phase.Done o ≡ None →
-    off_by phase.Async o ≡ None → off_by phase.Check o ≡ None → off_by phase.Closing o ≡ None → off_by phase.Timers o ≡ None → Harmless o
-by_word o a b c d e f g h phase.Pending = a
-by_word o a b c d e f g h phase.Idle = b
-by_word o a b c d e f g h phase.Prepare = c
-by_word o a b c d e f g h phase.Done = d
-by_word o a b c d e f g h phase.Async = e
-by_word o a b c d e f g h phase.Check = f
-by_word o a b c d e f g h phase.Closing = g
-by_word o a b c d e f g h phase.Timers = h
 
 -- all but these are such
 abbrev pub takes : Op → Bool
@@ -225,11 +189,7 @@ takes (op.Close v) = true
 takes o = false
 
 pub harmless : (o : Op) → takes o ≡ false → Harmless o
-harmless (op.Start v timeout repeat) e = cc e
-harmless (op.Stop v) e = cc e
-harmless (op.Again v) e = cc e
-harmless (op.Close v) e = cc e
-harmless each e = by_word each refl refl refl refl refl refl refl refl
+harmless o e word = grind arith
 
 -- it leaves all of that as it was
 still : (s : State) (o : Op) (d : ops.Done) → takes o ≡ false → lasting d.state ≡ after_op o s → SameCalls d.state.names s.names →
@@ -243,34 +203,32 @@ simple s o d e lasts names lists = still s o d e lasts (rw names (same_calls s.n
 
 new_effect : (s : State) (v : Var) (q : Kind) (id : Id) → Effect s (op.Init v q) (record { state = ops.with_new s v q id; answer = answer.Id id })
 new_effect s v kind.Timer id = still s (op.Init v kind.Timer) _ refl refl (bound_calls s.names v.0 _ refl)
-    (lists refl refl refl refl refl refl refl)
-new_effect s v each id = still s (op.Init v each) _ refl refl (bound_calls s.names v.0 _ refl) (lists refl refl refl refl refl refl refl)
+    (assumption)
+new_effect s v each id = still s (op.Init v each) _ refl refl (bound_calls s.names v.0 _ refl) (assumption)
 
 asked_effect : (s : State) (o : Op) (a : Answer) → IsAsked o → Effect s o (ops.says s a)
 asked_effect s o a (which.due_in v) = simple s (op.DueIn v) _ refl refl refl (same_lists s)
 asked_effect s o a each = simple s o _ refl refl refl (same_lists s)
 
 lasts_refused : (s : State) (o : Op) → MayRefuse o → after_op o s ≡ lasting s
-lasts_refused s op.StopLoop may = absurd may
-lasts_refused s op.UpdateTime may = absurd may
-lasts_refused s each may = refl
+lasts_refused s o may = grind arith
 
 did_op_effect : (s : State) (o : Op) (d : ops.Done) → DidOp s o d → Kept s → Effect s o d
 did_op_effect s o d (which.refused o' c r may) k = refused_effect s o' (lasts_refused s o' may) c r
 did_op_effect s o d (which.asked o' a is) k = asked_effect s o' a is
 did_op_effect s o d (which.made v q id e) k = new_effect s v q id
 did_op_effect s o d (which.queued v task id e) k =
-    still s (op.Queue v task) _ refl refl (bound_calls s.names v.0 _ refl) (lists refl refl refl refl refl refl refl)
+    still s (op.Queue v task) _ refl refl (bound_calls s.names v.0 _ refl) (assumption)
 did_op_effect s o d (which.started v timeout repeat t e is stays) k = start_effect s v timeout repeat t e is k
 did_op_effect s o d (which.again v t e is stays) k = again_effect s v t e is k
 did_op_effect s o d (which.stopped v t e sync) k = stop_effect s v t e sync k
 did_op_effect s o d (which.closed v t e stays) k = close_effect s v t e
 did_op_effect s o d (which.watching v watcher.Idle t e is off stays) k =
-    simple s (op.StartWatcher v) _ refl refl refl (lists refl refl refl refl refl refl refl)
+    simple s (op.StartWatcher v) _ refl refl refl (assumption)
 did_op_effect s o d (which.watching v each t e is off stays) k =
-    simple s (op.StartWatcher v) _ refl refl refl (lists refl refl refl refl refl refl refl)
-did_op_effect s o d (which.referenced o' u flag t e (which.ref v)) k = simple s o _ refl refl refl (lists refl refl refl refl refl refl refl)
-did_op_effect s o d each k = simple s o d refl refl refl (lists refl refl refl refl refl refl refl)
+    simple s (op.StartWatcher v) _ refl refl refl (assumption)
+did_op_effect s o d (which.referenced o' u flag t e (which.ref v)) k = simple s o _ refl refl refl (assumption)
+did_op_effect s o d each k = simple s o d refl refl refl (assumption)
 
 pub op_effect : (s : State) (o : Op) → Kept s → Effect s o (do_op s o)
 op_effect s o k = did_op_effect s o (do_op s o) (op_did s o) k

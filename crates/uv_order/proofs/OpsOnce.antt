@@ -9,7 +9,7 @@ use Rattle.uv_records.specs.declared.lists.WatcherKind.TheVariants as watcher
 use Rattle.uv_records.specs.Handles as records
 use Rattle.uv_work.specs.declared.content.Content.TheVariants as content
 use Rattle.uv_model.specs.Ops as ops
-use Rattle.uv_order.proofs.IdLists.{same, itself, turned, still_absent, without_itself}
+use Rattle.uv_order.proofs.IdLists.{on_list, same, itself, turned, still_absent, without_itself}
 use Rattle.uv_order.proofs.Contents.{Turns}
 use Rattle.uv_order.proofs.Holding.{name_in, name_at, names_turned, same_handles, put, put_same}
 use Rattle.uv_order.proofs.OpCases as which
@@ -39,11 +39,6 @@ pub known_by : (p : Program) (past : List Seen) (o : Op) (d : ops.Done) → IsQu
 known_by p past o d q k place e = known_quiet p past (seen.Op place d.answer) d.state.arena d.state.names (quiet_op p place o d.answer e q.0)
     (idle_op p place o d.answer e q.1) k
 
--- a refused `close` closes nothing
-pub refused_close : (v : Var) (c : Code) → IsRefusal c → IsQuietOp (op.Close v) (answer.Code c) × IsIdleOp (op.Close v) (answer.Code c)
-refused_close v code.Ok no_success = absurd (no_success refl)
-refused_close v each no_success = (record { binding = λ u b. refl; closing = refl; made = λ i. refl }, λ i. (refl, refl))
-
 -- the record of a handle changes, which goes on closing or not as before
 pub changed : (p : Program) (past : List Seen) (s : State) (t : Id × HandleRecord) (x : HandleRecord) → handle s t.0 ≡ Some t.1 →
     x.closing ≡ t.1.closing → x.name ≡ t.1.name →
@@ -63,11 +58,9 @@ again_known p past s t e k = cond_both (t.1.repeat == 0) _ _ (KnownAt p past) (�
     (λ z. twice p past s t (records.stopped t.1) _ e refl refl refl refl k)
 
 -- the next taking
-pub gone_taken : (s : Slots Content) (free : List ℕ) (id : Id) (x : Content) → s.free ≡ free → AreFree s.slots free → next_id s.slots s.unused free ≡
-    Some id →
-    (i : Id) → IsGone s.slots free i → IsGone (taken_from free id x s).slots (taken_from free id x s).free i
-gone_taken s [] id x same free e i g = grind (arith, same, gone_push)
-gone_taken s (n ∷ ns) id x same free e i g = grind (arith, same_Some, gone_fill)
+pub gone_taken : (s : Slots Content) (free : List ℕ) (id : Id) (x : Content) → s.free ≡ free → AreFree s.slots free →
+    next_id s.slots s.unused free ≡ Some id → (i : Id) → IsGone s.slots free i → IsGone (taken_from free id x s).slots (taken_from free id x s).free i
+gone_taken s free id x eq are e i g = grind (arith, same, same_Some, gone_push, gone_fill)
 
 -- the id that the next taking gives isn't gone
 pub next_not_gone : (s : Slots Content) (free : List ℕ) (id : Id) → s.free ≡ free → AreFree s.slots free → next_id s.slots s.unused free ≡ Some id →
@@ -111,14 +104,12 @@ new_or_old slots more id c v i u is t e = grind arith
 -- so the lines tell it of each
 made_now : (p : Program) (past : List Seen) (place : Site) (o : Op) (slots more : List (Slot Content)) (id : Id) (c : Content) (v : Var) (i : Id)
     (u : Var) → op_at p place ≡ Some o → ((j : Id) → makes o (answer.Id id) j ≡ (if same_id id j then Some v else None)) → name_in c ≡ v →
-    Turns slots more id None (Some c) →
-    ((j : Id) (w : Var) → name_at slots j ≡ Some w → made_as p (seen.Op place (answer.Id id) ∷ past) j ≡ Some w) →
+    Turns slots more id None (Some c) → ((j : Id) (w : Var) → name_at slots j ≡ Some w → made_as p (seen.Op place (answer.Id id) ∷ past) j ≡ Some w) →
     name_at more i ≡ Some u → made_as p (seen.Op place (answer.Id id) ∷ past) i ≡ Some u
 made_now p past place o slots more id c v i u e m is t k h = grind arith
 
 pub new_known : (p : Program) (past : List Seen) (s : State) (v : Var) (q : Kind) (id : Id) → next_free s.arena ≡ Some id → Kept s →
-    KnownAt p past s →
-    KnownBy p past (op.Init v q) (record { state = ops.with_new s v q id; answer = answer.Id id })
+    KnownAt p past s → KnownBy p past (op.Init v q) (record { state = ops.with_new s v q id; answer = answer.Id id })
 new_known p past s v q id e kept k place at = by q at where
   turns : (x : Kind) → Turns s.arena.slots (taken id (content.Handle (inited v x)) s.arena).slots id None (Some (content.Handle (inited v x)))
   turns x = (fills s.arena s.arena.free id (content.Handle (inited v x)) refl kept.free e).0
@@ -179,11 +170,6 @@ queued_known p past s v task id e kept k place at =
       by true h rest = inr refl
       by false h rest = rest h
 
--- who waits, as the loop asks it and as the lines do
-pub on_list : (ids : List Id) (id : Id) → list_any (same_id id) ids ≡ true → has_id ids id ≡ true
-on_list [] id e = cc e
-on_list (x ∷ ids) id e = grind (arith, turned, on_list ids id)
-
 pub fewer : (ids : List Id) (id i : Id) → has_id (without_id ids id) i ≡ true → has_id ids i ≡ true
 fewer ids id i e = grind (arith, still_absent)
 
@@ -227,19 +213,13 @@ is_harmless (op.Close v) = false
 is_harmless o = true
 
 pub harmless : (o : Op) → is_harmless o ≡ true → Harmless o
-harmless (op.Init v q) e a = cc e
-harmless (op.Queue v task) e a = cc e
-harmless (op.Cancel v) e a = cc e
-harmless (op.Close v) e a = cc e
-harmless each e a = (record { binding = λ u b. refl; closing = refl; made = λ i. refl }, λ i. (refl, refl))
+harmless o e a = grind arith
 
 pub asked_harmless : (o : Op) → IsAsked o → is_harmless o ≡ true
-asked_harmless o (which.due_in v) = refl
-asked_harmless o each = refl
+asked_harmless o a = grind arith
 
 pub refused_harmless : (o : Op) (c : Code) → IsRefusal c → IsQuietOp o (answer.Code c) × IsIdleOp o (answer.Code c)
-refused_harmless (op.Close v) c r = refused_close v c r
-refused_harmless each c r = (record { binding = λ u b. refl; closing = refl; made = λ i. refl }, λ i. (refl, refl))
+refused_harmless o c r = grind arith
 
 cancel_op_known : (p : Program) (past : List Seen) (s : State) (v : Var) (t : Id × Request) → IsLive s v t.0 (content.Request t.1) →
     list_any (same_id t.0) s.waiting ≡ true → KnownAt p past s →
@@ -250,7 +230,7 @@ cancel_op_known p past s v t live on k place at = cancel_told p past (seen.Op pl
   finished = λ i. refl;
   over = λ i. refl;
   cancelled = λ i. rw (is_answered p place (op.Cancel v) (answer.Cancelled t.0) at) refl;
-}) (quiet_op p place (op.Cancel v) (answer.Cancelled t.0) at (record { binding = λ u b. refl; closing = refl; made = λ i. refl })) live.holds on k
+}) (quiet_op p place (op.Cancel v) (answer.Cancelled t.0) at (assumption)) live.holds on k
 
 did_op_known : (p : Program) (past : List Seen) (s : State) (o : Op) (d : ops.Done) → DidOp s o d → Kept s → KnownAt p past s → KnownBy p past o d
 did_op_known p past s o d (which.refused o' c r may) kept k = known_by p past o d (refused_harmless o' c r) k

@@ -10,12 +10,12 @@ use Rattle.uv_work.specs.declared.content.Content.TheVariants as content
 use Rattle.uv_model.specs.Ops as ops
 use Rattle.uv_model.specs.Next as step
 use Rattle.uv_model.specs.Next.{next}
-use Rattle.uv_order.proofs.IdLists.{same, other, itself, turned, without_absent, distinct_front, has_new_middle}
+use Rattle.uv_order.proofs.IdLists.{has_both, on_list, same, other, itself, turned, without_absent, distinct_front, has_new_middle}
 use Rattle.uv_order.proofs.Contents.{Turns}
 use Rattle.uv_order.proofs.OpCases.{cancel_both, make_both}
 use Rattle.uv_order.proofs.Keeping.{Kept, fills}
 use Rattle.uv_order.proofs.Asked.{request_turns, freed_turns, FrontRequest, TakesFront, RunsWork}
-use Rattle.uv_order.proofs.Works.{asked_at, AllAsk, IsOpen, HasEnded, once_middle, lets_go}
+use Rattle.uv_order.proofs.Works.{asked_at, AllAsk, IsOpen, HasEnded, once_middle, runs_now, waits_open, runs_open}
 use Rattle.uv_order.proofs.Quiet.{SameWork, IsOfHandles, IsOfLoop, op_same, KeepsWork, did_same}
 use Rattle.uv_order.proofs.Working.{Working}
 use Rattle.uv_order.proofs.Did as row
@@ -58,10 +58,6 @@ done_has s (x ∷ ids) id = ap (λ (b : Bool). same_id x id || b) (done_has s id
 off_all : (slots : List (Slot Content)) (P : Request → Type 0) (ids : List Id) (id : Id) → asked_at slots id ≡ None → AllAsk slots P ids →
     has_id ids id ≡ false
 off_all slots P ids id e k = false_from_ne_true (has_id ids id) (λ h. let a = k.each id h in none-some a.request (sym e ∙ a.holds))
-
-has_both : (xs ys : List Id) (id : Id) → has_id (xs ++ ys) id ≡ (has_id xs id || has_id ys id)
-has_both [] ys id = refl
-has_both (x ∷ xs) ys id = grind (arith, has_both xs ys id)
 
 -- it isn't in the pool
 not_in : (s : State) (id : Id) → asked_at s.arena.slots id ≡ None → Working s → has (pool_of s) id ≡ false
@@ -106,12 +102,7 @@ apart_done s t id was is turns opened k = done_same s t (s.done.yet ++ s.done.li
 -- a request is queued
 queued_pool : (s : State) (v : Var) (task : Task) (id : Id) → next_free s.arena ≡ Some id → Kept s → Working s →
     after_event (pool_of s) (event.Queue id) ≡ Some (pool_of (ops.with_queued s v task id))
-queued_pool s v task id e kept k =
-    let c = content.Request (queued v task) in
-    let t = ops.with_queued s v task id in
-    let turns : Turns s.arena.slots t.arena.slots id None (Some c) = (fills s.arena s.arena.free id c refl kept.free e).0 in
-    let new = not_in s id (ap request_in turns.before) k in
-    rw new (ap Some (equal_pools _ _ _ _ _ _ refl refl (sym (apart_done s t id None (Some c) turns (λ r f. cc f) k))))
+queued_pool s v task id e kept k = grind (arith, fills, not_in, apart_done)
 
 -- a list without its first one of an id, where none stands twice
 without_first : (ids : List Id) (id : Id) → AreDistinct ids → without ids id ≡ without_id ids id
@@ -122,9 +113,7 @@ without_first (x ∷ ids) id d = grind (arith, same, without_absent, without_fir
 last_done : (s t : State) (id : Id) (b : Bool) → done_as t id ≡ record { id = id; finished = b } →
     map (done_as t) (s.done.yet ++ s.done.list) ≡ map (done_as s) (s.done.yet ++ s.done.list) →
     map (done_as t) (s.done.yet ++ (s.done.list ++ id ∷ [])) ≡ map (done_as s) (s.done.yet ++ s.done.list) ++ record { id = id; finished = b } ∷ []
-last_done s t id b e f =
-    ap (map (done_as t)) (sym (append_assoc s.done.yet s.done.list (id ∷ []))) ∙ map-append (done_as t) (s.done.yet ++ s.done.list) (id ∷ [])
-    ∙ ap (λ (ds : List Ended). ds ++ done_as t id ∷ []) f ∙ ap (λ (d : Ended). map (done_as s) (s.done.yet ++ s.done.list) ++ d ∷ []) e
+last_done s t id b e f = grind (arith, append_assoc, map-append)
 
 its_outcome : (s t : State) (id : Id) (r x : Request) → Turns s.arena.slots t.arena.slots id (Some (content.Request r)) (Some (content.Request x)) →
     done_as t id ≡ record { id = id; finished = was_finished (Some x) }
@@ -137,24 +126,14 @@ cancelled_pool s t e on k =
     let x : Request = record t.1 { outcome = Cancelled } in
     let u = ops.cancelled s t.0 t.1 in
     let turns = request_turns s.arena.slots t.0 t.1 x e in
-    let here : has_id s.waiting t.0 ≡ true = listed s.waiting on in
-    let asked = k.open_ones.each t.0 (has_both s.waiting (run_ids s.running) t.0 ∙ rw here refl) in
-    let opened : is_open t.1.outcome ≡ true = ap (λ (r : Request). is_open r.outcome) (same_Some _ _ (sym (ap request_in e) ∙ asked.holds))
-    ∙ asked.fits in
+    let here : has_id s.waiting t.0 ≡ true = on_list s.waiting t.0 on in
+    let opened = waits_open s.arena.slots s.waiting s.running s.done t.0 t.1 e here k in
     let apart = apart_done s u t.0 (Some (content.Request t.1)) (Some (content.Request x)) turns
     (λ r f. ap (λ (y : Request). is_open y.outcome) (sym (same_Some _ _ f)) ∙ opened) k in
     let distinct = distinct_front s.waiting (run_ids s.running) k.open_ones.distinct in
     rw (waits_has s.waiting t.0, here)
     (ap Some (equal_pools _ _ _ _ _ _ (without_first s.waiting t.0 distinct) refl (sym (last_done s u t.0 false
     (its_outcome s u t.0 t.1 x turns) apart))))
-  where
-    listed : (ids : List Id) → list_any (same_id t.0) ids ≡ true → has_id ids t.0 ≡ true
-    listed [] h = cc h
-    listed (y ∷ ids) h = at (same_id t.0 y) refl h (listed ids) where
-      at : (b : Bool) → same_id t.0 y ≡ b → (b || list_any (same_id t.0) ids) ≡ true → (list_any (same_id t.0) ids ≡ true → has_id ids t.0 ≡ true) →
-          (same_id y t.0 || has_id ids t.0) ≡ true
-      at true g h rest = rw (turned y t.0, g) refl
-      at false g h rest = rw (turned y t.0, g) (rest h)
 
 -- a worker finishes the one that it runs
 finished_pool : (s : State) (n : ℕ) (t : Id × Request) → RunsWork s n t → Working s → after_event (pool_of s) (event.Finish n t.0)
@@ -163,11 +142,7 @@ finished_pool s n t f k =
     let x : Request = record t.1 { outcome = Finished (digest_of t.1.task.rounds (text_of t.1.task)) } in
     let u = ops.ended (record s { running = slice_set s.running n None }) t.0 t.1 (Finished (digest_of t.1.task.rounds (text_of t.1.task))) in
     let turns = request_turns s.arena.slots t.0 t.1 x f.holds in
-    let g = lets_go s.running n t.0 f.busy in
-    let on : has_id (run_ids s.running) t.0 ≡ true = ap (λ (ids : List Id). has_id ids t.0) g.were ∙ has_new_middle g.front g.behind t.0 in
-    let asked = k.open_ones.each t.0 (has_both s.waiting (run_ids s.running) t.0 ∙ rw on (or-true (has_id s.waiting t.0))) in
-    let opened : is_open t.1.outcome ≡ true =
-    ap (λ (r : Request). is_open r.outcome) (same_Some _ _ (sym (ap request_in f.holds) ∙ asked.holds)) ∙ asked.fits in
+    let opened = runs_open s.arena.slots s.waiting s.running s.done t.0 t.1 f.holds (runs_now s.running n t.0 f.busy) k in
     let apart = apart_done s u t.0 (Some (content.Request t.1)) (Some (content.Request x)) turns
     (λ r h. ap (λ (y : Request). is_open y.outcome) (sym (same_Some _ _ h)) ∙ opened) k in
     rw f.busy (rw (itself t.0 t.0 refl)

@@ -44,8 +44,7 @@ changed : (s : State) (t : Id × HandleRecord) (x : HandleRecord) → handle s t
 changed s t x e = by_slots s (put s.arena.slots t.0 x) (same_put s.arena.slots t.0 t.1 x e)
 
 -- it changes twice
-twice : (s : State) (t : Id × HandleRecord) (x y : HandleRecord) → handle s t.0 ≡ Some t.1 →
-    SameSlots s (put (put s.arena.slots t.0 x) t.0 y)
+twice : (s : State) (t : Id × HandleRecord) (x y : HandleRecord) → handle s t.0 ≡ Some t.1 → SameSlots s (put (put s.arena.slots t.0 x) t.0 y)
 twice s t x y e =
     let slots = put s.arena.slots t.0 x in
     by_slots s (put slots t.0 y)

@@ -11,7 +11,7 @@ use Rattle.uv_work.specs.declared.content.Content.TheVariants as content
 use Rattle.uv_model.specs.Ops as ops
 use Rattle.uv_order.proofs.IdLists.{Each, each_back, same, other, itself, turned, left_of, without_itself, has_without, without_absent, still_there}
 use Rattle.uv_order.proofs.Contents.{emptied}
-use Rattle.uv_order.proofs.Holding.{SameHandles, same_handles, held_at, put, put_same, put_other, emptied_same, emptied_other, Fits, its_handle, Grown, Everyone}
+use Rattle.uv_order.proofs.Holding.{grown_at, put_at, SameHandles, same_handles, held_at, put, put_same, put_other, emptied_same, emptied_other, Fits, its_handle, Grown, Everyone}
 use Rattle.uv_order.proofs.OpCases as which
 use Rattle.uv_order.proofs.OpCases.{DidOp, IsAsked, IsRef, op_did, names_at, live_held, IsRefusal, refuses_none, refuses_timer, refuses_start, refuses_start_watcher, refuses_stop, refuses_again, refuses_close, send_passes, on_handle_both, send_both, cancel_both, make_both}
 use Rattle.uv_order.proofs.Asked.{FrontRequest, request_turns, freed_turns}
@@ -48,10 +48,7 @@ pends_there slots id i h x e d = ap pends_in (put_other slots id i h x e (other 
 -- a handle that is pending now lets whoever was pending be so
 pub pends_more : (slots : List (Slot Content)) (id : Id) (h x : HandleRecord) → held_at slots id ≡ Some h → x.pending ≡ true → (i : Id) →
     pends slots i ≡ true → pends (put slots id x) i ≡ true
-pends_more slots id h x e p i on = at (same_id i id) refl where
-  at : (b : Bool) → same_id i id ≡ b → pends (put slots id x) i ≡ true
-  at true s = ap (pends (put slots id x)) (same i id s) ∙ pends_here slots id h x e ∙ p
-  at false s = pends_there slots id i h x e s ∙ on
+pends_more slots id h x e p i on = grind (arith, same, other, put_same, put_other)
 
 -- a pending handle after a change, where the changed one is such a handle if it is pending
 each_put : (sent : List Id) (slots : List (Slot Content)) (id : Id) (h x : HandleRecord) → held_at slots id ≡ Some h →
@@ -62,43 +59,17 @@ each_put sent slots id h x e f k i y l on = grind (arith, same, other, put_same,
 -- a handle is changed that is pending as before
 pub sent_put : (sent : List Id) (slots : List (Slot Content)) (id : Id) (h x : HandleRecord) → held_at slots id ≡ Some h → x.pending ≡ h.pending →
     x.kind ≡ h.kind → x.closing ≡ h.closing → Sent sent slots → Sent sent (put slots id x)
-sent_put sent slots id h x e p q o k = record {
-  are = λ i. are i (same_id i id) refl;
-  each = each_put sent slots id h x e (λ on. let was = k.each id h e (sym p ∙ on) in (q ∙ was.0, o ∙ was.1)) k;
-} where
-  are : (i : Id) (b : Bool) → same_id i id ≡ b → has_id sent i ≡ pends (put slots id x) i
-  are i true s =
-      let is = same i id s in
-      k.are i ∙ ap (pends slots) is ∙ ap pends_in e ∙ sym p ∙ sym (pends_here slots id h x e) ∙ ap (pends (put slots id x)) (sym is)
-  are i false s = k.are i ∙ sym (pends_there slots id i h x e s)
+sent_put sent slots id h x e p q o k = grind (arith, same, other, put_same, put_other)
 
 -- one is sent to
 pub sent_more : (sent : List Id) (slots : List (Slot Content)) (id : Id) (h x : HandleRecord) → held_at slots id ≡ Some h → x.pending ≡ true →
     x.kind ≡ kind.Async → x.closing ≡ false → Sent sent slots → Sent (id ∷ sent) (put slots id x)
-sent_more sent slots id h x e p q o k = record {
-  are = λ i. are i (same_id i id) refl;
-  each = each_put sent slots id h x e (λ on. (q, o)) k;
-} where
-  are : (i : Id) (b : Bool) → same_id i id ≡ b → (same_id id i || has_id sent i) ≡ pends (put slots id x) i
-  are i true s =
-      let is = same i id s in
-      rw (itself id i (sym is)) (sym (ap (pends (put slots id x)) is ∙ pends_here slots id h x e ∙ p))
-  are i false s = rw (not_itself i s) (k.are i ∙ sym (pends_there slots id i h x e s)) where
-    not_itself : (j : Id) → same_id j id ≡ false → same_id id j ≡ false
-    not_itself j d = false_from_ne_true (same_id id j) (λ f. other j id d (sym (same id j f)))
+sent_more sent slots id h x e p q o k = grind (arith, same, itself, turned, pends_here, pends_there, each_put)
 
 -- one isn't pending any more
 pub sent_clear : (sent : List Id) (slots : List (Slot Content)) (id : Id) (h x : HandleRecord) → held_at slots id ≡ Some h → x.pending ≡ false →
     Sent sent slots → Sent (without_id sent id) (put slots id x)
-sent_clear sent slots id h x e p k = record {
-  are = λ i. are i (same_id i id) refl;
-  each = each_put sent slots id h x e (λ on. absurd (both_ways x.pending p on)) k;
-} where
-  are : (i : Id) (b : Bool) → same_id i id ≡ b → has_id (without_id sent id) i ≡ pends (put slots id x) i
-  are i true s =
-      let is = same i id s in
-      ap (has_id (without_id sent id)) is ∙ without_itself sent id ∙ sym (ap (pends (put slots id x)) is ∙ pends_here slots id h x e ∙ p)
-  are i false s = has_without sent id i s ∙ k.are i ∙ sym (pends_there slots id i h x e s)
+sent_clear sent slots id h x e p k = grind (arith, same, without_itself, has_without, pends_here, pends_there, each_put)
 
 -- one that isn't pending is called
 pub sent_none : (sent : List Id) (slots : List (Slot Content)) (id : Id) (h : HandleRecord) → held_at slots id ≡ Some h → h.pending ≡ false →
@@ -108,19 +79,7 @@ sent_none sent slots id h e p k = grind (arith, without_absent)
 -- a new handle isn't pending
 pub sent_new : (sent : List Id) (slots more : List (Slot Content)) (id : Id) (x : HandleRecord) → Grown slots more id x → x.pending ≡ false →
     Sent sent slots → Sent (without_id sent id) more
-sent_new sent slots more id x g p k = record { are = λ i. are i (same_id i id) refl; each = λ i y l on. each i y l on (same_id i id) refl } where
-  are : (i : Id) (b : Bool) → same_id i id ≡ b → has_id (without_id sent id) i ≡ pends more i
-  are i true s =
-      let is = same i id s in
-      ap (has_id (without_id sent id)) is ∙ without_itself sent id ∙ sym (ap (pends more) is ∙ ap pends_in g.here ∙ p)
-  are i false s = has_without sent id i s ∙ k.are i ∙ sym (ap pends_in (g.others i (other i id s)))
-
-  each : (i : Id) (y : HandleRecord) → held_at more i ≡ Some y → y.pending ≡ true → (b : Bool) → same_id i id ≡ b →
-      (y.kind ≡ kind.Async) × (y.closing ≡ false)
-  each i y l on true s =
-      let is : x ≡ y = same_Some _ _ (sym g.here ∙ ap (held_at more) (sym (same i id s)) ∙ l) in
-      absurd (both_ways x.pending p (ap (λ (z : HandleRecord). z.pending) is ∙ on))
-  each i y l on false s = k.each i y (sym (g.others i (other i id s)) ∙ l) on
+sent_new sent slots more id x g p k = grind (arith, same, without_itself, has_without, grown_at g)
 
 -- no handle changes
 pub sent_same : (sent : List Id) (slots more : List (Slot Content)) → SameHandles more slots → Sent sent slots → Sent sent more
@@ -139,14 +98,10 @@ SentBy s sent o d = SentAt (sent_by o d.answer (names_at s) sent) d.state
 
 -- a refused op sends to nobody, and closes nobody
 refused_sent : (s : State) (sent : List Id) (o : Op) (c : Code) → IsRefusal c → sent_by o (answer.Code c) (names_at s) sent ≡ sent
-refused_sent s sent (op.Init v q) code.Ok no_success = refl
-refused_sent s sent (op.Send v) code.Ok no_success = absurd (no_success refl)
-refused_sent s sent (op.Close v) code.Ok no_success = absurd (no_success refl)
-refused_sent s sent each c no_success = refl
+refused_sent s sent o c no_success = grind arith
 
 asked_sent : (s : State) (sent : List Id) (o : Op) (a : Answer) → IsAsked o → sent_by o a (names_at s) sent ≡ sent
-asked_sent s sent o a (which.due_in v) = refl
-asked_sent s sent o a each = refl
+asked_sent s sent o a is = grind arith
 
 changed : (s : State) (sent : List Id) (t : Id × HandleRecord) (x : HandleRecord) → handle s t.0 ≡ Some t.1 → x.pending ≡ t.1.pending →
     x.kind ≡ t.1.kind → x.closing ≡ t.1.closing → SentAt sent s → Sent sent (put s.arena.slots t.0 x)

@@ -27,8 +27,7 @@ legal_after p es x h = (
 )
 
 -- a request that is open is held
-open_held : (s : State) (id : Id) → Working s → has_id (s.waiting ++ run_ids s.running) id ≡ true →
-    (r : Request) × (request s id ≡ Some r)
+open_held : (s : State) (id : Id) → Working s → has_id (s.waiting ++ run_ids s.running) id ≡ true → (r : Request) × (request s id ≡ Some r)
 open_held s id k h = let a = k.open_ones.each id h in (a.request, a.holds)
 
 -- ---- take

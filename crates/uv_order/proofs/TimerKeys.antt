@@ -11,23 +11,11 @@ due_of at start = record { at = at; start = start }
 says : (x y : ℕ) → MatchOrdering (nat_cmp x y) (x < y) (x ≡ y) (y < x)
 says x y = ranked x y (nat_cmp x y) refl
 
-equal_number : (x y : ℕ) (r : Ordering) → MatchOrdering r (x < y) (x ≡ y) (y < x) → r ≡ Equal → x ≡ y
-equal_number x y Less h e = cc e
-equal_number x y Equal h e = h
-equal_number x y Greater h e = cc e
-
-equal_parts : (r q : Ordering) → ordering_then r q ≡ Equal → (r ≡ Equal) × (q ≡ Equal)
-equal_parts Less q e = cc e
-equal_parts Equal q e = (refl, e)
-equal_parts Greater q e = cc e
-
 pub equal_key : (a b : Due) → due_cmp a b ≡ Equal → a ≡ b
 equal_key a b e = grind arith
 
 is_equal : (o : Ordering) → is_eq o ≡ true → o ≡ Equal
-is_equal Less e = cc e
-is_equal Equal e = refl
-is_equal Greater e = cc e
+is_equal o e = grind arith
 
 pub key_at : (a b : Due) → is_at (due_cmp a) b ≡ true → a ≡ b
 key_at a b e = equal_key a b (is_equal (due_cmp a b) e)
@@ -39,18 +27,14 @@ pub not_before_itself : (a b : Due) → a ≡ b → due_cmp a b ≡ Less → ⊥
 not_before_itself a b e l = grind arith
 
 at_most : (x y : ℕ) (r q : Ordering) → MatchOrdering r (x < y) (x ≡ y) (y < x) → ordering_then r q ≡ Less → x ≤ y
-at_most x y Less q h e = omega arith
-at_most x y Equal q h e = omega arith
-at_most x y Greater q h e = cc e
+at_most x y r q h e = grind arith
 
 -- whoever comes later isn't due sooner
 no_sooner : (a b : Due) → due_cmp a b ≡ Less → a.at ≤ b.at
 no_sooner a b e = at_most a.at b.at (nat_cmp a.at b.at) _ (says a.at b.at) e
 
 turned : (o : Ordering) → ordering_reverse o ≡ Greater → o ≡ Less
-turned Less e = refl
-turned Equal e = cc e
-turned Greater e = cc e
+turned o e = grind arith
 
 less_turned : (a b : Due) → due_cmp a b ≡ Greater → due_cmp b a ≡ Less
 less_turned a b e = turned (due_cmp b a) (sym (due_cmp_total.antisymm a b) ∙ e)
@@ -59,8 +43,7 @@ less_turned a b e = turned (due_cmp b a) (sym (due_cmp_total.antisymm a b) ∙ e
 
 pub before_each : (ts : List (Due × Id)) (a b : Due) (id : Id) → Before a ts → Has ts b id → due_cmp a b ≡ Less
 before_each [] a b id h k = absurd k
-before_each (t ∷ ts) a b id h (inl is) = subst (λ (x : Due). due_cmp a x ≡ Less) is.0 h.0
-before_each (t ∷ ts) a b id h (inr later) = before_each ts a b id h.1 later
+before_each (t ∷ ts) a b id h k = grind (arith, before_each ts a b id h.1)
 
 before_more : (ts : List (Due × Id)) (a b : Due) → due_cmp a b ≡ Less → Before b ts → Before a ts
 before_more [] a b l h = tt
@@ -78,24 +61,11 @@ one_id (t ∷ ts) key i j s (inr a) (inr b) = one_id ts key i j s.1 a b
 
 pub still_has : (ts : List (Due × Id)) (key other : Due) (id : Id) → Has ts other id → (other ≡ key → ⊥) → Has (without_timer ts key) other id
 still_has [] key other id h d = absurd h
-still_has (t ∷ ts) key other id h d = at (is_at (due_cmp key) t.0) refl h (λ k. still_has ts key other id k d) where
-  at : (b : Bool) → is_at (due_cmp key) t.0 ≡ b → Has (t ∷ ts) other id → (Has ts other id → Has (without_timer ts key) other id) →
-      Has (cond b ts (t ∷ without_timer ts key)) other id
-  at true e (inl is) later = absurd (d (sym is.0 ∙ sym (key_at key t.0 e)))
-  at true e (inr rest) later = rest
-  at false e (inl is) later = inl is
-  at false e (inr rest) later = inr (later rest)
+still_has (t ∷ ts) key other id h d = grind (arith, key_at, still_has ts key other id)
 
 pub had : (ts : List (Due × Id)) (key other : Due) (id : Id) → InOrder ts → Has (without_timer ts key) other id → Has ts other id × (other ≡ key → ⊥)
 had [] key other id s h = absurd h
-had (t ∷ ts) key other id s h = at (is_at (due_cmp key) t.0) refl h (λ k. had ts key other id s.1 k) where
-  at : (b : Bool) → is_at (due_cmp key) t.0 ≡ b → Has (cond b ts (t ∷ without_timer ts key)) other id →
-      (Has (without_timer ts key) other id → Has ts other id × (other ≡ key → ⊥)) → Has (t ∷ ts) other id × (other ≡ key → ⊥)
-  at true e k later = (inr k, λ f. not_before_itself t.0 other (sym (key_at key t.0 e) ∙ sym f) (before_each ts t.0 other id s.0 k))
-  at false e (inl is) later = (inl is, λ f. both_ways e (key_itself key t.0 (sym f ∙ sym is.0))) where
-    both_ways : is_at (due_cmp key) t.0 ≡ false → is_at (due_cmp key) t.0 ≡ true → ⊥
-    both_ways a b = cc (a, b)
-  at false e (inr rest) later = let l = later rest in (inr l.0, l.1)
+had (t ∷ ts) key other id s h = grind (arith, key_at, key_itself, not_before_itself, before_each, had ts key other id s.1)
 
 before_without : (ts : List (Due × Id)) (a key : Due) → Before a ts → Before a (without_timer ts key)
 before_without [] a key h = tt
@@ -103,10 +73,7 @@ before_without (t ∷ ts) a key h = grind (arith, before_without ts a key h.1)
 
 pub in_order_without : (ts : List (Due × Id)) (key : Due) → InOrder ts → InOrder (without_timer ts key)
 in_order_without [] key s = tt
-in_order_without (t ∷ ts) key s = at (is_at (due_cmp key) t.0) (in_order_without ts key s.1) where
-  at : (b : Bool) → InOrder (without_timer ts key) → InOrder (cond b ts (t ∷ without_timer ts key))
-  at true rest = s.1
-  at false rest = (before_without ts t.0 key s.0, rest)
+in_order_without (t ∷ ts) key s = grind (arith, before_without, in_order_without ts key s.1)
 
 -- ---- one is put in
 
@@ -121,26 +88,12 @@ has_new (t ∷ ts) key id n = grind (arith, has_new ts key id n.1)
 
 pub has_old : (ts : List (Due × Id)) (key other : Due) (id i : Id) → IsNew key ts → Has ts other i → Has (with_timer ts key id) other i
 has_old [] key other id i n h = absurd h
-has_old (t ∷ ts) key other id i n h = at (due_cmp key t.0) n.0 h (λ k. has_old ts key other id i n.1 k) where
-  at : (o : Ordering) → is_eq o ≡ false → Has (t ∷ ts) other i → (Has ts other i → Has (with_timer ts key id) other i) →
-      Has (match_ordering o ((key, id) ∷ t ∷ ts) ((t.0, id) ∷ ts) (t ∷ with_timer ts key id)) other i
-  at Less e k later = inr k
-  at Equal e k later = cc e
-  at Greater e (inl is) later = inl is
-  at Greater e (inr rest) later = inr (later rest)
+has_old (t ∷ ts) key other id i n h = grind (arith, has_old ts key other id i n.1)
 
 pub new_or_old : (ts : List (Due × Id)) (key other : Due) (id i : Id) → IsNew key ts → Has (with_timer ts key id) other i →
     ((key ≡ other) × (id ≡ i)) ⊎ Has ts other i
-new_or_old [] key other id i n (inl is) = inl is
-new_or_old [] key other id i n (inr none) = absurd none
-new_or_old (t ∷ ts) key other id i n h = at (due_cmp key t.0) n.0 h (λ k. new_or_old ts key other id i n.1 k) where
-  at : (o : Ordering) → is_eq o ≡ false → Has (match_ordering o ((key, id) ∷ t ∷ ts) ((t.0, id) ∷ ts) (t ∷ with_timer ts key id)) other i →
-      (Has (with_timer ts key id) other i → ((key ≡ other) × (id ≡ i)) ⊎ Has ts other i) → ((key ≡ other) × (id ≡ i)) ⊎ Has (t ∷ ts) other i
-  at Less e (inl is) later = inl is
-  at Less e (inr rest) later = inr rest
-  at Equal e k later = cc e
-  at Greater e (inl is) later = inr (inl is)
-  at Greater e (inr rest) later = elim (later rest) [ inl new ↦ inl new | inr old ↦ inr (inr old) ]
+new_or_old [] key other id i n h = grind arith
+new_or_old (t ∷ ts) key other id i n h = grind (arith, new_or_old ts key other id i n.1)
 
 before_with : (ts : List (Due × Id)) (a key : Due) (id : Id) → Before a ts → due_cmp a key ≡ Less → Before a (with_timer ts key id)
 before_with [] a key id h l = (l, tt)
@@ -148,25 +101,12 @@ before_with (t ∷ ts) a key id h l = grind (arith, before_with ts a key id h.1 
 
 pub in_order_with : (ts : List (Due × Id)) (key : Due) (id : Id) → InOrder ts → InOrder (with_timer ts key id)
 in_order_with [] key id s = (tt, tt)
-in_order_with (t ∷ ts) key id s = at (due_cmp key t.0) refl (in_order_with ts key id s.1) where
-  at : (o : Ordering) → due_cmp key t.0 ≡ o → InOrder (with_timer ts key id) →
-      InOrder (match_ordering o ((key, id) ∷ t ∷ ts) ((t.0, id) ∷ ts) (t ∷ with_timer ts key id))
-  at Less e rest = ((e, before_more ts key t.0 e s.0), s)
-  at Equal e rest = s
-  at Greater e rest = (before_with ts t.0 key id s.0 (less_turned key t.0 e), rest)
+in_order_with (t ∷ ts) key id s = grind (arith, before_more, before_with, less_turned, in_order_with ts key id s.1)
 
 -- a key whose start number was not yet drawn is new
 pub is_new : (ts : List (Due × Id)) (key : Due) → ((other : Due) (id : Id) → Has ts other id → other.start < key.start) → IsNew key ts
 is_new [] key h = tt
-is_new (t ∷ ts) key h = (
-  turned_other (due_cmp t.0 key) (another t.0 key (h t.0 t.1 (inl (refl, refl))))
-      (due_cmp_total.antisymm key t.0),
-  is_new ts key (λ other id k. h other id (inr k)),
-) where
-  turned_other : (o : Ordering) → is_eq o ≡ false → due_cmp key t.0 ≡ ordering_reverse o → is_eq (due_cmp key t.0) ≡ false
-  turned_other Less e f = ap is_eq f
-  turned_other Equal e f = cc e
-  turned_other Greater e f = ap is_eq f
+is_new (t ∷ ts) key h = (grind (arith, equal_key, h t.0 t.1), is_new ts key (λ other id k. h other id (inr k)))
 
 -- ---- those that are due
 
@@ -188,13 +128,7 @@ none_due time t ts s e = rw e (none_later time ts t.0 e s.0)
 -- where one id has one key, no id is due twice
 due_has : (time : ℕ) (ts : List (Due × Id)) (id : Id) → ((key : Due) → Has ts key id → ⊥) → has_id (due_ids time ts) id ≡ false
 due_has time [] id h = refl
-due_has time (t ∷ ts) id h = at (nat_le t.0.at time) (due_has time ts id (λ key k. h key (inr k))) (same_id t.1 id) refl where
-  at : (b : Bool) → has_id (due_ids time ts) id ≡ false → (c : Bool) → same_id t.1 id ≡ c →
-      has_id (map (λ (u : Due × Id). u.1) (cond b (t ∷ filter (λ (u : Due × Id). nat_le u.0.at time) ts)
-      (filter (λ (u : Due × Id). nat_le u.0.at time) ts))) id ≡ false
-  at true rest true e = absurd (h t.0 (inl (refl, same t.1 id e)))
-  at true rest false e = rw (e, rest) refl
-  at false rest c e = rest
+due_has time (t ∷ ts) id h = grind (arith, same, h t.0, due_has time ts id (λ key k. h key (inr k)))
 
 pub distinct_due : (time : ℕ) (ts : List (Due × Id)) → InOrder ts → ((a b : Due) (id : Id) → Has ts a id → Has ts b id → a ≡ b) →
     AreDistinct (due_ids time ts)

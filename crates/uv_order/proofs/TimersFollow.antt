@@ -1,5 +1,5 @@
 -- The timers of the entry and of an iteration, and callbacks: each step goes on from where the state stands.
-use Rattle.uv_order.proofs.Names.{◌≡◌, inl, ℕ, ◌+◌, ◌==◌, List, [], ◌∷◌, ◌++◌, Bool, true, false, drop, Option, Some, None, nat_le, refl, ap, sym, ◌∙◌, append_assoc, append-nil, if◌then◌else◌, cond_both, Id, Var, Due, Callback, Program, order_of, HandleRecord, Named, Run, TimersOf, Turn, Behind, Way, ToTimers, ToPending, ToEnd, Collecting, Firing, State, handle, with_id, front, named, with_named, counted, count_of, started, restarted, is_alive, Next, Moves, Refuses, goes, is_default, call, calls, first_due, collected, front_moved, may_leave, body_from, lives, has_id, Told, nothing_told, told_of, told_by, Lasting, lasting, at_first, Section, Entry, In, word_of, part_after, part_of, Opens, IsOver, CallsNext, MayCall, is_called, callback_in, IsCallLine, Standing, Begun, Within, Polling, MayLeave, PollsFor, Position, Between, Running, Goes, GoesOn, cut, line, Documented, body_of, next_call, taken_off, found_both}
+use Rattle.uv_order.proofs.Names.{arith, ◌≡◌, inl, ℕ, ◌+◌, ◌==◌, List, [], ◌∷◌, ◌++◌, Bool, true, false, drop, Option, Some, None, nat_le, refl, ap, sym, ◌∙◌, append_assoc, append-nil, if◌then◌else◌, cond_both, Id, Var, Due, Callback, Program, order_of, HandleRecord, Named, Run, TimersOf, Turn, Behind, Way, ToTimers, ToPending, ToEnd, Collecting, Firing, State, handle, with_id, front, named, with_named, counted, count_of, started, restarted, is_alive, Next, Moves, Refuses, goes, is_default, call, calls, first_due, collected, front_moved, may_leave, body_from, lives, has_id, Told, nothing_told, told_of, told_by, Lasting, lasting, at_first, Section, Entry, In, word_of, part_after, part_of, Opens, IsOver, CallsNext, MayCall, is_called, callback_in, IsCallLine, Standing, Begun, Within, Polling, MayLeave, PollsFor, Position, Between, Running, Goes, GoesOn, cut, line, Documented, body_of, next_call, taken_off, found_both}
 use Rattle.std.specs.Prelude.{option_map}
 use Rattle.uv_ids.specs.declared.phase.Phase.TheVariants as phase
 use Rattle.uv_ids.specs.declared.seen.Seen.TheVariants as seen
@@ -11,7 +11,7 @@ use Rattle.uv_model.specs.Next as step
 use Rattle.uv_model.specs.Next.{next}
 use Rattle.uv_order.specs.Documented as doc
 use Rattle.uv_order.specs.Documented.{Walk}
-use Rattle.uv_order.proofs.IdLists.{left_of, none_off, all_off, first_left}
+use Rattle.uv_order.proofs.IdLists.{left_of, none_off, all_off, FirstLeft, first_left}
 use Rattle.uv_order.proofs.TimerKeys.{due_ids, none_due}
 use Rattle.uv_order.proofs.Holding.{is_held, name_in, name_at, Fits, IsSet, Times}
 use Rattle.uv_order.proofs.Keeping.{Kept, Rests}
@@ -28,23 +28,11 @@ pub named_of : (s : State) (t : Id × HandleRecord) → handle s t.0 ≡ Some t.
 named_of s t e = ap (option_map name_in) (is_held s.arena.slots t.0 t.1 e)
 
 -- the walk with the first that is left called
-pub record NextCall (w : Walk) (id : Id) (more : List Id) : Type 0 where
-  pub behind : List Id
-  pub passed : List Id
-  pub list : w.ahead ≡ passed ++ id ∷ behind
-  pub off : doc.AllOff w.off passed
-  pub on : has_id w.off id ≡ false
-  pub left : more ≡ left_of behind w.off
+abbrev pub NextCall : Walk → Id → List Id → Type 0
+NextCall w id more = FirstLeft w.ahead w.off id more
 
 pub next_of : (w : Walk) (id : Id) (more : List Id) → left_of w.ahead w.off ≡ id ∷ more → NextCall w id more
-next_of w id more e = let f = first_left w.ahead w.off id more e in record {
-  behind = f.behind;
-  passed = f.passed;
-  list = f.list;
-  off = f.off;
-  on = f.on;
-  left = f.rest;
-}
+next_of w id more e = first_left w.ahead w.off id more e
 
 -- the names after a call
 abbrev pub called_names : State → Callback → Var → List Named
@@ -56,9 +44,7 @@ call_counted p told s kind v id c = counted_call p s.names told kind v id (recor
 
 pub its_body : (p : Program) (told : Told) (s : State) (kind : Callback) (v : Var) → Counted p s.names told →
     IsBody p (body_from p kind v (count_of kind (counted kind (named s v).calls)) 0) (body_of p kind v (next_call told kind v))
-its_body p told s callback.Handle v c = next_body p s.names told callback.Handle v ((named s v).calls.handle + 1) refl c
-its_body p told s callback.After v c = next_body p s.names told callback.After v ((named s v).calls.after + 1) refl c
-its_body p told s callback.Close v c = next_body p s.names told callback.Close v ((named s v).calls.close + 1) refl c
+its_body p told s kind v c = grind (arith, next_body)
 
 -- the walk with a member called
 abbrev pub called : Program → Told → Callback → Walk → List Id → Var → Walk
@@ -73,9 +59,8 @@ begun_call p u r v = record (with_named u v (record (named u v) { calls = counte
 -- the callback of a handle begins in a section, in a state that may have changed
 pub call_follows : (p : Program) (told : Told) (s u : State) (run r : Run) (part : Section) (w : Walk) (t : Id × HandleRecord) (behind : List Id) →
     callback_in (word_of part) ≡ callback.Handle → CallsNext (word_of part) told w t.0 behind → handle s t.0 ≡ Some t.1 → u.names ≡ s.names →
-    lasting u ≡ lasting s → Counted p s.names told →
-    (IsBody p (body_from p callback.Handle t.1.name (count_of callback.Handle (counted callback.Handle (named u t.1.name).calls)) 0)
-    (called p told callback.Handle w behind t.1.name).body →
+    lasting u ≡ lasting s → Counted p s.names told → (IsBody p (body_from p callback.Handle t.1.name
+    (count_of callback.Handle (counted callback.Handle (named u t.1.name).calls)) 0) (called p told callback.Handle w behind t.1.name).body →
     StandsAt p (begun_call p u r t.1.name) (begun_call p u r t.1.name).place
     (Running run.mode run.line (Within part (called p told callback.Handle w behind t.1.name)))) →
     Follows p told (Running run.mode run.line (Within part w)) s (call p u r t.0 t.1.name)
@@ -101,28 +86,12 @@ pub record OnlyReady (r : Rest) (w : Walk) : Type 0 where
   pub done : r.done ≡ []
 
 pub timers_left : (part : TimersOf) (r : Rest) (w : Walk) → OnlyReady r w → Leaves r (Within (section_of part) w)
-timers_left timers_of.Entry r w o = (left_all o.ready o.idle o.prepare o.check o.async o.closing o.done)
-timers_left timers_of.Iteration r w o = (left_all o.ready o.idle o.prepare o.check o.async o.closing o.done)
+timers_left timers_of.Entry r w o = assumption
+timers_left timers_of.Iteration r w o = assumption
 
 pub left_timers : (part : TimersOf) (r : Rest) (w : Walk) → Leaves r (Within (section_of part) w) → OnlyReady r w
-left_timers timers_of.Entry r w l = record {
-  ready = l.timers;
-  idle = l.idle;
-  prepare = l.prepare;
-  check = l.check;
-  async = l.async;
-  closing = l.closing;
-  done = l.done;
-}
-left_timers timers_of.Iteration r w l = record {
-  ready = l.timers;
-  idle = l.idle;
-  prepare = l.prepare;
-  check = l.check;
-  async = l.async;
-  closing = l.closing;
-  done = l.done;
-}
+left_timers timers_of.Entry r w l = assumption
+left_timers timers_of.Iteration r w l = assumption
 
 -- ---- turns
 
@@ -161,15 +130,8 @@ turn_follows p told s run turn at alive is over k c e =
 
     stands : (part : TimersOf) → Stands p told (begun part) (Running run.mode run.line (Within (section_of part) (begun_with (due part))))
     stands part = record {
-      stands = running (collects refl) (timers_left part _ _ (record {
-        ready = ap (λ (ids : List Id). ids ++ due part) e.timers ∙ sym (none_off (due part));
-        idle = e.idle;
-        prepare = e.prepare;
-        check = e.check;
-        async = e.async;
-        closing = e.closing;
-        done = e.done;
-      }));
+      stands = running (collects refl) (timers_left part _ _
+          (assumption (ap (λ (ids : List Id). ids ++ due part) e.timers ∙ sym (none_off (due part)), e)));
       counted = c;
     }
 
@@ -211,49 +173,23 @@ timers_over timers_of.Iteration w b o = record { done = b; may_pass = o }
 
 pub timers_call : (part : TimersOf) (told : Told) (w : Walk) (id : Id) (more : List Id) (n : NextCall w id more) → w.body ≡ [] → CallsNext (word_of
     (section_of part)) told w id n.behind
-timers_call timers_of.Entry told w id more n b = record {
-  done = b;
-  passed = n.passed;
-  list = n.list;
-  may_pass = n.off;
-  may_call = record {
-    on = n.on;
-    called = refl;
-  };
-}
-timers_call timers_of.Iteration told w id more n b = record {
-  done = b;
-  passed = n.passed;
-  list = n.list;
-  may_pass = n.off;
-  may_call = record { on = n.on; called = refl };
-}
+timers_call timers_of.Entry told w id more n b = record { done = b; passed = n.passed; list = n.list; may_pass = n.off; may_call = assumption }
+timers_call timers_of.Iteration told w id more n b = record { done = b; passed = n.passed; list = n.list; may_pass = n.off; may_call = assumption }
 
 -- a timer is called from the ready list, in a state that may have started it again
 pub call_timer : (p : Program) (told : Told) (s u : State) (run : Run) (part : TimersOf) (w : Walk) (t : Id × HandleRecord) (more : List Id) →
-    handle s
-    t.0 ≡ Some t.1 →
-    u.names ≡ s.names → lasting u ≡ lasting s → OnlyReady (rest (t.0 ∷ more) u) w → u.ready ≡ more → w.body ≡ [] → Counted p s.names told →
-    Follows p told (Running run.mode run.line (Within (section_of part) w)) s (call p u (record run { stage = stage.Timers part Firing }) t.0
-    t.1.name)
+    handle s t.0 ≡ Some t.1 → u.names ≡ s.names → lasting u ≡ lasting s → OnlyReady (rest (t.0 ∷ more) u) w → u.ready ≡ more → w.body ≡ [] →
+    Counted p s.names told → Follows p told (Running run.mode run.line (Within (section_of part) w)) s
+    (call p u (record run { stage = stage.Timers part Firing }) t.0 t.1.name)
 call_timer p told s u run part w t more h names lasts o ready b c =
     let next = next_of w t.0 more (sym o.ready) in
     call_follows p told s u run (record run { stage = stage.Timers part Firing }) (section_of part) w t next.behind (timers_word part)
     (timers_call part told w t.0 more next b) h names lasts c
-    (λ is. running (fires is) (timers_left part (rest u.ready u) (called p told callback.Handle w next.behind t.1.name) (record {
-      ready = ready ∙ next.left;
-      idle = o.idle;
-      prepare = o.prepare;
-      check = o.check;
-      async = o.async;
-      closing = o.closing;
-      done = o.done;
-    })))
+    (λ is. running (fires is) (timers_left part (rest u.ready u) (called p told callback.Handle w next.behind t.1.name) (assumption (ready ∙ next.left, o))))
 
 pub fire_follows : (p : Program) (told : Told) (s : State) (run : Run) (part : TimersOf) (w : Walk) → lives s ≡ is_alive s → Kept s →
-    Counted p s.names told →
-    Leaves (rest s.ready s) (Within (section_of part) w) → w.body ≡ [] → Follows p told (Running run.mode run.line (Within (section_of part) w)) s
-    (step.fire p s run part)
+    Counted p s.names told → Leaves (rest s.ready s) (Within (section_of part) w) → w.body ≡ [] →
+    Follows p told (Running run.mode run.line (Within (section_of part) w)) s (step.fire p s run part)
 fire_follows p told s run part w alive k c l b =
     let o = left_timers part (rest s.ready s) w l in
     found_both (front s s.ready) _ _ (Follows p told (Running run.mode run.line (Within (section_of part) w)) s)
@@ -268,35 +204,14 @@ fire_follows p told s run part w alive k c l b =
         (call p (restarted (record s { ready = drop 1 s.ready }) t.0 t.1) (record run { stage = stage.Timers part Firing }) t.0 t.1.name)
     fired o t f =
         let u : State = record s { ready = drop 1 s.ready } in
-        let only : OnlyReady (rest (t.0 ∷ f.rest) u) w =
-        record {
-          ready = sym f.are ∙ o.ready;
-          idle = o.idle;
-          prepare = o.prepare;
-          check = o.check;
-          async = o.async;
-          closing = o.closing;
-          done =
-              o.done;
-        } in
+        let only : OnlyReady (rest (t.0 ∷ f.rest) u) w = assumption (sym f.are ∙ o.ready, o) in
         cond_both (t.1.repeat == 0) u (started u t.0 t.1 t.1.repeat t.1.repeat)
         (λ (x : State). Follows p told (Running run.mode run.line (Within (section_of part) w)) s (call p x (record run {
           stage = stage.Timers part
               Firing;
         }) t.0 t.1.name))
         (λ z. call_timer p told s u run part w t f.rest f.holds refl refl only f.behind b c)
-        (λ z. call_timer p told s (started u t.0 t.1 t.1.repeat t.1.repeat) run part w t f.rest f.holds refl refl
-        (record {
-          ready = only.ready;
-          idle = only.idle;
-          prepare = only.prepare;
-          check = only.check;
-          async = only.async;
-          closing = only.closing;
-          done
-              = only.done;
-        })
-        f.behind b c)
+        (λ z. call_timer p told s (started u t.0 t.1 t.1.repeat t.1.repeat) run part w t f.rest f.holds refl refl (assumption only) f.behind b c)
 
 pub one_more : (time : ℕ) (t : Due × Id) (ts : List (Due × Id)) → nat_le t.0.at time ≡ true → due_ids time (t ∷ ts) ≡ t.1 ∷ due_ids time ts
 one_more time t ts e = rw e refl
@@ -314,22 +229,14 @@ late_due s (t ∷ ts) drawn k e = at (nat_le t.0.at s.time) refl e where
   at false late f = none_due s.time t ts k.sorted late
 
 pub collect_follows : (p : Program) (told : Told) (s : State) (run : Run) (part : TimersOf) (w : Walk) → lives s ≡ is_alive s → Kept s →
-    Counted p s.names told →
-    Leaves (rest (s.ready ++ due_now s) s) (Within (section_of part) w) → w.body ≡ [] →
+    Counted p s.names told → Leaves (rest (s.ready ++ due_now s) s) (Within (section_of part) w) → w.body ≡ [] →
     Follows p told (Running run.mode run.line (Within (section_of part) w)) s (step.collect p s run part)
 collect_follows p told s run part w alive k c l b =
     let o = left_timers part (rest (s.ready ++ due_now s) s) w l in
     found_both (first_due s s.timers) _ _ (Follows p told (Running run.mode run.line (Within (section_of part) w)) s)
     (λ t e. moved o t (first_of s s.timers t e))
-    (λ e. fire_follows p told s run part w alive k c (timers_left part (rest s.ready s) w (record {
-      ready = sym (append-nil s.ready) ∙ ap (λ (ids : List Id). s.ready ++ ids) (sym (late_due s s.timers s.next_start k.timers e)) ∙ o.ready;
-      idle = o.idle;
-      prepare = o.prepare;
-      check = o.check;
-      async = o.async;
-      closing = o.closing;
-      done = o.done;
-    })) b)
+    (λ e. fire_follows p told s run part w alive k c (timers_left part (rest s.ready s) w (assumption
+    (sym (append-nil s.ready) ∙ ap (λ (ids : List Id). s.ready ++ ids) (sym (late_due s s.timers s.next_start k.timers e)) ∙ o.ready, o))) b)
   where
     moved : OnlyReady (rest (s.ready ++ due_now s) s) w → (t : Id × HandleRecord) → FirstOf s s.timers t →
         Follows p told (Running run.mode run.line (Within (section_of part) w)) s (Moves (step.at (collected s t.0 t.1) run (stage.Timers part
@@ -342,5 +249,5 @@ collect_follows p told s run part w alive k c l b =
         let same : (s.ready ++ t.0 ∷ []) ++ due_ids s.time later ≡ left_of w.ahead w.off =
         append_assoc s.ready (t.0 ∷ []) (due_ids s.time later) ∙ ap (λ (ids : List Id). s.ready ++ ids) (sym all) ∙ o.ready in
         let only : OnlyReady (rest ((s.ready ++ t.0 ∷ []) ++ due_ids s.time later) (collected s t.0 t.1)) w =
-        record { ready = same; idle = o.idle; prepare = o.prepare; check = o.check; async = o.async; closing = o.closing; done = o.done } in
+        assumption (same, o) in
         (record { stands = running (collects b) (timers_left part _ w only); counted = c }, refl)

@@ -1,11 +1,11 @@
 -- What the lines of a trace tell of requests, and how each change keeps it.
-use Rattle.uv_order.proofs.Names.{arith, ◌≡◌, ◌⊎◌, inl, inr, ℕ, ◌||◌, List, ◌∷◌, Bool, true, false, Option, Some, None, option_map, refl, ap, sym, subst, ◌∙◌, if◌then◌else◌, or-true, both_ways, or_right, or_cases, false_from_ne_true, same_Some, none-some, Id, Var, Seen, Site, Op, Task, Program, op_at, Slots, held, is_open, queued, digest_in, Outcome, Open, Finished, Cancelled, Content, Request, request_in, same_id, has_id, Answered, answered, queued_by, cancelled_by, first_of, queued_task, is_take_line, has_take_line, is_cancel_line, has_cancel_line, is_finish_line, has_finish_line, is_after_line, has_after_line, SaysTrue}
+use Rattle.uv_order.proofs.Names.{arith, ◌≡◌, ◌⊎◌, inl, inr, ℕ, ◌||◌, List, ◌∷◌, Bool, true, false, Option, Some, None, option_map, refl, ap, sym, subst, ◌∙◌, if◌then◌else◌, or-true, both_ways, or_right, or_cases, false_from_ne_true, same_Some, none-some, Id, Var, Seen, Site, Op, Task, Program, op_at, Slots, held, is_open, queued, digest_in, Outcome, Open, Finished, Cancelled, Content, Request, request_in, same_id, has_id, Answered, answered, queued_by, cancelled_by, first_of, queued_task, is_take_line, has_take_line, is_cancel_line, has_cancel_line, is_finish_line, has_finish_line, is_after_line, has_after_line, SaysTrue, Slot}
 use Rattle.uv_ids.specs.declared.code.Answer.TheVariants as answer
 use Rattle.uv_ids.specs.declared.seen.Seen.TheVariants as seen
 use Rattle.uv_script.specs.declared.op.Op.TheVariants as op
 use Rattle.uv_work.specs.declared.content.Content.TheVariants as content
 use Rattle.uv_order.proofs.IdLists.{same, other, itself, turned}
-use Rattle.uv_order.proofs.Contents.{Turns}
+use Rattle.uv_order.proofs.Contents.{Turns, turned_to}
 use Rattle.uv_order.proofs.Works.{asked_at, SameRequests}
 use Rattle.uv_order.proofs.Gone.{IsGone, not_held}
 
@@ -64,40 +64,17 @@ pub worked_told : (p : Program) (past : List Seen) (l : Seen) (arena : Slots Con
     Tells p l told → ((i : Id) → told i ≡ true → queued_task p past i ≡ None → ⊥) → ((i : Id) → has_id waiting i ≡ true → told i ≡ false) →
     Worked p past arena waiting runs → Worked p (l ∷ past) arena waiting runs
 worked_told p past l arena waiting runs told q were away k = record {
-  queued = λ id r e. same_task id ∙ k.queued id r e;
-  known = λ id task e. k.known id task (sym (same_task id) ∙ e);
-  over = λ id e. k.over id (sym (same_over id) ∙ e);
-  taken = λ id e f. k.taken id (sym (same_take id) ∙ e) (sym (same_task id) ∙ f);
-  finished = λ id e. same_take id ∙ k.finished id (sym (same_finish id) ∙ e);
-  waits = λ id e. same_take id ∙ k.waits id e;
-  runs_now = λ id e. let r = k.runs_now id e in (same_take id ∙ r.0, same_finish id ∙ r.1);
-  ended = λ id r e. ends id r.task r.outcome (k.ended id r e);
-  cancelled = λ id e f. cancelled id (or_cases (told id) (has_cancel_line p past id) (sym (or_cancel id) ∙ e)) (sym (same_task id) ∙ f);
-  uncancelled = λ id e. or_cancel id ∙ rw (away id e, k.uncancelled id e) refl;
-} where
-  or_cancel : (id : Id) → has_cancel_line p (l ∷ past) id ≡ (told id || has_cancel_line p past id)
-  or_cancel id = ap (λ (b : Bool). b || has_cancel_line p past id) (q.cancelled id)
-
-  cancelled : (id : Id) → (told id ≡ true) ⊎ (has_cancel_line p past id ≡ true) → queued_task p past id ≡ None → ⊥
-  cancelled id (inl e) f = were id e f
-  cancelled id (inr e) f = k.cancelled id e f
-
-  same_task : (id : Id) → queued_task p (l ∷ past) id ≡ queued_task p past id
-  same_task id = rw (q.queued id) refl
-
-  same_take : (id : Id) → has_take_line (l ∷ past) id ≡ has_take_line past id
-  same_take id = rw (q.taken id) refl
-
-  same_finish : (id : Id) → has_finish_line (l ∷ past) id ≡ has_finish_line past id
-  same_finish id = rw (q.finished id) refl
-
-  same_over : (id : Id) → has_after_line (l ∷ past) id ≡ has_after_line past id
-  same_over id = rw (q.over id) refl
-
-  ends : (id : Id) (task : Task) (o : Outcome) → EndsTrue p past id task o → EndsTrue p (l ∷ past) id task o
-  ends id task Open e = tt
-  ends id task (Finished digest) e = (same_take id ∙ e.0, same_finish id ∙ e.1, e.2)
-  ends id task Cancelled e = (same_take id ∙ e.0, or_cancel id ∙ or_right (told id) (has_cancel_line p past id) e.1)
+  queued = λ i r e. grind (arith, q.queued i);
+  known = λ i task e. grind (arith, q.queued i);
+  over = λ i e. grind (arith, q.over i);
+  taken = λ i e f. grind (arith, q.taken i, q.queued i);
+  finished = λ i e. grind (arith, q.taken i, q.finished i);
+  waits = λ i e. grind (arith, q.taken i);
+  runs_now = λ i e. grind (arith, q.taken i, q.finished i);
+  ended = λ i r e. grind (arith, q.taken i, q.finished i, q.cancelled i, k.ended i r e);
+  cancelled = λ i e f. grind (arith, q.cancelled i, q.queued i);
+  uncancelled = λ i e. grind (arith, q.cancelled i);
+}
 
 pub worked_idle : (p : Program) (past : List Seen) (l : Seen) (arena : Slots Content) (waiting runs : List Id) → IsIdle p l →
     Worked p past arena waiting runs → Worked p (l ∷ past) arena waiting runs
@@ -105,25 +82,57 @@ worked_idle p past l arena waiting runs q k = worked_told p past l arena waiting
 
 -- ---- changes without a line
 
--- no request changes
-pub worked_same : (p : Program) (past : List Seen) (arena more : Slots Content) (waiting runs : List Id) → SameRequests more.slots arena.slots →
+-- what is held turns: each request that is held then was held before, or was queued and ended as the lines tell; and whoever was held is
+-- held still, or gone
+worked_held : (p : Program) (past : List Seen) (arena more : Slots Content) (waiting runs : List Id) →
+    ((i : Id) (y : Request) → asked_at more.slots i ≡ Some y →
+    (asked_at arena.slots i ≡ Some y) ⊎ ((queued_task p past i ≡ Some y.task) × EndsTrue p past i y.task y.outcome)) →
+    ((i : Id) → IsAsked arena i → IsAsked more i ⊎ IsGone more.slots more.free i) →
     ((i : Id) → IsGone arena.slots arena.free i → IsGone more.slots more.free i) → Worked p past arena waiting runs →
     Worked p past more waiting runs
-worked_same p past arena more waiting runs f gone k = record {
-  queued = λ id r e. k.queued id r (sym (f id) ∙ e);
-  known = λ id task e. later id (k.known id task e);
-  over = λ id e. gone id (k.over id e);
+worked_held p past arena more waiting runs now held_still gone k = record {
+  queued = λ i y e. elim (now i y e) [ inl old ↦ k.queued i y old | inr new ↦ new.0 ];
+  known = λ i task e. elim (k.known i task e) [ inl a ↦ held_still i a | inr g ↦ inr (gone i g) ];
+  over = λ i e. gone i (k.over i e);
   taken = k.taken;
   finished = k.finished;
   waits = k.waits;
   runs_now = k.runs_now;
-  ended = λ id r e. k.ended id r (sym (f id) ∙ e);
+  ended = λ i y e. elim (now i y e) [ inl old ↦ k.ended i y old | inr new ↦ new.1 ];
   cancelled = k.cancelled;
   uncancelled = k.uncancelled;
-} where
-  later : (id : Id) → IsAsked arena id ⊎ IsGone arena.slots arena.free id → IsAsked more id ⊎ IsGone more.slots more.free id
-  later id (inl a) = inl (record { request = a.request; holds = f id ∙ a.holds })
-  later id (inr g) = inr (gone id g)
+}
+
+-- a request turns, another one or none
+turned_asks : (slots more : List (Slot Content)) (id : Id) (was is : Option Content) → Turns slots more id was is → (i : Id) →
+    asked_at more i ≡ (if same_id i id then request_in is else asked_at slots i)
+turned_asks slots more id was is t i = grind (arith, turned_to t)
+
+-- one that ended as the lines tell, or is as before
+ends_now : (p : Program) (past : List Seen) (id : Id) (x : Request) (was now : Id → Option Request) →
+    ((i : Id) → now i ≡ (if same_id i id then Some x else was i)) → queued_task p past id ≡ Some x.task → EndsTrue p past id x.task x.outcome →
+    (i : Id) (y : Request) → now i ≡ Some y → (was i ≡ Some y) ⊎ ((queued_task p past i ≡ Some y.task) × EndsTrue p past i y.task y.outcome)
+ends_now p past id x was now f q ends i y e = at (same_id i id) refl where
+  at : (b : Bool) → same_id i id ≡ b → (was i ≡ Some y) ⊎ ((queued_task p past i ≡ Some y.task) × EndsTrue p past i y.task y.outcome)
+  at true s =
+      let it : x ≡ y = same_Some _ _ (sym (ap (λ (b : Bool). if b then Some x else was i) s) ∙ sym (f i) ∙ e) in
+      subst (λ (z : Request). (was i ≡ Some z) ⊎ ((queued_task p past i ≡ Some z.task) × EndsTrue p past i z.task z.outcome)) it
+      (subst (λ (j : Id). (was j ≡ Some x) ⊎ ((queued_task p past j ≡ Some x.task) × EndsTrue p past j x.task x.outcome)) (sym (same i id s))
+      (inr (q, ends)))
+  at false s = inl (sym (f i ∙ ap (λ (b : Bool). if b then Some x else was i) s) ∙ e)
+
+asked_still : (arena more : Slots Content) (id : Id) (x : Request) →
+    ((i : Id) → asked_at more.slots i ≡ (if same_id i id then Some x else asked_at arena.slots i)) → (i : Id) → IsAsked arena i → IsAsked more i
+asked_still arena more id x asks i a = at (same_id i id) refl where
+  at : (b : Bool) → same_id i id ≡ b → IsAsked more i
+  at true s = record { request = x; holds = asks i ∙ rw s refl }
+  at false s = record { request = a.request; holds = asks i ∙ rw s a.holds }
+
+-- no request changes
+pub worked_same : (p : Program) (past : List Seen) (arena more : Slots Content) (waiting runs : List Id) → SameRequests more.slots arena.slots →
+    ((i : Id) → IsGone arena.slots arena.free i → IsGone more.slots more.free i) → Worked p past arena waiting runs → Worked p past more waiting runs
+worked_same p past arena more waiting runs f gone k = worked_held p past arena more waiting runs (λ i y e. inl (sym (f i) ∙ e))
+    (λ i a. inl (record { request = a.request; holds = f i ∙ a.holds })) gone k
 
 -- fewer wait, and fewer are run
 pub worked_fewer : (p : Program) (past : List Seen) (arena : Slots Content) (waiting runs few_waiting few_runs : List Id) →
@@ -134,40 +143,12 @@ worked_fewer p past arena waiting runs few_waiting few_runs f g k = grind arith
 -- a request ends, as the lines tell
 pub worked_ended : (p : Program) (past : List Seen) (arena more : Slots Content) (waiting runs : List Id) (id : Id) (r x : Request) →
     Turns arena.slots more.slots id (Some (content.Request r)) (Some (content.Request x)) → x.task ≡ r.task → EndsTrue p past id x.task x.outcome →
-    ((i : Id) → IsGone arena.slots arena.free i → IsGone more.slots more.free i) → Worked p past arena waiting runs →
-    Worked p past more waiting runs
-worked_ended p past arena more waiting runs id r x t same_task ends gone k = record {
-  queued = λ i y e. queued_now i y e (same_id i id) refl;
-  known = λ i task e. later i (k.known i task e);
-  over = λ i e. gone i (k.over i e);
-  taken = k.taken;
-  finished = k.finished;
-  waits = k.waits;
-  runs_now = k.runs_now;
-  ended = λ i y e. ended_now i y e (same_id i id) refl;
-  cancelled = k.cancelled;
-  uncancelled = k.uncancelled;
-} where
-  its : (i : Id) (y : Request) → asked_at more.slots i ≡ Some y → same_id i id ≡ true → x ≡ y
-  its i y e s = same_Some _ _ (sym (ap request_in t.here) ∙ ap (asked_at more.slots) (sym (same i id s)) ∙ e)
-
-  queued_now : (i : Id) (y : Request) → asked_at more.slots i ≡ Some y → (b : Bool) → same_id i id ≡ b → queued_task p past i ≡ Some y.task
-  queued_now i y e true s = ap (queued_task p past) (same i id s) ∙ k.queued id r (ap request_in t.before)
-      ∙ ap Some (sym same_task ∙ ap (λ (z : Request). z.task) (its i y e s))
-  queued_now i y e false s = k.queued i y (sym (ap request_in (t.others i (other i id s))) ∙ e)
-
-  later : (i : Id) → IsAsked arena i ⊎ IsGone arena.slots arena.free i → IsAsked more i ⊎ IsGone more.slots more.free i
-  later i (inr g) = inr (gone i g)
-  later i (inl a) = at (same_id i id) refl where
-    at : (b : Bool) → same_id i id ≡ b → IsAsked more i ⊎ IsGone more.slots more.free i
-    at true s = inl (record { request = x; holds = ap (asked_at more.slots) (same i id s) ∙ ap request_in t.here })
-    at false s = inl (record { request = a.request; holds = ap request_in (t.others i (other i id s)) ∙ a.holds })
-
-  ended_now : (i : Id) (y : Request) → asked_at more.slots i ≡ Some y → (b : Bool) → same_id i id ≡ b → EndsTrue p past i y.task y.outcome
-  ended_now i y e true s =
-      subst (λ (j : Id). EndsTrue p past j y.task y.outcome) (sym (same i id s))
-      (subst (λ (z : Request). EndsTrue p past id z.task z.outcome) (its i y e s) ends)
-  ended_now i y e false s = k.ended i y (sym (ap request_in (t.others i (other i id s))) ∙ e)
+    ((i : Id) → IsGone arena.slots arena.free i → IsGone more.slots more.free i) → Worked p past arena waiting runs → Worked p past more waiting runs
+worked_ended p past arena more waiting runs id r x t same_task ends gone k =
+    let asks = turned_asks arena.slots more.slots id _ _ t in
+    worked_held p past arena more waiting runs
+    (ends_now p past id x (asked_at arena.slots) (asked_at more.slots) asks (k.queued id r (ap request_in t.before) ∙ ap Some (sym same_task)) ends)
+    (λ i a. inl (asked_still arena more id x asks i a)) gone k
 
 -- ---- the lines of requests
 
@@ -177,49 +158,35 @@ pub worked_taken : (p : Program) (past : List Seen) (arena : Slots Content) (wai
     ((i : Id) → has_id rest i ≡ true → (has_id waiting i ≡ true) × (same_id id i ≡ false)) →
     ((i : Id) → has_id more i ≡ true → (id ≡ i) ⊎ (has_id runs i ≡ true)) → Worked p past arena waiting runs →
     Worked p (seen.Take n v id ∷ past) arena rest more
-worked_taken p past arena waiting runs rest more n v id r holds opened waits fewer most k = record {
-  queued = k.queued;
-  known = k.known;
-  over = k.over;
-  taken = λ i e f. taken i (or_cases (same_id id i) (has_take_line past i) e) f;
-  finished = λ i e. rw (k.finished i e) (or-true (same_id id i));
-  waits = λ i e. let w = fewer i e in rw (w.1, k.waits i w.0) refl;
-  runs_now = λ i e. runs_now i (most i e);
-  ended = λ i y e. ends i y e y.outcome refl (k.ended i y e);
-  cancelled = k.cancelled;
-  uncancelled = λ i e. k.uncancelled i (fewer i e).0;
-} where
-  taken : (i : Id) → (same_id id i ≡ true) ⊎ (has_take_line past i ≡ true) → queued_task p past i ≡ None → ⊥
-  taken i (inl s) f =
-      none-some r.task (sym f ∙ ap (queued_task p past) (sym (same id i s)) ∙ k.queued id r holds)
-  taken i (inr e) f = k.taken i e f
-
-  unfinished : has_finish_line past id ≡ false
-  unfinished = false_from_ne_true (has_finish_line past id) (λ e. both_ways (has_take_line past id) (k.waits id waits) (k.finished id e))
-
-  runs_now : (i : Id) → (id ≡ i) ⊎ (has_id runs i ≡ true) → ((same_id id i || has_take_line past i) ≡ true) × (has_finish_line past i ≡ false)
-  runs_now i (inl is) = (rw (itself id i is) refl, ap (has_finish_line past) (sym is) ∙ unfinished)
-  runs_now i (inr e) = let was = k.runs_now i e in (rw was.0 (or-true (same_id id i)), was.1)
-
-  ends : (i : Id) (y : Request) → asked_at arena.slots i ≡ Some y → (o : Outcome) → y.outcome ≡ o → EndsTrue p past i y.task o →
-      EndsTrue p (seen.Take n v id ∷ past) i y.task o
-  ends i y e Open f g = tt
-  ends i y e (Finished digest) f g = (rw g.0 (or-true (same_id id i)), g.1, g.2)
-  ends i y e Cancelled f g = (at (same_id id i) refl, g.1) where
-    clash : ◌≡◌ {A = Bool} false true → ⊥
-    clash c = cc c
-
-    at : (b : Bool) → same_id id i ≡ b → (b || has_take_line past i) ≡ false
-    at false s = g.0
-    at true s =
-        let is : r ≡ y = same_Some _ _ (sym holds ∙ ap (asked_at arena.slots) (same id i s) ∙ e) in
-        absurd (clash (sym (ap (λ (z : Request). is_open z.outcome) is ∙ ap is_open f) ∙ opened))
+worked_taken p past arena waiting runs rest more n v id r holds opened waits fewer most k = grind (arith, same, itself)
 
 -- a worker finishes a request that it runs
 pub worked_finished : (p : Program) (past : List Seen) (arena : Slots Content) (waiting runs few : List Id) (n : ℕ) (v : Var) (id : Id) →
     has_id runs id ≡ true → ((i : Id) → has_id few i ≡ true → (has_id runs i ≡ true) × (same_id id i ≡ false)) →
     Worked p past arena waiting runs → Worked p (seen.Finish n v id ∷ past) arena waiting few
 worked_finished p past arena waiting runs few n v id on fewer k = grind arith
+
+-- an id under which nothing is held, and which isn't gone, wasn't queued
+not_queued : (p : Program) (past : List Seen) (arena : Slots Content) (waiting runs : List Id) (id : Id) → held arena.slots id ≡ None →
+    (IsGone arena.slots arena.free id → ⊥) → Worked p past arena waiting runs → queued_task p past id ≡ None
+not_queued p past arena waiting runs id e fresh k = at (queued_task p past id) refl where
+  at : (o : Option Task) → queued_task p past id ≡ o → o ≡ None
+  at None f = refl
+  at (Some x) f = elim (k.known id x f) [ inl a ↦ absurd (none-some a.request (sym (ap request_in e) ∙ a.holds)) | inr g ↦ absurd (fresh g) ]
+
+queued_now : (task : Task) (id : Id) (x : Request) (was now : Id → Option Request) (told : Id → Option Task) → x.task ≡ task →
+    ((i : Id) → now i ≡ (if same_id i id then Some x else was i)) → ((i : Id) (y : Request) → was i ≡ Some y → told i ≡ Some y.task) → (i : Id)
+    (y : Request) → now i ≡ Some y → first_of (if same_id id i then Some task else None) (told i) ≡ Some y.task
+queued_now task id x was now told e f k i y h = grind (arith, turned)
+
+-- the line of a `queue` changes nothing that others ended by
+still_ended : (p : Program) (past : List Seen) (place : Site) (v : Var) (task : Task) (id : Id) → op_at p place ≡ Some (op.Queue v task) → (i : Id)
+    (x : Task) (o : Outcome) → EndsTrue p past i x o → EndsTrue p (seen.Op place (answer.Id id) ∷ past) i x o
+still_ended p past place v task id e i x o g = grind arith
+
+of_both : (f : Id → Bool) (waiting : List Id) (id : Id) → f id ≡ false → ((i : Id) → has_id waiting i ≡ true → f i ≡ false) → (i : Id) →
+    (id ≡ i) ⊎ (has_id waiting i ≡ true) → f i ≡ false
+of_both f waiting id e k i h = grind arith
 
 -- a request is queued under an id that isn't gone and stands for nothing
 pub worked_queued : (p : Program) (past : List Seen) (place : Site) (v : Var) (task : Task) (arena more : Slots Content)
@@ -229,119 +196,79 @@ pub worked_queued : (p : Program) (past : List Seen) (place : Site) (v : Var) (t
     ((i : Id) → IsGone arena.slots arena.free i → IsGone more.slots more.free i) → Worked p past arena waiting runs →
     Worked p (seen.Op place (answer.Id id) ∷ past) more listed runs
 worked_queued p past place v task arena more waiting runs listed id e t fresh most gone k = record {
-  queued = λ i y h. rw (asked i) (queued_now i y h (same_id i id) refl);
-  known = λ i x h. known_now i x (sym (asked i) ∙ h) (same_id id i) refl;
+  queued = λ i y h. rw (asked i) (queued_now task id x (asked_at arena.slots) (asked_at more.slots) (queued_task p past) refl asks k.queued i y h);
+  known = λ i z h. known_now i z (sym (asked i) ∙ h) (same_id id i) refl;
   over = λ i h. gone i (k.over i h);
   taken = λ i h f. k.taken i h (still_none i (sym (asked i) ∙ f));
   finished = k.finished;
-  waits = λ i h. waits i (most i h);
+  waits = λ i h. of_both (has_take_line past) waiting id (false_from_ne_true _ (λ f. k.taken id f never)) k.waits i (most i h);
   runs_now = k.runs_now;
-  ended = λ i y h. ended_now i y h (same_id i id) refl;
+  ended = λ i y h. elim (ends_now p (seen.Op place (answer.Id id) ∷ past) id x (asked_at arena.slots) (asked_at more.slots) asks
+      (asked id ∙ rw (itself id id refl) refl) tt i y h) [
+        | inl old ↦ still_ended p past place v task id e i y.task y.outcome (k.ended i y old)
+        | inr new ↦ new.1
+      ];
   cancelled = λ i h f. k.cancelled i (sym (no_cancel i) ∙ h) (still_none i (sym (asked i) ∙ f));
-  uncancelled = λ i h. no_cancel i ∙ uncancelled i (most i h);
+  uncancelled = λ i h. no_cancel i
+      ∙ of_both (has_cancel_line p past) waiting id (false_from_ne_true _ (λ f. k.cancelled id f never)) k.uncancelled i (most i h);
 } where
+  x : Request
+  x = queued v task
+
+  asks : (i : Id) → asked_at more.slots i ≡ (if same_id i id then Some x else asked_at arena.slots i)
+  asks i = turned_asks arena.slots more.slots id _ _ t i
+
+  never : queued_task p past id ≡ None
+  never = not_queued p past arena waiting runs id t.before fresh k
+
   no_cancel : (i : Id) → has_cancel_line p (seen.Op place (answer.Id id) ∷ past) i ≡ has_cancel_line p past i
-  no_cancel i = ap (λ (o : Option Answered). cancelled_by o i || has_cancel_line p past i)
-      (ap (option_map (λ (o : Op). record { op = o; answer = answer.Id id })) e)
+  no_cancel i = rw e refl
 
   asked : (i : Id) → queued_task p (seen.Op place (answer.Id id) ∷ past) i ≡ first_of (if same_id id i then Some task else None)
       (queued_task p past i)
-  asked i = ap (λ (o : Option Answered). first_of (queued_by o i) (queued_task p past i))
-      (ap (option_map (λ (o : Op). record { op = o; answer = answer.Id id })) e)
-
-  never : (b : Option Task) → queued_task p past id ≡ b → b ≡ None
-  never None f = refl
-  never (Some x) f = absurd (at (k.known id x f)) where
-    at : IsAsked arena id ⊎ IsGone arena.slots arena.free id → ⊥
-    at (inl a) = none-some a.request (sym (ap request_in t.before) ∙ a.holds)
-    at (inr g) = fresh g
-
-  untaken : has_take_line past id ≡ false
-  untaken = false_from_ne_true (has_take_line past id) (λ h. k.taken id h (never (queued_task p past id) refl))
+  asked i = rw e refl
 
   still_none : (i : Id) → first_of (if same_id id i then Some task else None) (queued_task p past i) ≡ None → queued_task p past i ≡ None
-  still_none i f = at (same_id id i) f where
-    at : (b : Bool) → first_of (if b then Some task else None) (queued_task p past i) ≡ None → queued_task p past i ≡ None
-    at true g = cc g
-    at false g = g
+  still_none i f = grind arith
 
-  its : (i : Id) (y : Request) → asked_at more.slots i ≡ Some y → same_id i id ≡ true → queued v task ≡ y
-  its i y h s = same_Some _ _ (sym (ap request_in t.here) ∙ ap (asked_at more.slots) (sym (same i id s)) ∙ h)
-
-  queued_now : (i : Id) (y : Request) → asked_at more.slots i ≡ Some y → (b : Bool) → same_id i id ≡ b →
-      first_of (if same_id id i then Some task else None) (queued_task p past i) ≡ Some y.task
-  queued_now i y h true s = rw (turned id i, s) (ap (λ (z : Request). Some z.task) (its i y h s))
-  queued_now i y h false s = rw (turned id i, s) (k.queued i y (sym (ap request_in (t.others i (other i id s))) ∙ h))
-
-  known_now : (i : Id) (x : Task) → first_of (if same_id id i then Some task else None) (queued_task p past i) ≡ Some x → (b : Bool) →
+  known_now : (i : Id) (z : Task) → first_of (if same_id id i then Some task else None) (queued_task p past i) ≡ Some z → (b : Bool) →
       same_id id i ≡ b → IsAsked more i ⊎ IsGone more.slots more.free i
-  known_now i x h true s =
-      inl (record { request = queued v task; holds = ap (asked_at more.slots) (sym (same id i s)) ∙ ap request_in t.here })
-  known_now i x h false s = at (k.known i x (sym (ap (λ (b : Bool). first_of (if b then Some task else None) (queued_task p past i)) s) ∙ h)) where
-    at : IsAsked arena i ⊎ IsGone arena.slots arena.free i → IsAsked more i ⊎ IsGone more.slots more.free i
-    at (inl a) = inl (record { request = a.request; holds = ap request_in (t.others i (other i id (turned i id ∙ s))) ∙ a.holds })
-    at (inr g) = inr (gone i g)
+  known_now i z h true s = inl (record { request = x; holds = asks i ∙ rw (turned i id, s) refl })
+  known_now i z h false s = elim (k.known i z (sym (ap (λ (b : Bool). first_of (if b then Some task else None) (queued_task p past i)) s) ∙ h)) [
+    | inl a ↦ inl (asked_still arena more id x asks i a)
+    | inr g ↦ inr (gone i g)
+  ]
 
-  unasked : has_cancel_line p past id ≡ false
-  unasked = false_from_ne_true (has_cancel_line p past id) (λ h. k.cancelled id h (never (queued_task p past id) refl))
+-- no request is held under it any more
+asked_before : (was now : Id → Option Request) (id : Id) → ((i : Id) → now i ≡ (if same_id i id then None else was i)) → (i : Id) (y : Request) →
+    now i ≡ Some y → was i ≡ Some y
+asked_before was now id f i y e = grind arith
 
-  uncancelled : (i : Id) → (id ≡ i) ⊎ (has_id waiting i ≡ true) → has_cancel_line p past i ≡ false
-  uncancelled i (inl is) = ap (has_cancel_line p past) (sym is) ∙ unasked
-  uncancelled i (inr h) = k.uncancelled i h
+asked_or_gone : (arena more : Slots Content) (id : Id) →
+    ((i : Id) → asked_at more.slots i ≡ (if same_id i id then None else asked_at arena.slots i)) → IsGone more.slots more.free id → (i : Id) →
+    IsAsked arena i → IsAsked more i ⊎ IsGone more.slots more.free i
+asked_or_gone arena more id asks now i a = at (same_id i id) refl where
+  at : (b : Bool) → same_id i id ≡ b → IsAsked more i ⊎ IsGone more.slots more.free i
+  at true s = inr (subst (IsGone more.slots more.free) (sym (same i id s)) now)
+  at false s = inl (record { request = a.request; holds = asks i ∙ rw s a.holds })
 
-  waits : (i : Id) → (id ≡ i) ⊎ (has_id waiting i ≡ true) → has_take_line past i ≡ false
-  waits i (inl is) = ap (has_take_line past) (sym is) ∙ untaken
-  waits i (inr h) = k.waits i h
-
-  ended_now : (i : Id) (y : Request) → asked_at more.slots i ≡ Some y → (b : Bool) → same_id i id ≡ b →
-      EndsTrue p (seen.Op place (answer.Id id) ∷ past) i y.task y.outcome
-  ended_now i y h true s = subst (λ (z : Request). EndsTrue p (seen.Op place (answer.Id id) ∷ past) i z.task z.outcome) (its i y h s) tt
-  ended_now i y h false s = lines i y.task y.outcome (k.ended i y (sym (ap request_in (t.others i (other i id s))) ∙ h)) where
-    lines : (j : Id) (x : Task) (o : Outcome) → EndsTrue p past j x o → EndsTrue p (seen.Op place (answer.Id id) ∷ past) j x o
-    lines j x Open g = tt
-    lines j x (Finished digest) g = g
-    lines j x Cancelled g = (g.0, no_cancel j ∙ g.1)
+-- the line of an after callback whose request is gone
+called_back : (p : Program) (past : List Seen) (arena : Slots Content) (waiting runs : List Id) (digest : Option (List ℕ)) (v : Var) (id : Id) →
+    IsGone arena.slots arena.free id → Worked p past arena waiting runs → Worked p (seen.After digest v id ∷ past) arena waiting runs
+called_back p past arena waiting runs digest v id g k = grind (arith, same)
 
 -- the request's after callback begins, and its slot is freed
 pub worked_collected : (p : Program) (past : List Seen) (arena more : Slots Content) (waiting runs : List Id) (digest : Option (List ℕ)) (v : Var)
     (id : Id) (r : Request) → Turns arena.slots more.slots id (Some (content.Request r)) None → IsGone more.slots more.free id →
     ((i : Id) → IsGone arena.slots arena.free i → IsGone more.slots more.free i) → Worked p past arena waiting runs →
     Worked p (seen.After digest v id ∷ past) more waiting runs
-worked_collected p past arena more waiting runs digest v id r t now gone k = record {
-  queued = λ i y e. k.queued i y (earlier i y e);
-  known = λ i x e. later i (same_id i id) refl (k.known i x e);
-  over = λ i e. over i (or_cases (same_id id i) (has_after_line past i) e);
-  taken = k.taken;
-  finished = k.finished;
-  waits = k.waits;
-  runs_now = k.runs_now;
-  ended = λ i y e. lines i y.task y.outcome (k.ended i y (earlier i y e));
-  cancelled = k.cancelled;
-  uncancelled = k.uncancelled;
-} where
-  earlier : (i : Id) (y : Request) → asked_at more.slots i ≡ Some y → asked_at arena.slots i ≡ Some y
-  earlier i y e = at (same_id i id) refl where
-    at : (b : Bool) → same_id i id ≡ b → asked_at arena.slots i ≡ Some y
-    at true s = absurd (none-some y (sym (ap request_in t.here) ∙ ap (asked_at more.slots) (sym (same i id s)) ∙ e))
-    at false s = sym (ap request_in (t.others i (other i id s))) ∙ e
-
-  later : (i : Id) (b : Bool) → same_id i id ≡ b → IsAsked arena i ⊎ IsGone arena.slots arena.free i → IsAsked more i ⊎ IsGone more.slots more.free i
-  later i true s a = inr (subst (IsGone more.slots more.free) (sym (same i id s)) now)
-  later i false s (inl a) = inl (record { request = a.request; holds = ap request_in (t.others i (other i id s)) ∙ a.holds })
-  later i false s (inr g) = inr (gone i g)
-
-  over : (i : Id) → (same_id id i ≡ true) ⊎ (has_after_line past i ≡ true) → IsGone more.slots more.free i
-  over i (inl s) = subst (IsGone more.slots more.free) (same id i s) now
-  over i (inr e) = gone i (k.over i e)
-
-  lines : (j : Id) (x : Task) (o : Outcome) → EndsTrue p past j x o → EndsTrue p (seen.After digest v id ∷ past) j x o
-  lines j x Open g = tt
-  lines j x (Finished d) g = g
-  lines j x Cancelled g = g
+worked_collected p past arena more waiting runs digest v id r t now gone k =
+    let asks = turned_asks arena.slots more.slots id _ _ t in
+    called_back p past more waiting runs digest v id now (worked_held p past arena more waiting runs
+    (λ i y e. inl (asked_before (asked_at arena.slots) (asked_at more.slots) id asks i y e))
+    (λ i a. asked_or_gone arena more id asks now i a) gone k)
 
 -- what the after callback of a request that ended says
 pub says_true : (p : Program) (past : List Seen) (id : Id) (task : Task) (o : Outcome) → is_open o ≡ false → EndsTrue p past id task o →
     SaysTrue p past id task (digest_in o)
-says_true p past id task Open e f = cc e
-says_true p past id task (Finished digest) e f = f
-says_true p past id task Cancelled e f = f
+says_true p past id task o e f = grind arith

@@ -1,8 +1,8 @@
 -- The requests: those that wait for a worker or are run by one are open, those that are done are ended; none stands twice, and no other
 -- request is held.
-use Rattle.uv_order.proofs.Names.{arith, ◌≡◌, ℕ, zero, suc, ◌||◌, List, [], ◌∷◌, ◌++◌, Bool, true, false, Option, Some, None, slice_get, slice_set, replicate, refl, ap, sym, subst, ◌∙◌, append_assoc, append-nil, list_any, both_ways, false_from_ne_true, same_Some, Id, HandleRecord, Slot, held, Walk, is_open, Content, Request, request_in, same_id, without_id, has_id, AreDistinct, run_ids}
+use Rattle.uv_order.proofs.Names.{arith, ◌≡◌, ◌⊎◌, inl, inr, ℕ, zero, suc, ◌||◌, List, [], ◌∷◌, ◌++◌, Bool, true, false, Option, Some, None, slice_get, slice_set, replicate, refl, ap, sym, subst, ◌∙◌, append_assoc, append-nil, list_any, or-true, both_ways, false_from_ne_true, same_Some, Id, HandleRecord, Slot, held, Walk, is_open, Content, Request, request_in, same_id, without_id, has_id, AreDistinct, run_ids}
 use Rattle.uv_work.specs.declared.content.Content.TheVariants as content
-use Rattle.uv_order.proofs.IdLists.{same, other, itself, turned, has_new_middle, distinct_middle, distinct_but, without_absent, distinct_front}
+use Rattle.uv_order.proofs.IdLists.{has_both, same, other, itself, turned, has_new_middle, has_old_middle, distinct_middle, distinct_but, without_absent, distinct_front}
 use Rattle.uv_order.proofs.Contents.{Turns}
 use Rattle.uv_order.proofs.Holding.{held_at, put, put_turns}
 
@@ -54,85 +54,82 @@ all_same slots more P ids f k = record {
 
 -- the others stand on it as before
 pub has_middle : (xs ys : List Id) (id i : Id) → same_id i id ≡ false → has_id (xs ++ id ∷ ys) i ≡ has_id (xs ++ ys) i
-has_middle [] ys id i d = rw (turned id i, d) refl
-has_middle (x ∷ xs) ys id i d = ap (λ (b : Bool). same_id x i || b) (has_middle xs ys id i d)
+has_middle xs ys id i d = grind (arith, has_both, turned)
 
 -- where none stands twice, it stands nowhere else
 pub once_middle : (xs ys : List Id) (id : Id) → AreDistinct (xs ++ id ∷ ys) → has_id (xs ++ ys) id ≡ false
 once_middle [] ys id d = d.0
 once_middle (x ∷ xs) ys id d = grind (arith, false_from_ne_true, same, has_new_middle, once_middle xs ys id d.1)
 
+pub in_middle : (xs ys : List Id) (id i : Id) → has_id (xs ++ id ∷ ys) i ≡ true → (id ≡ i) ⊎ (has_id (xs ++ ys) i ≡ true)
+in_middle xs ys id i h = grind (arith, has_both, same)
+
+not_once : (ids : List Id) (id i : Id) → has_id ids id ≡ false → has_id ids i ≡ true → same_id i id ≡ false
+not_once ids id i e h = grind (arith, same)
+
+moved_has : (fronts backs cs ds : List Id) (id i : Id) → fronts ++ backs ≡ cs ++ ds → has_id (fronts ++ id ∷ backs) i ≡ has_id (cs ++ id ∷ ds) i
+moved_has fronts backs cs ds id i e = grind (arith, has_both, ap (λ (ids : List Id). has_id ids i) e)
+
+-- ---- one id turns
+
+turned_back : {slots more : List (Slot Content)} {id : Id} {was is : Option Content} → Turns slots more id was is → Turns more slots id is was
+turned_back t = record { before = t.here; here = t.before; others = λ i d. sym (t.others i d) }
+
+-- another one fits as before, and whoever fits then fitted before, where the one that turned doesn't fit
+asks_still : {slots more : List (Slot Content)} {id : Id} {was is : Option Content} (P : Request → Type 0) → Turns slots more id was is → (i : Id) →
+    same_id i id ≡ false → Asks slots P i → Asks more P i
+asks_still {slots = slots} {more = more} {id = id} P t i s a = asks_same slots more P i (ap request_in (t.others i (other i id s))) a
+
+asks_were : {slots more : List (Slot Content)} {id : Id} {was is : Option Content} (P : Request → Type 0) → Turns slots more id was is → FitsNot P is →
+    (i : Id) → Asks more P i → (same_id i id ≡ false) × Asks slots P i
+asks_were {slots = slots} {more = more} {id = id} P t d i a = at (same_id i id) refl where
+  at : (b : Bool) → same_id i id ≡ b → (same_id i id ≡ false) × Asks slots P i
+  at true s = absurd (d a.request (sym (ap request_in t.here) ∙ ap (asked_at more) (sym (same i id s)) ∙ a.holds) a.fits)
+  at false s = (s, asks_still P (turned_back t) i s a)
+
 -- one that doesn't fit any more leaves
 pub less_middle : (slots more : List (Slot Content)) (P : Request → Type 0) (id : Id) (was is : Option Content) (xs ys : List Id) →
     Turns slots more id was is → FitsNot P is → AllAsk slots P (xs ++ id ∷ ys) → AllAsk more P (xs ++ ys)
 less_middle slots more P id was is xs ys t d k = record {
-  each = λ i h. each i h (same_id i id) refl;
-  all = λ i a. all i a (same_id i id) refl;
+  each = λ i h. asks_still P t i (not_once (xs ++ ys) id i (once_middle xs ys id k.distinct) h) (k.each i (has_old_middle xs ys id i h));
+  all = λ i a. let b = asks_were P t d i a in sym (has_middle xs ys id i b.0) ∙ k.all i b.1;
   distinct = distinct_but xs ys id k.distinct;
-} where
-  each : (i : Id) → has_id (xs ++ ys) i ≡ true → (b : Bool) → same_id i id ≡ b → Asks more P i
-  each i h true s = absurd (both_ways (has_id (xs ++ ys) id) (once_middle xs ys id k.distinct) (ap (has_id (xs ++ ys)) (sym (same i id s)) ∙ h))
-  each i h false s = asks_same slots more P i (ap request_in (t.others i (other i id s))) (k.each i (has_middle xs ys id i s ∙ h))
-
-  all : (i : Id) → Asks more P i → (b : Bool) → same_id i id ≡ b → has_id (xs ++ ys) i ≡ true
-  all i a true s = absurd (d a.request (sym (ap request_in t.here) ∙ ap (asked_at more) (sym (same i id s)) ∙ a.holds) a.fits)
-  all i a false s =
-      sym (has_middle xs ys id i s) ∙ k.all i (asks_same more slots P i (sym (ap request_in (t.others i (other i id s)))) a)
+}
 
 -- one that fits from now on comes
 pub more_middle : (slots more : List (Slot Content)) (P : Request → Type 0) (id : Id) (was is : Option Content) (r : Request) (xs ys : List Id) →
     Turns slots more id was is → FitsNot P was → request_in is ≡ Some r → P r → AllAsk slots P (xs ++ ys) → AllAsk more P (xs ++ id ∷ ys)
 more_middle slots more P id was is r xs ys t d e f k = record {
-  each = λ i h. each i h (same_id i id) refl;
+  each = λ i h. elim (in_middle xs ys id i h) [
+    | inl new ↦ subst (Asks more P) new (record { request = r; holds = ap request_in t.here ∙ e; fits = f })
+    | inr old ↦ (asks_were P (turned_back t) d i (k.each i old)).1
+  ];
   all = λ i a. all i a (same_id i id) refl;
-  distinct = distinct_middle xs ys id k.distinct new;
+  distinct = distinct_middle xs ys id k.distinct (false_from_ne_true (has_id (xs ++ ys) id)
+      (λ h. let a = k.each id h in d a.request (sym (ap request_in t.before) ∙ a.holds) a.fits));
 } where
-  new : has_id (xs ++ ys) id ≡ false
-  new = false_from_ne_true (has_id (xs ++ ys) id) (λ h. let a = k.each id h in d a.request (sym (ap request_in t.before) ∙ a.holds) a.fits)
-
-  its : Asks more P id
-  its = record { request = r; holds = ap request_in t.here ∙ e; fits = f }
-
-  each : (i : Id) → has_id (xs ++ id ∷ ys) i ≡ true → (b : Bool) → same_id i id ≡ b → Asks more P i
-  each i h true s = subst (Asks more P) (sym (same i id s)) its
-  each i h false s = asks_same slots more P i (ap request_in (t.others i (other i id s))) (k.each i (sym (has_middle xs ys id i s) ∙ h))
-
   all : (i : Id) → Asks more P i → (b : Bool) → same_id i id ≡ b → has_id (xs ++ id ∷ ys) i ≡ true
   all i a true s = ap (has_id (xs ++ id ∷ ys)) (same i id s) ∙ has_new_middle xs ys id
-  all i a false s = has_middle xs ys id i s ∙ k.all i (asks_same more slots P i (sym (ap request_in (t.others i (other i id s)))) a)
+  all i a false s = has_old_middle xs ys id i (k.all i (asks_still P (turned_back t) i s a))
 
 -- one that fits neither before nor after turns
 pub all_apart : (slots more : List (Slot Content)) (P : Request → Type 0) (id : Id) (was is : Option Content) (ids : List Id) →
     Turns slots more id was is → FitsNot P was → FitsNot P is → AllAsk slots P ids → AllAsk more P ids
 all_apart slots more P id was is ids t d e k = record {
-  each = λ i h. each i h (same_id i id) refl;
-  all = λ i a. all i a (same_id i id) refl;
+  each = λ i h. (asks_were P (turned_back t) d i (k.each i h)).1;
+  all = λ i a. k.all i (asks_were P t e i a).1;
   distinct = k.distinct;
-} where
-  each : (i : Id) → has_id ids i ≡ true → (b : Bool) → same_id i id ≡ b → Asks more P i
-  each i h true s =
-      let a = k.each i h in
-      absurd (d a.request (sym (ap request_in t.before) ∙ ap (asked_at slots) (sym (same i id s)) ∙ a.holds) a.fits)
-  each i h false s = asks_same slots more P i (ap request_in (t.others i (other i id s))) (k.each i h)
-
-  all : (i : Id) → Asks more P i → (b : Bool) → same_id i id ≡ b → has_id ids i ≡ true
-  all i a true s = absurd (e a.request (sym (ap request_in t.here) ∙ ap (asked_at more) (sym (same i id s)) ∙ a.holds) a.fits)
-  all i a false s = k.all i (asks_same more slots P i (sym (ap request_in (t.others i (other i id s)))) a)
+}
 
 -- one moves on the list
 pub moved_middle : (slots : List (Slot Content)) (P : Request → Type 0) (id : Id) (fronts backs cs ds : List Id) → fronts ++ backs ≡ cs ++ ds →
     AllAsk slots P (fronts ++ id ∷ backs) → AllAsk slots P (cs ++ id ∷ ds)
 moved_middle slots P id fronts backs cs ds e k = record {
-  each = λ i h. k.each i (there i (same_id i id) refl ∙ h);
-  all = λ i a. sym (there i (same_id i id) refl) ∙ k.all i a;
+  each = λ i h. k.each i (moved_has fronts backs cs ds id i e ∙ h);
+  all = λ i a. sym (moved_has fronts backs cs ds id i e) ∙ k.all i a;
   distinct = distinct_middle cs ds id (subst AreDistinct e (distinct_but fronts backs id k.distinct))
       (ap (λ (ids : List Id). has_id ids id) (sym e) ∙ once_middle fronts backs id k.distinct);
-} where
-  there : (i : Id) (b : Bool) → same_id i id ≡ b → has_id (fronts ++ id ∷ backs) i ≡ has_id (cs ++ id ∷ ds) i
-  there i true s =
-      let is = same i id s in
-      ap (has_id (fronts ++ id ∷ backs)) is ∙ has_new_middle fronts backs id ∙ sym (ap (has_id (cs ++ id ∷ ds)) is ∙ has_new_middle cs ds id)
-  there i false s = has_middle fronts backs id i s ∙ ap (λ (ids : List Id). has_id ids i) e ∙ sym (has_middle cs ds id i s)
+}
 
 -- ---- where one stands
 
@@ -205,6 +202,24 @@ lets_go (Some x ∷ running) (suc k) id e =
       are = ap (λ (is : List Id). x ∷ is) t.are;
     }
 
+-- it runs it so far
+pub runs_now : (running : List (Option Id)) (k : ℕ) (id : Id) → slice_get running k ≡ Some (Some id) → has_id (run_ids running) id ≡ true
+runs_now running k id e = let g = lets_go running k id e in ap (λ (ids : List Id). has_id ids id) g.were ∙ has_new_middle g.front g.behind id
+
+-- those behind the front that is taken wait too, and aren't it; who is run then is it, or was run before; and who is run once one is let go
+-- was run before, and isn't it
+pub fewer_wait : (ids more rest behind : List Id) (id i : Id) → ids ≡ id ∷ rest → behind ≡ rest → has_id (rest ++ more) id ≡ false →
+    has_id behind i ≡ true → (has_id ids i ≡ true) × (same_id id i ≡ false)
+fewer_wait ids more rest behind id i e f apart h = grind (arith, has_both, same)
+
+pub more_run : (were are front behind : List Id) (id i : Id) → were ≡ front ++ behind → are ≡ front ++ id ∷ behind → has_id are i ≡ true →
+    (id ≡ i) ⊎ (has_id were i ≡ true)
+more_run were are front behind id i e f h = grind (arith, has_both, same)
+
+pub fewer_run : (were are front behind : List Id) (id i : Id) → were ≡ front ++ id ∷ behind → are ≡ front ++ behind →
+    has_id (front ++ behind) id ≡ false → has_id are i ≡ true → (has_id were i ≡ true) × (same_id id i ≡ false)
+fewer_run were are front behind id i e f apart h = grind (arith, has_both, same)
+
 pub none_run : (n : ℕ) → run_ids (replicate n None) ≡ []
 none_run zero = refl
 none_run (suc n) = none_run n
@@ -253,9 +268,8 @@ works_queued slots more waiting running done id r t opened k = record {
 }
 
 -- a request ends
-ended_by : (slots more : List (Slot Content)) (done : Walk Id) (id : Id) (r x : Request) →
-    Turns slots more id (Some (content.Request r)) (Some (content.Request x)) → IsOpen r → HasEnded x →
-    AllAsk slots HasEnded (done.list ++ done.yet) →
+ended_by : (slots more : List (Slot Content)) (done : Walk Id) (id : Id) (r x : Request) → Turns slots more id (Some (content.Request r))
+    (Some (content.Request x)) → IsOpen r → HasEnded x → AllAsk slots HasEnded (done.list ++ done.yet) →
     AllAsk more HasEnded ((done.list ++ id ∷ []) ++ done.yet)
 ended_by slots more done id r x t opened over k = subst (AllAsk more HasEnded) (sym (append_assoc done.list (id ∷ []) done.yet))
     (more_middle slots more HasEnded id (Some (content.Request r)) (Some (content.Request x)) x done.list done.yet t
@@ -265,6 +279,17 @@ ended_by slots more done id r x t opened over k = subst (AllAsk more HasEnded) (
 its_open : (slots : List (Slot Content)) (ids : List Id) (id : Id) (r : Request) → asked_at slots id ≡ Some r → has_id ids id ≡ true →
     AllAsk slots IsOpen ids → IsOpen r
 its_open slots ids id r e h k = let a = k.each id h in subst IsOpen (same_Some _ _ (sym a.holds ∙ e)) a.fits
+
+-- and so it is of one that waits, or is run
+pub waits_open : (slots : List (Slot Content)) (waiting : List Id) (running : List (Option Id)) (done : Walk Id) (id : Id) (r : Request) →
+    held slots id ≡ Some (content.Request r) → has_id waiting id ≡ true → Works slots waiting running done → IsOpen r
+waits_open slots waiting running done id r e on k =
+    its_open slots (waiting ++ run_ids running) id r (ap request_in e) (has_both waiting (run_ids running) id ∙ rw on refl) k.open_ones
+
+pub runs_open : (slots : List (Slot Content)) (waiting : List Id) (running : List (Option Id)) (done : Walk Id) (id : Id) (r : Request) →
+    held slots id ≡ Some (content.Request r) → has_id (run_ids running) id ≡ true → Works slots waiting running done → IsOpen r
+runs_open slots waiting running done id r e on k = its_open slots (waiting ++ run_ids running) id r (ap request_in e)
+    (has_both waiting (run_ids running) id ∙ rw on (or-true (has_id waiting id))) k.open_ones
 
 -- a request that waits is cancelled
 pub works_cancelled : (slots more : List (Slot Content)) (waiting : List Id) (running : List (Option Id)) (done : Walk Id) (id : Id)
@@ -337,7 +362,4 @@ works_collected slots more waiting running done id rest r t e k =
 -- the section of those that are done begins
 pub works_begun : (slots : List (Slot Content)) (waiting : List Id) (running : List (Option Id)) (done : Walk Id) → done.yet ≡ [] →
     Works slots waiting running done → Works slots waiting running (record { list = []; yet = done.list })
-works_begun slots waiting running done e k = record {
-  open_ones = k.open_ones;
-  ended = subst (AllAsk slots HasEnded) (ap (λ (ids : List Id). done.list ++ ids) e ∙ append-nil done.list) k.ended;
-}
+works_begun slots waiting running done e k = grind (arith, append-nil)
