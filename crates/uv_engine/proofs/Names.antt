@@ -1,5 +1,5 @@
 -- The names that proofs of this crate bring in.
-pub use Rattle.std.proofs.Common.{Bool, Contains, Err, IfErr, List, None, Ok, OnOk, Option, Result, Some, [], add-zero, ap, append-nil, append_assoc, ap₂, arith, codes, drop, drop-cons, false, get_or, if◌then◌else◌, inl, inr, length, length-append, length-take, map, refl, rules, subst, suc, sym, take, true, zero, zero-add, ℕ, ⊎_elim, ◌++◌, ◌+◌, ◌-◌, ◌<◌, ◌==◌, ◌∙◌, ◌∷◌, ◌≡◌, ◌≢◌, ◌≤◌}
+pub use Rattle.std.proofs.Common.{Bool, Contains, Err, IfErr, List, None, Ok, OnOk, Option, Result, Some, [], add-zero, ap, append-nil, append_assoc, ap₂, arith, codes, drop, drop-cons, false, get_or, if◌then◌else◌, inl, inr, length, length-append, length-take, map, refl, rules, subst, suc, sym, take, true, zero, zero-add, ℕ, ⊎_elim, ◌++◌, ◌+◌, ◌-◌, ◌<◌, ◌==◌, ◌^◌, ◌∙◌, ◌∷◌, ◌≡◌, ◌≢◌, ◌≤◌}
 pub use Rattle.std.proofs.Math.Seq.{drop-append-add, get_or-append_seam}
 pub use Rattle.std.proofs.lemmas.Bool.{both_ways, cases_lt, cases_order, cond_both}
 pub use Rattle.std.proofs.lemmas.Bool.Decides.{Decides-eqb, nat_tests}
@@ -13,7 +13,7 @@ pub use Rattle.std.specs.List.{AllByRecursion, filter, flat_map}
 pub use Rattle.std.specs.Prelude.{nat_le, nat_lt, not, option_to_list, slice_get, unwrap_or}
 pub use Rattle.std.specs.Str.{bytes_eq}
 pub use Rattle.uv_engine.specs.Alone.{ReadsAlone}
-pub use Rattle.uv_engine.specs.Devices.{Counted, IfOfInput, OnAnswer, TakesWithin}
+pub use Rattle.uv_engine.specs.Devices.{Counted, IfOfInput, IsTooLong, OnAnswer, ReaderCounts, TakesWithin}
 pub use Rattle.uv_engine.specs.Gather.{CutOff, Gathered, Gathers, GathersOne, Grown}
 pub use Rattle.uv_engine.specs.Input.{Buffered, EndIsSeen, NoFeed, TakesLine, left, pending, size, turns_left}
 pub use Rattle.uv_engine.specs.Out.{BadScript, Begins, Converses, Ends, HasAnswer, HasOneAnswer, IsAnswer, IsConversationFault, IsDeviceFault, NeverBegins, Out, Talks, asked_after, bad_input, bad_line, fresh_session, goes_on, here, here_at_end, image_in, images_in, input_ends, last_line, later, lies, no_begin, nothing, one_line, quits, talks}
