@@ -251,6 +251,16 @@ impl<M: Machine> Session<M> {
         Ok(trace)
     }
 
+    /// The lines of the standing steps are in the documented order of phases, by them each handle closes once and each request calls
+    /// back once, and the events of the thread pool that they say are possible one after another. It does nothing, and is called for
+    /// its clauses.
+    #[tactic(auto, using(crate::proofs::Traces::traces))]
+    pub fn is_documented(&self)
+        ensures documented { IsDocumented self.now (lines self.now.program self.now.standing) }
+        ensures once { Once self.now.program (lines self.now.program self.now.standing) }
+        ensures pool { IsLegal (worker_count self.now.program) (pool_events self.now.program (lines self.now.program self.now.standing)) }
+    {}
+
     /// The steps that stand.
     pub fn steps(&self) -> &[Event]
         ensures { result.now ≡ self.now.standing }
