@@ -1,5 +1,5 @@
 -- Which faults answer the input, and which those of a device.
-use Rattle.uv_engine.proofs.Names.{◌≡◌, ℕ, ◌+◌, List, length, arith, Result, Ok, Err, IfErr, OnOk, sym, subst, Fault, OnAnswer, IfOfInput, TakesWithin, IsDeviceFault, IsConversationFault, IsReadingFault, IsTellingFault, IsStartFault, IsReadFault, IsReplayFault}
+use Rattle.uv_engine.proofs.Names.{◌≡◌, ◌∙◌, ◌<◌, ◌-◌, ◌^◌, inl, inr, ℕ, ◌+◌, List, length, arith, Result, Ok, Err, IfErr, OnOk, sym, subst, Fault, OnAnswer, IfOfInput, TakesWithin, Counted, IsTooLong, ReaderCounts, IsDeviceFault, IsConversationFault, IsReadingFault, IsTellingFault, IsStartFault, IsReadFault, IsReplayFault}
 use Rattle.uv_ids.specs.declared.fault.Fault.TheVariants as fault
 
 -- ---- what holds on each answer
@@ -103,3 +103,23 @@ telling_fault _ h = absurd h
 pub telling_replays : {A : Type 0} (r : Result A Fault) → IfErr r IsTellingFault → IfErr r IsReplayFault
 telling_replays (Ok found) h = tt
 telling_replays (Err f) h = telling_fault f h
+
+-- ---- what was read before this call, and by it
+
+too_long : (tells : Type 0) (limit spent : ℕ) (first mid : List ℕ) (given at given' : ℕ) → (tells → spent + length first ≡ limit + length mid) →
+    (given + limit < 2 ^ 64 - 1 → at + spent ≡ given + limit) → IsTooLong tells spent mid at given' → IsTooLong tells limit first given given'
+too_long tells limit spent first mid given at given' budget gave h = record {
+  told = λ reads. omega (arith, h.told reads, budget reads);
+  gave = λ few. let same : at + spent ≡ given + limit = gave few in
+      let over : at + spent < given' = h.gave (omega (arith, same, few)) in omega (arith, same, over);
+}
+
+pub talk_counts : {A : Type 0} (r : Result A Fault) (tells : Type 0) (limit spent : ℕ) (first mid : List ℕ) (given at given' old between new : ℕ) →
+    (tells → spent + length first ≡ limit + length mid) → (given + limit < 2 ^ 64 - 1 → at + spent ≡ given + limit) → between ≡ old →
+    ReaderCounts r (IsTooLong tells spent mid at given') between new → ReaderCounts r (IsTooLong tells limit first given given') old new
+talk_counts (Ok found) tells limit spent first mid given at given' old between new budget gave same h = h ∙ same
+talk_counts (Err fault.Read) tells limit spent first mid given at given' old between new budget gave same (inl h) =
+    inl (subst (λ (n : ℕ). Counted n new) same h)
+talk_counts (Err fault.Read) tells limit spent first mid given at given' old between new budget gave same (inr h) =
+    inr (h.0 ∙ same, too_long tells limit spent first mid given at given' budget gave h.1)
+talk_counts (Err f) tells limit spent first mid given at given' old between new budget gave same h = h ∙ same

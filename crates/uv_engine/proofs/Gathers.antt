@@ -1,5 +1,5 @@
 -- Text that is gathered and written, a piece at a time.
-use Rattle.uv_engine.proofs.Names.{◌≡◌, ℕ, List, [], ◌++◌, Result, Ok, Err, OnOk, refl, ap, sym, subst, ◌∙◌, append_assoc, append-nil, zero, suc, ◌+◌, ◌-◌, ◌<◌, length, drop, get_or, drop-cons, arith, flat_map, append_cancel_left, Fault, parts_from, next_part, CutShort, Grown, CutOff, Gathered, Gathers, GathersOne}
+use Rattle.uv_engine.proofs.Names.{◌≡◌, ℕ, List, [], ◌++◌, Result, Ok, Err, OnOk, refl, ap, sym, subst, ◌∙◌, append_assoc, append-nil, zero, suc, ◌+◌, ◌-◌, ◌<◌, length, arith, append_cancel_left, Fault, parts_from, next_part, CutShort, Grown, CutOff, Gathered, Gathers, GathersOne}
 use Rattle.uv_text.specs.Parts.{in_parts}
 
 pub grown_none : (w : List ℕ) → Grown w w
@@ -59,11 +59,6 @@ one_fault {Is} {f} {w} {t} text {u} h = record {
   is = h;
   gathers = record { grown = grown_none w; rest = t ++ text; whole = sym (append_assoc w t text) };
 }
-
--- a line of several is the next
-pub line_next : {A : Type 0} (f : A → List ℕ) (xs : List A) {i : ℕ} (d : A) {old all w t : List ℕ} → i < length xs
-    → Gathered old all w t (flat_map f (drop i xs)) → Gathered old all w t (f (get_or xs i d) ++ flat_map f (drop (suc i) xs))
-line_next f xs {i} d {old} {all} {w} {t} l h = rw (drop-cons xs i d l) at h
 
 -- a text under another name
 pub gathers_same : (r : Result (Unit {0}) Fault) (w t v u : List ℕ) {x y : List ℕ} → x ≡ y → Gathers r w t x v u → Gathers r w t y v u

@@ -1,5 +1,5 @@
 -- The names that proofs of this crate bring in.
-pub use Rattle.std.proofs.Common.{Bool, Contains, Err, IfErr, List, None, Ok, OnOk, Option, Result, Some, [], add-zero, ap, append-nil, append_assoc, ap₂, arith, codes, drop, drop-cons, false, get_or, if◌then◌else◌, inl, inr, length, length-append, length-take, map, refl, rules, subst, suc, sym, take, true, zero, zero-add, ℕ, ⊎_elim, ◌++◌, ◌+◌, ◌-◌, ◌<◌, ◌==◌, ◌∙◌, ◌∷◌, ◌≡◌, ◌≢◌, ◌≤◌}
+pub use Rattle.std.proofs.Common.{Bool, Contains, Err, IfErr, List, None, Ok, OnOk, Option, Result, Some, [], add-zero, ap, append-nil, append_assoc, ap₂, arith, codes, drop, drop-cons, false, get_or, if◌then◌else◌, inl, inr, length, length-append, length-take, map, refl, rules, subst, suc, sym, take, true, zero, zero-add, ℕ, ⊎_elim, ◌++◌, ◌+◌, ◌-◌, ◌<◌, ◌==◌, ◌^◌, ◌∙◌, ◌∷◌, ◌≡◌, ◌≢◌, ◌≤◌}
 pub use Rattle.std.proofs.Math.Seq.{drop-append-add, get_or-append_seam}
 pub use Rattle.std.proofs.lemmas.Bool.{both_ways, cases_lt, cases_order, cond_both}
 pub use Rattle.std.proofs.lemmas.Bool.Decides.{Decides-eqb, nat_tests}
@@ -13,12 +13,12 @@ pub use Rattle.std.specs.List.{AllByRecursion, filter, flat_map}
 pub use Rattle.std.specs.Prelude.{nat_le, nat_lt, not, option_to_list, slice_get, unwrap_or}
 pub use Rattle.std.specs.Str.{bytes_eq}
 pub use Rattle.uv_engine.specs.Alone.{ReadsAlone}
-pub use Rattle.uv_engine.specs.Devices.{Counted, IfOfInput, OnAnswer, TakesWithin}
+pub use Rattle.uv_engine.specs.Devices.{Counted, IfOfInput, IsTooLong, OnAnswer, ReaderCounts, TakesWithin}
 pub use Rattle.uv_engine.specs.Gather.{CutOff, Gathered, Gathers, GathersOne, Grown}
 pub use Rattle.uv_engine.specs.Input.{Buffered, EndIsSeen, NoFeed, TakesLine, left, pending, size, turns_left}
 pub use Rattle.uv_engine.specs.Out.{BadScript, Begins, Converses, Ends, HasAnswer, HasOneAnswer, IsAnswer, IsConversationFault, IsDeviceFault, NeverBegins, Out, Talks, asked_after, bad_input, bad_line, fresh_session, goes_on, here, here_at_end, image_in, images_in, input_ends, last_line, later, lies, no_begin, nothing, one_line, quits, talks}
 pub use Rattle.uv_engine.specs.Recordings.{InCalls, InScript, InSteps, IsBadFrom, IsStuck, Part, Reads, ReadsAll, Start, Whole, begins, callback, calls, ends, in_script, none, one, step, unread_in, version, version_line}
-pub use Rattle.uv_engine.specs.Reply.{Full, Reply, Took, add_after, add_text, appended_text, at_text, back_after, back_text, break_back_after, break_back_text, break_text, forward_after, forward_text, last_break, last_match, may_follow, reply, reply_after, reply_text, reply_to, stop_text}
+pub use Rattle.uv_engine.specs.Reply.{Full, Reply, Took, add_after, add_text, at_text, back_after, back_text, break_back_after, break_back_text, break_text, forward_after, forward_text, last_break, last_match, may_follow, reply, reply_after, reply_text, reply_to, stop_text}
 pub use Rattle.uv_engine.specs.Rerun.{FailsAt, HasCalls, HasSteps, IsReadingFault, IsTellingFault, Met, MetSo, RanSo, ReadsTo, called_from}
 pub use Rattle.uv_engine.specs.Sink.{CutShort}
 pub use Rattle.uv_engine.specs.Start.{FindsSkipped, HasScript, IsFirstBad, IsFirstSkipped, IsFront, IsStartFault, MissesBegin, NoScript, NoneSkipped, ParsesFront, ReadsScript, after_last, at_line, with_line}
@@ -65,7 +65,7 @@ pub use Rattle.uv_text.proofs.Played.{callbacks_said, played}
 pub use Rattle.uv_text.proofs.Printed.{step_said}
 pub use Rattle.uv_text.proofs.Showing.{is_image}
 pub use Rattle.uv_text.proofs.Sizes.{CanBe}
-pub use Rattle.uv_text.proofs.Wholes.{layout_whole, next_part}
+pub use Rattle.uv_text.proofs.Wholes.{layout_whole, next_part, trace_whole}
 pub use Rattle.uv_text.specs.Commands.{Asks, IsCommand, command}
 pub use Rattle.uv_text.specs.Image.{image_text}
 pub use Rattle.uv_text.specs.Parts.{parts_from}
@@ -73,7 +73,7 @@ pub use Rattle.uv_text.specs.Reading.{asked_of}
 pub use Rattle.uv_text.specs.Recorded.{IsCallbackLine, SaysStep, after as after_callback, after as after_line, call, closed, loop, outside, step_asked}
 pub use Rattle.uv_text.specs.Recording.{callback_lines, is_callback, recording_lines, step_line}
 pub use Rattle.uv_text.specs.State.{state_text}
-pub use Rattle.uv_text.specs.Trace.{line_text, seen_text}
+pub use Rattle.uv_text.specs.Trace.{appended_text, line_text, seen_text}
 pub use Rattle.uv_text.specs.declared.command.Asked.{Asked}
 pub use Rattle.uv_text.specs.declared.command.Asked.TheVariants.{Bad, Do, Nothing}
 pub use Rattle.uv_text.specs.declared.command.Command.TheVariants.{AddBreak, Back, BackToBreak, ClearBreaks, Forward, Image, Loop, Quit, Record, State, Step, Trace}

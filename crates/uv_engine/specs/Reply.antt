@@ -13,7 +13,7 @@ use Rattle.uv_session.specs.declared.breaks.Break.{Break}
 use Rattle.uv_session.specs.Shown.{Shown, moved_back}
 use Rattle.uv_session.specs.Breaks.{stops}
 use Rattle.uv_session.specs.Moving.{moved_forward, BREAKS, stops_at}
-use Rattle.uv_text.specs.Trace.{seen_text}
+use Rattle.uv_text.specs.Trace.{seen_text, appended_text}
 
 -- what a session answers to an event
 pub data Reply : Type 0 where
@@ -29,11 +29,6 @@ reply_to s e (Refuses why) = Refused why
 
 abbrev pub reply : Shown → Event → Reply
 reply s e = if nat_lt (length s.standing) s.limit then reply_to s e (next s.program (after s.program s.standing) e) else Full
-
--- the appended line, if one was
-abbrev pub appended_text : Program → Option Seen → List ℕ
-appended_text p None = []
-appended_text p (Some seen) = seen_text p seen
 
 abbrev pub refused_text : Why → List ℕ
 refused_text why = codes "refused " ++ why_word why ++ codes "\n"

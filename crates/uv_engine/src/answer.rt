@@ -1,20 +1,17 @@
 //! The answers to commands.
 ghost use Rattle.std.specs.Prelude.{◌≡◌, ◌<◌, [], OnOk, IfErr, length};
-ghost use Rattle.std.specs.List.{flat_map};
 ghost use Rattle.uv_ids.specs.declared.fault.Fault.TheVariants.{Write};
-ghost use Rattle.uv_text.specs.Trace.{seen_text};
 ghost use Rattle.uv_engine.specs.Devices.{WriterCounts};
 ghost use Rattle.uv_engine.specs.Gather.{Gathers, GathersOne, IsWriteFault};
-ghost use Rattle.uv_engine.specs.Reply.{loop_text, loop_after, trace_text};
+ghost use Rattle.uv_engine.specs.Reply.{loop_text, loop_after};
 ghost use Rattle.uv_engine.specs.Out.{Prints, command_after, IsAnswer, asked_after};
 
 use crate::conversation::Conversation;
 use crate::reply::{add_break, back_to_break, clear_breaks, go_back, go_forward, tell};
 use crate::sink::{Sink, write_out};
-use uv_ids::{Event, Fault, Seen};
+use uv_ids::{Event, Fault};
 use uv_model::Machine;
-use uv_script::Script;
-use uv_text::{Asked, Command, push_seen};
+use uv_text::{Asked, Command};
 
 /// How much text is gathered before it is written, in bytes.
 const FULL: usize = 8192;
@@ -30,25 +27,6 @@ pub(crate) fn spill<W: Sink>(writer: &mut W, text: &mut Vec<u8>) -> Result<(), F
         return Ok(());
     }
     write_out(writer, text)
-}
-
-/// Some trace lines.
-fn show_lines<W: Sink>(
-    script: &Script,
-    trace: &[Seen],
-    writer: &mut W,
-    text: &mut Vec<u8>,
-) -> Result<(), Fault>
-    ensures text { W.Tells → Gathers result (W.written writer.old) text.old.items (flat_map (seen_text script.now) trace.now)
-        (W.written writer.new) text.new.items }
-    ensures err { IfErr result IsWriteFault }
-    ensures writer { WriterCounts result (W.failures writer.old) (W.failures writer.new) }
-{
-    for seen in trace {
-        push_seen(text, script, *seen)?;
-        spill(writer, text)?;
-    }
-    Ok(())
 }
 
 impl<M: Machine> Conversation<M> {
@@ -67,21 +45,6 @@ impl<M: Machine> Conversation<M> {
             spill(writer, &mut self.text)?;
         }
         Ok(())
-    }
-
-    /// The lines of the standing steps.
-    fn show_trace<W: Sink>(&mut self, writer: &mut W) -> Result<(), Fault>
-        ensures text { W.Tells → Gathers result (W.written writer.old) self.old.text.items (trace_text self.old.session)
-            (W.written writer.new) self.new.text.items }
-        ensures session { self.new.session ≡ self.old.session }
-        ensures err { IfErr result IsWriteFault }
-        ensures writer { WriterCounts result (W.failures writer.old) (W.failures writer.new) }
-    {
-        let Ok(trace) = self.session.trace() else {
-            return Err(Fault::Memory);
-        };
-        let script = self.session.machine().script();
-        show_lines(script, trace.as_slice(), writer, &mut self.text)
     }
 
     /// Does a command, save `quit`.

@@ -1,23 +1,15 @@
 //! What a session answers to one command, as text.
 ghost use Rattle.std.specs.Prelude.{◌≡◌, ◌<◌, ◌++◌, [], length, IfOk, OnOk, codes};
-ghost use Rattle.uv_engine.specs.Reply.{reply, reply_text, reply_after, may_follow, appended_text, break_text, at_text, back_text, back_after, forward_text, forward_after, add_text, add_after, last_break, break_back_text, break_back_after};
+ghost use Rattle.uv_engine.specs.Reply.{reply, reply_text, reply_after, may_follow, break_text, at_text, back_text, back_after, forward_text, forward_after, add_text, add_after, last_break, break_back_text, break_back_after};
 ghost use Rattle.uv_engine.specs.Steps.{last_seen};
+ghost use Rattle.uv_text.specs.Trace.{appended_text};
 
 use std::alloc::AllocError;
-use uv_ids::{Event, Fault, Seen};
+use uv_ids::{Event, Fault};
 use uv_model::Machine;
-use uv_script::{Script, push_number};
+use uv_script::push_number;
 use uv_session::{Break, Session, Stop};
-use uv_text::push_seen;
-
-fn push_appended(text: &mut Vec<u8>, script: &Script, seen: Option<Seen>) -> Result<(), AllocError>
-    ensures { OnOk result (text.new.items ≡ text.old.items ++ appended_text script.now seen) }
-{
-    match seen {
-        Some(seen) => push_seen(text, script, seen),
-        None => Ok(()),
-    }
-}
+use uv_text::push_appended;
 
 pub(crate) fn push_refused(text: &mut Vec<u8>, why: &str) -> Result<(), AllocError>
     ensures { OnOk result (text.new.items ≡ text.old.items ++ (codes "refused " ++ why.now ++ codes "\n")) }

@@ -7,6 +7,7 @@ ghost use Rattle.uv_text.specs.Recording.{recording_text};
 ghost use Rattle.uv_engine.specs.Devices.{WriterCounts};
 ghost use Rattle.uv_engine.specs.Gather.{Gathers, GathersOne, IsWriteFault};
 ghost use Rattle.uv_engine.specs.Out.{PrintsImage};
+ghost use Rattle.uv_engine.specs.Reply.{trace_text};
 
 use crate::answer::spill;
 use crate::conversation::Conversation;
@@ -14,7 +15,7 @@ use crate::reply::push_refused;
 use crate::sink::Sink;
 use uv_ids::Fault;
 use uv_model::{Layout, Machine};
-use uv_text::{LayoutParts, Parts, RecordingParts, StateParts};
+use uv_text::{LayoutParts, Parts, RecordingParts, StateParts, TraceParts};
 
 /// Gathers a text, and writes what is gathered as soon as there is much of it.
 fn show_parts<P: Parts, W: Sink>(parts: &P, writer: &mut W, text: &mut Vec<u8>) -> Result<(), Fault>
@@ -33,6 +34,22 @@ fn show_parts<P: Parts, W: Sink>(parts: &P, writer: &mut W, text: &mut Vec<u8>) 
 }
 
 impl<M: Machine> Conversation<M> {
+    /// The lines of the standing steps.
+    pub(crate) fn show_trace<W: Sink>(&mut self, writer: &mut W) -> Result<(), Fault>
+        ensures text { W.Tells → Gathers result (W.written writer.old) self.old.text.items (trace_text self.old.session)
+            (W.written writer.new) self.new.text.items }
+        ensures few { OnOk result (length self.old.text.items < 8192 → length self.new.text.items < 8192) }
+        ensures session { self.new.session ≡ self.old.session }
+        ensures err { IfErr result IsWriteFault }
+        ensures writer { WriterCounts result (W.failures writer.old) (W.failures writer.new) }
+    {
+        self.session.is_documented();
+        let parts = TraceParts {
+            session: &self.session,
+        };
+        show_parts(&parts, writer, &mut self.text)
+    }
+
     /// The state.
     pub(crate) fn show_state<W: Sink>(&mut self, writer: &mut W) -> Result<(), Fault>
         ensures text { W.Tells → Gathers result (W.written writer.old) self.old.text.items (state_text self.old.session)

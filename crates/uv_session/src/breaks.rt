@@ -1,7 +1,6 @@
 //! Where a run is to stop, and where it stopped.
 ghost use Rattle.std.specs.Prelude.{◌≡◌};
-ghost use Rattle.std.specs.List.{list_any};
-ghost use Rattle.uv_session.specs.Breaks.{calls_name, is_code, answers_code, begins_section, matches, stops, stop_of, same_code, same_phase};
+ghost use Rattle.uv_session.specs.Breaks.{is_code, answers_code, matches, stop_of, same_code, same_phase};
 
 use uv_ids::{Answer, Code, Fault, Phase, Seen, Var, Why};
 
@@ -72,14 +71,14 @@ fn is_code(answer: Answer, code: Code) -> bool
 }
 
 /// Whether one code is the other.
-fn same_code(one: Code, other: Code) -> bool
+pub(crate) fn same_code(one: Code, other: Code) -> bool
     ensures { result ≡ same_code one other }
 {
     one == other
 }
 
 /// Whether one section is the other.
-fn is_phase(one: Phase, other: Phase) -> bool
+pub(crate) fn is_phase(one: Phase, other: Phase) -> bool
     ensures { result ≡ same_phase one other }
 {
     one == other
@@ -93,21 +92,4 @@ pub fn stop_of(fault: Fault) -> Result<Stop, Fault>
         Fault::Refused(why) => Ok(Stop::Refused(why)),
         fault => Err(fault),
     }
-}
-
-/// Whether a step matches one of these.
-pub fn stops(breaks: &[Break], seen: Option<Seen>) -> bool
-    ensures { result ≡ stops breaks.now seen }
-{
-    match seen {
-        None => false,
-        Some(line) => any_matches(breaks, line),
-    }
-}
-
-/// Whether a line matches one of these.
-fn any_matches(breaks: &[Break], line: Seen) -> bool
-    ensures { result ≡ list_any (λ at. matches at line) breaks.now }
-{
-    breaks.iter().any(|at| at.matches(line))
 }

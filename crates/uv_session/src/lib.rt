@@ -1,6 +1,7 @@
 //! A session: a machine with the steps that stand, and those that were taken back and can be run again.
 #![tactic(auto)]
 
+mod break_sets;
 mod breaks;
 mod session;
 

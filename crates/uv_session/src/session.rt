@@ -9,7 +9,8 @@ ghost use Rattle.uv_work.specs.Pool.{IsLegal};
 ghost use Rattle.uv_session.specs.Moving.{moved_forward, MovesForward, AddsBreak, RunsTo, NoneFrom, IsLastBreak, GoesToBreak};
 ghost use Rattle.uv_session.specs.Shown.{TakesEvent, TakesResult, MovesBack, IsDocumented, moved_back};
 
-use crate::breaks::{Break, Stop, stop_of, stops};
+use crate::break_sets::Breaks;
+use crate::breaks::{Break, Stop, stop_of};
 use std::alloc::{AllocError, Global};
 use std::marker::Model;
 use uv_ids::{Event, Fault, Seen, Why};
@@ -27,7 +28,7 @@ pub struct Session<M: Machine> {
     events: Vec<Event>,
     standing: usize,
     limit: usize,
-    breaks: Vec<Break>,
+    breaks: Breaks,
 }
 
 impl<M: Machine> Model for Session<M> {
@@ -42,7 +43,7 @@ impl<M: Machine> Model for Session<M> {
       limit = a.limit;
       standing = take a.standing a.events.items;
       taken_back = drop a.standing a.events.items;
-      breaks = a.breaks.items;
+      breaks = a.breaks.listed.items;
     } };
 
     ghost invariant = { λ a. IsHeld (M.program a.machine) (M.standing a.machine) a.events.items a.standing a.limit };
@@ -65,7 +66,7 @@ impl<M: Machine> Session<M> {
             events: Vec::new(alloc),
             standing: 0,
             limit: limit.min(STEPS),
-            breaks: Vec::new(alloc),
+            breaks: Breaks::new(alloc),
         }
     }
 
@@ -171,17 +172,17 @@ impl<M: Machine> Session<M> {
         if self.breaks.len() >= BREAKS {
             return Err(Fault::Limit);
         }
-        if self.breaks.push(at).is_err() {
-            return Err(Fault::Memory);
+        match self.breaks.add(at) {
+            Ok(()) => Ok(()),
+            Err(_) => Err(Fault::Memory),
         }
-        Ok(())
     }
 
     /// Has runs stop nowhere.
     pub fn clear_breaks(&mut self)
         ensures { self.new ≡ record self.old { breaks = [] } }
     {
-        self.breaks.clear();
+        self.breaks = Breaks::new(self.alloc);
     }
 
     /// Repeats an event until so many are done, a step matches a break, or the event is refused. After an error the steps that
@@ -192,7 +193,7 @@ impl<M: Machine> Session<M> {
         'steps: for _ in 0..times {
             match self.do_event(event) {
                 Ok(outcome) => {
-                    if stops(&self.breaks, outcome.seen) {
+                    if self.breaks.stop(outcome.seen) {
                         return Ok(Stop::Break(self.standing));
                     }
                 }
@@ -225,7 +226,7 @@ impl<M: Machine> Session<M> {
         let mut step = self.machine.len();
         'back: while step > 1 {
             step -= 1;
-            if stops(&self.breaks, self.machine.seen(step)) {
+            if self.breaks.stop(self.machine.seen(step)) {
                 return Some(step);
             }
         }
@@ -249,6 +250,16 @@ impl<M: Machine> Session<M> {
         }
         Ok(trace)
     }
+
+    /// The lines of the standing steps are in the documented order of phases, by them each handle closes once and each request calls
+    /// back once, and the events of the thread pool that they say are possible one after another. It does nothing, and is called for
+    /// its clauses.
+    #[tactic(auto, using(crate::proofs::Traces::traces))]
+    pub fn is_documented(&self)
+        ensures documented { IsDocumented self.now (lines self.now.program self.now.standing) }
+        ensures once { Once self.now.program (lines self.now.program self.now.standing) }
+        ensures pool { IsLegal (worker_count self.now.program) (pool_events self.now.program (lines self.now.program self.now.standing)) }
+    {}
 
     /// The steps that stand.
     pub fn steps(&self) -> &[Event]

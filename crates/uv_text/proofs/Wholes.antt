@@ -1,10 +1,11 @@
 -- The parts of a text, one after another, are all of it.
-use Rattle.uv_text.proofs.Names.{◌≡◌, ℕ, zero, suc, ◌+◌, ◌-◌, ◌*◌, ◌<◌, ◌≤◌, ◌==◌, nat_le, nat_lt, List, [], ◌∷◌, ◌++◌, length, map, Option, Some, Result, OnOk, slice_get, refl, ap, sym, subst, ◌∙◌, arith, append_assoc, append-nil, add-one, codes, flat_map, cond-true, cond-false, le-leb, lt-leb, lt-ltb, le-ltb, eq-eqb, ne_eqb, Event, Program, lines_text, LaidSlot, Layout, State, numbers, length-seen_by, Shown, parts_from, names_upto, slots_upto, LAST_PARTS, name_part, slot_part, part_count, text_after, state_text, state_part, state_parts, links_from, named_ends, link_part, LAYOUT_PARTS, layout_parts, step_line, step_part, called_part, callback_lines, recording_parts}
-use Rattle.uv_model.specs.After.{seen_by}
+use Rattle.uv_text.proofs.Names.{◌≡◌, ℕ, zero, suc, ◌+◌, ◌-◌, ◌*◌, ◌<◌, ◌≤◌, ◌==◌, nat_le, nat_lt, List, [], ◌∷◌, ◌++◌, length, map, Option, Some, None, option_to_list, Result, OnOk, slice_get, refl, ap, sym, subst, ◌∙◌, arith, append_assoc, append-nil, add-one, codes, flat_map, cond-true, cond-false, le-leb, lt-leb, lt-ltb, le-ltb, eq-eqb, ne_eqb, Event, Seen, Program, lines_text, LaidSlot, Layout, State, numbers, length-seen_by, Shown, parts_from, names_upto, slots_upto, LAST_PARTS, name_part, slot_part, part_count, text_after, state_text, state_part, state_parts, links_from, named_ends, link_part, LAYOUT_PARTS, layout_parts, step_line, step_part, called_part, callback_lines, recording_parts}
+use Rattle.uv_model.specs.After.{seen_by, lines}
 use Rattle.uv_text.specs.Parts.{in_parts}
 use Rattle.uv_text.specs.State.{steps_line, place_line, free_line, unused_line, lists_text, last_part, part_after}
 use Rattle.uv_text.specs.Image.{link_line, ends_line, heap_line, places_line, counts_line, rest_part, layout_part, layout_text}
 use Rattle.uv_text.specs.Recording.{script_part, recording_part, recording_text}
+use Rattle.uv_text.specs.Trace.{seen_text, appended_part, trace_part}
 use Rattle.uv_text.proofs.Recordings.{called_is, steps_are, whole}
 
 -- ---- parts from one on
@@ -195,6 +196,23 @@ layout_whole l =
     ∙ ap (λ (t : List ℕ). t ++ parts_from f (zero + n) LAYOUT_PARTS) links
     ∙ ap (λ (t : List ℕ). links_from zero l.slots.items ++ t) rest
     ∙ simp append_assoc refl
+
+-- ---- a trace
+
+lines_said : (p : Program) (xs : List (Option Seen)) →
+    flat_map (λ (x : Option Seen). appended_part p (Some x)) xs ≡ flat_map (seen_text p) (flat_map option_to_list xs)
+lines_said p [] = refl
+lines_said p (None ∷ xs) = lines_said p xs
+lines_said p (Some l ∷ xs) = ap (λ (t : List ℕ). seen_text p l ++ t) (lines_said p xs)
+
+-- the parts of a trace are the lines of the standing steps
+pub trace_whole : (p : Program) (es : List Event) → in_parts (trace_part p es) (length es) ≡ flat_map (seen_text p) (lines p es)
+unfolding in_parts trace_part
+trace_whole p es =
+    ap (parts_from (trace_part p es) zero) (sym (length-seen_by p es))
+    ∙ listed (trace_part p es) (appended_part p) (seen_by p es) zero
+    (λ i l. ap (λ (n : ℕ). appended_part p (slice_get (seen_by p es) n)) (none_more i))
+    ∙ lines_said p (seen_by p es)
 
 -- ---- a recording
 

@@ -1,5 +1,5 @@
 -- The text of a trace line.
-use Rattle.std.specs.Prelude.{ℕ, List, [], ◌++◌, true, false, Option, Some, None, codes, decimal}
+use Rattle.std.specs.Prelude.{ℕ, List, [], ◌++◌, true, false, Option, Some, None, slice_get, codes, decimal}
 use Rattle.hex.specs.Hex.{encode_lower}
 use Rattle.uv_ids.specs.Words.{mode_word, phase_word, code_word}
 use Rattle.uv_ids.specs.declared.id.Id.{Id}
@@ -10,9 +10,11 @@ use Rattle.uv_ids.specs.declared.code.Answer.TheVariants as answer
 use Rattle.uv_ids.specs.declared.seen.Site.{Site}
 use Rattle.uv_ids.specs.declared.seen.Seen.{Seen}
 use Rattle.uv_ids.specs.declared.seen.Seen.TheVariants as seen
+use Rattle.uv_ids.specs.declared.event.Event.{Event}
 use Rattle.uv_script.specs.declared.op.Op.{Op}
 use Rattle.uv_script.specs.Program.{Program, op_at}
 use Rattle.uv_script.specs.Text.{op_text, name_text}
+use Rattle.uv_model.specs.After.{seen_by}
 
 -- an id: `SLOT.GENERATION`
 abbrev pub id_text : Id → List ℕ
@@ -78,3 +80,17 @@ line_text p (seen.Tick ms) = codes "out tick " ++ decimal ms
 -- a line with its line feed
 abbrev pub seen_text : Program → Seen → List ℕ
 seen_text p seen = line_text p seen ++ codes "\n"
+
+-- the line that a step appended, if it appended one
+abbrev pub appended_text : Program → Option Seen → List ℕ
+appended_text p None = []
+appended_text p (Some seen) = seen_text p seen
+
+-- ---- a trace in parts, as it is written: what each standing step appended
+
+abbrev pub appended_part : Program → Option (Option Seen) → List ℕ
+appended_part p (Some seen) = appended_text p seen
+appended_part p None = []
+
+unfoldable pub trace_part : Program → List Event → ℕ → List ℕ
+trace_part p es n = appended_part p (slice_get (seen_by p es) n)

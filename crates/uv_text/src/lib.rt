@@ -9,6 +9,7 @@ mod recorded;
 mod recording;
 mod state;
 mod trace;
+mod traced;
 
 pub use command::{Asked, Command, every_line_asks, read_command};
 pub use image::{LayoutParts, image_text};
@@ -17,3 +18,4 @@ pub use recorded::{is_callback_line, read_step};
 pub use recording::{RecordingParts, is_callback, recording_text};
 pub use state::{StateParts, state_text};
 pub use trace::{push_line, push_seen, seen_text};
+pub use traced::{TraceParts, push_appended};

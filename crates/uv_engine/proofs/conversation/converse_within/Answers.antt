@@ -1,6 +1,6 @@
 use Rattle.uv_engine.proofs.Names.{Ok, Err, arith, err_from_is_err_and, left}
 use Rattle.uv_engine.proofs.Starting.{no_start, no_machine, talked, begun_session, reads_whole}
-use Rattle.uv_engine.proofs.Faults.{taken, no_memory, talked_within, start_converses, memory_converses, talk_converses}
+use Rattle.uv_engine.proofs.Faults.{taken, no_memory, talked_within, start_converses, memory_converses, talk_converses, talk_counts}
 use Rattle.uv_engine.proofs.conversation.converse_within.Goals as goal
 
 pub returns-in_err-script-clause-text : goal.returns-in_err-script-clause-text
@@ -57,3 +57,14 @@ returns-clause-within g c = talked_within c.talk.result c.talk.ensures.err c.tal
 
 pub returns-clause-err : goal.returns-clause-err
 returns-clause-err g c = talk_converses c.talk.result c.talk.ensures.err
+
+pub returns-clause-reader : goal.returns-clause-reader
+returns-clause-reader g c =
+    let reader = g.R.Source.remaining c.args.reader.now in
+    talk_counts c.talk.result g.R.Source.Tells c.args.limit c.read_script.new.input.budget reader
+    (g.R.Source.remaining c.read_script.new.reader) (g.R.Source.given c.args.reader.now) (g.R.Source.given c.read_script.new.reader)
+    (g.R.Source.given c.talk.new.reader) (g.R.Source.failures c.args.reader.now) (g.R.Source.failures c.read_script.new.reader)
+    (g.R.Source.failures c.talk.new.reader)
+    (λ reads. omega (arith, c.in_ok-script.ensures.budget reads, c.new-input.ensures.budget))
+    (λ few. omega (arith, c.in_ok-script.ensures.given, c.new-input.ensures.budget, few))
+    c.in_ok-script.ensures.reader c.talk.ensures.reader

@@ -1,0 +1,63 @@
+//! The text of a trace, a step at a time.
+ghost use Rattle.std.specs.Prelude.{◌≡◌, ◌<◌, ◌++◌, OnOk, length};
+ghost use Rattle.uv_text.specs.Trace.{trace_part, appended_text};
+
+use crate::parts::Parts;
+use crate::trace::push_seen;
+use std::alloc::AllocError;
+use uv_ids::Seen;
+use uv_model::Machine;
+use uv_script::Script;
+use uv_session::Session;
+
+/// The trace of a session in parts: what each of its standing steps appended.
+#[derive(Drop)]
+pub struct TraceParts<'a, M: Machine> {
+    pub session: &'a Session<M>,
+}
+
+impl<'a, M: Machine> Parts for TraceParts<'a, M> {
+    ghost use Rattle.std.specs.Prelude.{length};
+    ghost use Rattle.uv_text.specs.Trace.{trace_part};
+
+    ghost parts = { λ trace. length trace.session.now.standing };
+
+    ghost part = { λ trace. trace_part trace.session.now.program trace.session.now.standing };
+
+    fn part_count(&self) -> usize {
+        self.session.steps().len()
+    }
+
+    fn push_part(&self, text: &mut Vec<u8>, number: usize) -> Result<(), AllocError> {
+        push_trace_part(text, self.session.machine(), number)
+    }
+}
+
+/// What a standing step appended, the first being 0.
+#[tactic(auto, unfolding(crate::specs::Trace::trace_part))]
+fn push_trace_part<M: Machine>(
+    text: &mut Vec<u8>,
+    machine: &M,
+    number: usize,
+) -> Result<(), AllocError>
+    requires { number < length (M.standing machine.now) }
+    ensures { OnOk result (text.new.items ≡ text.old.items ++ trace_part (M.program machine.now) (M.standing machine.now) number) }
+{
+    let steps = machine.len();
+    prove!(number < steps);
+    push_appended(text, machine.script(), machine.seen(number + 1))
+}
+
+/// Puts what a step appended behind a text, with a line feed: a line, or nothing.
+pub fn push_appended(
+    text: &mut Vec<u8>,
+    script: &Script,
+    seen: Option<Seen>,
+) -> Result<(), AllocError>
+    ensures { OnOk result (text.new.items ≡ text.old.items ++ appended_text script.now seen) }
+{
+    match seen {
+        Some(seen) => push_seen(text, script, seen),
+        None => Ok(()),
+    }
+}
