@@ -2,6 +2,7 @@ pub mod Clear
 pub mod Courses
 pub mod Events
 pub mod Finishes
+pub mod KeptLines
 pub mod Lasts
 pub mod Lines
 mod Names

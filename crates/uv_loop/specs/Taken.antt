@@ -1,5 +1,5 @@
 -- The row of the steps that stand.
-use Rattle.std.specs.Prelude.{◌≡◌, ◌<◌, ◌++◌, List, [], ◌∷◌, map, Option, Some, vec_len, vec_capacity}
+use Rattle.std.specs.Prelude.{◌≡◌, ◌<◌, ◌++◌, List, [], ◌∷◌, map, Option, Some}
 use Rattle.uv_ids.specs.declared.event.Event.{Event}
 use Rattle.uv_ids.specs.declared.event.Event.TheVariants.{Loop, Take, Finish, Cancel, Send, Tick}
 use Rattle.uv_ids.specs.declared.seen.Seen.{Seen}
@@ -22,7 +22,7 @@ events_of lines = map event_of lines
 module _ {P : Type 0} where
   -- there is memory for one step more
   pub record HasRoom (steps : Steps P) : Type 0 where
-    pub seen : vec_len steps.seen < vec_capacity steps.seen
+    pub seen : 0 < steps.seen.room
     pub records : 0 < steps.trail.room
 
   -- the same steps

@@ -122,7 +122,7 @@ impl Machine for ArenaLoop {
 
     #[tactic(auto, using(uv_model::proofs::Runs::runs, uv_model::proofs::Runs::seen_at))]
     fn seen(&self, step: usize) -> Option<Seen> {
-        self.steps.seen[step - 1]
+        self.steps.seen.at(step - 1)
     }
 
     fn script(&self) -> &Script {

@@ -2,6 +2,7 @@
 ghost use Rattle.std.specs.Prelude.{◌≡◌, ◌<◌, ◌++◌, ◌∷◌, [], OnOk, IsTrue, IsFalse, length, take};
 ghost use Rattle.uv_loop.specs.Taken.{HasRoom, AreSame, IsOneMore};
 
+use crate::line_row::LineRow;
 use std::alloc::{AllocError, Global};
 use uv_ids::Seen;
 use uv_step::{LastStep, Trail};
@@ -9,7 +10,7 @@ use uv_step::{LastStep, Trail};
 /// The steps that stand: what each appended to the trace, which tells its event, and what takes it back.
 #[derive(Drop)]
 pub(crate) struct Steps<P: Copy> {
-    pub(crate) seen: Vec<Option<Seen>>,
+    pub(crate) seen: LineRow,
     pub(crate) trail: Trail<P>,
 }
 
@@ -19,7 +20,7 @@ impl<P: Copy> Steps<P> {
         ensures records { result.trail.records ≡ [] }
     {
         Steps {
-            seen: Vec::new(alloc),
+            seen: LineRow::new(alloc),
             trail: Trail::new(alloc),
         }
     }
@@ -29,7 +30,7 @@ impl<P: Copy> Steps<P> {
         ensures same { AreSame self.old self.new }
         ensures ok { OnOk result (HasRoom self.new) }
     {
-        if self.seen.reserve(1).is_err() || self.trail.reserve().is_err() {
+        if self.seen.reserve().is_err() || self.trail.reserve().is_err() {
             return Err(AllocError);
         }
         Ok(())
@@ -40,7 +41,7 @@ impl<P: Copy> Steps<P> {
         requires { HasRoom self.old }
         ensures { IsOneMore self.old self.new line last.now }
     {
-        self.seen.push_reserved(line);
+        self.seen.push(line);
         self.trail.push(last);
     }
 
@@ -53,11 +54,12 @@ impl<P: Copy> Steps<P> {
 
     /// The last one of some goes: this takes it back.
     pub(crate) fn pop(&mut self, last: &mut LastStep<P>)
-        requires { 0 < length self.old.trail.records }
+        requires some { 0 < length self.old.trail.records }
+        requires each { length self.old.seen.items ≡ length self.old.trail.records }
         ensures records { self.old.trail.records ≡ self.new.trail.records ++ last.new ∷ [] }
         ensures seen { self.new.seen.items ≡ take (length self.new.trail.records) self.old.seen.items }
     {
         self.trail.pop(last);
-        self.seen.truncate(self.trail.len());
+        self.seen.pop();
     }
 }

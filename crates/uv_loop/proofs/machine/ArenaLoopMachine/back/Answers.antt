@@ -1,7 +1,13 @@
-use Rattle.uv_loop.proofs.Names.{held, image_of, events_of}
-use Rattle.uv_loop.proofs.Courses.{course_dropped, course_shorter, drops}
+use Rattle.uv_loop.proofs.Names.{held, image_of, event_of, events_of, sym, ◌∙◌, length-map}
+use Rattle.uv_loop.proofs.Courses.{course_length, course_dropped, course_shorter, drops}
 use Rattle.uv_loop.proofs.Told.{events_take}
 use Rattle.uv_loop.proofs.machine.ArenaLoopMachine.back.Goals as goal
+
+pub pop-requires-clause-each : goal.pop-requires-clause-each
+pop-requires-clause-each c =
+    let seen = c.self.inside.steps.seen.items in
+    sym (course_length c.self.inside.script (events_of seen) seen c.self.inside.steps.trail.records (held c.self.inside.memory) c.self.invariant
+    ∙ length-map seen event_of)
 
 pub unwind-requires : goal.unwind-requires
 unwind-requires c =
