@@ -197,13 +197,7 @@ op_pools s each kept k = quiet_op s each tt (λ a. refl) kept
 -- the line of an op
 op_line : (p : Program) (s : State) (place : Site) (o : Op) → op_at p place ≡ Some o → Kept s → Working s →
     after_events (Some (pool_of s)) (line_events p (seen.Op place (do_op s o).answer)) ≡ Some (pool_of (do_op s o).state)
-op_line p s place o e kept k =
-    ap (λ (x : Option Op). after_events (Some (pool_of s)) (answered_events (option_map (λ (y : Op). record {
-      op = y;
-      answer =
-          (do_op s o).answer;
-    }) x))) e
-    ∙ op_pools s o kept k
+op_line p s place o e kept k = grind (arith, op_pools)
 
 -- ---- the steps
 
