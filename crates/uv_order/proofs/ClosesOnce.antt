@@ -138,10 +138,7 @@ freed_known p past s t e kept k = cond_both (t.0.generation == (arena_size p).la
     (λ m d f. still m d f) k)
   where
     still : (m : ℕ) → (m ≡ t.0.slot → ⊥) → has_number s.arena.free m ≡ false → ((t.0.slot == m) || has_number s.arena.free m) ≡ false
-    still m d f = at (t.0.slot == m) refl where
-      at : (b : Bool) → (t.0.slot == m) ≡ b → (b || has_number s.arena.free m) ≡ false
-      at true g = absurd (d (sym (eqb-true t.0.slot m g)))
-      at false g = f
+    still m d f = grind (arith, eqb-true)
 
 closed_known : (p : Program) (past : List Seen) (s : State) (run : Run) (t : Id × HandleRecord) → FrontOf s s.closing.yet t → Kept s →
     KnownAt p past s → Follows p past (calls p (record s {
@@ -303,6 +300,14 @@ did_known p past s n (row.cancelled v) kept work begun k = (cancel_says p past s
 
 -- ---- all steps
 
+fresh_worked : (p : Program) → Worked p [] (fresh p).arena (fresh p).waiting (run_ids (fresh p).running)
+fresh_worked p = grind (arith, none_run)
+
+unbound_id : (n i : ℕ) → (unwrap_or (slice_get (replicate n unbound) i) unbound).id ≡ None
+unbound_id zero i = refl
+unbound_id (suc n) zero = refl
+unbound_id (suc n) (suc i) = unbound_id n i
+
 pub known_fresh : (p : Program) → KnownAt p [] (fresh p)
 known_fresh p = record {
   binding = λ v id e. cc (unbound_id (length p.callbacks) v.0, e);
@@ -310,23 +315,5 @@ known_fresh p = record {
   closing = λ id f. absurd (none-some f.handle f.holds);
   closed = λ id c. cc c;
   over = λ id c. cc c;
-  worked = record {
-    queued = λ id r e. cc e;
-    known = λ id task e. cc e;
-    over = λ id e. cc e;
-    taken = λ id e f. cc e;
-    finished = λ id e. cc e;
-    waits = λ id e. cc e;
-    runs_now = λ id e. absurd (nobody id (sym (ap (λ (ids : List Id). has_id ids id) (none_run (worker_count p))) ∙ e));
-    ended = λ id r e. cc e;
-    cancelled = λ id e f. cc e;
-    uncancelled = λ id e. cc e;
-  };
-} where
-  nobody : (id : Id) → has_id [] id ≡ true → ⊥
-  nobody id e = cc e
-
-  unbound_id : (n i : ℕ) → (unwrap_or (slice_get (replicate n unbound) i) unbound).id ≡ None
-  unbound_id zero i = refl
-  unbound_id (suc n) zero = refl
-  unbound_id (suc n) (suc i) = unbound_id n i
+  worked = fresh_worked p;
+}

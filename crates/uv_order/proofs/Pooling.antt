@@ -71,9 +71,7 @@ not_in s id e k =
     (none_of (has_id s.waiting id) (has_id (run_ids s.running) id) opened)
   where
     none_of : (a b : Bool) → (a || b) ≡ false → (a || (b || false)) ≡ false
-    none_of true b f = cc f
-    none_of false true f = cc f
-    none_of false false f = refl
+    none_of a b f = grind arith
 
 -- ---- the events
 
@@ -166,8 +164,7 @@ collected_pool s last t f k =
     ap (collected_from (pool_of s) t.0) front ∙ rw (itself t.0 t.0 refl) (ap Some (equal_pools _ _ _ _ _ _ refl refl (sym yet)))
   where
     distinct_round : (xs ys : List Id) (x : Id) → AreDistinct (ys ++ x ∷ xs) → has_id (xs ++ ys) x ≡ false
-    distinct_round xs ys x d =
-        has_both xs ys x ∙ or_comm (has_id xs x) (has_id ys x) ∙ sym (has_both ys xs x) ∙ once_middle ys xs x d
+    distinct_round xs ys x d = grind (arith, has_both, once_middle ys xs x d)
 
 -- ---- the ops
 

@@ -223,23 +223,9 @@ absent_ids : (sent gone : List Id) (id : Id) → has_id sent id ≡ false → ha
 absent_ids sent [] id e = e
 absent_ids sent (x ∷ gone) id e = still_absent (doc.without_ids sent gone) x id (absent_ids sent gone id e)
 
-absent_init : (names : Names) (v : Var) (q : Kind) (a : Answer) (sent : List Id) (id : Id) → has_id sent id ≡ false →
-    has_id (doc.sent_by (op.Init v q) a names sent) id ≡ false
-absent_init names v q (answer.Id i) sent id e = still_absent sent i id e
-absent_init names v q each sent id e = e
-
-absent_close : (names : Names) (v : Var) (a : Answer) (sent : List Id) (id : Id) → has_id sent id ≡ false →
-    has_id (doc.sent_by (op.Close v) a names sent) id ≡ false
-absent_close names v (answer.Code code.Ok) sent id e = absent_ids sent (ids_of names (Some v)) id e
-absent_close names v each sent id e = e
-
 absent_op : (names : Names) (o : Option Op) (a : Answer) (sent : List Id) (id : Id) → is_send_op o ≡ false → has_id sent id ≡ false →
     has_id (doc.sent_after o a names sent) id ≡ false
-absent_op names None a sent id e h = h
-absent_op names (Some (op.Init v q)) a sent id e h = absent_init names v q a sent id h
-absent_op names (Some (op.Close v)) a sent id e h = absent_close names v a sent id h
-absent_op names (Some (op.Send v)) a sent id e h = cc e
-absent_op names (Some each) a sent id e h = h
+absent_op names o a sent id e h = grind (arith, still_absent, absent_ids)
 
 absent_line : (p : Program) (told : Told) (names : Names) (l : Seen) (id : Id) → is_send p l ≡ false → has_id told.sent id ≡ false →
     has_id (told_by p told names l).sent id ≡ false

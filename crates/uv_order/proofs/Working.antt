@@ -22,12 +22,7 @@ Working s = Works s.arena.slots s.waiting s.running s.done
 -- no request changes, and no list of requests
 works_quiet : (s t : State) → SameWork s t → Working s → Working t
 works_quiet s t q k =
-    let waited : Works s.arena.slots t.waiting s.running s.done =
-    subst (λ (ids : List Id). Works s.arena.slots ids s.running s.done) (sym q.waiting_is) k in
-    let ran : Works s.arena.slots t.waiting t.running s.done =
-    subst (λ (running : List (Option Id)). Works s.arena.slots t.waiting running s.done) (sym q.running_is) waited in
-    works_same s.arena.slots t.arena.slots t.waiting t.running t.done q.requests
-    (subst (λ (done : Walk Id). Works s.arena.slots t.waiting t.running done) (sym q.done_is) ran)
+    rw (q.waiting_is, q.running_is, q.done_is) (works_same s.arena.slots t.arena.slots s.waiting s.running s.done q.requests k)
 
 -- ---- requests
 
