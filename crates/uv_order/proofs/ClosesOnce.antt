@@ -43,16 +43,14 @@ plain : (p : Program) (past : List Seen) (l : Seen) (t : State) → MayFollow p 
 plain p past l t may q k = (may, known_quiet p past l t.arena t.names q.0 q.1 k)
 
 still_line : (p : Program) (l : Seen) → IsStill (Some l) → IsQuiet p l × IsIdle p l
-still_line p l (row.section word) = grind arith
-still_line p l each = grind arith
+still_line p l each = grind (arith)
 
 still_may : (p : Program) (past : List Seen) (l : Seen) → IsStill (Some l) → MayFollow p past l
 still_may p past l (row.section word) = tt
 still_may p past l each = tt
 
 still_known : (p : Program) (past : List Seen) (t : State) (l : Option Seen) → IsStill l → KnownAt p past t → Follows p past (Moves t l)
-still_known p past t None row.unseen k = k
-still_known p past t (Some l) q k = plain p past l t (still_may p past l q) (still_line p l q) k
+still_known p past t x3 q k = grind (arith, plain, still_may, still_line)
 
 begins_known : (p : Program) (past : List Seen) (s : State) (run : Run) (x : Stage) (word : Phase) → KnownAt p past s →
     Follows p past (step.begins s run x word)
@@ -89,10 +87,7 @@ fired_known p past s run t f kept begun k =
 -- ---- sections of watchers
 
 begin_known : (p : Program) (past : List Seen) (s : State) (run : Run) (q : WatcherKind) → KnownAt p past s → Follows p past (step.begin_walk s run q)
-begin_known p past s run watcher.Idle k = begins_known p past (with_watched s watcher.Idle (all_yet s.idle)) run Idle phase.Idle k
-begin_known p past s run watcher.Prepare k = begins_known p past (with_watched s watcher.Prepare (all_yet s.prepare)) run Prepare phase.Prepare k
-begin_known p past s run watcher.Check k = begins_known p past (with_watched s watcher.Check (all_yet s.check)) run Check phase.Check k
-begin_known p past s run watcher.Async k = begins_known p past (with_watched s watcher.Async (all_yet s.async)) run Async phase.Async k
+begin_known p past s run x4 k = grind (arith, begins_known)
 
 -- who is yet to run doesn't close
 front_stays : (s : State) (q : Kind) (w : Walk Id) (t : Id × HandleRecord) → Everyone s.arena.slots (Watches q) (members w) → FrontOf s w.yet t →
@@ -309,11 +304,4 @@ unbound_id (suc n) zero = refl
 unbound_id (suc n) (suc i) = unbound_id n i
 
 pub known_fresh : (p : Program) → KnownAt p [] (fresh p)
-known_fresh p = record {
-  binding = λ v id e. cc (unbound_id (length p.callbacks) v.0, e);
-  made = λ id v e. cc e;
-  closing = λ id f. absurd (none-some f.handle f.holds);
-  closed = λ id c. cc c;
-  over = λ id c. cc c;
-  worked = fresh_worked p;
-}
+known_fresh p = grind (arith, unbound_id, none-some, fresh_worked)

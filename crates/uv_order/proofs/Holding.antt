@@ -86,10 +86,6 @@ pub put_at : (slots : List (Slot Content)) (id : Id) (h x : HandleRecord) → he
     held_at (put slots id x) i ≡ (if same_id i id then Some x else held_at slots i)
 put_at slots id h x e i = grind (arith, turned_to (put_turns slots id h x e))
 
-pub emptied_at : (slots : List (Slot Content)) (id : Id) (h : HandleRecord) (n : ℕ) → held_at slots id ≡ Some h → (i : Id) →
-    held_at (emptied slots id n) i ≡ (if same_id i id then None else held_at slots i)
-emptied_at slots id h n e i = grind (arith, turned_to (emptied_turns slots id (content.Handle h) n (is_held slots id h e)))
-
 pub grown_at : {slots more : List (Slot Content)} {id : Id} {x : HandleRecord} → Grown slots more id x → (i : Id) →
     held_at more i ≡ (if same_id i id then Some x else held_at slots i)
 grown_at {slots = slots} {more = more} {id = id} {x = x} g i = grind (arith, same, other)

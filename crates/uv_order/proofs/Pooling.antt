@@ -186,10 +186,7 @@ cancel_pools s v k = cancel_both s v (PoolsBy s (op.Cancel v)) (λ c no_success.
     (λ t live on. cancelled_pool s t live.holds on k)
 
 op_pools : (s : State) (o : Op) → Kept s → Working s → PoolsBy s o (do_op s o)
-op_pools s (op.Queue v task) kept k = make_both s (live s v) (ops.with_queued s v task) (PoolsBy s (op.Queue v task))
-    (λ c no_success. refused_op s (op.Queue v task) c refl) (λ id e. queued_pool s v task id e kept k)
-op_pools s (op.Cancel v) kept k = cancel_pools s v k
-op_pools s each kept k = quiet_op s each tt (λ a. refl) kept
+op_pools s each kept k = grind (arith, make_both, refused_op, queued_pool, cancel_pools, quiet_op)
 
 -- the line of an op
 op_line : (p : Program) (s : State) (place : Site) (o : Op) → op_at p place ≡ Some o → Kept s → Working s →
@@ -205,9 +202,7 @@ IsQuiet p (Moves t None) = Unit {0}
 IsQuiet p (Refuses why) = Unit {0}
 
 quiet_step : (p : Program) (s : State) (n : Next) → KeepsWork s n → IsQuiet p n → Pools p s n
-quiet_step p s (Moves t (Some l)) q none = ap (after_events (Some (pool_of s))) none ∙ ap Some (sym (pool_same s t q))
-quiet_step p s (Moves t None) q none = pool_same s t q
-quiet_step p s (Refuses why) q none = tt
+quiet_step p s x2 q none = grind (arith, pool_same)
 
 did_quiet : (p : Program) (s : State) (n : Next) (d : Did p s n) → IsOfLoop d → IsQuiet p n
 did_quiet p s n (row.refused why) h = tt

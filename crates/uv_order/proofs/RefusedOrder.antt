@@ -42,12 +42,7 @@ moved {p = p} {told = told} {past = past} {was = was} {ls = ls} e h = subst (λ 
 -- the line of a callback is one of these
 on_call : (P : Seen → Type 0) (s : State) (kind : Callback) (v : Var) (id : Id) (what : Seen) → P (seen.Call v id) →
     ((digest : Option (List ℕ)) → P (seen.After digest v id)) → P (seen.Closed v id) → IsCallLine s kind v id what → P what
-on_call P s callback.Handle v id what a b c e = subst P (sym e) a
-on_call P s callback.Close v id what a b c e = subst P (sym e) c
-on_call P s callback.After v id what a b c e = at (request s id) e where
-  at : (o : Option Request) → option_map (λ (r : Request). seen.After (digest_in r.outcome) v id) o ≡ Some what → P what
-  at None f = absurd (cc f)
-  at (Some r) f = subst P (same_Some _ _ f) (b (digest_in r.outcome))
+on_call x0 s x2 v id what a b c e = grind (arith, same_Some)
 
 -- ---- a section begins, or a poll
 
@@ -149,31 +144,7 @@ same_walk p told names m i part w ahead body what t = record { walk = _; is = re
 
 stays : (p : Program) (told : Told) (names : Names) (m : Mode) (i : ℕ) (part : Section) (w : Walk) (l : Line) (to : Position) →
     is_within l.seen ≡ true → Goes p told names (Running m i (Within part w)) l to → Stays p told names m i part w to l.seen
-stays p told names m i part w l to e (doc.call kind v x more a b c d f) =
-    on_call (Stays p told names m i part w to) l.before kind v x l.seen
-    (same_walk p told names m i part w _ _ (seen.Call v x) (b.may_call.on, b.may_call.called))
-    (λ digest. same_walk p told names m i part w _ _ (seen.After digest v x) tt) (same_walk p told names m i part w _ _ (seen.Closed v x) tt) d
-stays p told names m i part w l to e (doc.body_op place rest o x a b c d) =
-    subst (Stays p told names m i part w to) (sym c) (record {
-      walk = _;
-      is = refl;
-      grown = λ id h. still_off (taken_off (word_of part) names o x) w.off id h;
-      tells = λ y f id h. also_off (taken_off (word_of part) names o x) w.off id
-          (subst (λ (z : Op). has_id (taken_off (word_of part) names z x) id ≡ true) (same_Some _ _ (sym f ∙ b)) h);
-    })
-stays p told names m i part w l to e (doc.section x a b c d f) = absurd (not_within l.seen _ e c refl)
-stays p told names m i part w l to e (doc.poll t a b c d f) = absurd (not_within l.seen _ e d refl)
-stays p told names m i part w l to e (doc.ends a b c d) = absurd (not_within l.seen _ e c refl)
-stays p told names m i part w l to e (doc.sent v x a b) =
-    subst (Stays p told names m i part w to) (sym a) (same_walk p told names m i part w w.ahead w.body (seen.Send v x) tt)
-stays p told names m i part w l to e (doc.taken n v id a called b) =
-    subst (Stays p told names m i part w to) (sym a) (same_walk p told names m i part w w.ahead w.body (seen.Take n v id) tt)
-stays p told names m i part w l to e (doc.finished n v id a called b) =
-    subst (Stays p told names m i part w to) (sym a) (same_walk p told names m i part w w.ahead w.body (seen.Finish n v id) tt)
-stays p told names m i part w l to e (doc.cancelled v x a b) =
-    subst (Stays p told names m i part w to) (sym a) (same_walk p told names m i part w w.ahead w.body (seen.Cancel v x) tt)
-stays p told names m i part w l to e (doc.outside ms a b) =
-    subst (Stays p told names m i part w to) (sym a) (same_walk p told names m i part w w.ahead w.body (seen.Tick ms) tt)
+stays p told names m i part w l to e x10 = grind (arith, on_call, same_walk, still_off, also_off, same_Some, not_within)
 
 -- a run stands in this section, and whom this says was taken off
 record WalkOn (p : Program) (m : Mode) (i : ℕ) (part : Section) (off : Id → Type 0) (told : Told) (past : List Seen) (ls : List Line) : Type 0 where
@@ -229,10 +200,7 @@ absent_op names o a sent id e h = grind (arith, still_absent, absent_ids)
 
 absent_line : (p : Program) (told : Told) (names : Names) (l : Seen) (id : Id) → is_send p l ≡ false → has_id told.sent id ≡ false →
     has_id (told_by p told names l).sent id ≡ false
-absent_line p told names (seen.Op place a) id e h = absent_op names (op_at p place) a told.sent id e h
-absent_line p told names (seen.Send v x) id e h = cc e
-absent_line p told names (seen.Call v i) id e h = still_absent told.sent i id h
-absent_line p told names each id e h = h
+absent_line p told names each id e h = grind (arith, absent_op, still_absent)
 
 absent_on : (p : Program) (xs : List Line) (told : Told) (past : List Seen) (id : Id) → AllSilent p xs → has_id told.sent id ≡ false →
     has_id (told_after p told past xs).sent id ≡ false

@@ -86,12 +86,10 @@ pub record OnlyReady (r : Rest) (w : Walk) : Type 0 where
   pub done : r.done ≡ []
 
 pub timers_left : (part : TimersOf) (r : Rest) (w : Walk) → OnlyReady r w → Leaves r (Within (section_of part) w)
-timers_left timers_of.Entry r w o = assumption
-timers_left timers_of.Iteration r w o = assumption
+timers_left x0 r w o = grind (arith)
 
 pub left_timers : (part : TimersOf) (r : Rest) (w : Walk) → Leaves r (Within (section_of part) w) → OnlyReady r w
-left_timers timers_of.Entry r w l = assumption
-left_timers timers_of.Iteration r w l = assumption
+left_timers x0 r w l = grind (arith)
 
 -- ---- turns
 
@@ -164,17 +162,14 @@ turn_follows p told s run turn at alive is over k c e =
 -- ---- the calls of timers
 
 pub timers_word : (part : TimersOf) → callback_in (word_of (section_of part)) ≡ callback.Handle
-timers_word timers_of.Entry = refl
-timers_word timers_of.Iteration = refl
+timers_word x0 = grind (arith)
 
 pub timers_over : (part : TimersOf) (w : Walk) → w.body ≡ [] → doc.AllOff w.off w.ahead → IsOver (word_of (section_of part)) w
-timers_over timers_of.Entry w b o = record { done = b; may_pass = o }
-timers_over timers_of.Iteration w b o = record { done = b; may_pass = o }
+timers_over x0 w b o = grind (arith)
 
 pub timers_call : (part : TimersOf) (told : Told) (w : Walk) (id : Id) (more : List Id) (n : NextCall w id more) → w.body ≡ [] → CallsNext (word_of
     (section_of part)) told w id n.behind
-timers_call timers_of.Entry told w id more n b = record { done = b; passed = n.passed; list = n.list; may_pass = n.off; may_call = assumption }
-timers_call timers_of.Iteration told w id more n b = record { done = b; passed = n.passed; list = n.list; may_pass = n.off; may_call = assumption }
+timers_call x0 told w id more n b = grind (arith)
 
 -- a timer is called from the ready list, in a state that may have started it again
 pub call_timer : (p : Program) (told : Told) (s u : State) (run : Run) (part : TimersOf) (w : Walk) (t : Id × HandleRecord) (more : List Id) →

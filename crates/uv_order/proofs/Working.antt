@@ -69,8 +69,7 @@ StaysWorking (Moves t seen) = Working t
 StaysWorking (Refuses why) = Unit {0}
 
 quiet : (s : State) (n : Next) → KeepsWork s n → Working s → StaysWorking n
-quiet s (Moves t seen) q k = works_quiet s t q k
-quiet s (Refuses why) q k = tt
+quiet s x1 q k = grind (arith, works_quiet)
 
 collected_working : (p : Program) (s : State) (t : Id × Request) → FrontRequest s s.done.yet t → Working s →
     Works (freed (arena_size p).last_generation t.0 s.arena).slots s.waiting s.running (record s.done { yet = drop 1 s.done.yet })

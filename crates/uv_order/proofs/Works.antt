@@ -150,10 +150,8 @@ splits (x ∷ ids) id e = at (same_id id x) refl e (splits ids id) where
 -- the list without it
 pub without_middle : (xs ys : List Id) (id : Id) → AreDistinct (xs ++ id ∷ ys) → without_id (xs ++ id ∷ ys) id ≡ xs ++ ys
 without_middle [] ys id d = rw (itself id id refl) (without_absent ys id d.0)
-without_middle (x ∷ xs) ys id d = rw apart (ap (λ (is : List Id). x ∷ is) (without_middle xs ys id d.1)) where
-  apart : same_id x id ≡ false
-  apart = false_from_ne_true (same_id x id) (λ s.
-      both_ways (has_id (xs ++ id ∷ ys) x) d.0 (ap (has_id (xs ++ id ∷ ys)) (same x id s) ∙ has_new_middle xs ys id))
+without_middle (x ∷ xs) ys id d =
+    grind (arith, itself, without_absent, false_from_ne_true, both_ways, same, has_new_middle, without_middle xs ys id d.1)
 
 -- ---- the workers
 
