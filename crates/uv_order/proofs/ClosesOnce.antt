@@ -17,7 +17,7 @@ use Rattle.uv_order.proofs.OpCases.{kind_as, IsRefusal, cancel_both, make_both}
 use Rattle.uv_order.proofs.IdLists.{on_list, Each, each_back, same, itself, turned, has_new_middle, distinct_back}
 use Rattle.uv_order.proofs.Holding.{names_turned, same_handles, is_held, put_same, Fits, its_handle, Everyone}
 use Rattle.uv_order.proofs.Asked.{request_turns, freed_turns, FrontRequest, TakesFront, RunsWork}
-use Rattle.uv_order.proofs.Works.{once_middle, takes, lets_go, none_run, waits_open, runs_now, fewer_wait, more_run, fewer_run}
+use Rattle.uv_order.proofs.Works.{once_middle, worker, none_run, waits_open, runs_now, fewer_wait, more_run, fewer_run}
 use Rattle.uv_order.proofs.Working.{Working}
 use Rattle.uv_order.proofs.Keeping.{has_number, Watches, Closes, Rests, Kept, members, not_free}
 use Rattle.uv_order.proofs.Did as row
@@ -214,8 +214,7 @@ op_says p past s each kept begun k = tt
 -- the line of an op that is done
 op_line : (p : Program) (past : List Seen) (s : State) (place : Site) (o : Op) → op_at p place ≡ Some o → Kept s → StartedAt p past s →
     KnownAt p past s → MayFollow p past (seen.Op place (do_op s o).answer)
-op_line p past s place o e kept begun k =
-    subst (λ (x : Option Op). OpSays p past x (do_op s o).answer) (sym e) (op_says p past s o kept begun k)
+op_line p past s place o e kept begun k = subst (λ (x : Option Op). OpSays p past x (do_op s o).answer) (sym e) (op_says p past s o kept begun k)
 
 taken_known : (p : Program) (past : List Seen) (s : State) (n : ℕ) (t : Id × Request) → TakesFront s n t → Working s → KnownAt p past s →
     Follows p past (step.take s n (Ok t))
@@ -223,7 +222,7 @@ taken_known p past s n t f work k =
     let waits : has_id s.waiting t.0 ≡ true = ap (λ (ids : List Id). has_id ids t.0) f.front.are ∙ rw (itself t.0 t.0 refl) refl in
     let apart : AreDistinct ((t.0 ∷ f.front.rest) ++ run_ids s.running) =
     subst (λ (ids : List Id). AreDistinct (ids ++ run_ids s.running)) f.front.are work.open_ones.distinct in
-    let r = takes s.running n t.0 f.idle in (
+    let r = worker s.running n None f.idle in (
       (
         k.worked.waits t.0 waits,
         not_called p past s.arena s.waiting (run_ids s.running) t.0 t.1 f.front.holds k.worked,
@@ -233,7 +232,7 @@ taken_known p past s n t f work k =
           (worked_taken p past s.arena s.waiting (run_ids s.running) (drop 1 s.waiting) (run_ids (slice_set s.running n (Some t.0))) n t.1.name t.0
           t.1 (ap request_in f.front.holds) (waits_open s.arena.slots s.waiting s.running s.done t.0 t.1 f.front.holds waits work) waits
           (λ i e. fewer_wait s.waiting (run_ids s.running) f.front.rest (drop 1 s.waiting) t.0 i f.front.are f.front.behind apart.0 e)
-          (λ i e. more_run (run_ids s.running) _ r.front r.behind t.0 i r.were r.are e) k.worked) k,
+          (λ i e. more_run (run_ids s.running) _ r.front r.behind t.0 i r.were (r.are (Some t.0)) e) k.worked) k,
     )
 
 finished_known : (p : Program) (past : List Seen) (s : State) (n : ℕ) (t : Id × Request) → RunsWork s n t → Working s → KnownAt p past s →
@@ -241,14 +240,14 @@ finished_known : (p : Program) (past : List Seen) (s : State) (n : ℕ) (t : Id 
 finished_known p past s n t f work k =
     let x : Request = record t.1 { outcome = Finished (digest_of t.1.task.rounds (text_of t.1.task)) } in
     let runs : List Id = run_ids (slice_set s.running n None) in
-    let g = lets_go s.running n t.0 f.busy in
+    let g = worker s.running n (Some t.0) f.busy in
     let on = runs_now s.running n t.0 f.busy in
     let was = k.worked.runs_now t.0 on in
     let apart : has_id (g.front ++ g.behind) t.0 ≡ false =
     once_middle g.front g.behind t.0 (subst AreDistinct g.were (distinct_back s.waiting (run_ids s.running) work.open_ones.distinct)) in
     let told : Worked p (seen.Finish n t.1.name t.0 ∷ past) s.arena s.waiting runs =
     worked_finished p past s.arena s.waiting (run_ids s.running) runs n t.1.name t.0 on
-    (λ i e. fewer_run (run_ids s.running) runs g.front g.behind t.0 i g.were g.are apart e) k.worked in
+    (λ i e. fewer_run (run_ids s.running) runs g.front g.behind t.0 i g.were (g.are None) apart e) k.worked in
     let gone : (i : Id) → IsGone s.arena.slots s.arena.free i → IsGone (with_request s t.0 x).arena.slots (with_request s t.0 x).arena.free i =
     λ i h. gone_turned s.arena.slots s.arena.free t.0 (content.Request t.1) (Some (content.Request x)) i f.holds h in
     let turns = request_turns s.arena.slots t.0 t.1 x f.holds in (

@@ -66,8 +66,7 @@ emptied_same slots id h generation e = ap handle_in (emptied_turns slots id (con
 
 pub emptied_other : (slots : List (Slot Content)) (id i : Id) (h : HandleRecord) (generation : ℕ) → held_at slots id ≡ Some h → (i ≡ id → ⊥) →
     held_at (emptied slots id generation) i ≡ held_at slots i
-emptied_other slots id i h generation e d =
-    ap handle_in ((emptied_turns slots id (content.Handle h) generation (is_held slots id h e)).others i d)
+emptied_other slots id i h generation e d = ap handle_in ((emptied_turns slots id (content.Handle h) generation (is_held slots id h e)).others i d)
 
 -- ---- a slot that is taken
 
@@ -148,8 +147,7 @@ pub record Lists (slots : List (Slot Content)) (P : HandleRecord → Type 0) (id
 
 pub lists_put : (slots : List (Slot Content)) (P : HandleRecord → Type 0) (id : Id) (h x : HandleRecord) (ids : List Id) → held_at slots id ≡ Some h →
     (P h → P x) → Lists slots P ids → Lists (put slots id x) P ids
-lists_put slots P id h x ids e f k =
-    assumption (each_mapped (Fits slots P) (Fits (put slots id x) P) (fits_put slots P id h x e f) ids k.each, k)
+lists_put slots P id h x ids e f k = assumption (each_mapped (Fits slots P) (Fits (put slots id x) P) (fits_put slots P id h x e f) ids k.each, k)
 
 pub lists_without : (slots : List (Slot Content)) (P : HandleRecord → Type 0) (id : Id) (h x : HandleRecord) (ids : List Id) →
     held_at slots id ≡ Some h → Lists slots P ids → Lists (put slots id x) P (without_id ids id)

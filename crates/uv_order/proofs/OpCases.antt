@@ -110,8 +110,7 @@ pub again_passes : (h : HandleRecord) → again_refusal h ≡ None → (h.kind �
 again_passes h e = grind arith
 
 pub start_watcher_passes : (h : HandleRecord) → start_watcher_refusal h ≡ None → (is_watcher h.kind ≡ true) × (h.closing ≡ false)
-start_watcher_passes h e =
-    let parts = only_passes (is_watcher h.kind) (invalid_if h.closing) e in (parts.0, invalid_passes h.closing parts.1)
+start_watcher_passes h e = let parts = only_passes (is_watcher h.kind) (invalid_if h.closing) e in (parts.0, invalid_passes h.closing parts.1)
 
 -- a handle that may be started so is of a kind of watchers
 is_of_watchers : (q : Kind) → is_watcher q ≡ true → watcher_kind q ≡ None → ⊥

@@ -65,8 +65,7 @@ gone_taken s free id x eq are e i g = grind (arith, same, same_Some, gone_push, 
 -- the id that the next taking gives isn't gone, since it is held then
 pub next_not_gone : (s : Slots Content) (free : List ℕ) (id : Id) (x : Content) → s.free ≡ free → AreFree s.slots free →
     next_id s.slots s.unused free ≡ Some id → IsGone s.slots free id → ⊥
-next_not_gone s free id x eq are e g =
-    not_held _ _ id x (gone_taken s free id x eq are e id g) (fills s free id x eq are e).0.here
+next_not_gone s free id x eq are e g = not_held _ _ id x (gone_taken s free id x eq are e id g) (fills s free id x eq are e).0.here
 
 -- an id is new: nothing is held under it, and so what is held has the name that it had
 new_name : (slots more : List (Slot Content)) (id : Id) (c : Option Content) (v : Var) (i : Id) (u : Var) → Turns slots more id None c →

@@ -68,10 +68,8 @@ Opening l to each = Unit {0}
 opening : (p : Program) (told : Told) (names : Names) (l : Line) (at to : Position) → Goes p told names at l to → Opening l to l.seen
 opening p told names l at to (doc.section {m = m} {i = i} {w = w} x a b c d f) =
     subst (Opening l to) (sym c) (record { mode = m; number = i; part = x; walk = w; is = refl; its = refl })
-opening p told names l at to (doc.poll {m = m} t a b c d f) =
-    subst (Opening l to) (sym d) (record { mode = m; timers = c.timers; is = c.is })
-opening p told names l at to (doc.call kind v id more a b c d f) =
-    on_call (Opening l to) l.before kind v id l.seen tt (λ digest. tt) tt d
+opening p told names l at to (doc.poll {m = m} t a b c d f) = subst (Opening l to) (sym d) (record { mode = m; timers = c.timers; is = c.is })
+opening p told names l at to (doc.call kind v id more a b c d f) = on_call (Opening l to) l.before kind v id l.seen tt (λ digest. tt) tt d
 opening p told names l at to (doc.main_line o a f g h) = subst (Opening l to) (sym g) tt
 opening p told names l at to (doc.run m f g h) = subst (Opening l to) (sym g) tt
 opening p told names l at to (doc.ends a b c d) = subst (Opening l to) (sym c) tt
@@ -100,15 +98,7 @@ section_on : (p : Program) (at : Position) (told : Told) (past : List Seen) (was
     l.seen ≡ seen.Section word → GoesOn p at told past was (l ∷ ls) → SectionOn p (told_by p told (names_by p past) l.seen) (l.seen ∷ past) word ls
 section_on p at told past was l word ls e (line {to = to} f g h) =
     let b : Begins word to = subst (Opening l to) e (opening p told (names_by p past) l at to g) in
-    record {
-      mode = b.mode;
-      number = b.number;
-      part = b.part;
-      walk = b.walk;
-      was = lasting l.after;
-      its = b.its;
-      rest = moved b.is h;
-    }
+    record { mode = b.mode; number = b.number; part = b.part; walk = b.walk; was = lasting l.after; its = b.its; rest = moved b.is h }
 
 -- ---- the lines of a section
 

@@ -148,10 +148,7 @@ turn_follows p told s run turn at alive is over k c e =
     by ToPending g = record {
       to = Running run.mode run.line (Within (In phase.Pending) bare);
       goes = doc.section (In phase.Pending) over g refl (opens_bare phase.Pending told _ refl refl) (pending_lasts (order_of p) s);
-      stands = record {
-        stands = running pending (left_all e.timers e.idle e.prepare e.check e.async e.closing e.done);
-        counted = c;
-      };
+      stands = record { stands = running pending (left_all e.timers e.idle e.prepare e.check e.async e.closing e.done); counted = c };
     }
     by ToEnd g = record {
       to = Between (run.line + 1);
@@ -199,12 +196,10 @@ fire_follows p told s run part w alive k c l b =
         (call p (restarted (record s { ready = drop 1 s.ready }) t.0 t.1) (record run { stage = stage.Timers part Firing }) t.0 t.1.name)
     fired o t f =
         let u : State = record s { ready = drop 1 s.ready } in
+        let firing : Run = record run { stage = stage.Timers part Firing } in
         let only : OnlyReady (rest (t.0 ∷ f.rest) u) w = assumption (sym f.are ∙ o.ready, o) in
         cond_both (t.1.repeat == 0) u (started u t.0 t.1 t.1.repeat t.1.repeat)
-        (λ (x : State). Follows p told (Running run.mode run.line (Within (section_of part) w)) s (call p x (record run {
-          stage = stage.Timers part
-              Firing;
-        }) t.0 t.1.name))
+        (λ (x : State). Follows p told (Running run.mode run.line (Within (section_of part) w)) s (call p x firing t.0 t.1.name))
         (λ z. call_timer p told s u run part w t f.rest f.holds refl refl only f.behind b c)
         (λ z. call_timer p told s (started u t.0 t.1 t.1.repeat t.1.repeat) run part w t f.rest f.holds refl refl (assumption only) f.behind b c)
 

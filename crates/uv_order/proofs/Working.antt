@@ -21,8 +21,7 @@ Working s = Works s.arena.slots s.waiting s.running s.done
 
 -- no request changes, and no list of requests
 works_quiet : (s t : State) → SameWork s t → Working s → Working t
-works_quiet s t q k =
-    rw (q.waiting_is, q.running_is, q.done_is) (works_same s.arena.slots t.arena.slots s.waiting s.running s.done q.requests k)
+works_quiet s t q k = rw (q.waiting_is, q.running_is, q.done_is) (works_same s.arena.slots t.arena.slots s.waiting s.running s.done q.requests k)
 
 -- ---- requests
 
