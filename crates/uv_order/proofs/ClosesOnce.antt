@@ -71,13 +71,18 @@ call_known p past s run id v h e stays begun k = (
       (called_known p past s v _ refl k),
 )
 
+-- what holds of each of a list holds of the front of its end
+front_fits : (s : State) (P : HandleRecord → Type 0) (xs ids : List Id) (t : Id × HandleRecord) → Each (Fits s.arena.slots P) (xs ++ ids) →
+    FrontOf s ids t → P t.1
+front_fits s P xs ids t each f =
+    its_handle s.arena.slots P t.0 t.1 f.holds (subst (Each (Fits s.arena.slots P)) f.are (each_back (Fits s.arena.slots P) xs ids each)).0
+
 -- the front of the ready list is called
 fired_known : (p : Program) (past : List Seen) (s : State) (run : Run) (t : Id × HandleRecord) → FrontOf s s.ready t → Kept s →
     StartedAt p past s → KnownAt p past s → Follows p past (call p (restarted (record s { ready = drop 1 s.ready }) t.0 t.1) run t.0 t.1.name)
 fired_known p past s run t f kept begun k =
     let on = ready_started p past s t f begun in
-    let each : Fits s.arena.slots Rests t.0 = (subst (Each (Fits s.arena.slots Rests)) f.are kept.ready.each).0 in
-    let stays : t.1.closing ≡ false = (its_handle s.arena.slots Rests t.0 t.1 f.holds each).stays in
+    let stays : t.1.closing ≡ false = (front_fits s Rests [] s.ready t kept.ready.each f).stays in
     let u : State = record s { ready = drop 1 s.ready } in
     cond_both (t.1.repeat == 0) u (started u t.0 t.1 t.1.repeat t.1.repeat) (λ (x : State). Follows p past (call p x run t.0 t.1.name))
     (λ z. call_known p past u run t.0 t.1.name t.1 f.holds stays on k)
@@ -93,9 +98,7 @@ begin_known p past s run x4 k = grind (arith, begins_known)
 front_stays : (s : State) (q : Kind) (w : Walk Id) (t : Id × HandleRecord) → Everyone s.arena.slots (Watches q) (members w) → FrontOf s w.yet t →
     Kept s → t.1.closing ≡ false
 front_stays s q w t every f kept =
-    let yet = each_back (Fits s.arena.slots (Watches q)) w.list w.yet every.lists.each in
-    let its : Fits s.arena.slots (Watches q) t.0 = (subst (Each (Fits s.arena.slots (Watches q))) f.are yet).0 in
-    opened t.1 (its_handle s.arena.slots (Watches q) t.0 t.1 f.holds its).active (kept.sound t.0 t.1 f.holds)
+    opened t.1 (front_fits s (Watches q) w.list w.yet t every.lists.each f).active (kept.sound t.0 t.1 f.holds)
 
 moved_known : (p : Program) (past : List Seen) (s : State) (q : WatcherKind) (id : Id) → KnownAt p past s → KnownAt p past (front_moved s q id)
 moved_known p past s q id k = grind arith
@@ -138,8 +141,7 @@ freed_known p past s t e kept k = cond_both (t.0.generation == (arena_size p).la
 closed_known : (p : Program) (past : List Seen) (s : State) (run : Run) (t : Id × HandleRecord) → FrontOf s s.closing.yet t → Kept s →
     KnownAt p past s → Follows p past (calls p (record s {
       arena = freed (arena_size p).last_generation t.0 s.arena;
-      closing = record s.closing
-          { yet = drop 1 s.closing.yet };
+      closing = record s.closing { yet = drop 1 s.closing.yet };
     }) run callback.Close t.1.name (seen.Closed t.1.name t.0))
 closed_known p past s run t f kept k =
     let yet = each_back (Fits s.arena.slots Closes) s.closing.list s.closing.yet kept.closing.lists.each in
@@ -154,8 +156,7 @@ closed_known p past s run t f kept k =
 ended_known : (p : Program) (past : List Seen) (s : State) (run : Run) (t : Id × Request) → FrontRequest s s.done.yet t → Kept s → Working s →
     KnownAt p past s → Follows p past (calls p (record s {
       arena = freed (arena_size p).last_generation t.0 s.arena;
-      done = record s.done
-          { yet = drop 1 s.done.yet };
+      done = record s.done { yet = drop 1 s.done.yet };
     }) run callback.After t.1.name (seen.After (digest_in t.1.outcome) t.1.name t.0))
 ended_known p past s run t f kept work k =
     let last = (arena_size p).last_generation in

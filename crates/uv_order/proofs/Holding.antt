@@ -43,10 +43,8 @@ is_held slots id h e = as_handle (held slots id) h e
 
 pub put_turns : (slots : List (Slot Content)) (id : Id) (h x : HandleRecord) → held_at slots id ≡ Some h →
     Turns slots (put slots id x) id (Some (content.Handle h)) (Some (content.Handle x))
-put_turns slots id h x e =
-    let k = holds slots id (content.Handle h) (is_held slots id h e) in
-    let t = set_turns slots id (Some (content.Handle x)) k.at in
-    record { before = is_held slots id h e; here = t.here; others = t.others }
+put_turns slots id h x e = let k = is_held slots id h e in
+    assumption (k, set_turns slots id (Some (content.Handle x)) (holds slots id (content.Handle h) k).at)
 
 -- the record of a handle changes, which is called as before
 pub put_names : (slots : List (Slot Content)) (id : Id) (h x : HandleRecord) → held_at slots id ≡ Some h → x.name ≡ h.name →

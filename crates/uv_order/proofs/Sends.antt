@@ -9,7 +9,7 @@ use Rattle.uv_records.specs.declared.lists.WatcherKind.TheVariants as watcher
 use Rattle.uv_records.specs.Handles as records
 use Rattle.uv_work.specs.declared.content.Content.TheVariants as content
 use Rattle.uv_model.specs.Ops as ops
-use Rattle.uv_order.proofs.IdLists.{Each, each_back, same, other, itself, turned, left_of, without_itself, has_without, without_absent, still_there}
+use Rattle.uv_order.proofs.IdLists.{has_both, Each, each_back, same, other, itself, turned, left_of, without_itself, has_without, without_absent, still_there}
 use Rattle.uv_order.proofs.Contents.{Turns, emptied}
 use Rattle.uv_order.proofs.Holding.{grown_at, put_at, SameHandles, same_handles, held_at, put, put_same, put_other, emptied_same, emptied_other, Fits, its_handle, Grown, Everyone}
 use Rattle.uv_order.proofs.OpCases as which
@@ -308,10 +308,6 @@ pass_off off sent (id ∷ ids) h = (rw h.0 refl, pass_off off sent ids h.1)
 -- more are taken off
 pub pass_more : (more off sent ids : List Id) → AllOffOrUnsent off sent ids → AllOffOrUnsent (more ++ off) sent ids
 pass_more more off sent [] h = tt
-pass_more more off sent (id ∷ ids) h = (at more, pass_more more off sent ids h.1) where
-  at : (xs : List Id) → (has_id (xs ++ off) id || not (has_id sent id)) ≡ true
-  at [] = h.0
-  at (x ∷ xs) = by (same_id x id) (at xs) where
-    by : (b : Bool) → (has_id (xs ++ off) id || not (has_id sent id)) ≡ true → ((b || has_id (xs ++ off) id) || not (has_id sent id)) ≡ true
-    by true k = refl
-    by false k = k
+pass_more more off sent (id ∷ ids) h = (rw (has_both more off id) (either (has_id more id) (has_id off id) h.0), pass_more more off sent ids h.1) where
+  either : (a b : Bool) → (b || not (has_id sent id)) ≡ true → ((a || b) || not (has_id sent id)) ≡ true
+  either a b e = grind arith
