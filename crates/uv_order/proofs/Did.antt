@@ -141,8 +141,7 @@ body_did p s run body None e = still _ s.time s.clock s.stop_flag s.idled None u
 body_did p s run body (Some line) e =
     op _ (site.In body.callback body.name body.next) line.op (ap (option_map (λ (x : CallbackLine). x.op)) e)
 
-run_did : (p : Program) (s : State) (run : Run) (body : Option Body) → BeginsIn body run.stage s →
-    Did p s (step.run_step p s run body)
+run_did : (p : Program) (s : State) (run : Run) (body : Option Body) → BeginsIn body run.stage s → Did p s (step.run_step p s run body)
 run_did p s run x3 r = grind (arith, stage_did, body_did)
 
 main_did : (p : Program) (s : State) (i : ℕ) (x : Option MainOp) → slice_get p.main i ≡ x → Did p s (step.main_step (order_of p) s i x)

@@ -308,6 +308,4 @@ pass_off off sent (id ∷ ids) h = (rw h.0 refl, pass_off off sent ids h.1)
 -- more are taken off
 pub pass_more : (more off sent ids : List Id) → AllOffOrUnsent off sent ids → AllOffOrUnsent (more ++ off) sent ids
 pass_more more off sent [] h = tt
-pass_more more off sent (id ∷ ids) h = (rw (has_both more off id) (either (has_id more id) (has_id off id) h.0), pass_more more off sent ids h.1) where
-  either : (a b : Bool) → (b || not (has_id sent id)) ≡ true → ((a || b) || not (has_id sent id)) ≡ true
-  either a b e = grind arith
+pass_more more off sent (id ∷ ids) h = grind (arith, has_both, pass_more more off sent ids h.1)

@@ -163,8 +163,7 @@ pub record Worker (running : List (Option Id)) (k : ℕ) (o : Option Id) : Type 
   pub are : (q : Option Id) → run_ids (slice_set running k q) ≡ front ++ (run_ids (q ∷ []) ++ behind)
 
 runs_first : (q : Option Id) (running : List (Option Id)) → run_ids (q ∷ running) ≡ run_ids (q ∷ []) ++ run_ids running
-runs_first None running = refl
-runs_first (Some id) running = refl
+runs_first x0 running = grind (arith)
 
 pub worker : (running : List (Option Id)) (k : ℕ) (o : Option Id) → slice_get running k ≡ Some o → Worker running k o
 worker [] k o e = cc e
