@@ -8,9 +8,7 @@ use Rattle.uv_order.proofs.OpCases.{with_id_is}
 pub request_turns : (slots : List (Slot Content)) (id : Id) (r x : Request) → held slots id ≡ Some (content.Request r) →
     Turns slots (slice_set slots id.slot (slot_with id (Some (content.Request x)))) id (Some (content.Request r)) (Some (content.Request x))
 request_turns slots id r x e =
-    let k = holds slots id (content.Request r) e in
-    let t = set_turns slots id (Some (content.Request x)) k.at in
-    record { before = e; here = t.here; others = t.others }
+    assumption (e, set_turns slots id (Some (content.Request x)) (holds slots id (content.Request r) e).at)
 
 -- a slot is freed or retired
 pub freed_turns : (last : ℕ) (s : Slots Content) (id : Id) (c : Content) → held s.slots id ≡ Some c →

@@ -17,7 +17,7 @@ use Rattle.uv_order.proofs.OpCases.{kind_as, IsRefusal, cancel_both, make_both}
 use Rattle.uv_order.proofs.IdLists.{on_list, Each, each_back, same, itself, turned, has_new_middle, distinct_back}
 use Rattle.uv_order.proofs.Holding.{names_turned, same_handles, is_held, put_same, Fits, its_handle, Everyone}
 use Rattle.uv_order.proofs.Asked.{request_turns, freed_turns, FrontRequest, TakesFront, RunsWork}
-use Rattle.uv_order.proofs.Works.{once_middle, takes, lets_go, none_run, waits_open, runs_now, fewer_wait, more_run, fewer_run}
+use Rattle.uv_order.proofs.Works.{once_middle, worker, none_run, waits_open, runs_now, fewer_wait, more_run, fewer_run}
 use Rattle.uv_order.proofs.Working.{Working}
 use Rattle.uv_order.proofs.Keeping.{has_number, Watches, Closes, Rests, Kept, members, not_free}
 use Rattle.uv_order.proofs.Did as row
@@ -43,16 +43,14 @@ plain : (p : Program) (past : List Seen) (l : Seen) (t : State) → MayFollow p 
 plain p past l t may q k = (may, known_quiet p past l t.arena t.names q.0 q.1 k)
 
 still_line : (p : Program) (l : Seen) → IsStill (Some l) → IsQuiet p l × IsIdle p l
-still_line p l (row.section word) = grind arith
-still_line p l each = grind arith
+still_line p l each = grind (arith)
 
 still_may : (p : Program) (past : List Seen) (l : Seen) → IsStill (Some l) → MayFollow p past l
 still_may p past l (row.section word) = tt
 still_may p past l each = tt
 
 still_known : (p : Program) (past : List Seen) (t : State) (l : Option Seen) → IsStill l → KnownAt p past t → Follows p past (Moves t l)
-still_known p past t None row.unseen k = k
-still_known p past t (Some l) q k = plain p past l t (still_may p past l q) (still_line p l q) k
+still_known p past t x3 q k = grind (arith, plain, still_may, still_line)
 
 begins_known : (p : Program) (past : List Seen) (s : State) (run : Run) (x : Stage) (word : Phase) → KnownAt p past s →
     Follows p past (step.begins s run x word)
@@ -73,13 +71,18 @@ call_known p past s run id v h e stays begun k = (
       (called_known p past s v _ refl k),
 )
 
+-- what holds of each of a list holds of the front of its end
+front_fits : (s : State) (P : HandleRecord → Type 0) (xs ids : List Id) (t : Id × HandleRecord) → Each (Fits s.arena.slots P) (xs ++ ids) →
+    FrontOf s ids t → P t.1
+front_fits s P xs ids t each f =
+    its_handle s.arena.slots P t.0 t.1 f.holds (subst (Each (Fits s.arena.slots P)) f.are (each_back (Fits s.arena.slots P) xs ids each)).0
+
 -- the front of the ready list is called
 fired_known : (p : Program) (past : List Seen) (s : State) (run : Run) (t : Id × HandleRecord) → FrontOf s s.ready t → Kept s →
     StartedAt p past s → KnownAt p past s → Follows p past (call p (restarted (record s { ready = drop 1 s.ready }) t.0 t.1) run t.0 t.1.name)
 fired_known p past s run t f kept begun k =
     let on = ready_started p past s t f begun in
-    let each : Fits s.arena.slots Rests t.0 = (subst (Each (Fits s.arena.slots Rests)) f.are kept.ready.each).0 in
-    let stays : t.1.closing ≡ false = (its_handle s.arena.slots Rests t.0 t.1 f.holds each).stays in
+    let stays : t.1.closing ≡ false = (front_fits s Rests [] s.ready t kept.ready.each f).stays in
     let u : State = record s { ready = drop 1 s.ready } in
     cond_both (t.1.repeat == 0) u (started u t.0 t.1 t.1.repeat t.1.repeat) (λ (x : State). Follows p past (call p x run t.0 t.1.name))
     (λ z. call_known p past u run t.0 t.1.name t.1 f.holds stays on k)
@@ -89,18 +92,13 @@ fired_known p past s run t f kept begun k =
 -- ---- sections of watchers
 
 begin_known : (p : Program) (past : List Seen) (s : State) (run : Run) (q : WatcherKind) → KnownAt p past s → Follows p past (step.begin_walk s run q)
-begin_known p past s run watcher.Idle k = begins_known p past (with_watched s watcher.Idle (all_yet s.idle)) run Idle phase.Idle k
-begin_known p past s run watcher.Prepare k = begins_known p past (with_watched s watcher.Prepare (all_yet s.prepare)) run Prepare phase.Prepare k
-begin_known p past s run watcher.Check k = begins_known p past (with_watched s watcher.Check (all_yet s.check)) run Check phase.Check k
-begin_known p past s run watcher.Async k = begins_known p past (with_watched s watcher.Async (all_yet s.async)) run Async phase.Async k
+begin_known p past s run x4 k = grind (arith, begins_known)
 
 -- who is yet to run doesn't close
 front_stays : (s : State) (q : Kind) (w : Walk Id) (t : Id × HandleRecord) → Everyone s.arena.slots (Watches q) (members w) → FrontOf s w.yet t →
     Kept s → t.1.closing ≡ false
 front_stays s q w t every f kept =
-    let yet = each_back (Fits s.arena.slots (Watches q)) w.list w.yet every.lists.each in
-    let its : Fits s.arena.slots (Watches q) t.0 = (subst (Each (Fits s.arena.slots (Watches q))) f.are yet).0 in
-    opened t.1 (its_handle s.arena.slots (Watches q) t.0 t.1 f.holds its).active (kept.sound t.0 t.1 f.holds)
+    opened t.1 (front_fits s (Watches q) w.list w.yet t every.lists.each f).active (kept.sound t.0 t.1 f.holds)
 
 moved_known : (p : Program) (past : List Seen) (s : State) (q : WatcherKind) (id : Id) → KnownAt p past s → KnownAt p past (front_moved s q id)
 moved_known p past s q id k = grind arith
@@ -138,16 +136,12 @@ freed_known p past s t e kept k = cond_both (t.0.generation == (arena_size p).la
     (λ m d f. still m d f) k)
   where
     still : (m : ℕ) → (m ≡ t.0.slot → ⊥) → has_number s.arena.free m ≡ false → ((t.0.slot == m) || has_number s.arena.free m) ≡ false
-    still m d f = at (t.0.slot == m) refl where
-      at : (b : Bool) → (t.0.slot == m) ≡ b → (b || has_number s.arena.free m) ≡ false
-      at true g = absurd (d (sym (eqb-true t.0.slot m g)))
-      at false g = f
+    still m d f = grind (arith, eqb-true)
 
 closed_known : (p : Program) (past : List Seen) (s : State) (run : Run) (t : Id × HandleRecord) → FrontOf s s.closing.yet t → Kept s →
     KnownAt p past s → Follows p past (calls p (record s {
       arena = freed (arena_size p).last_generation t.0 s.arena;
-      closing = record s.closing
-          { yet = drop 1 s.closing.yet };
+      closing = record s.closing { yet = drop 1 s.closing.yet };
     }) run callback.Close t.1.name (seen.Closed t.1.name t.0))
 closed_known p past s run t f kept k =
     let yet = each_back (Fits s.arena.slots Closes) s.closing.list s.closing.yet kept.closing.lists.each in
@@ -162,8 +156,7 @@ closed_known p past s run t f kept k =
 ended_known : (p : Program) (past : List Seen) (s : State) (run : Run) (t : Id × Request) → FrontRequest s s.done.yet t → Kept s → Working s →
     KnownAt p past s → Follows p past (calls p (record s {
       arena = freed (arena_size p).last_generation t.0 s.arena;
-      done = record s.done
-          { yet = drop 1 s.done.yet };
+      done = record s.done { yet = drop 1 s.done.yet };
     }) run callback.After t.1.name (seen.After (digest_in t.1.outcome) t.1.name t.0))
 ended_known p past s run t f kept work k =
     let last = (arena_size p).last_generation in
@@ -222,8 +215,7 @@ op_says p past s each kept begun k = tt
 -- the line of an op that is done
 op_line : (p : Program) (past : List Seen) (s : State) (place : Site) (o : Op) → op_at p place ≡ Some o → Kept s → StartedAt p past s →
     KnownAt p past s → MayFollow p past (seen.Op place (do_op s o).answer)
-op_line p past s place o e kept begun k =
-    subst (λ (x : Option Op). OpSays p past x (do_op s o).answer) (sym e) (op_says p past s o kept begun k)
+op_line p past s place o e kept begun k = subst (λ (x : Option Op). OpSays p past x (do_op s o).answer) (sym e) (op_says p past s o kept begun k)
 
 taken_known : (p : Program) (past : List Seen) (s : State) (n : ℕ) (t : Id × Request) → TakesFront s n t → Working s → KnownAt p past s →
     Follows p past (step.take s n (Ok t))
@@ -231,7 +223,7 @@ taken_known p past s n t f work k =
     let waits : has_id s.waiting t.0 ≡ true = ap (λ (ids : List Id). has_id ids t.0) f.front.are ∙ rw (itself t.0 t.0 refl) refl in
     let apart : AreDistinct ((t.0 ∷ f.front.rest) ++ run_ids s.running) =
     subst (λ (ids : List Id). AreDistinct (ids ++ run_ids s.running)) f.front.are work.open_ones.distinct in
-    let r = takes s.running n t.0 f.idle in (
+    let r = worker s.running n None f.idle in (
       (
         k.worked.waits t.0 waits,
         not_called p past s.arena s.waiting (run_ids s.running) t.0 t.1 f.front.holds k.worked,
@@ -241,7 +233,7 @@ taken_known p past s n t f work k =
           (worked_taken p past s.arena s.waiting (run_ids s.running) (drop 1 s.waiting) (run_ids (slice_set s.running n (Some t.0))) n t.1.name t.0
           t.1 (ap request_in f.front.holds) (waits_open s.arena.slots s.waiting s.running s.done t.0 t.1 f.front.holds waits work) waits
           (λ i e. fewer_wait s.waiting (run_ids s.running) f.front.rest (drop 1 s.waiting) t.0 i f.front.are f.front.behind apart.0 e)
-          (λ i e. more_run (run_ids s.running) _ r.front r.behind t.0 i r.were r.are e) k.worked) k,
+          (λ i e. more_run (run_ids s.running) _ r.front r.behind t.0 i r.were (r.are (Some t.0)) e) k.worked) k,
     )
 
 finished_known : (p : Program) (past : List Seen) (s : State) (n : ℕ) (t : Id × Request) → RunsWork s n t → Working s → KnownAt p past s →
@@ -249,14 +241,14 @@ finished_known : (p : Program) (past : List Seen) (s : State) (n : ℕ) (t : Id 
 finished_known p past s n t f work k =
     let x : Request = record t.1 { outcome = Finished (digest_of t.1.task.rounds (text_of t.1.task)) } in
     let runs : List Id = run_ids (slice_set s.running n None) in
-    let g = lets_go s.running n t.0 f.busy in
+    let g = worker s.running n (Some t.0) f.busy in
     let on = runs_now s.running n t.0 f.busy in
     let was = k.worked.runs_now t.0 on in
     let apart : has_id (g.front ++ g.behind) t.0 ≡ false =
     once_middle g.front g.behind t.0 (subst AreDistinct g.were (distinct_back s.waiting (run_ids s.running) work.open_ones.distinct)) in
     let told : Worked p (seen.Finish n t.1.name t.0 ∷ past) s.arena s.waiting runs =
     worked_finished p past s.arena s.waiting (run_ids s.running) runs n t.1.name t.0 on
-    (λ i e. fewer_run (run_ids s.running) runs g.front g.behind t.0 i g.were g.are apart e) k.worked in
+    (λ i e. fewer_run (run_ids s.running) runs g.front g.behind t.0 i g.were (g.are None) apart e) k.worked in
     let gone : (i : Id) → IsGone s.arena.slots s.arena.free i → IsGone (with_request s t.0 x).arena.slots (with_request s t.0 x).arena.free i =
     λ i h. gone_turned s.arena.slots s.arena.free t.0 (content.Request t.1) (Some (content.Request x)) i f.holds h in
     let turns = request_turns s.arena.slots t.0 t.1 x f.holds in (
@@ -303,30 +295,13 @@ did_known p past s n (row.cancelled v) kept work begun k = (cancel_says p past s
 
 -- ---- all steps
 
-pub known_fresh : (p : Program) → KnownAt p [] (fresh p)
-known_fresh p = record {
-  binding = λ v id e. cc (unbound_id (length p.callbacks) v.0, e);
-  made = λ id v e. cc e;
-  closing = λ id f. absurd (none-some f.handle f.holds);
-  closed = λ id c. cc c;
-  over = λ id c. cc c;
-  worked = record {
-    queued = λ id r e. cc e;
-    known = λ id task e. cc e;
-    over = λ id e. cc e;
-    taken = λ id e f. cc e;
-    finished = λ id e. cc e;
-    waits = λ id e. cc e;
-    runs_now = λ id e. absurd (nobody id (sym (ap (λ (ids : List Id). has_id ids id) (none_run (worker_count p))) ∙ e));
-    ended = λ id r e. cc e;
-    cancelled = λ id e f. cc e;
-    uncancelled = λ id e. cc e;
-  };
-} where
-  nobody : (id : Id) → has_id [] id ≡ true → ⊥
-  nobody id e = cc e
+fresh_worked : (p : Program) → Worked p [] (fresh p).arena (fresh p).waiting (run_ids (fresh p).running)
+fresh_worked p = grind (arith, none_run)
 
-  unbound_id : (n i : ℕ) → (unwrap_or (slice_get (replicate n unbound) i) unbound).id ≡ None
-  unbound_id zero i = refl
-  unbound_id (suc n) zero = refl
-  unbound_id (suc n) (suc i) = unbound_id n i
+unbound_id : (n i : ℕ) → (unwrap_or (slice_get (replicate n unbound) i) unbound).id ≡ None
+unbound_id zero i = refl
+unbound_id (suc n) zero = refl
+unbound_id (suc n) (suc i) = unbound_id n i
+
+pub known_fresh : (p : Program) → KnownAt p [] (fresh p)
+known_fresh p = grind (arith, unbound_id, none-some, fresh_worked)

@@ -23,13 +23,6 @@ get_set_other slots i j x d = grind (arith, elements)
 pub get_push : (slots : List (Slot Content)) (x y : Slot Content) (i : ℕ) → slice_get slots i ≡ Some y → slice_get (slots ++ x ∷ []) i ≡ Some y
 get_push slots x y i e = grind (arith, elements)
 
-past_end : (slots : List (Slot Content)) (y z : Slot Content) (i : ℕ) → slice_get slots i ≡ None → slice_get (slots ++ y ∷ []) i ≡ Some z → (i ≡
-    length slots) × (y ≡ z)
-past_end [] y z zero e f = (refl, same_Some y z f)
-past_end [] y z (suc i) e f = cc f
-past_end (s ∷ slots) y z zero e f = cc e
-past_end (s ∷ slots) y z (suc i) e f = let rest = past_end slots y z i e f in (ap suc rest.0, rest.1)
-
 none_at_end : (slots : List (Slot Content)) → slice_get slots (length slots) ≡ None
 none_at_end slots = slice_get_past slots (length slots) (omega arith)
 

@@ -1,6 +1,6 @@
 -- The lines of every list of steps are in the documented order: what names are bound to by the lines is what the accepted ops of a step
 -- find them bound to.
-use Rattle.uv_order.proofs.Names.{false, map, ◌≡◌, List, [], ◌∷◌, ◌++◌, Option, Some, None, Ok, refl, ap, sym, subst, ◌∙◌, same_Some, Id, Var, Event, Code, Answer, Phase, Seen, Op, Program, worker_count, op_at, HandleRecord, State, fresh, named, live_handle, do_op, Next, Moves, Refuses, state_of, lines, Line, line_of_step, history_from, MayFollow, OnceFrom, line_events, pool_events, pool_of, Pool, empty_pool, then_event, after_events, PoolEvent, Names, names_by, ids_of, sent_by, sent_after, off_by, taken_off, Told, nothing_told, told_by, Lasting, lasting, at_first, Within, Position, Between, Running, Goes, GoesOn, cut, line, Documented, word_of}
+use Rattle.uv_order.proofs.Names.{arith, false, map, ◌≡◌, List, [], ◌∷◌, ◌++◌, Option, Some, None, Ok, refl, ap, sym, subst, ◌∙◌, same_Some, Id, Var, Event, Code, Answer, Phase, Seen, Op, Program, worker_count, op_at, HandleRecord, State, fresh, named, live_handle, do_op, Next, Moves, Refuses, state_of, lines, Line, line_of_step, history_from, MayFollow, OnceFrom, line_events, pool_events, pool_of, Pool, empty_pool, then_event, after_events, PoolEvent, Names, names_by, ids_of, sent_by, sent_after, off_by, taken_off, Told, nothing_told, told_by, Lasting, lasting, at_first, Within, Position, Between, Running, Goes, GoesOn, cut, line, Documented, word_of}
 use Rattle.uv_ids.specs.declared.code.Code.TheVariants as code
 use Rattle.uv_ids.specs.declared.code.Answer.TheVariants as answer
 use Rattle.uv_ids.specs.declared.phase.Phase.TheVariants as phase
@@ -44,10 +44,7 @@ by_lines p past s k = record { bound = k.binding; made = k.made }
 
 one_name : (names : Names) (s : State) (v : Var) (t : Id × HandleRecord) → Agrees names s → live_handle s v ≡ Ok t →
     ids_of (names_at s) (Some v) ≡ ids_of names (Some v)
-one_name names s v t k e = one_taken s v t e ∙ named_so (names.bound v) (k.bound v t.0 (live_bound s v t e)) where
-  named_so : (o : Option Id) → o ≡ Some t.0 → t.0 ∷ [] ≡ doc.ids_of (record names { bound = λ (u : Var). o }) (Some v)
-  named_so None f = cc f
-  named_so (Some i) f = ap (λ (j : Id). j ∷ []) (same_Some _ _ (sym f))
+one_name names s v t k e = grind (arith, one_taken, live_bound, same_Some)
 
 -- ---- whom an op takes off
 
@@ -62,21 +59,15 @@ off_refused a b o c no_success word = refusal_takes_none a o c no_success word �
 
 off_again : (a b : Names) (v : Var) → ids_of a (Some v) ≡ ids_of b (Some v) → (word : Phase) →
     ids_of a (off_by word (op.Again v)) ≡ ids_of b (off_by word (op.Again v))
-off_again a b v e phase.Timers = e
-off_again a b v e each = refl
+off_again a b v e each = grind (arith)
 
 off_stop : (a b : Names) (v : Var) → ids_of a (Some v) ≡ ids_of b (Some v) → (word : Phase) →
     ids_of a (off_by word (op.Stop v)) ≡ ids_of b (off_by word (op.Stop v))
-off_stop a b v e phase.Done = refl
-off_stop a b v e phase.Async = refl
-off_stop a b v e phase.Closing = refl
-off_stop a b v e each = e
+off_stop a b v e each = grind (arith)
 
 off_close : (a b : Names) (v : Var) → ids_of a (Some v) ≡ ids_of b (Some v) → (word : Phase) →
     ids_of a (off_by word (op.Close v)) ≡ ids_of b (off_by word (op.Close v))
-off_close a b v e phase.Done = refl
-off_close a b v e phase.Closing = refl
-off_close a b v e each = e
+off_close a b v e each = grind (arith)
 
 did_op_off : (names : Names) (s : State) (o : Op) (d : ops.Done) → DidOp s o d → Agrees names s → SameOff (names_at s) names o d.answer
 did_op_off names s o d (which.refused o' c r may) k = off_refused (names_at s) names o' c r
@@ -99,19 +90,10 @@ abbrev SameSent : Names → Names → Op → Answer → Type 0
 SameSent a b o x = (sent : List Id) → sent_by o x a sent ≡ sent_by o x b sent
 
 refused_sends : (a b : Names) (o : Op) (c : Code) → IsRefusal c → SameSent a b o (answer.Code c)
-refused_sends a b (op.Init v q) code.Ok r sent = refl
-refused_sends a b (op.Send v) code.Ok r sent = absurd (r refl)
-refused_sends a b (op.Close v) code.Ok r sent = absurd (r refl)
-refused_sends a b each c r sent = refl
+refused_sends a b each c r sent = grind (arith)
 
 did_op_sends : (names : Names) (s : State) (o : Op) (d : ops.Done) → DidOp s o d → Agrees names s → SameSent (names_at s) names o d.answer
-did_op_sends names s o d (which.refused o' c r may) k = refused_sends (names_at s) names o' c r
-did_op_sends names s o d (which.sent_to v t e is stays) k = λ sent. ap (λ (ids : List Id). ids ++ sent) (one_name names s v t k e)
-did_op_sends names s o d (which.closed v t e stays) k = λ sent. ap (doc.without_ids sent) (one_name names s v t k e)
-did_op_sends names s o d (which.asked o' a (which.due_in v)) k = λ sent. refl
-did_op_sends names s o d (which.asked o' a each) k = λ sent. refl
-did_op_sends names s o d (which.referenced o' u flag t e (which.ref v)) k = λ sent. refl
-did_op_sends names s o d each k = λ sent. refl
+did_op_sends names s o d each k = grind (arith, refused_sends, names_at, one_name)
 
 op_sends : (names : Names) (s : State) (o : Op) → Agrees names s → SameSent (names_at s) names o (do_op s o).answer
 op_sends names s o k = did_op_sends names s o (do_op s o) (op_did s o) k

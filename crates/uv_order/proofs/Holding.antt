@@ -1,5 +1,5 @@
 -- What the slots hold, and the lists of ids of handles.
-use Rattle.uv_order.proofs.Names.{◌≡◌, ◌⊎◌, inl, inr, ℕ, ◌<◌, List, ◌∷◌, ◌++◌, Bool, true, false, Option, Some, None, slice_set, refl, ap, sym, subst, ◌∙◌, arith, same_Some, Id, Var, Due, HandleRecord, Slot, held, Content, handle_in, same_id, without_id, with_timer, without_timer, Has, InOrder, has_id, AreDistinct, if◌then◌else◌}
+use Rattle.uv_order.proofs.Names.{◌≡◌, ◌⊎◌, inl, inr, ℕ, ◌<◌, List, ◌∷◌, ◌++◌, Bool, true, false, Option, Some, None, slice_set, refl, ap, sym, subst, ◌∙◌, arith, same_Some, Id, Var, Due, HandleRecord, Slot, held, Content, handle_in, same_id, without_id, with_timer, without_timer, Has, InOrder, has_id, AreDistinct, if◌then◌else◌, false_from_ne_true}
 use Rattle.std.specs.Prelude.{option_map}
 use Rattle.uv_ids.specs.declared.phase.Kind.TheVariants as kind
 use Rattle.uv_work.specs.declared.content.Content.TheVariants as content
@@ -43,10 +43,8 @@ is_held slots id h e = as_handle (held slots id) h e
 
 pub put_turns : (slots : List (Slot Content)) (id : Id) (h x : HandleRecord) → held_at slots id ≡ Some h →
     Turns slots (put slots id x) id (Some (content.Handle h)) (Some (content.Handle x))
-put_turns slots id h x e =
-    let k = holds slots id (content.Handle h) (is_held slots id h e) in
-    let t = set_turns slots id (Some (content.Handle x)) k.at in
-    record { before = is_held slots id h e; here = t.here; others = t.others }
+put_turns slots id h x e = let k = is_held slots id h e in
+    assumption (k, set_turns slots id (Some (content.Handle x)) (holds slots id (content.Handle h) k).at)
 
 -- the record of a handle changes, which is called as before
 pub put_names : (slots : List (Slot Content)) (id : Id) (h x : HandleRecord) → held_at slots id ≡ Some h → x.name ≡ h.name →
@@ -66,8 +64,7 @@ emptied_same slots id h generation e = ap handle_in (emptied_turns slots id (con
 
 pub emptied_other : (slots : List (Slot Content)) (id i : Id) (h : HandleRecord) (generation : ℕ) → held_at slots id ≡ Some h → (i ≡ id → ⊥) →
     held_at (emptied slots id generation) i ≡ held_at slots i
-emptied_other slots id i h generation e d =
-    ap handle_in ((emptied_turns slots id (content.Handle h) generation (is_held slots id h e)).others i d)
+emptied_other slots id i h generation e d = ap handle_in ((emptied_turns slots id (content.Handle h) generation (is_held slots id h e)).others i d)
 
 -- ---- a slot that is taken
 
@@ -85,10 +82,6 @@ grown slots more id x t = record { here = ap handle_in t.here; others = λ i d. 
 pub put_at : (slots : List (Slot Content)) (id : Id) (h x : HandleRecord) → held_at slots id ≡ Some h → (i : Id) →
     held_at (put slots id x) i ≡ (if same_id i id then Some x else held_at slots i)
 put_at slots id h x e i = grind (arith, turned_to (put_turns slots id h x e))
-
-pub emptied_at : (slots : List (Slot Content)) (id : Id) (h : HandleRecord) (n : ℕ) → held_at slots id ≡ Some h → (i : Id) →
-    held_at (emptied slots id n) i ≡ (if same_id i id then None else held_at slots i)
-emptied_at slots id h n e i = grind (arith, turned_to (emptied_turns slots id (content.Handle h) n (is_held slots id h e)))
 
 pub grown_at : {slots more : List (Slot Content)} {id : Id} {x : HandleRecord} → Grown slots more id x → (i : Id) →
     held_at more i ≡ (if same_id i id then Some x else held_at slots i)
@@ -133,6 +126,13 @@ pub fits_back : (slots : List (Slot Content)) (P : HandleRecord → Type 0) (id 
     (i : Id) → Fits (put slots id x) P i → Fits slots P i
 fits_back slots P id h x e g i l = grind (arith, holds, same, other, fitted, its_handle, put_same)
 
+-- whoever fits then is another one that fitted before, where the changed one doesn't fit
+fits_apart : (slots : List (Slot Content)) (P : HandleRecord → Type 0) (id : Id) (h x : HandleRecord) → held_at slots id ≡ Some h → (P x → ⊥) →
+    (i : Id) → Fits (put slots id x) P i → (i ≡ id → ⊥) × Fits slots P i
+fits_apart slots P id h x e d i l = (apart, fitted slots P id h x e i apart l) where
+  apart : i ≡ id → ⊥
+  apart is = d (its_handle (put slots id x) P id x (put_same slots id h x e) (subst (Fits (put slots id x) P) is l))
+
 -- no handle changes
 pub fits_same : (slots more : List (Slot Content)) (P : HandleRecord → Type 0) → SameHandles more slots → (i : Id) → Fits slots P i → Fits more P i
 fits_same slots more P f i k = record { handle = k.handle; holds = f i ∙ k.holds; fits = k.fits }
@@ -145,17 +145,12 @@ pub record Lists (slots : List (Slot Content)) (P : HandleRecord → Type 0) (id
 
 pub lists_put : (slots : List (Slot Content)) (P : HandleRecord → Type 0) (id : Id) (h x : HandleRecord) (ids : List Id) → held_at slots id ≡ Some h →
     (P h → P x) → Lists slots P ids → Lists (put slots id x) P ids
-lists_put slots P id h x ids e f k = record {
-  each = each_mapped (Fits slots P) (Fits (put slots id x) P)
-      (fits_put slots P id h x e f) ids k.each;
-  distinct = k.distinct;
-}
+lists_put slots P id h x ids e f k = assumption (each_mapped (Fits slots P) (Fits (put slots id x) P) (fits_put slots P id h x e f) ids k.each, k)
 
 pub lists_without : (slots : List (Slot Content)) (P : HandleRecord → Type 0) (id : Id) (h x : HandleRecord) (ids : List Id) →
     held_at slots id ≡ Some h → Lists slots P ids → Lists (put slots id x) P (without_id ids id)
 lists_without slots P id h x ids e k = record {
-  each = each_without (Fits slots P) (Fits (put slots id x) P) id
-      (λ i d f. fits_other slots P id h x e i d f) ids k.each;
+  each = each_without (Fits slots P) (Fits (put slots id x) P) id (λ i d f. fits_other slots P id h x e i d f) ids k.each;
   distinct = distinct_without ids id k.distinct;
 }
 
@@ -188,12 +183,9 @@ pub everyone_without : (slots : List (Slot Content)) (P : HandleRecord → Type 
     held_at slots id ≡ Some h → (P x → ⊥) → Everyone slots P ids → Everyone (put slots id x) P (without_id ids id)
 everyone_without slots P id h x ids e g k = record {
   lists = lists_without slots P id h x ids e k.lists;
-  all = λ i l. at i l
-      (same_id i id) refl;
-} where
-  at : (i : Id) → Fits (put slots id x) P i → (b : Bool) → same_id i id ≡ b → has_id (without_id ids id) i ≡ true
-  at i l true s = absurd (g (its_handle (put slots id x) P id x (put_same slots id h x e) (subst (Fits (put slots id x) P) (same i id s) l)))
-  at i l false s = still_there ids id i s (k.all i (fitted slots P id h x e i (other i id s) l))
+  all = λ i l. let b = fits_apart slots P id h x e g i l in
+      still_there ids id i (false_from_ne_true (same_id i id) (λ s. b.0 (same i id s))) (k.all i b.1);
+}
 
 -- one that fits from now on is put in front
 pub everyone_front : (slots : List (Slot Content)) (P : HandleRecord → Type 0) (id : Id) (h x : HandleRecord) (ids : List Id) →
@@ -260,11 +252,11 @@ fitted_emptied slots P id h n e i l = grind (arith, emptied_same, emptied_other)
 
 pub lists_emptied : (slots : List (Slot Content)) (P : HandleRecord → Type 0) (id : Id) (h : HandleRecord) (n : ℕ) (ids : List Id) →
     held_at slots id ≡ Some h → (P h → ⊥) → Lists slots P ids → Lists (emptied slots id n) P ids
-lists_emptied slots P id h n ids e d k = record {
-  each = each_mapped (Fits slots P) (Fits (emptied slots id n) P) (λ i f. fits_emptied slots P id h n e i (λ is. d (its_handle slots P id h e (subst
-      (Fits slots P) is f))) f) ids k.each;
-  distinct = k.distinct;
-}
+lists_emptied slots P id h n ids e d k = assumption (
+  each_mapped (Fits slots P) (Fits (emptied slots id n) P)
+      (λ i f. fits_emptied slots P id h n e i (λ is. d (its_handle slots P id h e (subst (Fits slots P) is f))) f) ids k.each,
+  k,
+)
 
 pub everyone_emptied : (slots : List (Slot Content)) (P : HandleRecord → Type 0) (id : Id) (h : HandleRecord) (n : ℕ) (ids : List Id) →
     held_at slots id ≡ Some h → (P h → ⊥) → Everyone slots P ids → Everyone (emptied slots id n) P ids
@@ -304,6 +296,9 @@ pub times_put : (slots : List (Slot Content)) (drawn : ℕ) (ts : List (Due × I
     ((key : Due) → IsSet key h → IsSet key x) → ((key : Due) → IsSet key x → IsSet key h) → Times slots drawn ts → Times (put slots id x) drawn ts
 times_put slots drawn ts id h x e f g k = grind (arith, fits_back, fits_put)
 
+never_set : (x : HandleRecord) (key : Due) → x.active ≡ false → IsSet key x → ⊥
+never_set x key off a = let on = a.active in cc (on, off)
+
 -- an active timer becomes inactive
 pub times_without : (slots : List (Slot Content)) (drawn : ℕ) (ts : List (Due × Id)) (key : Due) (id : Id) (h x : HandleRecord) →
     held_at slots id ≡ Some h → IsSet key h → x.active ≡ false → Times slots drawn ts → Times (put slots id x) drawn (without_timer ts key)
@@ -315,16 +310,12 @@ times_without slots drawn ts key id h x e a off k = record {
             (λ is. m.1 (sym (its_handle slots (IsSet other_key) id h e (subst (Fits slots (IsSet other_key)) is n.0)).due ∙ a.due)) n.0,
         n.1,
       );
-  all = λ other_key i l. let d = not_it other_key i l in still_has ts key other_key i
-      (k.all other_key i (fitted slots (IsSet other_key) id h x e i d l))
-      (λ same_key. d (one_id ts key i id k.sorted
-      (subst (λ (q : Due). Has ts q i) same_key (k.all other_key i (fitted slots (IsSet other_key) id h x e i d l)))
-      (k.all key id (record { handle = h; holds = e; fits = a }))));
+  all = λ other_key i l.
+      let b = fits_apart slots (IsSet other_key) id h x e (never_set x other_key off) i l in
+      still_has ts key other_key i (k.all other_key i b.1) (λ same_key. b.0 (one_id ts key i id k.sorted
+      (subst (λ (q : Due). Has ts q i) same_key (k.all other_key i b.1)) (k.all key id (record { handle = h; holds = e; fits = a }))));
   sorted = in_order_without ts key k.sorted;
-} where
-  not_it : (other_key : Due) (i : Id) → Fits (put slots id x) (IsSet other_key) i → i ≡ id → ⊥
-  not_it other_key i l is = let on = (its_handle (put slots id x) (IsSet other_key) id x (put_same slots id h x e)
-      (subst (Fits (put slots id x) (IsSet other_key)) is l)).active in cc (on, off)
+}
 
 -- the first one becomes inactive
 pub times_rest : (slots : List (Slot Content)) (drawn : ℕ) (t : Due × Id) (ts : List (Due × Id)) (h x : HandleRecord) → held_at slots t.1 ≡ Some h →
@@ -335,23 +326,13 @@ times_rest slots drawn t ts h x e off k = record {
         (λ is. not_before_itself t.0 key (same_key key i is n.0) (before_each ts t.0 key i k.sorted.0 l)) n.0,
     n.1,
   );
-  all = λ key i l. behind key i (not_it key i l) (k.all key i (fitted slots (IsSet key) t.1 h x e i (not_it key i l) l));
+  all = λ key i l. let b = fits_apart slots (IsSet key) t.1 h x e (never_set x key off) i l in
+      elim (k.all key i b.1) [ inl is ↦ absurd (b.0 (sym is.1)) | inr behind ↦ behind ];
   sorted = k.sorted.1;
 } where
-  first : Fits slots (IsSet t.0) t.1
-  first = (k.each t.0 t.1 (inl (refl, refl))).0
-
   same_key : (key : Due) (i : Id) → i ≡ t.1 → Fits slots (IsSet key) i → t.0 ≡ key
-  same_key key i is f = sym (its_handle slots (IsSet t.0) t.1 h e first).due
+  same_key key i is f = sym (its_handle slots (IsSet t.0) t.1 h e (k.each t.0 t.1 (inl (refl, refl))).0).due
       ∙ (its_handle slots (IsSet key) t.1 h e (subst (Fits slots (IsSet key)) is f)).due
-
-  not_it : (key : Due) (i : Id) → Fits (put slots t.1 x) (IsSet key) i → i ≡ t.1 → ⊥
-  not_it key i l is = let on = (its_handle (put slots t.1 x) (IsSet key) t.1 x (put_same slots t.1 h x e)
-      (subst (Fits (put slots t.1 x) (IsSet key)) is l)).active in cc (on, off)
-
-  behind : (key : Due) (i : Id) → (i ≡ t.1 → ⊥) → Has (t ∷ ts) key i → Has ts key i
-  behind key i d (inl is) = absurd (d (sym is.1))
-  behind key i d (inr rest) = rest
 
 -- an inactive one becomes active, with a start number that is drawn now
 pub times_with : (slots : List (Slot Content)) (drawn more : ℕ) (ts : List (Due × Id)) (key : Due) (id : Id) (h x : HandleRecord) → held_at slots id

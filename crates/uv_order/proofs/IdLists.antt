@@ -189,13 +189,6 @@ first_left (id ∷ ids) off first more h = at (has_id off id) refl h (first_left
       record { passed = id ∷ f.passed; behind = f.behind; list = ap (λ (is : List Id). id ∷ is) f.list; off = (e, f.off); on = f.on; left = f.left }
   at false e rest later =
       let one : id ≡ first = cc rest in
-      let others : left_of ids off ≡ more = cc rest in
-      record {
-        passed = [];
-        behind = ids;
-        list = ap (λ (i : Id). i ∷ ids) one;
-        off = tt;
-        on = ap (λ (i : Id). has_id off i) (sym one)
-            ∙ e;
-        left = sym others;
-      }
+      let on : has_id off first ≡ false = ap (has_id off) (sym one) ∙ e in
+      let others : more ≡ left_of ids off = cc rest in
+      record { passed = []; behind = ids; list = ap (λ (i : Id). i ∷ ids) one; off = tt; on = on; left = others }

@@ -79,14 +79,7 @@ known_held : {waiting runs : List Id} (p : Program) (past : List Seen) (arena mo
     NoNewNames more.slots arena.slots → ((i : Id) → Fits more.slots Closes i → Fits arena.slots Closes i) →
     ((i : Id) → Fits arena.slots Closes i → IsShut more i) → ((i : Id) → IsGone arena.slots arena.free i → IsGone more.slots more.free i) →
     SameRequests more.slots arena.slots → Known p past arena names waiting runs → Known p past more names waiting runs
-known_held p past arena more names called was still gone asks k = record {
-  binding = k.binding;
-  made = λ i v f. k.made i v (called i v f);
-  closing = λ i f. k.closing i (was i f);
-  closed = λ i c. elim (k.closed i c) [ inl f ↦ still i f | inr g ↦ inr (gone i g) ];
-  over = λ i c. gone i (k.over i c);
-  worked = worked_same p past arena more _ _ asks gone k.worked;
-}
+known_held p past arena more names called was still gone asks k = grind (arith, worked_same)
 
 -- a handle changes that closes as before
 pub known_put : {waiting runs : List Id} (p : Program) (past : List Seen) (arena : Slots Content) (names : List Named) (id : Id)
@@ -203,14 +196,7 @@ known_grown p past arena more names id x grown same_asked stays called gone k = 
 -- the `closed` line of a handle that is gone
 known_over : {waiting runs : List Id} (p : Program) (past : List Seen) (v : Var) (arena : Slots Content) (names : List Named) (id : Id) →
     IsGone arena.slots arena.free id → Known p past arena names waiting runs → Known p (seen.Closed v id ∷ past) arena names waiting runs
-known_over p past v arena names id g k = record {
-  binding = k.binding;
-  made = k.made;
-  closing = k.closing;
-  closed = k.closed;
-  over = λ i c. grind (arith, same);
-  worked = worked_idle p past (seen.Closed v id) arena _ _ (assumption) k.worked;
-}
+known_over p past v arena names id g k = grind (arith, same, worked_idle)
 
 -- a closing handle has its `closed` line, and its slot is freed or retired
 pub known_gone : {waiting runs : List Id} (p : Program) (past : List Seen) (v : Var) (arena : Slots Content) (more : List ℕ) (names : List Named)

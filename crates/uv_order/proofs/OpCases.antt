@@ -12,8 +12,7 @@ use Rattle.uv_order.proofs.Holding.{name_at}
 -- ---- kinds
 
 pub timer_kind : (k : Kind) → is_timer k ≡ true → k ≡ kind.Timer
-timer_kind kind.Timer e = refl
-timer_kind each e = cc e
+timer_kind each e = grind (arith)
 
 abbrev pub kind_as : WatcherKind → Kind
 kind_as watcher.Idle = kind.Idle
@@ -22,8 +21,7 @@ kind_as watcher.Check = kind.Check
 kind_as watcher.Async = kind.Async
 
 pub as_watcher : (q : Kind) (k : WatcherKind) → watcher_kind q ≡ Some k → q ≡ kind_as k
-as_watcher kind.Timer k e = cc e
-as_watcher each k e = ap kind_as (same_Some _ _ e)
+as_watcher each k e = grind (arith, same_Some)
 
 -- ---- live names
 
@@ -66,12 +64,10 @@ abbrev pub Refuses : (HandleRecord → Option Code) → Type 0
 Refuses why = (h : HandleRecord) (c : Code) → why h ≡ Some c → IsRefusal c
 
 invalid_refuses : (b : Bool) (c : Code) → invalid_if b ≡ Some c → IsRefusal c
-invalid_refuses true c e ok = cc (e, ok)
-invalid_refuses false c e ok = cc e
+invalid_refuses x0 c e ok = grind (arith)
 
 only_refuses : (b : Bool) (why : Option Code) (c : Code) → (why ≡ Some c → IsRefusal c) → only_if b why ≡ Some c → IsRefusal c
-only_refuses true why c f e ok = f e ok
-only_refuses false why c f e ok = cc (e, ok)
+only_refuses x0 why c f e ok = grind (arith)
 
 no_code : (c : Code) → ◌≡◌ {A = Option Code} None (Some c) → IsRefusal c
 no_code c e ok = cc e
@@ -102,12 +98,10 @@ refuses_send h c e = only_refuses (is_async h.kind) (invalid_if h.closing) c (in
 
 -- what is not refused
 only_passes : (b : Bool) (why : Option Code) → only_if b why ≡ None → (b ≡ true) × (why ≡ None)
-only_passes true why e = (refl, e)
-only_passes false why e = cc e
+only_passes x0 why e = grind (arith)
 
 invalid_passes : (b : Bool) → invalid_if b ≡ None → b ≡ false
-invalid_passes true e = cc e
-invalid_passes false e = refl
+invalid_passes x0 e = grind (arith)
 
 pub start_passes : (h : HandleRecord) → start_timer_refusal h ≡ None → (h.kind ≡ kind.Timer) × (h.closing ≡ false)
 start_passes h e = let parts = only_passes (is_timer h.kind) (invalid_if h.closing) e in (timer_kind h.kind parts.0, invalid_passes h.closing parts.1)
@@ -116,14 +110,11 @@ pub again_passes : (h : HandleRecord) → again_refusal h ≡ None → (h.kind �
 again_passes h e = grind arith
 
 pub start_watcher_passes : (h : HandleRecord) → start_watcher_refusal h ≡ None → (is_watcher h.kind ≡ true) × (h.closing ≡ false)
-start_watcher_passes h e =
-    let parts = only_passes (is_watcher h.kind) (invalid_if h.closing) e in (parts.0, invalid_passes h.closing parts.1)
+start_watcher_passes h e = let parts = only_passes (is_watcher h.kind) (invalid_if h.closing) e in (parts.0, invalid_passes h.closing parts.1)
 
 -- a handle that may be started so is of a kind of watchers
 is_of_watchers : (q : Kind) → is_watcher q ≡ true → watcher_kind q ≡ None → ⊥
-is_of_watchers kind.Timer e f = cc e
-is_of_watchers kind.Async e f = cc e
-is_of_watchers each e f = cc f
+is_of_watchers each e f = grind (arith)
 
 pub close_passes : (h : HandleRecord) → close_refusal h ≡ None → h.closing ≡ false
 close_passes h e = invalid_passes h.closing e
@@ -137,12 +128,10 @@ send_passes h e = grind arith
 
 -- what isn't a live handle or request refuses
 no_handle : (o : Option (Id × Content)) (c : Code) → as_handle o ≡ Err c → IsRefusal c
-no_handle None c e ok = cc (e, ok)
-no_handle (Some u) c e ok = grind arith
+no_handle x0 c e ok = grind (arith)
 
 pub no_request : (o : Option (Id × Content)) (c : Code) → as_request o ≡ Err c → IsRefusal c
-no_request None c e ok = cc (e, ok)
-no_request (Some u) c e ok = grind arith
+no_request x0 c e ok = grind (arith)
 
 pub on_handle_both : (s : State) (v : Var) (why : HandleRecord → Option Code) (f : Id → HandleRecord → ops.Done) (P : ops.Done → Type 0) →
     Refuses why → ((c : Code) → IsRefusal c → P (ops.refuses s c)) →
@@ -173,8 +162,7 @@ cancel_both s v P refused done = at (live_request s v) refl where
 pub make_both : (s : State) (t : Option (Id × Content)) (made : Id → State) (P : ops.Done → Type 0) → ((c : Code) → IsRefusal c →
     P (ops.refuses s c)) →
     ((id : Id) → next_free s.arena ≡ Some id → P (record { state = made id; answer = answer.Id id })) → P (ops.make s t made)
-make_both s (Some t) made P refused done = refused Ebound (λ ok. cc ok)
-make_both s None made P refused done = found_both (next_free s.arena) _ _ P done (λ none. refused Efull (λ ok. cc ok))
+make_both s x1 made x3 refused done = grind (arith)
 
 -- ---- what an op does
 

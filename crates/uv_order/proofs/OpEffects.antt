@@ -133,22 +133,17 @@ timer_effect s u o v t e is k off lasts same names lists = record {
   lasts = same ∙ sym lasts;
   calls = rw names (same_calls s.names);
   ready = lists.ready ∙ taken_one s v t s.ready e ∙ ap (λ (x : Option Var). left_of s.ready (ids_of (names_at s) x)) (sym (off phase.Timers));
-  idle = lists.idle ∙ not_yet s kind.Idle s.idle t.0 t.1 held_now (apart t.1 kind.Idle is (λ f. cc f)) k.idle ∙ none_by phase.Idle s.idle.yet refl;
-  prepare = lists.prepare ∙ not_yet s kind.Prepare s.prepare t.0 t.1 held_now (apart t.1 kind.Prepare is (λ f. cc f)) k.prepare
-      ∙ none_by phase.Prepare s.prepare.yet refl;
-  check = lists.check ∙ not_yet s kind.Check s.check t.0 t.1 held_now (apart t.1 kind.Check is (λ f. cc f)) k.check ∙ none_by phase.Check
-      s.check.yet refl;
-  async = lists.async ∙ not_yet s kind.Async s.async t.0 t.1 held_now (apart t.1 kind.Async is (λ f. cc f)) k.async ∙ none_by phase.Async
-      s.async.yet refl;
+  idle = lists.idle ∙ stays phase.Idle kind.Idle s.idle (λ f. cc f) refl k.idle;
+  prepare = lists.prepare ∙ stays phase.Prepare kind.Prepare s.prepare (λ f. cc f) refl k.prepare;
+  check = lists.check ∙ stays phase.Check kind.Check s.check (λ f. cc f) refl k.check;
+  async = lists.async ∙ stays phase.Async kind.Async s.async (λ f. cc f) refl k.async;
   closing = lists.closing;
   done = lists.done;
 } where
-  held_now : handle s t.0 ≡ Some t.1
-  held_now = live_held s v t e
-
-  none_by : (word : Phase) (ids : List Id) → off_by word (op.Again v) ≡ None → left_of ids [] ≡ left_of ids
-      (taken_off word (names_at s) o (answer.Code code.Ok))
-  none_by word ids none = ap (λ (x : Option Var). left_of ids (ids_of (names_at s) x)) (sym none ∙ sym (off word))
+  stays : (word : Phase) (q : Kind) (w : Walk Id) → (kind.Timer ≡ q → ⊥) → off_by word (op.Again v) ≡ None →
+      Everyone s.arena.slots (Watches q) (members w) → without_id w.yet t.0 ≡ left_of w.yet (taken_off word (names_at s) o (answer.Code code.Ok))
+  stays word q w d none l = not_yet s q w t.0 t.1 (live_held s v t e) (apart t.1 q is d) l
+      ∙ ap (λ (x : Option Var). left_of w.yet (ids_of (names_at s) x)) (sym none ∙ sym (off word))
 
 pub start_off : (v : Var) (timeout repeat : ℕ) (word : Phase) → off_by word (op.Start v timeout repeat) ≡ off_by word (op.Again v)
 start_off v timeout repeat word = grind arith
@@ -217,16 +212,13 @@ did_op_effect : (s : State) (o : Op) (d : ops.Done) → DidOp s o d → Kept s �
 did_op_effect s o d (which.refused o' c r may) k = refused_effect s o' (lasts_refused s o' may) c r
 did_op_effect s o d (which.asked o' a is) k = asked_effect s o' a is
 did_op_effect s o d (which.made v q id e) k = new_effect s v q id
-did_op_effect s o d (which.queued v task id e) k =
-    still s (op.Queue v task) _ refl refl (bound_calls s.names v.0 _ refl) (assumption)
+did_op_effect s o d (which.queued v task id e) k = still s (op.Queue v task) _ refl refl (bound_calls s.names v.0 _ refl) (assumption)
 did_op_effect s o d (which.started v timeout repeat t e is stays) k = start_effect s v timeout repeat t e is k
 did_op_effect s o d (which.again v t e is stays) k = again_effect s v t e is k
 did_op_effect s o d (which.stopped v t e sync) k = stop_effect s v t e sync k
 did_op_effect s o d (which.closed v t e stays) k = close_effect s v t e
-did_op_effect s o d (which.watching v watcher.Idle t e is off stays) k =
-    simple s (op.StartWatcher v) _ refl refl refl (assumption)
-did_op_effect s o d (which.watching v each t e is off stays) k =
-    simple s (op.StartWatcher v) _ refl refl refl (assumption)
+did_op_effect s o d (which.watching v watcher.Idle t e is off stays) k = simple s (op.StartWatcher v) _ refl refl refl (assumption)
+did_op_effect s o d (which.watching v each t e is off stays) k = simple s (op.StartWatcher v) _ refl refl refl (assumption)
 did_op_effect s o d (which.referenced o' u flag t e (which.ref v)) k = simple s o _ refl refl refl (assumption)
 did_op_effect s o d each k = simple s o d refl refl refl (assumption)
 

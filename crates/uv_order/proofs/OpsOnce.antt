@@ -9,7 +9,7 @@ use Rattle.uv_records.specs.declared.lists.WatcherKind.TheVariants as watcher
 use Rattle.uv_records.specs.Handles as records
 use Rattle.uv_work.specs.declared.content.Content.TheVariants as content
 use Rattle.uv_model.specs.Ops as ops
-use Rattle.uv_order.proofs.IdLists.{on_list, same, itself, turned, still_absent, without_itself}
+use Rattle.uv_order.proofs.IdLists.{has_both, has_but_one, on_list, same, itself, turned, still_absent, without_itself}
 use Rattle.uv_order.proofs.Contents.{Turns}
 use Rattle.uv_order.proofs.Holding.{name_in, name_at, names_turned, same_handles, put, put_same}
 use Rattle.uv_order.proofs.OpCases as which
@@ -17,7 +17,7 @@ use Rattle.uv_order.proofs.OpCases.{DidOp, IsAsked, IsLive, op_did, live_held, l
 use Rattle.uv_order.proofs.Asked.{request_turns}
 use Rattle.uv_order.proofs.Works.{same_requests}
 use Rattle.uv_order.proofs.Keeping.{has_number, AreFree, Kept, fills, takes as taken_handle}
-use Rattle.uv_order.proofs.Gone.{IsGone, gone_push, gone_fill, gone_turned}
+use Rattle.uv_order.proofs.Gone.{IsGone, not_held, gone_push, gone_fill, gone_turned}
 use Rattle.uv_order.proofs.Worked.{Worked, Tells, worked_told, worked_idle, worked_ended, worked_fewer, worked_queued}
 use Rattle.uv_order.proofs.Known.{Known, IsQuiet, is_answered, known_told, known_put, known_quiet, IsQuietOp, IsIdleOp, quiet_op, idle_op, known_close, known_bound, known_grown}
 
@@ -62,34 +62,10 @@ pub gone_taken : (s : Slots Content) (free : List ℕ) (id : Id) (x : Content) �
     next_id s.slots s.unused free ≡ Some id → (i : Id) → IsGone s.slots free i → IsGone (taken_from free id x s).slots (taken_from free id x s).free i
 gone_taken s free id x eq are e i g = grind (arith, same, same_Some, gone_push, gone_fill)
 
--- the id that the next taking gives isn't gone
-pub next_not_gone : (s : Slots Content) (free : List ℕ) (id : Id) → s.free ≡ free → AreFree s.slots free → next_id s.slots s.unused free ≡ Some id →
-    IsGone s.slots free id → ⊥
-next_not_gone s [] id same free e g = unused s.unused e where
-  past_end : (slots : List (Slot Content)) (x : Slot Content) → slice_get slots (length slots) ≡ Some x → ⊥
-  past_end [] x f = cc f
-  past_end (y ∷ slots) x f = past_end slots x f
-
-  unused : (m : ℕ) → next_unused (length s.slots) m ≡ Some id → ⊥
-  unused zero f = cc f
-  unused (suc m) f =
-      let is : record { slot = length s.slots; generation = 0 } ≡ id = same_Some _ _ f in
-      past_end s.slots g.slot (ap (λ (i : Id). slice_get s.slots i.slot) is ∙ g.there)
-next_not_gone s (n ∷ ns) id same free e g =
-    let at = free.0 in
-    let is : id_of n at.slot ≡ id = same_Some _ _ (sym (ap (option_and_then (λ (slot : Slot Content). Some (id_of n slot))) at.there) ∙ e) in
-    let one : g.slot ≡ at.slot = same_Some _ _ (sym g.there ∙ ap (λ (i : Id). slice_get s.slots i.slot) (sym is) ∙ at.there) in
-    by at.slot is one g.past
-  where
-    by : (slot : Slot Content) → id_of n slot ≡ id → g.slot ≡ slot →
-        (id.generation < g.slot.generation) ⊎ ((g.slot.content ≡ None) × (has_number (n ∷ ns) id.slot ≡ false)) → ⊥
-    by slot is one (inl later) =
-        let a : slot.generation ≡ id.generation = ap (λ (i : Id). i.generation) is in
-        let b : g.slot.generation ≡ slot.generation = ap (λ (x : Slot Content). x.generation) one in
-        omega (arith, later, a, b)
-    by slot is one (inr (empty, away)) =
-        let here : n ≡ id.slot = ap (λ (i : Id). i.slot) is in
-        both_ways (has_number (n ∷ ns) id.slot) away (rw (eq-eqb n id.slot here) refl)
+-- the id that the next taking gives isn't gone, since it is held then
+pub next_not_gone : (s : Slots Content) (free : List ℕ) (id : Id) (x : Content) → s.free ≡ free → AreFree s.slots free →
+    next_id s.slots s.unused free ≡ Some id → IsGone s.slots free id → ⊥
+next_not_gone s free id x eq are e g = not_held _ _ id x (gone_taken s free id x eq are e id g) (fills s free id x eq are e).0.here
 
 -- an id is new: nothing is held under it, and so what is held has the name that it had
 new_name : (slots more : List (Slot Content)) (id : Id) (c : Option Content) (v : Var) (i : Id) (u : Var) → Turns slots more id None c →
@@ -110,38 +86,35 @@ made_now p past place o slots more id c v i u e m is t k h = grind arith
 
 pub new_known : (p : Program) (past : List Seen) (s : State) (v : Var) (q : Kind) (id : Id) → next_free s.arena ≡ Some id → Kept s →
     KnownAt p past s → KnownBy p past (op.Init v q) (record { state = ops.with_new s v q id; answer = answer.Id id })
-new_known p past s v q id e kept k place at = by q at where
-  turns : (x : Kind) → Turns s.arena.slots (taken id (content.Handle (inited v x)) s.arena).slots id None (Some (content.Handle (inited v x)))
-  turns x = (fills s.arena s.arena.free id (content.Handle (inited v x)) refl kept.free e).0
+new_known p past s v q id e kept k place at = by q known where
+  now : Slots Content
+  now = taken id (content.Handle (inited v q)) s.arena
+
+  turns : Turns s.arena.slots now.slots id None (Some (content.Handle (inited v q)))
+  turns = (fills s.arena s.arena.free id (content.Handle (inited v q)) refl kept.free e).0
 
   -- with the line, and before the slot is taken
-  told : (x : Kind) → op_at p place ≡ Some (op.Init v x) →
-      ((u : Var) (before : Option Id) → binds (op.Init v x) (answer.Id id) u before ≡ (if v.0 == u.0 then Some id else before)) →
-      ((i : Id) → makes (op.Init v x) (answer.Id id) i ≡ (if same_id id i then Some v else None)) →
-      closes (op.Init v x) (answer.Id id) ≡ None → IsIdleOp (op.Init v x) (answer.Id id) →
-      Known p (seen.Op place (answer.Id id) ∷ past) s.arena (slice_set s.names v.0 (record (named s v) { id = Some id })) s.waiting
+  told : Known p (seen.Op place (answer.Id id) ∷ past) s.arena (slice_set s.names v.0 (record (named s v) { id = Some id })) s.waiting
       (run_ids s.running)
-  told x f b m q i = known_bound p past place v (op.Init v x) s.arena s.arena s.names id (record (named s v) { id = Some id }) f b m
-      (λ j u g. new_name s.arena.slots _ id (Some (content.Handle (inited v x))) v j u (turns x) g) q refl (λ j. refl) (λ j h. h)
-      (worked_idle p past (seen.Op place (answer.Id id)) _ _ _ (idle_op p place (op.Init v x) (answer.Id id) f i) k.worked) k
+  told = known_bound p past place v (op.Init v q) s.arena s.arena s.names id (record (named s v) { id = Some id }) at (λ u b. refl) (λ i. refl)
+      (λ j u g. new_name s.arena.slots _ id (Some (content.Handle (inited v q))) v j u turns g) refl refl (λ j. refl) (λ j h. h)
+      (worked_idle p past (seen.Op place (answer.Id id)) _ _ _ (idle_op p place (op.Init v q) (answer.Id id) at (λ i. (refl, refl))) k.worked) k
 
-  bind : (x : Kind) → op_at p place ≡ Some (op.Init v x) →
-      ((u : Var) (before : Option Id) → binds (op.Init v x) (answer.Id id) u before ≡ (if v.0 == u.0 then Some id else before)) →
-      ((i : Id) → makes (op.Init v x) (answer.Id id) i ≡ (if same_id id i then Some v else None)) →
-      closes (op.Init v x) (answer.Id id) ≡ None → IsIdleOp (op.Init v x) (answer.Id id) →
-      Known p (seen.Op place (answer.Id id) ∷ past) (taken id (content.Handle (inited v x)) s.arena)
-      (slice_set s.names v.0 (record (named s v) { id = Some id })) s.waiting (run_ids s.running)
-  bind x f b m q i =
-      let g = told x f b m q i in
-      known_grown p (seen.Op place (answer.Id id) ∷ past) s.arena _ _ id (inited v x)
-      (taken_handle s.arena s.arena.free id (inited v x) refl kept.free e).0
-      (same_requests s.arena.slots _ id _ _ (turns x) refl refl) refl
-      (λ j u h. made_now p past place (op.Init v x) s.arena.slots _ id (content.Handle (inited v x)) v j u f m refl (turns x) g.made h)
-      (gone_taken s.arena s.arena.free id (content.Handle (inited v x)) refl kept.free e) g
+  known : Known p (seen.Op place (answer.Id id) ∷ past) now (slice_set s.names v.0 (record (named s v) { id = Some id })) s.waiting
+      (run_ids s.running)
+  known = known_grown p (seen.Op place (answer.Id id) ∷ past) s.arena now _ id (inited v q)
+      (taken_handle s.arena s.arena.free id (inited v q) refl kept.free e).0 (same_requests s.arena.slots _ id _ _ turns refl refl) refl
+      (λ j u h. made_now p past place (op.Init v q) s.arena.slots _ id (content.Handle (inited v q)) v j u at (λ i. refl) refl turns told.made h)
+      (gone_taken s.arena s.arena.free id (content.Handle (inited v q)) refl kept.free e) told
 
-  by : (x : Kind) → op_at p place ≡ Some (op.Init v x) → KnownAt p (seen.Op place (answer.Id id) ∷ past) (ops.with_new s v x id)
-  by kind.Timer f = bind kind.Timer f (λ u b. refl) (λ i. refl) refl (λ i. (refl, refl))
-  by each f = bind each f (λ u b. refl) (λ i. refl) refl (λ i. (refl, refl))
+  by : (x : Kind) → Known p (seen.Op place (answer.Id id) ∷ past) (taken id (content.Handle (inited v x)) s.arena)
+      (slice_set s.names v.0 (record (named s v) { id = Some id })) s.waiting (run_ids s.running) →
+      KnownAt p (seen.Op place (answer.Id id) ∷ past) (ops.with_new s v x id)
+  by kind.Timer w = w
+  by each w = w
+
+listed : (ids : List Id) (i j : Id) → has_id (ids ++ i ∷ []) j ≡ true → (i ≡ j) ⊎ (has_id ids j ≡ true)
+listed ids i j h = grind (arith, has_both, same)
 
 -- a slot is taken for a request
 pub queued_known : (p : Program) (past : List Seen) (s : State) (v : Var) (task : Task) (id : Id) → next_free s.arena ≡ Some id → Kept s →
@@ -151,24 +124,13 @@ queued_known p past s v task id e kept k place at =
     let now = taken id c s.arena in
     let t = (fills s.arena s.arena.free id c refl kept.free e).0 in
     let gone = gone_taken s.arena s.arena.free id c refl kept.free e in
-    let fresh = next_not_gone s.arena s.arena.free id refl kept.free e in
+    let fresh = next_not_gone s.arena s.arena.free id c refl kept.free e in
     let w : Worked p (seen.Op place (answer.Id id) ∷ past) now (s.waiting ++ id ∷ []) (run_ids s.running) =
     worked_queued p past place v task s.arena now s.waiting (run_ids s.running) (s.waiting ++ id ∷ []) id at t fresh (listed s.waiting id) gone
     k.worked in
     known_bound p past place v (op.Queue v task) s.arena now s.names id (record (named s v) { id = Some id }) at (λ u b. refl) (λ i. refl)
     (λ i u h. new_or_old s.arena.slots now.slots id c v i u refl t h) refl refl
     (same_handles s.arena.slots now.slots id None (Some c) t refl refl) gone w k
-  where
-    listed : (ids : List Id) (i : Id) (j : Id) → has_id (ids ++ i ∷ []) j ≡ true → (i ≡ j) ⊎ (has_id ids j ≡ true)
-    listed [] i j h = by (same_id i j) refl h where
-      by : (b : Bool) → same_id i j ≡ b → (b || false) ≡ true → (i ≡ j) ⊎ (false ≡ true)
-      by true s h = inl (same i j s)
-      by false s h = inr h
-    listed (x ∷ ids) i j h = by (same_id x j) h (listed ids i j) where
-      by : (b : Bool) → (b || has_id (ids ++ i ∷ []) j) ≡ true → (has_id (ids ++ i ∷ []) j ≡ true → (i ≡ j) ⊎ (has_id ids j ≡ true)) →
-          (i ≡ j) ⊎ ((b || has_id ids j) ≡ true)
-      by true h rest = inr refl
-      by false h rest = rest h
 
 pub fewer : (ids : List Id) (id i : Id) → has_id (without_id ids id) i ≡ true → has_id ids i ≡ true
 fewer ids id i e = grind (arith, still_absent)
@@ -195,8 +157,7 @@ cancel_told p past l s t tells q e on k =
     was_queued i f none = cc (sym none ∙ ap (queued_task p past) (sym (same t.0 i f)) ∙ k.worked.queued t.0 t.1 (ap request_in e))
 
     gone : (i : Id) → has_id (without_id s.waiting t.0) i ≡ true → same_id t.0 i ≡ false
-    gone i h = false_from_ne_true (same_id t.0 i) (λ f.
-        both_ways (has_id (without_id s.waiting t.0) t.0) (without_itself s.waiting t.0) (ap (has_id (without_id s.waiting t.0)) (same t.0 i f) ∙ h))
+    gone i h = grind (arith, has_but_one, turned)
 
     untaken : has_take_line (l ∷ past) t.0 ≡ false
     untaken = rw (tells.taken t.0) (k.worked.waits t.0 (on_list s.waiting t.0 on))

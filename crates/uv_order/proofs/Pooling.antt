@@ -71,9 +71,7 @@ not_in s id e k =
     (none_of (has_id s.waiting id) (has_id (run_ids s.running) id) opened)
   where
     none_of : (a b : Bool) → (a || b) ≡ false → (a || (b || false)) ≡ false
-    none_of true b f = cc f
-    none_of false true f = cc f
-    none_of false false f = refl
+    none_of a b f = grind arith
 
 -- ---- the events
 
@@ -166,8 +164,7 @@ collected_pool s last t f k =
     ap (collected_from (pool_of s) t.0) front ∙ rw (itself t.0 t.0 refl) (ap Some (equal_pools _ _ _ _ _ _ refl refl (sym yet)))
   where
     distinct_round : (xs ys : List Id) (x : Id) → AreDistinct (ys ++ x ∷ xs) → has_id (xs ++ ys) x ≡ false
-    distinct_round xs ys x d =
-        has_both xs ys x ∙ or_comm (has_id xs x) (has_id ys x) ∙ sym (has_both ys xs x) ∙ once_middle ys xs x d
+    distinct_round xs ys x d = grind (arith, has_both, once_middle ys xs x d)
 
 -- ---- the ops
 
@@ -189,21 +186,12 @@ cancel_pools s v k = cancel_both s v (PoolsBy s (op.Cancel v)) (λ c no_success.
     (λ t live on. cancelled_pool s t live.holds on k)
 
 op_pools : (s : State) (o : Op) → Kept s → Working s → PoolsBy s o (do_op s o)
-op_pools s (op.Queue v task) kept k = make_both s (live s v) (ops.with_queued s v task) (PoolsBy s (op.Queue v task))
-    (λ c no_success. refused_op s (op.Queue v task) c refl) (λ id e. queued_pool s v task id e kept k)
-op_pools s (op.Cancel v) kept k = cancel_pools s v k
-op_pools s each kept k = quiet_op s each tt (λ a. refl) kept
+op_pools s each kept k = grind (arith, make_both, refused_op, queued_pool, cancel_pools, quiet_op)
 
 -- the line of an op
 op_line : (p : Program) (s : State) (place : Site) (o : Op) → op_at p place ≡ Some o → Kept s → Working s →
     after_events (Some (pool_of s)) (line_events p (seen.Op place (do_op s o).answer)) ≡ Some (pool_of (do_op s o).state)
-op_line p s place o e kept k =
-    ap (λ (x : Option Op). after_events (Some (pool_of s)) (answered_events (option_map (λ (y : Op). record {
-      op = y;
-      answer =
-          (do_op s o).answer;
-    }) x))) e
-    ∙ op_pools s o kept k
+op_line p s place o e kept k = grind (arith, op_pools)
 
 -- ---- the steps
 
@@ -214,9 +202,7 @@ IsQuiet p (Moves t None) = Unit {0}
 IsQuiet p (Refuses why) = Unit {0}
 
 quiet_step : (p : Program) (s : State) (n : Next) → KeepsWork s n → IsQuiet p n → Pools p s n
-quiet_step p s (Moves t (Some l)) q none = ap (after_events (Some (pool_of s))) none ∙ ap Some (sym (pool_same s t q))
-quiet_step p s (Moves t None) q none = pool_same s t q
-quiet_step p s (Refuses why) q none = tt
+quiet_step p s x2 q none = grind (arith, pool_same)
 
 did_quiet : (p : Program) (s : State) (n : Next) (d : Did p s n) → IsOfLoop d → IsQuiet p n
 did_quiet p s n (row.refused why) h = tt

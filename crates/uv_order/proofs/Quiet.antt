@@ -112,11 +112,9 @@ IsOfLoop d = Unit {0}
 pub did_same : (p : Program) (s : State) (n : Next) (d : Did p s n) → IsOfLoop d → Kept s → KeepsWork s n
 did_same p s n (row.refused why) h kept = tt
 did_same p s n (row.still x time clock stop idled l q) h kept = same s
-did_same p s n (row.op x at o e) h kept = absurd h
 did_same p s n (row.begun run watcher.Idle e) h kept = same s
 did_same p s n (row.begun run each e) h kept = same s
 did_same p s n (row.begun_closing run e) h kept = same s
-did_same p s n (row.begun_done run e) h kept = absurd h
 did_same p s n (row.collected run part t f) h kept = changed s t (records.stopped t.1) f.holds
 did_same p s n (row.fired run t f) h kept = fired_same s t f
 did_same p s n (row.walked run watcher.Idle t sync f) h kept = same s
@@ -125,8 +123,5 @@ did_same p s n (row.passed run t f off) h kept = same s
 did_same p s n (row.woken run t f on) h kept = changed s t (records.woken t.1) f.holds
 did_same p s n (row.closed run t f) h kept = by_slots s _ (same_requests s.arena.slots _ t.0 _ _
     (freed_turns (arena_size p).last_generation s.arena t.0 (content.Handle t.1) (is_held s.arena.slots t.0 t.1 f.holds)) refl refl)
-did_same p s n (row.ended run t f) h kept = absurd h
-did_same p s n (row.taken n' t f) h kept = absurd h
-did_same p s n (row.finished n' t f) h kept = absurd h
 did_same p s n (row.sent v) h kept = op_same s (op.Send v) tt kept
-did_same p s n (row.cancelled v) h kept = absurd h
+did_same p s n each h kept = absurd h

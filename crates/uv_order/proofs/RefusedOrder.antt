@@ -42,12 +42,7 @@ moved {p = p} {told = told} {past = past} {was = was} {ls = ls} e h = subst (λ 
 -- the line of a callback is one of these
 on_call : (P : Seen → Type 0) (s : State) (kind : Callback) (v : Var) (id : Id) (what : Seen) → P (seen.Call v id) →
     ((digest : Option (List ℕ)) → P (seen.After digest v id)) → P (seen.Closed v id) → IsCallLine s kind v id what → P what
-on_call P s callback.Handle v id what a b c e = subst P (sym e) a
-on_call P s callback.Close v id what a b c e = subst P (sym e) c
-on_call P s callback.After v id what a b c e = at (request s id) e where
-  at : (o : Option Request) → option_map (λ (r : Request). seen.After (digest_in r.outcome) v id) o ≡ Some what → P what
-  at None f = absurd (cc f)
-  at (Some r) f = subst P (same_Some _ _ f) (b (digest_in r.outcome))
+on_call x0 s x2 v id what a b c e = grind (arith, same_Some)
 
 -- ---- a section begins, or a poll
 
@@ -73,10 +68,8 @@ Opening l to each = Unit {0}
 opening : (p : Program) (told : Told) (names : Names) (l : Line) (at to : Position) → Goes p told names at l to → Opening l to l.seen
 opening p told names l at to (doc.section {m = m} {i = i} {w = w} x a b c d f) =
     subst (Opening l to) (sym c) (record { mode = m; number = i; part = x; walk = w; is = refl; its = refl })
-opening p told names l at to (doc.poll {m = m} t a b c d f) =
-    subst (Opening l to) (sym d) (record { mode = m; timers = c.timers; is = c.is })
-opening p told names l at to (doc.call kind v id more a b c d f) =
-    on_call (Opening l to) l.before kind v id l.seen tt (λ digest. tt) tt d
+opening p told names l at to (doc.poll {m = m} t a b c d f) = subst (Opening l to) (sym d) (record { mode = m; timers = c.timers; is = c.is })
+opening p told names l at to (doc.call kind v id more a b c d f) = on_call (Opening l to) l.before kind v id l.seen tt (λ digest. tt) tt d
 opening p told names l at to (doc.main_line o a f g h) = subst (Opening l to) (sym g) tt
 opening p told names l at to (doc.run m f g h) = subst (Opening l to) (sym g) tt
 opening p told names l at to (doc.ends a b c d) = subst (Opening l to) (sym c) tt
@@ -105,15 +98,7 @@ section_on : (p : Program) (at : Position) (told : Told) (past : List Seen) (was
     l.seen ≡ seen.Section word → GoesOn p at told past was (l ∷ ls) → SectionOn p (told_by p told (names_by p past) l.seen) (l.seen ∷ past) word ls
 section_on p at told past was l word ls e (line {to = to} f g h) =
     let b : Begins word to = subst (Opening l to) e (opening p told (names_by p past) l at to g) in
-    record {
-      mode = b.mode;
-      number = b.number;
-      part = b.part;
-      walk = b.walk;
-      was = lasting l.after;
-      its = b.its;
-      rest = moved b.is h;
-    }
+    record { mode = b.mode; number = b.number; part = b.part; walk = b.walk; was = lasting l.after; its = b.its; rest = moved b.is h }
 
 -- ---- the lines of a section
 
@@ -149,31 +134,7 @@ same_walk p told names m i part w ahead body what t = record { walk = _; is = re
 
 stays : (p : Program) (told : Told) (names : Names) (m : Mode) (i : ℕ) (part : Section) (w : Walk) (l : Line) (to : Position) →
     is_within l.seen ≡ true → Goes p told names (Running m i (Within part w)) l to → Stays p told names m i part w to l.seen
-stays p told names m i part w l to e (doc.call kind v x more a b c d f) =
-    on_call (Stays p told names m i part w to) l.before kind v x l.seen
-    (same_walk p told names m i part w _ _ (seen.Call v x) (b.may_call.on, b.may_call.called))
-    (λ digest. same_walk p told names m i part w _ _ (seen.After digest v x) tt) (same_walk p told names m i part w _ _ (seen.Closed v x) tt) d
-stays p told names m i part w l to e (doc.body_op place rest o x a b c d) =
-    subst (Stays p told names m i part w to) (sym c) (record {
-      walk = _;
-      is = refl;
-      grown = λ id h. still_off (taken_off (word_of part) names o x) w.off id h;
-      tells = λ y f id h. also_off (taken_off (word_of part) names o x) w.off id
-          (subst (λ (z : Op). has_id (taken_off (word_of part) names z x) id ≡ true) (same_Some _ _ (sym f ∙ b)) h);
-    })
-stays p told names m i part w l to e (doc.section x a b c d f) = absurd (not_within l.seen _ e c refl)
-stays p told names m i part w l to e (doc.poll t a b c d f) = absurd (not_within l.seen _ e d refl)
-stays p told names m i part w l to e (doc.ends a b c d) = absurd (not_within l.seen _ e c refl)
-stays p told names m i part w l to e (doc.sent v x a b) =
-    subst (Stays p told names m i part w to) (sym a) (same_walk p told names m i part w w.ahead w.body (seen.Send v x) tt)
-stays p told names m i part w l to e (doc.taken n v id a called b) =
-    subst (Stays p told names m i part w to) (sym a) (same_walk p told names m i part w w.ahead w.body (seen.Take n v id) tt)
-stays p told names m i part w l to e (doc.finished n v id a called b) =
-    subst (Stays p told names m i part w to) (sym a) (same_walk p told names m i part w w.ahead w.body (seen.Finish n v id) tt)
-stays p told names m i part w l to e (doc.cancelled v x a b) =
-    subst (Stays p told names m i part w to) (sym a) (same_walk p told names m i part w w.ahead w.body (seen.Cancel v x) tt)
-stays p told names m i part w l to e (doc.outside ms a b) =
-    subst (Stays p told names m i part w to) (sym a) (same_walk p told names m i part w w.ahead w.body (seen.Tick ms) tt)
+stays p told names m i part w l to e x10 = grind (arith, on_call, same_walk, still_off, also_off, same_Some, not_within)
 
 -- a run stands in this section, and whom this says was taken off
 record WalkOn (p : Program) (m : Mode) (i : ℕ) (part : Section) (off : Id → Type 0) (told : Told) (past : List Seen) (ls : List Line) : Type 0 where
@@ -223,30 +184,13 @@ absent_ids : (sent gone : List Id) (id : Id) → has_id sent id ≡ false → ha
 absent_ids sent [] id e = e
 absent_ids sent (x ∷ gone) id e = still_absent (doc.without_ids sent gone) x id (absent_ids sent gone id e)
 
-absent_init : (names : Names) (v : Var) (q : Kind) (a : Answer) (sent : List Id) (id : Id) → has_id sent id ≡ false →
-    has_id (doc.sent_by (op.Init v q) a names sent) id ≡ false
-absent_init names v q (answer.Id i) sent id e = still_absent sent i id e
-absent_init names v q each sent id e = e
-
-absent_close : (names : Names) (v : Var) (a : Answer) (sent : List Id) (id : Id) → has_id sent id ≡ false →
-    has_id (doc.sent_by (op.Close v) a names sent) id ≡ false
-absent_close names v (answer.Code code.Ok) sent id e = absent_ids sent (ids_of names (Some v)) id e
-absent_close names v each sent id e = e
-
 absent_op : (names : Names) (o : Option Op) (a : Answer) (sent : List Id) (id : Id) → is_send_op o ≡ false → has_id sent id ≡ false →
     has_id (doc.sent_after o a names sent) id ≡ false
-absent_op names None a sent id e h = h
-absent_op names (Some (op.Init v q)) a sent id e h = absent_init names v q a sent id h
-absent_op names (Some (op.Close v)) a sent id e h = absent_close names v a sent id h
-absent_op names (Some (op.Send v)) a sent id e h = cc e
-absent_op names (Some each) a sent id e h = h
+absent_op names o a sent id e h = grind (arith, still_absent, absent_ids)
 
 absent_line : (p : Program) (told : Told) (names : Names) (l : Seen) (id : Id) → is_send p l ≡ false → has_id told.sent id ≡ false →
     has_id (told_by p told names l).sent id ≡ false
-absent_line p told names (seen.Op place a) id e h = absent_op names (op_at p place) a told.sent id e h
-absent_line p told names (seen.Send v x) id e h = cc e
-absent_line p told names (seen.Call v i) id e h = still_absent told.sent i id h
-absent_line p told names each id e h = h
+absent_line p told names each id e h = grind (arith, absent_op, still_absent)
 
 absent_on : (p : Program) (xs : List Line) (told : Told) (past : List Seen) (id : Id) → AllSilent p xs → has_id told.sent id ≡ false →
     has_id (told_after p told past xs).sent id ≡ false

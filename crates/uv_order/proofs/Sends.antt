@@ -1,5 +1,5 @@
 -- Who was sent to, by the lines and by the handles: each step keeps that they agree.
-use Rattle.uv_order.proofs.Names.{arith, ◌≡◌, ℕ, ◌==◌, ◌||◌, List, [], ◌∷◌, ◌++◌, Bool, true, false, drop, Option, Some, None, Ok, refl, ap, sym, subst, ◌∙◌, not, cond_both, both_ways, or_parts, or_right, false_from_ne_true, same_Some, Id, Var, Code, Answer, Kind, Op, Task, Program, arena_size, HandleRecord, Slot, inited, referenced_as, repeating, close_refusal, held, freed, taken, next_free, Walk, Content, Request, queued, same_id, without_id, State, fresh, handle, with_request, live, live_handle, stopped, started, restarted, do_op, Next, Moves, Refuses, has_id, Told, told_by, sent_by, sent_after, ids_of, without_ids, taken_off, AllOff, AllOffOrUnsent}
+use Rattle.uv_order.proofs.Names.{arith, ◌≡◌, ℕ, ◌==◌, ◌||◌, List, [], ◌∷◌, ◌++◌, Bool, true, false, drop, Option, Some, None, Ok, refl, ap, sym, subst, ◌∙◌, not, cond_both, both_ways, or_parts, or_right, false_from_ne_true, same_Some, Id, Var, Code, Answer, Kind, Op, Task, Program, arena_size, HandleRecord, Slot, inited, referenced_as, repeating, close_refusal, held, freed, taken, next_free, Walk, Content, Request, queued, same_id, without_id, State, fresh, handle, with_request, live, live_handle, stopped, started, restarted, do_op, Next, Moves, Refuses, has_id, Told, told_by, sent_by, sent_after, ids_of, without_ids, taken_off, AllOff, AllOffOrUnsent, handle_in}
 use Rattle.uv_ids.specs.declared.code.Code.TheVariants as code
 use Rattle.uv_ids.specs.declared.code.Answer.TheVariants as answer
 use Rattle.uv_ids.specs.declared.phase.Kind.TheVariants as kind
@@ -9,8 +9,8 @@ use Rattle.uv_records.specs.declared.lists.WatcherKind.TheVariants as watcher
 use Rattle.uv_records.specs.Handles as records
 use Rattle.uv_work.specs.declared.content.Content.TheVariants as content
 use Rattle.uv_model.specs.Ops as ops
-use Rattle.uv_order.proofs.IdLists.{Each, each_back, same, other, itself, turned, left_of, without_itself, has_without, without_absent, still_there}
-use Rattle.uv_order.proofs.Contents.{emptied}
+use Rattle.uv_order.proofs.IdLists.{has_both, Each, each_back, same, other, itself, turned, left_of, without_itself, has_without, without_absent, still_there}
+use Rattle.uv_order.proofs.Contents.{Turns, emptied}
 use Rattle.uv_order.proofs.Holding.{grown_at, put_at, SameHandles, same_handles, held_at, put, put_same, put_other, emptied_same, emptied_other, Fits, its_handle, Grown, Everyone}
 use Rattle.uv_order.proofs.OpCases as which
 use Rattle.uv_order.proofs.OpCases.{DidOp, IsAsked, IsRef, op_did, names_at, live_held, IsRefusal, refuses_none, refuses_timer, refuses_start, refuses_start_watcher, refuses_stop, refuses_again, refuses_close, send_passes, on_handle_both, send_both, cancel_both, make_both}
@@ -85,6 +85,10 @@ sent_new sent slots more id x g p k = grind (arith, same, without_itself, has_wi
 pub sent_same : (sent : List Id) (slots more : List (Slot Content)) → SameHandles more slots → Sent sent slots → Sent sent more
 sent_same sent slots more f k = grind arith
 
+sent_turned : (sent : List Id) (slots more : List (Slot Content)) (id : Id) (was is : Option Content) → Turns slots more id was is →
+    handle_in was ≡ None → handle_in is ≡ None → Sent sent slots → Sent sent more
+sent_turned sent slots more id was is t e f k = sent_same sent slots more (same_handles slots more id was is t e f) k
+
 -- a closing handle goes
 pub sent_gone : (sent : List Id) (slots : List (Slot Content)) (id : Id) (h : HandleRecord) (n : ℕ) → held_at slots id ≡ Some h →
     h.closing ≡ true → Sent sent slots → Sent sent (emptied slots id n)
@@ -131,16 +135,12 @@ new_sent s sent v q id e kept k = by q where
 -- requests change no handle
 queued_sent : (s : State) (sent : List Id) (v : Var) (task : Task) (id : Id) → next_free s.arena ≡ Some id → Kept s → SentAt sent s →
     SentAt sent (ops.with_queued s v task id)
-queued_sent s sent v task id e kept k =
-    let c = content.Request (queued v task) in
-    let now = taken id c s.arena in
-    sent_same sent s.arena.slots now.slots
-    (same_handles s.arena.slots now.slots id None (Some c) (fills s.arena s.arena.free id c refl kept.free e).0 refl refl) k
+queued_sent s sent v task id e kept k = sent_turned sent s.arena.slots _ id None (Some (content.Request (queued v task)))
+    (fills s.arena s.arena.free id (content.Request (queued v task)) refl kept.free e).0 refl refl k
 
 request_sent : (s : State) (sent : List Id) (id : Id) (r x : Request) → held s.arena.slots id ≡ Some (content.Request r) → SentAt sent s →
     SentAt sent (with_request s id x)
-request_sent s sent id r x e k = sent_same sent s.arena.slots (with_request s id x).arena.slots
-    (same_handles s.arena.slots _ id _ _ (request_turns s.arena.slots id r x e) refl refl) k
+request_sent s sent id r x e k = sent_turned sent s.arena.slots _ id _ _ (request_turns s.arena.slots id r x e) refl refl k
 
 close_sent : (s : State) (sent : List Id) (v : Var) (t : Id × HandleRecord) → live_handle s v ≡ Ok t → SentAt sent s →
     SentBy s sent (op.Close v) (ops.close s t.0 t.1)
@@ -161,16 +161,14 @@ did_op_sent s sent o d (which.started v timeout repeat t e is stays) kept k =
 did_op_sent s sent o d (which.again v t e is stays) kept k = again_sent s sent t (live_held s v t e) k
 did_op_sent s sent o d (which.watching v watcher.Idle t e is off stays) kept k =
     changed s sent t (records.activated t.1) (live_held s v t e) refl refl refl k
-did_op_sent s sent o d (which.watching v each t e is off stays) kept k =
-    changed s sent t (records.activated t.1) (live_held s v t e) refl refl refl k
+did_op_sent s sent o d (which.watching v each t e is off stays) kept k = changed s sent t (records.activated t.1) (live_held s v t e) refl refl refl k
 did_op_sent s sent o d (which.watches v t e on) kept k = k
 did_op_sent s sent o d (which.stopped v t e sync) kept k = changed s sent t (records.stopped t.1) (live_held s v t e) refl refl refl k
 did_op_sent s sent o d (which.closed v t e stays) kept k = close_sent s sent v t e k
 did_op_sent s sent o d (which.repeated v n t e) kept k = changed s sent t (repeating n t.1) (live_held s v t e) refl refl refl k
 did_op_sent s sent o d (which.referenced o' u flag t e (which.ref v)) kept k =
     changed s sent t (referenced_as flag t.1) (live_held s u t e) refl refl refl k
-did_op_sent s sent o d (which.referenced o' u flag t e each) kept k =
-    changed s sent t (referenced_as flag t.1) (live_held s u t e) refl refl refl k
+did_op_sent s sent o d (which.referenced o' u flag t e each) kept k = changed s sent t (referenced_as flag t.1) (live_held s u t e) refl refl refl k
 did_op_sent s sent o d (which.sent_to v t e is stays) kept k =
     subst (λ (ids : List Id). Sent (ids ++ sent) (put s.arena.slots t.0 (records.sent t.1))) (sym (one_taken s v t e))
     (sent_more sent s.arena.slots t.0 t.1 (records.sent t.1) (live_held s v t e) refl is stays k)
@@ -219,11 +217,8 @@ closed_sent p s sent t f kept k = grind (arith, each_back, its_handle, sent_gone
 -- a request calls back
 ended_sent : (p : Program) (s : State) (sent : List Id) (t : Id × Request) → FrontRequest s s.done.yet t → SentAt sent s →
     Sent sent (freed (arena_size p).last_generation t.0 s.arena).slots
-ended_sent p s sent t f k =
-    let now = freed (arena_size p).last_generation t.0 s.arena in
-    sent_same sent s.arena.slots now.slots
-    (same_handles s.arena.slots now.slots t.0 _ _
-    (freed_turns (arena_size p).last_generation s.arena t.0 (content.Request t.1) f.holds) refl refl) k
+ended_sent p s sent t f k = sent_turned sent s.arena.slots _ t.0 _ _
+    (freed_turns (arena_size p).last_generation s.arena t.0 (content.Request t.1) f.holds) refl refl k
 
 -- an op of a place, by its line
 placed_sent : (p : Program) (s : State) (sent : List Id) (o : Op) (at : Option Op) → at ≡ Some o → Kept s → SentAt sent s →
@@ -233,27 +228,21 @@ placed_sent p s sent o at e kept k = grind (arith, op_sent)
 pub did_sent : (p : Program) (told : Told) (s : State) (n : Next) → Did p s n → Kept s → SentAt told.sent s → SentFollows p told s n
 did_sent p told s n (row.refused why) kept k = tt
 did_sent p told s n (row.still x time clock stop idled l row.unseen) kept k = k
-did_sent p told s n (row.still x time clock stop idled l each) kept k = k
 did_sent p told s n (row.op x at o e) kept k = placed_sent p s told.sent o _ e kept k
 did_sent p told s n (row.begun run watcher.Idle e) kept k = k
-did_sent p told s n (row.begun run each e) kept k = k
-did_sent p told s n (row.begun_closing run e) kept k = k
-did_sent p told s n (row.begun_done run e) kept k = k
 did_sent p told s n (row.collected run part t f) kept k = changed s told.sent t (records.stopped t.1) f.holds refl refl refl k
 did_sent p told s n (row.fired run t f) kept k = fired_sent s told.sent t f kept k
 did_sent p told s n (row.walked run watcher.Idle t sync f) kept k = unsent_called s told.sent kind.Idle s.idle t (λ c. cc c) kept.idle f k
-did_sent p told s n (row.walked run watcher.Prepare t sync f) kept k =
-    unsent_called s told.sent kind.Prepare s.prepare t (λ c. cc c) kept.prepare f k
+did_sent p told s n (row.walked run watcher.Prepare t sync f) kept k = unsent_called s told.sent kind.Prepare s.prepare t (λ c. cc c) kept.prepare f k
 did_sent p told s n (row.walked run watcher.Check t sync f) kept k = unsent_called s told.sent kind.Check s.check t (λ c. cc c) kept.check f k
 did_sent p told s n (row.walked run watcher.Async t sync f) kept k = absurd sync
-did_sent p told s n (row.passed run t f off) kept k = k
 did_sent p told s n (row.woken run t f on) kept k = sent_clear told.sent s.arena.slots t.0 t.1 (records.woken t.1) f.holds refl k
 did_sent p told s n (row.closed run t f) kept k = closed_sent p s told.sent t f kept k
 did_sent p told s n (row.ended run t f) kept k = ended_sent p s told.sent t f k
-did_sent p told s n (row.taken n' t f) kept k = k
 did_sent p told s n (row.finished n' t f) kept k = request_sent s told.sent t.0 t.1 _ f.holds k
 did_sent p told s n (row.sent v) kept k = op_sent s told.sent (op.Send v) kept k
 did_sent p told s n (row.cancelled v) kept k = op_sent s told.sent (op.Cancel v) kept k
+did_sent p told s n each kept k = k
 
 pub sent_fresh : (p : Program) → SentAt [] (fresh p)
 sent_fresh p = record { are = λ id. refl; each = λ id h e. cc e }
@@ -319,10 +308,4 @@ pass_off off sent (id ∷ ids) h = (rw h.0 refl, pass_off off sent ids h.1)
 -- more are taken off
 pub pass_more : (more off sent ids : List Id) → AllOffOrUnsent off sent ids → AllOffOrUnsent (more ++ off) sent ids
 pass_more more off sent [] h = tt
-pass_more more off sent (id ∷ ids) h = (at more, pass_more more off sent ids h.1) where
-  at : (xs : List Id) → (has_id (xs ++ off) id || not (has_id sent id)) ≡ true
-  at [] = h.0
-  at (x ∷ xs) = by (same_id x id) (at xs) where
-    by : (b : Bool) → (has_id (xs ++ off) id || not (has_id sent id)) ≡ true → ((b || has_id (xs ++ off) id) || not (has_id sent id)) ≡ true
-    by true k = refl
-    by false k = k
+pass_more more off sent (id ∷ ids) h = grind (arith, has_both, pass_more more off sent ids h.1)

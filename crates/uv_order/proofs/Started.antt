@@ -296,7 +296,7 @@ new_id p past s id e kept k = by (made_as p past id) refl where
     not_old : IsOld s.arena id → ⊥
     not_old (inl here) = let c = content.Handle (inited v kind.Idle) in
         cc (here.holds, (fills s.arena s.arena.free id c refl kept.free e).0.before)
-    not_old (inr g) = next_not_gone s.arena s.arena.free id refl kept.free e g
+    not_old (inr g) = next_not_gone s.arena s.arena.free id (content.Handle (inited v kind.Timer)) refl kept.free e g
 
 -- it is made of what the line says
 new_old : (p : Program) (past : List Seen) (s : State) (place : Site) (o : Op) (v : Var) (id : Id) (c : Content) → op_at p place ≡ Some o →

@@ -1,12 +1,12 @@
 -- What a worker may do by the pool's rules it may do as the next step.
-use Rattle.uv_order.proofs.Names.{◌≡◌, ℕ, List, [], ◌∷◌, ◌++◌, Bool, true, false, cond, Option, Some, None, Ok, Err, slice_get, refl, ap, sym, ◌∙◌, append_assoc, events_both, Id, Event, Take, Finish, NoWork, IdleWorker, Program, worker_count, Pool, IsLegal, taken_by, finished_by, after_event, after_events, empty_pool, PoolEvent, Request, same_id, found_or, State, request, with_id, front_request, Next, Moves, Refuses, next_work, work_of, lines, has_id, run_ids, pool_events, pool_of, IsTakenAs}
+use Rattle.uv_order.proofs.Names.{◌≡◌, ℕ, List, [], ◌∷◌, ◌++◌, Bool, true, false, cond, Option, Some, None, Ok, Err, slice_get, refl, ap, sym, ◌∙◌, append_assoc, events_both, Id, Event, Take, Finish, NoWork, IdleWorker, Program, worker_count, Pool, IsLegal, taken_by, finished_by, after_event, after_events, empty_pool, PoolEvent, Request, same_id, found_or, State, request, with_id, front_request, Next, Moves, Refuses, next_work, work_of, lines, has_id, run_ids, pool_events, pool_of, IsTakenAs, or-true}
 use Rattle.uv_work.specs.Pool.{replay}
 use Rattle.uv_work.specs.declared.event.PoolEvent.TheVariants as event
 use Rattle.uv_model.specs.Next as step
 use Rattle.uv_model.specs.Next.{next}
 use Rattle.uv_model.specs.After.{after}
-use Rattle.uv_order.proofs.IdLists.{same, itself, has_new_middle}
-use Rattle.uv_order.proofs.Works.{LetsGo, lets_go}
+use Rattle.uv_order.proofs.IdLists.{same, itself, has_new_middle, has_both}
+use Rattle.uv_order.proofs.Works.{runs_now}
 use Rattle.uv_order.proofs.Working.{Working}
 use Rattle.uv_order.proofs.Documents.{pools, holds_after}
 
@@ -74,11 +74,7 @@ pub record MayFinish (s : State) (k : ℕ) (id : Id) : Type 0 where
 may_finish : (s : State) (k : ℕ) (id : Id) (q : Pool) → Working s → after_event (pool_of s) (event.Finish k id) ≡ Some q → MayFinish s k id
 may_finish s k id q w h = at (slice_get s.running k) refl h where
   runs : (x : Id) → slice_get s.running k ≡ Some (Some x) → has_id (s.waiting ++ run_ids s.running) x ≡ true
-  runs x e =
-      let g : LetsGo s.running k x = lets_go s.running k x e in
-      ap (λ (ids : List Id). has_id (s.waiting ++ ids) x) g.were
-      ∙ ap (λ (ids : List Id). has_id ids x) (sym (append_assoc s.waiting g.front (x ∷ g.behind)))
-      ∙ has_new_middle (s.waiting ++ g.front) g.behind x
+  runs x e = has_both s.waiting (run_ids s.running) x ∙ rw (runs_now s.running k x e) (or-true (has_id s.waiting x))
 
   finished : (x : Id) → slice_get s.running k ≡ Some (Some x) → x ≡ id → (r : Request) × (request s x ≡ Some r) → MayFinish s k id
   finished x e g r = record {

@@ -86,12 +86,10 @@ pub record OnlyReady (r : Rest) (w : Walk) : Type 0 where
   pub done : r.done ≡ []
 
 pub timers_left : (part : TimersOf) (r : Rest) (w : Walk) → OnlyReady r w → Leaves r (Within (section_of part) w)
-timers_left timers_of.Entry r w o = assumption
-timers_left timers_of.Iteration r w o = assumption
+timers_left x0 r w o = grind (arith)
 
 pub left_timers : (part : TimersOf) (r : Rest) (w : Walk) → Leaves r (Within (section_of part) w) → OnlyReady r w
-left_timers timers_of.Entry r w l = assumption
-left_timers timers_of.Iteration r w l = assumption
+left_timers x0 r w l = grind (arith)
 
 -- ---- turns
 
@@ -150,10 +148,7 @@ turn_follows p told s run turn at alive is over k c e =
     by ToPending g = record {
       to = Running run.mode run.line (Within (In phase.Pending) bare);
       goes = doc.section (In phase.Pending) over g refl (opens_bare phase.Pending told _ refl refl) (pending_lasts (order_of p) s);
-      stands = record {
-        stands = running pending (left_all e.timers e.idle e.prepare e.check e.async e.closing e.done);
-        counted = c;
-      };
+      stands = record { stands = running pending (left_all e.timers e.idle e.prepare e.check e.async e.closing e.done); counted = c };
     }
     by ToEnd g = record {
       to = Between (run.line + 1);
@@ -164,17 +159,14 @@ turn_follows p told s run turn at alive is over k c e =
 -- ---- the calls of timers
 
 pub timers_word : (part : TimersOf) → callback_in (word_of (section_of part)) ≡ callback.Handle
-timers_word timers_of.Entry = refl
-timers_word timers_of.Iteration = refl
+timers_word x0 = grind (arith)
 
 pub timers_over : (part : TimersOf) (w : Walk) → w.body ≡ [] → doc.AllOff w.off w.ahead → IsOver (word_of (section_of part)) w
-timers_over timers_of.Entry w b o = record { done = b; may_pass = o }
-timers_over timers_of.Iteration w b o = record { done = b; may_pass = o }
+timers_over x0 w b o = grind (arith)
 
 pub timers_call : (part : TimersOf) (told : Told) (w : Walk) (id : Id) (more : List Id) (n : NextCall w id more) → w.body ≡ [] → CallsNext (word_of
     (section_of part)) told w id n.behind
-timers_call timers_of.Entry told w id more n b = record { done = b; passed = n.passed; list = n.list; may_pass = n.off; may_call = assumption }
-timers_call timers_of.Iteration told w id more n b = record { done = b; passed = n.passed; list = n.list; may_pass = n.off; may_call = assumption }
+timers_call x0 told w id more n b = grind (arith)
 
 -- a timer is called from the ready list, in a state that may have started it again
 pub call_timer : (p : Program) (told : Told) (s u : State) (run : Run) (part : TimersOf) (w : Walk) (t : Id × HandleRecord) (more : List Id) →
@@ -204,12 +196,10 @@ fire_follows p told s run part w alive k c l b =
         (call p (restarted (record s { ready = drop 1 s.ready }) t.0 t.1) (record run { stage = stage.Timers part Firing }) t.0 t.1.name)
     fired o t f =
         let u : State = record s { ready = drop 1 s.ready } in
+        let firing : Run = record run { stage = stage.Timers part Firing } in
         let only : OnlyReady (rest (t.0 ∷ f.rest) u) w = assumption (sym f.are ∙ o.ready, o) in
         cond_both (t.1.repeat == 0) u (started u t.0 t.1 t.1.repeat t.1.repeat)
-        (λ (x : State). Follows p told (Running run.mode run.line (Within (section_of part) w)) s (call p x (record run {
-          stage = stage.Timers part
-              Firing;
-        }) t.0 t.1.name))
+        (λ (x : State). Follows p told (Running run.mode run.line (Within (section_of part) w)) s (call p x firing t.0 t.1.name))
         (λ z. call_timer p told s u run part w t f.rest f.holds refl refl only f.behind b c)
         (λ z. call_timer p told s (started u t.0 t.1 t.1.repeat t.1.repeat) run part w t f.rest f.holds refl refl (assumption only) f.behind b c)
 

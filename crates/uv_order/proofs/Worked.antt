@@ -90,18 +90,7 @@ worked_held : (p : Program) (past : List Seen) (arena more : Slots Content) (wai
     ((i : Id) → IsAsked arena i → IsAsked more i ⊎ IsGone more.slots more.free i) →
     ((i : Id) → IsGone arena.slots arena.free i → IsGone more.slots more.free i) → Worked p past arena waiting runs →
     Worked p past more waiting runs
-worked_held p past arena more waiting runs now held_still gone k = record {
-  queued = λ i y e. elim (now i y e) [ inl old ↦ k.queued i y old | inr new ↦ new.0 ];
-  known = λ i task e. elim (k.known i task e) [ inl a ↦ held_still i a | inr g ↦ inr (gone i g) ];
-  over = λ i e. gone i (k.over i e);
-  taken = k.taken;
-  finished = k.finished;
-  waits = k.waits;
-  runs_now = k.runs_now;
-  ended = λ i y e. elim (now i y e) [ inl old ↦ k.ended i y old | inr new ↦ new.1 ];
-  cancelled = k.cancelled;
-  uncancelled = k.uncancelled;
-}
+worked_held p past arena more waiting runs now held_still gone k = grind (arith)
 
 -- a request turns, another one or none
 turned_asks : (slots more : List (Slot Content)) (id : Id) (was is : Option Content) → Turns slots more id was is → (i : Id) →
@@ -112,14 +101,7 @@ turned_asks slots more id was is t i = grind (arith, turned_to t)
 ends_now : (p : Program) (past : List Seen) (id : Id) (x : Request) (was now : Id → Option Request) →
     ((i : Id) → now i ≡ (if same_id i id then Some x else was i)) → queued_task p past id ≡ Some x.task → EndsTrue p past id x.task x.outcome →
     (i : Id) (y : Request) → now i ≡ Some y → (was i ≡ Some y) ⊎ ((queued_task p past i ≡ Some y.task) × EndsTrue p past i y.task y.outcome)
-ends_now p past id x was now f q ends i y e = at (same_id i id) refl where
-  at : (b : Bool) → same_id i id ≡ b → (was i ≡ Some y) ⊎ ((queued_task p past i ≡ Some y.task) × EndsTrue p past i y.task y.outcome)
-  at true s =
-      let it : x ≡ y = same_Some _ _ (sym (ap (λ (b : Bool). if b then Some x else was i) s) ∙ sym (f i) ∙ e) in
-      subst (λ (z : Request). (was i ≡ Some z) ⊎ ((queued_task p past i ≡ Some z.task) × EndsTrue p past i z.task z.outcome)) it
-      (subst (λ (j : Id). (was j ≡ Some x) ⊎ ((queued_task p past j ≡ Some x.task) × EndsTrue p past j x.task x.outcome)) (sym (same i id s))
-      (inr (q, ends)))
-  at false s = inl (sym (f i ∙ ap (λ (b : Bool). if b then Some x else was i) s) ∙ e)
+ends_now p past id x was now f q ends i y e = grind (arith, same_Some, same)
 
 asked_still : (arena more : Slots Content) (id : Id) (x : Request) →
     ((i : Id) → asked_at more.slots i ≡ (if same_id i id then Some x else asked_at arena.slots i)) → (i : Id) → IsAsked arena i → IsAsked more i
@@ -169,10 +151,7 @@ worked_finished p past arena waiting runs few n v id on fewer k = grind arith
 -- an id under which nothing is held, and which isn't gone, wasn't queued
 not_queued : (p : Program) (past : List Seen) (arena : Slots Content) (waiting runs : List Id) (id : Id) → held arena.slots id ≡ None →
     (IsGone arena.slots arena.free id → ⊥) → Worked p past arena waiting runs → queued_task p past id ≡ None
-not_queued p past arena waiting runs id e fresh k = at (queued_task p past id) refl where
-  at : (o : Option Task) → queued_task p past id ≡ o → o ≡ None
-  at None f = refl
-  at (Some x) f = elim (k.known id x f) [ inl a ↦ absurd (none-some a.request (sym (ap request_in e) ∙ a.holds)) | inr g ↦ absurd (fresh g) ]
+not_queued p past arena waiting runs id e fresh k = grind (arith, none-some)
 
 queued_now : (task : Task) (id : Id) (x : Request) (was now : Id → Option Request) (told : Id → Option Task) → x.task ≡ task →
     ((i : Id) → now i ≡ (if same_id i id then Some x else was i)) → ((i : Id) (y : Request) → was i ≡ Some y → told i ≡ Some y.task) → (i : Id)

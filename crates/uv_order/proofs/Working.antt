@@ -21,13 +21,7 @@ Working s = Works s.arena.slots s.waiting s.running s.done
 
 -- no request changes, and no list of requests
 works_quiet : (s t : State) → SameWork s t → Working s → Working t
-works_quiet s t q k =
-    let waited : Works s.arena.slots t.waiting s.running s.done =
-    subst (λ (ids : List Id). Works s.arena.slots ids s.running s.done) (sym q.waiting_is) k in
-    let ran : Works s.arena.slots t.waiting t.running s.done =
-    subst (λ (running : List (Option Id)). Works s.arena.slots t.waiting running s.done) (sym q.running_is) waited in
-    works_same s.arena.slots t.arena.slots t.waiting t.running t.done q.requests
-    (subst (λ (done : Walk Id). Works s.arena.slots t.waiting t.running done) (sym q.done_is) ran)
+works_quiet s t q k = rw (q.waiting_is, q.running_is, q.done_is) (works_same s.arena.slots t.arena.slots s.waiting s.running s.done q.requests k)
 
 -- ---- requests
 
@@ -74,8 +68,7 @@ StaysWorking (Moves t seen) = Working t
 StaysWorking (Refuses why) = Unit {0}
 
 quiet : (s : State) (n : Next) → KeepsWork s n → Working s → StaysWorking n
-quiet s (Moves t seen) q k = works_quiet s t q k
-quiet s (Refuses why) q k = tt
+quiet s x1 q k = grind (arith, works_quiet)
 
 collected_working : (p : Program) (s : State) (t : Id × Request) → FrontRequest s s.done.yet t → Working s →
     Works (freed (arena_size p).last_generation t.0 s.arena).slots s.waiting s.running (record s.done { yet = drop 1 s.done.yet })

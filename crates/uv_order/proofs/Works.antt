@@ -150,61 +150,35 @@ splits (x ∷ ids) id e = at (same_id id x) refl e (splits ids id) where
 -- the list without it
 pub without_middle : (xs ys : List Id) (id : Id) → AreDistinct (xs ++ id ∷ ys) → without_id (xs ++ id ∷ ys) id ≡ xs ++ ys
 without_middle [] ys id d = rw (itself id id refl) (without_absent ys id d.0)
-without_middle (x ∷ xs) ys id d = rw apart (ap (λ (is : List Id). x ∷ is) (without_middle xs ys id d.1)) where
-  apart : same_id x id ≡ false
-  apart = false_from_ne_true (same_id x id) (λ s.
-      both_ways (has_id (xs ++ id ∷ ys) x) d.0 (ap (has_id (xs ++ id ∷ ys)) (same x id s) ∙ has_new_middle xs ys id))
+without_middle (x ∷ xs) ys id d =
+    grind (arith, itself, without_absent, false_from_ne_true, both_ways, same, has_new_middle, without_middle xs ys id d.1)
 
 -- ---- the workers
 
--- a worker that runs nothing takes a request
-pub record Takes (running : List (Option Id)) (k : ℕ) (id : Id) : Type 0 where
+-- who is run, by what a worker runs, whatever it runs then
+pub record Worker (running : List (Option Id)) (k : ℕ) (o : Option Id) : Type 0 where
   pub front : List Id
   pub behind : List Id
-  pub were : run_ids running ≡ front ++ behind
-  pub are : run_ids (slice_set running k (Some id)) ≡ front ++ id ∷ behind
+  pub were : run_ids running ≡ front ++ (run_ids (o ∷ []) ++ behind)
+  pub are : (q : Option Id) → run_ids (slice_set running k q) ≡ front ++ (run_ids (q ∷ []) ++ behind)
 
-pub takes : (running : List (Option Id)) (k : ℕ) (id : Id) → slice_get running k ≡ Some None → Takes running k id
-takes [] k id e = cc e
-takes (None ∷ running) zero id e = record { front = []; behind = run_ids running; were = refl; are = refl }
-takes (Some x ∷ running) zero id e = cc e
-takes (None ∷ running) (suc k) id e =
-    let t = takes running k id e in record { front = t.front; behind = t.behind; were = t.were; are = t.are }
-takes (Some x ∷ running) (suc k) id e =
-    let t = takes running k id e in
-    record {
-      front = x ∷ t.front;
-      behind = t.behind;
-      were = ap (λ (is : List Id). x ∷ is) t.were;
-      are = ap (λ (is : List Id). x ∷ is) t.are;
-    }
+runs_first : (q : Option Id) (running : List (Option Id)) → run_ids (q ∷ running) ≡ run_ids (q ∷ []) ++ run_ids running
+runs_first x0 running = grind (arith)
 
--- a worker lets the request go that it runs
-pub record LetsGo (running : List (Option Id)) (k : ℕ) (id : Id) : Type 0 where
-  pub front : List Id
-  pub behind : List Id
-  pub were : run_ids running ≡ front ++ id ∷ behind
-  pub are : run_ids (slice_set running k None) ≡ front ++ behind
-
-pub lets_go : (running : List (Option Id)) (k : ℕ) (id : Id) → slice_get running k ≡ Some (Some id) → LetsGo running k id
-lets_go [] k id e = cc e
-lets_go (None ∷ running) zero id e = cc e
-lets_go (Some x ∷ running) zero id e =
-    let is : x ≡ id = cc e in record { front = []; behind = run_ids running; were = ap (λ (i : Id). i ∷ run_ids running) is; are = refl }
-lets_go (None ∷ running) (suc k) id e =
-    let t = lets_go running k id e in record { front = t.front; behind = t.behind; were = t.were; are = t.are }
-lets_go (Some x ∷ running) (suc k) id e =
-    let t = lets_go running k id e in
-    record {
-      front = x ∷ t.front;
-      behind = t.behind;
-      were = ap (λ (is : List Id). x ∷ is) t.were;
-      are = ap (λ (is : List Id). x ∷ is) t.are;
-    }
+pub worker : (running : List (Option Id)) (k : ℕ) (o : Option Id) → slice_get running k ≡ Some o → Worker running k o
+worker [] k o e = cc e
+worker (x ∷ running) zero o e =
+    let were = ap (λ (y : Option Id). run_ids (y ∷ running)) (same_Some _ _ e) ∙ runs_first o running in
+    record { front = []; behind = run_ids running; were = were; are = λ q. runs_first q running }
+worker (None ∷ running) (suc k) o e = let t = worker running k o e in record { front = t.front; behind = t.behind; were = t.were; are = t.are }
+worker (Some x ∷ running) (suc k) o e =
+    let t = worker running k o e in
+    let first = λ (is : List Id). x ∷ is in
+    record { front = x ∷ t.front; behind = t.behind; were = ap first t.were; are = λ q. ap first (t.are q) }
 
 -- it runs it so far
 pub runs_now : (running : List (Option Id)) (k : ℕ) (id : Id) → slice_get running k ≡ Some (Some id) → has_id (run_ids running) id ≡ true
-runs_now running k id e = let g = lets_go running k id e in ap (λ (ids : List Id). has_id ids id) g.were ∙ has_new_middle g.front g.behind id
+runs_now running k id e = let g = worker running k (Some id) e in ap (λ (ids : List Id). has_id ids id) g.were ∙ has_new_middle g.front g.behind id
 
 -- those behind the front that is taken wait too, and aren't it; who is run then is it, or was run before; and who is run once one is let go
 -- was run before, and isn't it
@@ -317,9 +291,9 @@ works_cancelled slots more waiting running done id r x t on over k =
 pub works_taken : (slots : List (Slot Content)) (id : Id) (rest : List Id) (running : List (Option Id)) (done : Walk Id) (k : ℕ) →
     slice_get running k ≡ Some None → Works slots (id ∷ rest) running done → Works slots rest (slice_set running k (Some id)) done
 works_taken slots id rest running done n e k =
-    let t = takes running n id e in
+    let t = worker running n None e in
     record {
-      open_ones = subst (AllAsk slots IsOpen) (append_assoc rest t.front (id ∷ t.behind) ∙ ap (λ (ids : List Id). rest ++ ids) (sym t.are))
+      open_ones = subst (AllAsk slots IsOpen) (append_assoc rest t.front (id ∷ t.behind) ∙ ap (λ (ids : List Id). rest ++ ids) (sym (t.are (Some id))))
           (moved_middle slots IsOpen id [] (rest ++ run_ids running) (rest ++ t.front) t.behind
           (ap (λ (ids : List Id). rest ++ ids) t.were ∙ sym (append_assoc rest t.front t.behind)) k.open_ones);
       ended = k.ended;
@@ -330,7 +304,7 @@ pub works_finished : (slots more : List (Slot Content)) (waiting : List Id) (run
     (r x : Request) → Turns slots more id (Some (content.Request r)) (Some (content.Request x)) → slice_get running n ≡ Some (Some id) → HasEnded x →
     Works slots waiting running done → Works more waiting (slice_set running n None) (record done { list = done.list ++ id ∷ [] })
 works_finished slots more waiting running done n id r x t e over k =
-    let g = lets_go running n id e in
+    let g = worker running n (Some id) e in
     let all : (waiting ++ run_ids running) ≡ (waiting ++ g.front) ++ id ∷ g.behind =
     ap (λ (ids : List Id). waiting ++ ids) g.were ∙ sym (append_assoc waiting g.front (id ∷ g.behind)) in
     let listed : AllAsk slots IsOpen ((waiting ++ g.front) ++ id ∷ g.behind) = subst (AllAsk slots IsOpen) all k.open_ones in
@@ -338,7 +312,7 @@ works_finished slots more waiting running done n id r x t e over k =
     (waiting ++ g.front) g.behind id)
     listed in
     record {
-      open_ones = subst (AllAsk more IsOpen) (append_assoc waiting g.front g.behind ∙ ap (λ (ids : List Id). waiting ++ ids) (sym g.are))
+      open_ones = subst (AllAsk more IsOpen) (append_assoc waiting g.front g.behind ∙ ap (λ (ids : List Id). waiting ++ ids) (sym (g.are None)))
           (less_middle slots more IsOpen id (Some (content.Request r)) (Some (content.Request x)) (waiting ++ g.front) g.behind t
           (request_fits_not IsOpen x (λ o. open_over x o over)) listed);
       ended = ended_by slots more done id r x t opened over k.ended;
