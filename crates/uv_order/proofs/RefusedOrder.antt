@@ -100,12 +100,12 @@ no_wait false true false false n e = cc e
 
 closing_zero : (s : State) (timers : List (Due × Id)) (m : Mode) → closes_some s ≡ true → may_wait s timers m ≡ Some 0
 closing_zero s timers Nowait e = refl
-closing_zero s timers Default e = no_wait s.stop_flag (lives s) (has_some s.idle.list || has_some s.idle.yet) (closes_some s)
+closing_zero s timers Default e = no_wait s.stop_flag (lives s) (has_some s.watchers.idle.list || has_some s.watchers.idle.yet) (closes_some s)
     (until_due s.time timers) e
 closing_zero s timers Once e = at s.idled where
   at : (b : Bool) → (if b then Some 0 else waits s timers) ≡ Some 0
   at true = refl
-  at false = no_wait s.stop_flag (lives s) (has_some s.idle.list || has_some s.idle.yet) (closes_some s) (until_due s.time timers) e
+  at false = no_wait s.stop_flag (lives s) (has_some s.watchers.idle.list || has_some s.watchers.idle.yet) (closes_some s) (until_due s.time timers) e
 
 -- ---- the line behind the poll
 
