@@ -1,6 +1,7 @@
 -- Where a section may begin, none of its list is yet to run: so the state says, and so it is in the memory.
 use Rattle.uv_loop.proofs.Names.{◌≡◌, List, [], ◌∷◌, map, Option, Some, None, refl, sym, ◌∙◌, subst, ListName, id_in, Body, Place, Main, Running, Stage, State, members, IsReached, BeginsBehind, BeginsIn, BeginsAt, Image, StandsFor, IsClear, IsClearAt, IsClearIn, IsClearBehind, place_is}
 use Rattle.uv_records.specs.declared.lists.ListName.TheVariants as name
+use Rattle.uv_records.specs.declared.lists.WatcherKind.TheVariants as watcher
 use Rattle.uv_arena.specs.Image as arena
 use Rattle.uv_model.specs.declared.place.Stage.TheVariants as stage
 
@@ -15,12 +16,12 @@ module _ (i : Image Place) (s : State) (h : StandsFor i s) where
   behind : (x : Stage) → BeginsBehind x s → IsClearBehind x i.arena
   behind stage.Entry e = tt
   behind stage.Pending e = empty name.IdleYet e
-  behind stage.Idle e = empty name.PrepareYet e
-  behind stage.Prepare e = tt
+  behind (stage.Walking watcher.Idle) e = empty name.PrepareYet e
+  behind (stage.Walking watcher.Prepare) e = tt
   behind (stage.Poll deadline) e = empty name.DoneYet e
   behind stage.Done e = empty name.AsyncYet e
-  behind stage.Async e = empty name.CheckYet e
-  behind stage.Check e = empty name.ClosingYet e
+  behind (stage.Walking watcher.Async) e = empty name.CheckYet e
+  behind (stage.Walking watcher.Check) e = empty name.ClosingYet e
   behind stage.Closing e = tt
   behind (stage.Timers part timing) e = tt
 

@@ -7,18 +7,17 @@ use Rattle.uv_model.specs.declared.place.Body.{Body}
 use Rattle.uv_model.specs.declared.place.Place.{Place}
 use Rattle.uv_model.specs.declared.place.Place.TheVariants.{Main, Running}
 use Rattle.uv_model.specs.declared.place.Stage.{Stage}
-use Rattle.uv_model.specs.declared.place.Stage.TheVariants.{Pending, Idle, Poll, Done, Async, Check}
+use Rattle.uv_model.specs.declared.place.Stage.TheVariants.{Pending, Walking, Poll, Done}
 use Rattle.uv_work.specs.declared.content.Content.{Content}
 use Rattle.uv_step.specs.Image.{Image}
+use Rattle.uv_sections.specs.Behind.{IsClearAfter}
 
 -- behind a stage with no body under way
 abbrev pub IsClearBehind : Stage → arena.Image Content → Type 0
 IsClearBehind Pending i = members i name.IdleYet ≡ []
-IsClearBehind Idle i = members i name.PrepareYet ≡ []
+IsClearBehind (Walking kind) i = IsClearAfter kind i
 IsClearBehind (Poll deadline) i = members i name.DoneYet ≡ []
 IsClearBehind Done i = members i name.AsyncYet ≡ []
-IsClearBehind Async i = members i name.CheckYet ≡ []
-IsClearBehind Check i = members i name.ClosingYet ≡ []
 IsClearBehind stage i = Unit {0}
 
 abbrev pub IsClearIn : Option Body → Stage → arena.Image Content → Type 0

@@ -127,11 +127,8 @@ fn stage_refusal(memory: &Memory<Place>, run: Run) -> Option<Why>
         }
         Stage::Entry => None,
         Stage::Pending => None,
-        Stage::Idle => None,
-        Stage::Prepare => None,
+        Stage::Walking(_) => None,
         Stage::Done => None,
-        Stage::Async => None,
-        Stage::Check => None,
         Stage::Closing => None,
         Stage::Timers(_, _) => None,
     }

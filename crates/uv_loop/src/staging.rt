@@ -12,10 +12,7 @@ use uv_ids::Seen;
 use uv_model::{Place, Run, Stage, Turn};
 use uv_records::WatcherKind;
 use uv_script::Script;
-use uv_sections::{
-    begin_done, begin_walk, in_async, in_check, in_closing, in_done, in_idle, in_prepare,
-    in_timers, turn,
-};
+use uv_sections::{begin_done, begin_walk, in_closing, in_done, in_timers, in_walk, turn};
 use uv_step::Memory;
 
 /// What the run does next where no body is under way.
@@ -31,12 +28,9 @@ pub(crate) fn in_stage(memory: &mut Memory<Place>, script: &Script, run: Run) ->
     match run.stage {
         Stage::Entry => Some(turn(memory, script, run, Turn::AtEntry)),
         Stage::Pending => Some(begin_walk(memory, run, WatcherKind::Idle)),
-        Stage::Idle => Some(in_idle(memory, script, run)),
-        Stage::Prepare => Some(in_prepare(memory, script, run)),
+        Stage::Walking(kind) => in_walk(memory, script, run, kind),
         Stage::Poll(_) => Some(begin_done(memory, run)),
         Stage::Done => Some(in_done(memory, script, run)),
-        Stage::Async => in_async(memory, script, run),
-        Stage::Check => Some(in_check(memory, script, run)),
         Stage::Closing => Some(in_closing(memory, script, run)),
         Stage::Timers(part, timing) => in_timers(memory, script, run, part, timing),
     }

@@ -1,5 +1,5 @@
 -- A state's numbers are no larger than the number of its steps, and its times no later than the clock's limit.
-use Rattle.uv_model.proofs.Names.{◌≡◌, ℕ, zero, suc, ◌+◌, ◌≤◌, ◌^◌, List, [], ◌∷◌, ◌++◌, length, drop, Bool, true, false, Option, Some, None, if◌then◌else◌, nat_le, nat_lt, ◌==◌, option_and_then, Result, Ok, Err, slice_get, slice_set, refl, arith, subst, replicate, add-zero, zero-add, elements, list_any, cond_both, none-some, same_Some, nat_tests, Id, Var, Due, Order, V144, V145, Kind, Event, Loop, Take, Finish, Cancel, Send, Tick, Op, MainOp, CallbackLine, Task, Program, arena_size, order_of, text_of, Outcome, Finished, Cancelled, Code, Why, IdleWorker, Seen, Callback, HandleRecord, Slot, WatcherKind, inited, is_timer, is_async, activated, referenced_as, repeating, watcher_kind, start_timer_refusal, start_watcher_refusal, stop_refusal, again_refusal, timer_refusal, close_refusal, no_refusal, send_refusal, Slots, taken, taken_from, freed, next_free, Walk, with_first, with_last, all_yet, Content, Calls, Named, Body, Run, Stage, Entry, Pending, Idle, Prepare, Poll, Done, Async, Check, Closing, Timers, TimersOf, Turn, AtEntry, Behind, BehindClosing, Way, ToTimers, ToPending, ToEnd, Timing, Collecting, Firing, Place, Main, Running, Request, found_or, same_id, without_id, queued, digest_in, handle_in, State, fresh, named, handle, with_handle, request, with_named, with_id, live, live_handle, live_request, front, front_request, watched, with_watched, refreshed, unbound, counted, count_of, taken_off, stopped, started, restarted, do_op, refuses, Next, Moves, Refuses, loop_step, main_step, run_step, body_step, stage_step, tick, sent_to, next_work, finish, work_of, cancels, begin_done, collect_request, timers, collected, first_due, fire, way, time_at, idled_at, idled_then, goes_by, turns, refreshes, ends, calls, may_leave, body_from, goes, begin_walk, after_walk, front_moved, walk, walk_async, close_front, stage_of, goes_on, state_of, line_of, HoldsBefore, StartsBefore, CanStep}
+use Rattle.uv_model.proofs.Names.{◌≡◌, ℕ, zero, suc, ◌+◌, ◌≤◌, ◌^◌, List, [], ◌∷◌, ◌++◌, length, drop, Bool, true, false, Option, Some, None, if◌then◌else◌, nat_le, nat_lt, ◌==◌, option_and_then, Result, Ok, Err, slice_get, slice_set, refl, arith, subst, replicate, add-zero, zero-add, elements, list_any, cond_both, none-some, same_Some, nat_tests, Id, Var, Due, Order, V144, V145, Kind, Event, Loop, Take, Finish, Cancel, Send, Tick, Op, MainOp, CallbackLine, Task, Program, arena_size, order_of, text_of, Outcome, Finished, Cancelled, Code, Why, IdleWorker, Seen, Callback, HandleRecord, Slot, WatcherKind, inited, is_timer, is_async, activated, referenced_as, repeating, watcher_kind, start_timer_refusal, start_watcher_refusal, stop_refusal, again_refusal, timer_refusal, close_refusal, no_refusal, send_refusal, Slots, taken, taken_from, freed, next_free, Walk, with_first, with_last, all_yet, Content, Calls, Named, Body, Run, Stage, Entry, Pending, Walking, Poll, Done, Closing, Timers, TimersOf, Turn, AtEntry, Behind, BehindClosing, Way, ToTimers, ToPending, ToEnd, Timing, Collecting, Firing, Place, Main, Running, Request, found_or, same_id, without_id, queued, digest_in, handle_in, State, fresh, named, handle, with_handle, request, with_named, with_id, live, live_handle, live_request, front, front_request, watched, with_watched, refreshed, unbound, counted, count_of, taken_off, stopped, started, restarted, do_op, refuses, Next, Moves, Refuses, loop_step, main_step, run_step, body_step, stage_step, tick, sent_to, next_work, finish, work_of, cancels, begin_done, collect_request, timers, collected, first_due, fire, way, time_at, idled_at, idled_then, goes_by, turns, refreshes, ends, calls, may_leave, body_from, goes, begin_walk, after_walk, front_moved, walk, walk_async, close_front, goes_on, state_of, line_of, HoldsBefore, StartsBefore, CanStep}
 use Rattle.uv_ids.specs.declared.phase.Kind.TheVariants as kind
 use Rattle.uv_script.specs.declared.op.Op.TheVariants as op
 use Rattle.uv_script.specs.declared.op.MainOp.TheVariants as main
@@ -15,7 +15,7 @@ use Rattle.uv_model.specs.Ops as ops
 use Rattle.uv_model.specs.Next.{next, take}
 use Rattle.uv_model.specs.After.{after}
 use Rattle.uv_model.proofs.Found.{found_both}
-use Rattle.uv_model.proofs.Counting.{AreUpTo, Counts, Drawn, Freed, IsBounded, StaysBounded, if_keeps, drawn_set, drawn_push, freed_more, freed_set, freed_push, slot_freed, never_timer, counts_at, IsHeld, LiveBefore, handle_before, RequestBefore, request_before, NamedBefore, live_before, AskedBefore, asked_before, more, placed, renamed, listed, off_bounded, kept_in, requested, pooled, rested_in, at_clock, flagged, watched_bounded, watched_names, stopped_bounded, started_bounded}
+use Rattle.uv_model.proofs.Counting.{AreUpTo, Counts, Drawn, Freed, IsBounded, StaysBounded, if_keeps, drawn_set, drawn_push, freed_more, freed_set, freed_push, slot_freed, never_timer, counts_at, IsHeld, LiveBefore, handle_before, RequestBefore, request_before, NamedBefore, live_before, AskedBefore, asked_before, more, placed, renamed, listed, off_bounded, kept_in, requested, pooled, rested_in, at_clock, flagged, watched_bounded, stopped_bounded, started_bounded}
 
 -- ---- the ops
 
@@ -279,7 +279,7 @@ begin_walk_bounded : (n : ℕ) (s : State) (run : Run) (kind : WatcherKind) → 
     → StaysBounded (suc n) (begin_walk s run kind)
 begin_walk_bounded n s run kind h l =
     let w = all_yet (watched s kind) in
-    run_at n (with_watched s kind w) (record run { stage = stage_of kind; body = None }) (watched_bounded n s kind w h) l
+    run_at n (with_watched s kind w) (record run { stage = Walking kind; body = None }) (watched_bounded n s kind w h) l
 
 closing_bounded : (n : ℕ) (s : State) (w : Walk Id) → IsBounded n s → IsBounded n (record s { closing = w })
 closing_bounded n s w h = record {
@@ -305,19 +305,19 @@ walk_bounded : (p : Program) (n : ℕ) (s : State) (run : Run) (kind : WatcherKi
 walk_bounded p n s run kind h l = found_both (front s (watched s kind).yet) _ _ (StaysBounded (suc n))
     (λ t e. let u = front_moved s kind t.0 in
     calls_bounded p n u run callback.Handle t.1.name (seen.Call t.1.name t.0) (more n u (watched_bounded n s kind _ h))
-    (watched_names n s kind _ h.counts) l)
+    h.counts l)
     (λ e. after_walk_bounded n s run kind h l)
 
 async_bounded : (p : Program) (n : ℕ) (s : State) (run : Run) → IsBounded n s → run.line ≤ n → StaysBounded (suc n) (walk_async p s run)
-async_bounded p n s run h l = found_both (front s s.async.yet) _ _ (StaysBounded (suc n))
+async_bounded p n s run h l = found_both (front s s.watchers.async.yet) _ _ (StaysBounded (suc n))
     (λ t e. let u = front_moved s watcher.Async t.0 in
     let b = watched_bounded n s watcher.Async _ h in
     let x = with_handle u t.0 (records.woken t.1) in
-    let held = front_before n s s.async.yet t e h in
+    let held = front_before n s s.watchers.async.yet t e h in
     if_keeps (StaysBounded (suc n)) t.1.pending _ _
     (calls_bounded p n x run callback.Handle t.1.name (seen.Call t.1.name t.0)
     (more n x (kept_in n u t.0 (records.woken t.1) b (record { starts = held.starts; freed = held.freed }))) h.counts l)
-    (run_at n u (record run { stage = Async; body = None }) b l))
+    (run_at n u (record run { stage = Walking watcher.Async; body = None }) b l))
     (λ e. after_walk_bounded n s run watcher.Async h l)
 
 freed_drawn : (n : ℕ) (last : ℕ) (id : Id) (s : Slots Content) → Drawn n s.slots → Drawn n (freed last id s).slots
@@ -372,13 +372,11 @@ stage_bounded : (p : Program) (n : ℕ) (s : State) (run : Run) (stage : Stage) 
     StaysBounded (suc n) (stage_step p s run stage)
 stage_bounded p n s run Entry h l = turn_bounded n (order_of p) s run AtEntry h l
 stage_bounded p n s run Pending h l = begin_walk_bounded n s run watcher.Idle h l
-stage_bounded p n s run Idle h l = walk_bounded p n s run watcher.Idle h l
-stage_bounded p n s run Prepare h l = walk_bounded p n s run watcher.Prepare h l
+stage_bounded p n s run (Walking watcher.Async) h l = async_bounded p n s run h l
+stage_bounded p n s run (Walking kind) h l = walk_bounded p n s run kind h l
 stage_bounded p n s run (Poll deadline) h l = if_keeps (StaysBounded (suc n)) (may_leave s deadline) _ _
     (begin_done_bounded n s run h l) tt
 stage_bounded p n s run Done h l = collect_bounded p n s run h l
-stage_bounded p n s run Async h l = async_bounded p n s run h l
-stage_bounded p n s run Check h l = walk_bounded p n s run watcher.Check h l
 stage_bounded p n s run Closing h l = close_bounded p n s run h l
 stage_bounded p n s run (Timers part timing) h l = timers_bounded p n s run part timing h l
 

@@ -1,7 +1,6 @@
 -- A state's numbers: what it means that they are no larger than the number of its steps, and how each change of a state keeps it.
 use Rattle.uv_model.proofs.Names.{◌≡◌, ℕ, suc, ◌+◌, ◌≤◌, ◌^◌, List, [], ◌∷◌, ◌++◌, Bool, true, false, Option, Some, None, if◌then◌else◌, ◌==◌, option_and_then, Result, Ok, Err, slice_get, slice_set, All, refl, arith, subst, elements, cond_both, eqb-true, none-some, Id, Var, Due, Kind, Code, HandleRecord, Slot, WatcherKind, inited, is_timer, is_async, activated, referenced_as, repeating, watcher_kind, Slots, taken, taken_from, freed, next_free, Walk, Content, Calls, Named, Place, Request, handle_in, request_in, State, named, handle, with_handle, request, with_request, with_named, with_id, live_id, as_handle, as_request, live_handle, live_request, with_watched, refreshed, taken_off, stopped, started, Next, Moves, Refuses, line_of, HoldsBefore, StartsBefore, AreBelow}
 use Rattle.uv_ids.specs.declared.phase.Kind.TheVariants as kind
-use Rattle.uv_records.specs.declared.lists.WatcherKind.TheVariants as watcher
 use Rattle.uv_records.specs.Handles as records
 use Rattle.uv_records.specs.Slots as slots
 use Rattle.uv_work.specs.declared.content.Content.TheVariants as content
@@ -282,7 +281,7 @@ flagged n s stop_flag idled h = record {
 }
 
 pub watched_bounded : (n : ℕ) (s : State) (kind : WatcherKind) (w : Walk Id) → IsBounded n s → IsBounded n (with_watched s kind w)
-watched_bounded n s watcher.Idle w h = record {
+watched_bounded n s kind w h = record {
   counts = h.counts;
   starts = h.starts;
   drawn = h.drawn;
@@ -291,39 +290,6 @@ watched_bounded n s watcher.Idle w h = record {
   line = h.line;
   freed = h.freed;
 }
-watched_bounded n s watcher.Prepare w h = record {
-  counts = h.counts;
-  starts = h.starts;
-  drawn = h.drawn;
-  time = h.time;
-  clock = h.clock;
-  line = h.line;
-  freed = h.freed;
-}
-watched_bounded n s watcher.Check w h = record {
-  counts = h.counts;
-  starts = h.starts;
-  drawn = h.drawn;
-  time = h.time;
-  clock = h.clock;
-  line = h.line;
-  freed = h.freed;
-}
-watched_bounded n s watcher.Async w h = record {
-  counts = h.counts;
-  starts = h.starts;
-  drawn = h.drawn;
-  time = h.time;
-  clock = h.clock;
-  line = h.line;
-  freed = h.freed;
-}
-
-pub watched_names : (n : ℕ) (s : State) (kind : WatcherKind) (w : Walk Id) → Counts n s.names → Counts n (with_watched s kind w).names
-watched_names n s watcher.Idle w h = h
-watched_names n s watcher.Prepare w h = h
-watched_names n s watcher.Check w h = h
-watched_names n s watcher.Async w h = h
 
 pub stopped_bounded : (n : ℕ) (s : State) (id : Id) (x : HandleRecord) → IsBounded n s → id.generation ≤ n → IsBounded n (stopped s id x)
 stopped_bounded n s id x h few = rested_in n (taken_off s id x) id (records.stopped x) (off_bounded n s id x h) few refl

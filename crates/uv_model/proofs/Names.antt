@@ -35,10 +35,10 @@ pub use Rattle.uv_model.specs.Content.{handle_in, request_in}
 pub use Rattle.uv_model.specs.Found.{found_or}
 pub use Rattle.uv_model.specs.Handing.{AnswersResult, RefusesResult}
 pub use Rattle.uv_model.specs.Ids.{same_id, without_id}
-pub use Rattle.uv_model.specs.Next.{Moves, Next, Refuses, after_walk, begin_done, begin_walk, body_from, body_step, calls, cancels, close_front, collect_request, collected, ends, finish, fire, first_due, front_moved, goes, goes_by, idled_at, idled_then, loop_step, main_step, may_leave, next_line, next_work, refreshes, run_step, sent_to, stage_of, stage_step, tick, time_at, timers, turns, walk, walk_async, way, work_of}
+pub use Rattle.uv_model.specs.Next.{Moves, Next, Refuses, after_walk, begin_done, begin_walk, body_from, body_step, calls, cancels, close_front, collect_request, collected, ends, finish, fire, first_due, front_moved, goes, goes_by, idled_at, idled_then, loop_step, main_step, may_leave, next_line, next_work, refreshes, run_step, sent_to, stage_step, tick, time_at, timers, turns, walk, walk_async, way, work_of}
 pub use Rattle.uv_model.specs.Ops.{do_op, refuses}
 pub use Rattle.uv_model.specs.Queries.{runner_from, timer_ids}
-pub use Rattle.uv_model.specs.State.{State, as_handle, as_request, fresh, front, front_request, handle, live, live_handle, live_id, live_request, named, refreshed, request, watched, with_handle, with_id, with_named, with_request, with_watched}
+pub use Rattle.uv_model.specs.State.{State, Watchers, as_handle, as_request, fresh, front, front_request, handle, live, live_handle, live_id, live_request, named, refreshed, request, those_of, watched, with_handle, with_id, with_named, with_request, with_those_of, with_watched}
 pub use Rattle.uv_model.specs.Steps.{IsOfLoop, Steps}
 pub use Rattle.uv_model.specs.Timers.{due_after, restarted, started, stopped, taken_off, with_timer, without_timer}
 pub use Rattle.uv_model.specs.Trail.{IsAfter, Trail}
@@ -47,7 +47,7 @@ pub use Rattle.uv_model.specs.declared.place.Place.{Place}
 pub use Rattle.uv_model.specs.declared.place.Place.TheVariants.{Main, Running}
 pub use Rattle.uv_model.specs.declared.place.Run.{Run}
 pub use Rattle.uv_model.specs.declared.place.Stage.{Stage}
-pub use Rattle.uv_model.specs.declared.place.Stage.TheVariants.{Async, Check, Closing, Done, Entry, Idle, Pending, Poll, Prepare, Timers}
+pub use Rattle.uv_model.specs.declared.place.Stage.TheVariants.{Closing, Done, Entry, Pending, Poll, Timers, Walking}
 pub use Rattle.uv_model.specs.declared.place.TimersOf.{TimersOf}
 pub use Rattle.uv_model.specs.declared.place.Timing.{Timing}
 pub use Rattle.uv_model.specs.declared.place.Timing.TheVariants.{Collecting, Firing}

@@ -59,7 +59,7 @@ walk_moves : (p : Program) (s : State) (run : Run) (kind : WatcherKind) → IsTa
 walk_moves p s run kind = found_both (front s (watched s kind).yet) _ _ IsTaken (λ t e. tt) (λ e. after_moves s run kind)
 
 async_moves : (p : Program) (s : State) (run : Run) → IsTaken (step.walk_async p s run)
-async_moves p s run = found_both (front s s.async.yet) _ _ IsTaken (λ t e. cond_both t.1.pending _ _ IsTaken (λ d. tt) (λ d. tt)) (λ e. tt)
+async_moves p s run = found_both (front s s.watchers.async.yet) _ _ IsTaken (λ t e. cond_both t.1.pending _ _ IsTaken (λ d. tt) (λ d. tt)) (λ e. tt)
 
 close_moves : (p : Program) (s : State) (run : Run) → IsTaken (step.close_front p s run)
 close_moves p s run = found_both (front s s.closing.yet) _ _ IsTaken (λ t e. tt) (λ e. turn_moves (order_of p) s run BehindClosing)
@@ -72,24 +72,19 @@ abbrev pub stage_refusal : State → Stage → Option Why
 stage_refusal s (stage.Poll deadline) = if step.may_leave s deadline then None else Some Blocked
 stage_refusal s stage.Entry = None
 stage_refusal s stage.Pending = None
-stage_refusal s stage.Idle = None
-stage_refusal s stage.Prepare = None
+stage_refusal s (stage.Walking kind) = None
 stage_refusal s stage.Done = None
-stage_refusal s stage.Async = None
-stage_refusal s stage.Check = None
 stage_refusal s stage.Closing = None
 stage_refusal s (stage.Timers part timing) = None
 
 stage_does : (p : Program) (s : State) (run : Run) (x : Stage) → Does (stage_refusal s x) (step.stage_step p s run x)
 stage_does p s run stage.Entry = turn_moves (order_of p) s run AtEntry
 stage_does p s run stage.Pending = tt
-stage_does p s run stage.Idle = walk_moves p s run watcher.Idle
-stage_does p s run stage.Prepare = walk_moves p s run watcher.Prepare
+stage_does p s run (stage.Walking watcher.Async) = async_moves p s run
+stage_does p s run (stage.Walking kind) = walk_moves p s run kind
 stage_does p s run (stage.Poll deadline) = cond_both (step.may_leave s deadline) _ _
     (Does (stage_refusal s (stage.Poll deadline))) (λ e. rw e tt) (λ e. rw e refl)
 stage_does p s run stage.Done = done_moves p s run
-stage_does p s run stage.Async = async_moves p s run
-stage_does p s run stage.Check = walk_moves p s run watcher.Check
 stage_does p s run stage.Closing = close_moves p s run
 stage_does p s run (stage.Timers part timing) = timers_moves p s run part timing
 

@@ -1,18 +1,13 @@
 -- The counts of names and the lists of handles, where a section calls one.
-use Rattle.uv_model.proofs.Names.{◌≡◌, ℕ, ◌<◌, ◌^◌, ◌==◌, Bool, true, false, cond, List, [], ◌∷◌, length, All, Option, Some, None, option_and_then, slice_get, refl, ap, subst, arith, elements, eqb-true, none-some, same_Some, Id, Var, HandleRecord, WatcherKind, Slot, held_in, held, Walk, Content, Request, handle_in, request_in, State, named, with_id, front, front_request, with_watched, CanStep, AreBelow}
+use Rattle.uv_model.proofs.Names.{◌≡◌, ℕ, ◌<◌, ◌^◌, ◌==◌, Bool, true, false, cond, List, [], ◌∷◌, length, All, Option, Some, None, option_and_then, slice_get, refl, ap, subst, arith, elements, eqb-true, none-some, same_Some, Id, HandleRecord, Slot, held_in, held, Content, Request, handle_in, request_in, State, with_id, front, front_request, CanStep, WatcherKind, Watchers, those_of, with_those_of}
 use Rattle.uv_records.specs.declared.lists.WatcherKind.TheVariants as watcher
 use Rattle.uv_work.specs.declared.content.Content.TheVariants as content
 use Rattle.uv_model.proofs.Calls.{able_small}
 
--- the handles of a kind change no name
-pub named-watched : (s : State) (kind : WatcherKind) (w : Walk Id) (v : Var) → named (with_watched s kind w) v ≡ named s v
-named-watched s watcher.Idle w v = refl
-named-watched s watcher.Prepare w v = refl
-named-watched s watcher.Check w v = refl
-named-watched s watcher.Async w v = refl
-
-pub watched_small : (s : State) (kind : WatcherKind) (w : Walk Id) (v : Var) → CanStep s → AreBelow (2 ^ 31) (named (with_watched s kind w) v).calls
-watched_small s kind w v h = rw (named-watched s kind w v) (able_small s v h)
+-- the handles of a kind in their own place
+pub same_those : (kind : WatcherKind) (all : Watchers) → with_those_of kind (those_of kind all) all ≡ all
+same_those watcher.Idle all = refl
+same_those each all = refl
 
 -- a list with a front has a member
 pub front_there : (s : State) (ids : List Id) (id : Id) (h : HandleRecord) → front s ids ≡ Some (id, h) → 0 < length ids
@@ -59,4 +54,4 @@ request_freed s (x ∷ ids) id r e able = at (held s.arena.slots x) refl e where
       subst (λ (i : Id). i.generation < 2 ^ 31) same
       (held_few (2 ^ 31) s.arena.slots x (slice_get s.arena.slots x.slot) (content.Request k) refl f able.small.freed)
 
-pub ruleset walks = (watched_small, able_small, front_there, front_freed, request_there, request_freed)
+pub ruleset walks = (able_small, front_there, front_freed, request_there, request_freed)

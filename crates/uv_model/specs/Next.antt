@@ -27,7 +27,7 @@ use Rattle.uv_model.specs.Limits.{LATEST}
 use Rattle.uv_model.specs.declared.place.Body.{Body}
 use Rattle.uv_model.specs.declared.place.Run.{Run}
 use Rattle.uv_model.specs.declared.place.Stage.{Stage}
-use Rattle.uv_model.specs.declared.place.Stage.TheVariants.{Entry, Pending, Idle, Prepare, Poll, Done, Async, Check, Closing, Timers}
+use Rattle.uv_model.specs.declared.place.Stage.TheVariants.{Entry, Pending, Walking, Poll, Done, Closing, Timers}
 use Rattle.uv_model.specs.declared.place.TimersOf.{TimersOf}
 use Rattle.uv_model.specs.declared.place.TimersOf.TheVariants as timers_of
 use Rattle.uv_model.specs.declared.place.Turn.{Turn}
@@ -137,7 +137,7 @@ idled_at V144 timers_of.Iteration s = s.idled
 
 -- and as the pending section begins: in the order of 1.45 it keeps whether an idle handle is active
 abbrev pub idled_then : Order → State → Bool
-idled_then V145 s = has_some s.idle.list
+idled_then V145 s = has_some s.watchers.idle.list
 idled_then V144 s = s.idled
 
 -- it goes on so
@@ -208,22 +208,15 @@ abbrev pub timers : Program → State → Run → TimersOf → Timing → Next
 timers p s run part Collecting = collect p s run part
 timers p s run part Firing = fire p s run part
 
--- the place of a section that walks handles of a kind
-abbrev pub stage_of : WatcherKind → Stage
-stage_of watcher.Idle = Idle
-stage_of watcher.Prepare = Prepare
-stage_of watcher.Check = Check
-stage_of watcher.Async = Async
-
--- such a section begins: its whole list is yet to run
+-- a section that walks handles of a kind begins: its whole list is yet to run
 abbrev pub begin_walk : State → Run → WatcherKind → Next
-begin_walk s run kind = begins (with_watched s kind (all_yet (watched s kind))) run (stage_of kind) (phase_of kind)
+begin_walk s run kind = begins (with_watched s kind (all_yet (watched s kind))) run (Walking kind) (phase_of kind)
 
 -- so does the closing section
 abbrev pub begin_closing : State → Run → Next
 begin_closing s run = begins (record s { closing = all_yet s.closing }) run Closing phase.Closing
 
--- after such a section
+-- behind the section of a kind
 abbrev pub after_walk : State → Run → WatcherKind → Next
 after_walk s run watcher.Idle = begin_walk s run watcher.Prepare
 after_walk s run watcher.Prepare = begin_poll s run
@@ -242,12 +235,17 @@ walk p s run kind = found_or (front s (watched s kind).yet)
 
 -- an async handle that was sent to is called, and isn't pending any more; another one is passed by without a line
 abbrev pub walk_async : Program → State → Run → Next
-walk_async p s run = found_or (front s s.async.yet)
+walk_async p s run = found_or (front s s.watchers.async.yet)
     (λ t.
     let moved = front_moved s watcher.Async t.0 in
     if t.1.pending then call p (with_handle moved t.0 (records.woken t.1)) run t.0 t.1.name
-    else Moves (at moved run Async) None)
+    else Moves (at moved run (Walking watcher.Async)) None)
     (after_walk s run watcher.Async)
+
+-- such a section goes on
+abbrev pub in_walk : Program → State → Run → WatcherKind → Next
+in_walk p s run watcher.Async = walk_async p s run
+in_walk p s run kind = walk p s run kind
 
 -- the front of the closing handles leaves its list, its slot is freed and its close callback begins; with none the section is over
 abbrev pub close_front : Program → State → Run → Next
@@ -270,12 +268,9 @@ collect_request p s run = found_or (front_request s s.done.yet)
 abbrev pub stage_step : Program → State → Run → Stage → Next
 stage_step p s run Entry = turns (order_of p) s run AtEntry
 stage_step p s run Pending = begin_walk s run watcher.Idle
-stage_step p s run Idle = walk p s run watcher.Idle
-stage_step p s run Prepare = walk p s run watcher.Prepare
+stage_step p s run (Walking kind) = in_walk p s run kind
 stage_step p s run (Poll deadline) = poll s run deadline
 stage_step p s run Done = collect_request p s run
-stage_step p s run Async = walk_async p s run
-stage_step p s run Check = walk p s run watcher.Check
 stage_step p s run Closing = close_front p s run
 stage_step p s run (Timers part timing) = timers p s run part timing
 

@@ -13,6 +13,7 @@ use Rattle.uv_work.specs.declared.task.Task.{Task}
 use Rattle.uv_script.specs.declared.op.Op.TheVariants as op
 use Rattle.uv_records.specs.declared.handle.HandleRecord.{HandleRecord}
 use Rattle.uv_records.specs.declared.lists.WatcherKind.{WatcherKind}
+use Rattle.uv_records.specs.declared.lists.WatcherKind.TheVariants as watcher
 use Rattle.uv_records.specs.declared.slot.Slot.{Slot}
 use Rattle.uv_records.specs.Dues.{due_in}
 use Rattle.uv_records.specs.Handles as records
@@ -53,7 +54,7 @@ succeeds s = says s (answer.Code Success)
 
 -- an async handle goes to the end of its list as it is made, a handle of another kind on none
 abbrev pub listed_last : State → Kind → Id → State
-listed_last s kind id = if is_async kind then record s { async = with_last s.async id } else s
+listed_last s kind id = if is_async kind then with_watched s watcher.Async (with_last (watched s watcher.Async) id) else s
 
 -- a name is bound to the id that a new handle or request of it gets
 abbrev pub bound_to : State → Var → Id → State

@@ -20,14 +20,14 @@ timer_ids s = map (λ (t : Due × Id). t.1) s.timers
 -- the members of a list, front first
 abbrev pub members : State → ListName → List Id
 members s name.Ready = s.ready
-members s name.Idle = s.idle.list
-members s name.IdleYet = s.idle.yet
-members s name.Prepare = s.prepare.list
-members s name.PrepareYet = s.prepare.yet
-members s name.Check = s.check.list
-members s name.CheckYet = s.check.yet
-members s name.Async = s.async.list
-members s name.AsyncYet = s.async.yet
+members s name.Idle = s.watchers.idle.list
+members s name.IdleYet = s.watchers.idle.yet
+members s name.Prepare = s.watchers.prepare.list
+members s name.PrepareYet = s.watchers.prepare.yet
+members s name.Check = s.watchers.check.list
+members s name.CheckYet = s.watchers.check.yet
+members s name.Async = s.watchers.async.list
+members s name.AsyncYet = s.watchers.async.yet
 members s name.Closing = s.closing.list
 members s name.ClosingYet = s.closing.yet
 members s name.Waiting = s.waiting

@@ -3,6 +3,8 @@ use Rattle.std.specs.Prelude.{ℕ, Bool, false, List, [], ◌∷◌, length, Opt
 use Rattle.uv_ids.specs.declared.id.Id.{Id}
 use Rattle.uv_ids.specs.declared.id.Var.{Var}
 use Rattle.uv_ids.specs.declared.due.Due.{Due}
+use Rattle.uv_ids.specs.declared.phase.Kind.{Kind}
+use Rattle.uv_ids.specs.declared.phase.Kind.TheVariants as kind
 use Rattle.uv_ids.specs.declared.code.Code.{Code}
 use Rattle.uv_ids.specs.declared.code.Code.TheVariants.{Estale, Ekind}
 use Rattle.uv_records.specs.declared.handle.HandleRecord.{HandleRecord}
@@ -21,6 +23,31 @@ use Rattle.uv_model.specs.declared.place.Place.{Place}
 use Rattle.uv_model.specs.declared.place.Place.TheVariants.{Main}
 use Rattle.uv_model.specs.Content.{handle_in, request_in}
 
+-- the handles of each kind that a section walks: the active idle, prepare and check handles, and the async ones
+pub record Watchers : Type 0 where
+  pub idle : Walk Id
+  pub prepare : Walk Id
+  pub check : Walk Id
+  pub async : Walk Id
+
+-- those of a kind
+abbrev pub those_of : WatcherKind → Watchers → Walk Id
+those_of watcher.Idle all = all.idle
+those_of watcher.Prepare all = all.prepare
+those_of watcher.Check all = all.check
+those_of watcher.Async all = all.async
+
+-- the same with others of a kind
+abbrev pub with_those_of : WatcherKind → Walk Id → Watchers → Watchers
+with_those_of watcher.Idle w all = record all { idle = w }
+with_those_of watcher.Prepare w all = record all { prepare = w }
+with_those_of watcher.Check w all = record all { check = w }
+with_those_of watcher.Async w all = record all { async = w }
+
+-- none of any kind
+abbrev pub no_watchers : Watchers
+no_watchers = record { idle = nothing_listed Id; prepare = nothing_listed Id; check = nothing_listed Id; async = nothing_listed Id }
+
 pub record State : Type 0 where
   -- where the loop stands
   pub place : Place
@@ -32,11 +59,8 @@ pub record State : Type 0 where
   pub timers : List (Due × Id)
   -- the timers that a section collected and will call, front first
   pub ready : List Id
-  -- the active idle, prepare and check handles, and the async ones
-  pub idle : Walk Id
-  pub prepare : Walk Id
-  pub check : Walk Id
-  pub async : Walk Id
+  -- the handles that sections walk, by kind
+  pub watchers : Watchers
   -- the handles whose close callback is still to come
   pub closing : Walk Id
   -- the requests that wait for a worker, the one that waits longest first
@@ -64,10 +88,7 @@ fresh p = record {
   arena = unused_slots Content (arena_size p).slots;
   timers = [];
   ready = [];
-  idle = nothing_listed Id;
-  prepare = nothing_listed Id;
-  check = nothing_listed Id;
-  async = nothing_listed Id;
+  watchers = no_watchers;
   closing = nothing_listed Id;
   waiting = [];
   running = replicate (worker_count p) None;
@@ -156,18 +177,19 @@ live_request s v = as_request (live s v)
 
 -- ---- lists
 
+-- the kind of the handles that a section walks
+abbrev pub kind_as : WatcherKind → Kind
+kind_as watcher.Idle = kind.Idle
+kind_as watcher.Prepare = kind.Prepare
+kind_as watcher.Check = kind.Check
+kind_as watcher.Async = kind.Async
+
 -- the handles of a kind that a section walks
 abbrev pub watched : State → WatcherKind → Walk Id
-watched s watcher.Idle = s.idle
-watched s watcher.Prepare = s.prepare
-watched s watcher.Check = s.check
-watched s watcher.Async = s.async
+watched s kind = those_of kind s.watchers
 
 abbrev pub with_watched : State → WatcherKind → Walk Id → State
-with_watched s watcher.Idle w = record s { idle = w }
-with_watched s watcher.Prepare w = record s { prepare = w }
-with_watched s watcher.Check w = record s { check = w }
-with_watched s watcher.Async w = record s { async = w }
+with_watched s kind w = record s { watchers = with_those_of kind w s.watchers }
 
 -- the loop's time is set to the clock (uv_update_time)
 abbrev pub refreshed : State → State

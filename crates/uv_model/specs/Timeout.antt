@@ -26,7 +26,7 @@ has_pending s = list_any (λ (slot : Slot Content). content_pends slot.content) 
 
 -- an idle handle is active
 abbrev pub has_idle : State → Bool
-has_idle s = has_some s.idle.list || has_some s.idle.yet
+has_idle s = has_some s.watchers.idle.list || has_some s.watchers.idle.yet
 
 -- how long until the first timer is due: infinite without one, 0 where it is due already
 abbrev pub until_first : ℕ → List (Due × Id) → Option ℕ

@@ -10,7 +10,7 @@ use Rattle.uv_records.specs.Dues as dues
 use Rattle.uv_records.specs.Handles as records
 use Rattle.uv_records.specs.Handles.{is_timer, begun_at}
 use Rattle.uv_model.specs.Ids.{without_id, walk_without_id}
-use Rattle.uv_model.specs.State.{State, with_handle}
+use Rattle.uv_model.specs.State.{State, Watchers, with_handle}
 
 -- the timers with one more, at its place in the order
 abbrev pub with_timer : List (Due × Id) → Due → Id → List (Due × Id)
@@ -20,15 +20,21 @@ with_timer timers due id = insert_entry due_cmp timers due id
 abbrev pub without_timer : List (Due × Id) → Due → List (Due × Id)
 without_timer timers due = remove_entry (is_at (due_cmp due)) timers
 
+-- the watchers without one of them
+abbrev pub watchers_without_id : Watchers → Id → Watchers
+watchers_without_id all id = record {
+  idle = walk_without_id all.idle id;
+  prepare = walk_without_id all.prepare id;
+  check = walk_without_id all.check id;
+  async = walk_without_id all.async id;
+}
+
 -- a handle off the order of timers, the ready list and the lists of its kind
 abbrev pub taken_off : State → Id → HandleRecord → State
 taken_off s id h = record s {
   timers = if is_timer h.kind && h.active then without_timer s.timers h.due else s.timers;
   ready = without_id s.ready id;
-  idle = walk_without_id s.idle id;
-  prepare = walk_without_id s.prepare id;
-  check = walk_without_id s.check id;
-  async = walk_without_id s.async id;
+  watchers = watchers_without_id s.watchers id;
 }
 
 -- a handle that is stopped: off each of these, and inactive

@@ -16,6 +16,7 @@ mod running;
 mod state;
 mod turns;
 mod walked;
+mod watchers;
 
 pub use bodies::body_from;
 pub use layout::{LaidSlot, Layout, ListEnds};

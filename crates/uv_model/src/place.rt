@@ -1,6 +1,7 @@
 //! Where the loop stands.
 
 use uv_ids::{Callback, Mode, Var};
+use uv_records::WatcherKind;
 
 /// Where the loop stands.
 #[derive(Clone, Copy, PartialEq, Eq)]
@@ -28,13 +29,11 @@ pub enum Stage {
     /// After the run's line.
     Entry,
     Pending,
-    Idle,
-    Prepare,
+    /// In the section that walks the handles of a kind.
+    Walking(WatcherKind),
     /// In the poll, with its deadline in ms; none is infinite.
     Poll(Option<u64>),
     Done,
-    Async,
-    Check,
     Closing,
     /// In a timers section.
     Timers(TimersOf, Timing),

@@ -7,6 +7,7 @@ use crate::arena::Arena;
 use crate::content::{handle_in, request_in};
 use crate::place::Place;
 use crate::walked::Walked;
+use crate::watchers::WatcherLists;
 use std::alloc::{AllocError, Global};
 use std::collections::BTreeMap;
 use std::marker::Model;
@@ -34,10 +35,8 @@ pub struct LoopState {
     timers: BTreeMap<Due, Id>,
     /// The timers that a section collected and will call, front first.
     ready: Vec<Id>,
-    idle: Walked,
-    prepare: Walked,
-    check: Walked,
-    asyncs: Walked,
+    /// The handles that sections walk, by kind.
+    watchers: WatcherLists,
     /// The handles whose close callback is still to come.
     closing: Walked,
     /// The requests that wait for a worker, the one that waits longest first.
@@ -69,10 +68,7 @@ impl Model for LoopState {
       arena = a.arena;
       timers = a.timers.entries;
       ready = a.ready.items;
-      idle = a.idle;
-      prepare = a.prepare;
-      check = a.check;
-      async = a.asyncs;
+      watchers = a.watchers;
       closing = a.closing;
       waiting = a.waiting.items;
       running = a.running.items;
@@ -98,10 +94,7 @@ impl LoopState {
             arena: Arena::new(alloc, script.arena_size().slots),
             timers: BTreeMap::new(alloc),
             ready: Vec::new(alloc),
-            idle: Walked::new(alloc),
-            prepare: Walked::new(alloc),
-            check: Walked::new(alloc),
-            asyncs: Walked::new(alloc),
+            watchers: WatcherLists::new(alloc),
             closing: Walked::new(alloc),
             waiting: Vec::new(alloc),
             running,

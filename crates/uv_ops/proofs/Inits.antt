@@ -1,9 +1,10 @@
 -- A handle is made, and a name bound to it.
-use Rattle.uv_ops.proofs.Names.{◌≡◌, ◌≢◌, ◌∷◌, [], ◌++◌, Bool, true, false, if◌then◌else◌, Some, is_some, refl, sym, ap, ◌∙◌, subst, Id, Var, Kind, ListName, inited, taken, with_last, plain_slots, id_is, Place, State, live, listed_last, with_new, Content, Handle, Added, Record, By, IsMade, JoinsIf, is_async, Image, Held, counted_of, OnlyHandles, binding, Performs, StandsFor, list_stays, bound_stands}
+use Rattle.uv_ops.proofs.Names.{◌≡◌, ◌≢◌, ◌∷◌, [], ◌++◌, Bool, true, false, if◌then◌else◌, Some, is_some, refl, sym, ap, ◌∙◌, subst, Id, Var, Kind, ListName, inited, taken, with_last, plain_slots, id_is, Place, State, live, listed_last, with_new, with_watched, Content, Handle, Added, Record, By, IsMade, JoinsIf, is_async, Image, Held, counted_of, OnlyHandles, binding, Performs, StandsFor, list_stays, bound_stands}
 use Rattle.uv_ids.specs.declared.phase.Kind.TheVariants as kind
 use Rattle.uv_ids.specs.declared.code.Answer.TheVariants as answer
 use Rattle.uv_script.specs.declared.op.Op.TheVariants as op
 use Rattle.uv_records.specs.declared.lists.ListName.TheVariants as name
+use Rattle.uv_records.specs.declared.lists.WatcherKind.TheVariants as watcher
 use Rattle.uv_records.specs.Handles as records
 use Rattle.uv_arena.specs.Image as arena
 use Rattle.uv_step.specs.Change as change
@@ -42,18 +43,18 @@ module _ (h w : Held Place) (frame : OnlyHandles h.image w.image) (v : Var) (k :
     listed_stands false apart e =
         let plain = slots false e in
         let ids = taken_ids h.image s stands a d new c.added.inserted.next plain in
-        let t = with_asyncs h.image s stands a d new c.added.inserted.next plain s.async.list in
-        subst (λ (b : Bool). StandsFor mid (if b then record t { async = with_last t.async d } else t))
+        let t = with_asyncs h.image s stands a d new c.added.inserted.next plain s.watchers.async.list in
+        subst (λ (b : Bool). StandsFor mid (if b then with_watched t watcher.Async (with_last t.watchers.async d) else t))
         (sym apart)
-        (handle_stands h.image s stands a d new c.added.inserted.next plain s.async.list w.image.active (others false e)
+        (handle_stands h.image s stands a d new c.added.inserted.next plain s.watchers.async.list w.image.active (others false e)
         (list_stays h.image s stands a s name.Async ids (ap (λ q. arena.members q name.Async) e ∙ c.added.inserted.lists name.Async) refl))
     listed_stands true joins e =
         let plain = slots true e in
-        let t = with_asyncs h.image s stands a d new c.added.inserted.next plain s.async.list in
+        let t = with_asyncs h.image s stands a d new c.added.inserted.next plain s.watchers.async.list in
         let one = id_is a d new (e.slots.contents d ∙ c.added.inserted.now) in
-        subst (λ (b : Bool). StandsFor mid (if b then record t { async = with_last t.async d } else t))
+        subst (λ (b : Bool). StandsFor mid (if b then with_watched t watcher.Async (with_last t.watchers.async d) else t))
         (sym joins)
-        (handle_stands h.image s stands a d new c.added.inserted.next plain (s.async.list ++ d ∷ []) w.image.active (others true e)
+        (handle_stands h.image s stands a d new c.added.inserted.next plain (s.watchers.async.list ++ d ∷ []) w.image.active (others true e)
         (at_end h.image s stands a d new c.added.inserted.next plain name.Async one
         (e.lists ∙ ap (λ xs. xs ++ d.slot ∷ []) (c.added.inserted.lists name.Async))))
 

@@ -53,7 +53,10 @@ module _ (i : Image Place) (s : State) (h : StandsFor i s) (k : arena.Image Cont
   -- a handle is new, and these are the async ones
   module _ (asyncs : List Id) where
     abbrev pub with_asyncs : State
-    with_asyncs = record s { arena = taken d v s.arena; async = record { list = asyncs; yet = s.async.yet } }
+    with_asyncs = record s {
+      arena = taken d v s.arena;
+      watchers = record s.watchers { async = record { list = asyncs; yet = s.watchers.async.yet } };
+    }
 
     beside_asyncs : (l : ListName) → l ≢ name.Async → members with_asyncs l ≡ members s l
     beside_asyncs name.Async ne = absurd (ne refl)

@@ -17,11 +17,11 @@ pub use Rattle.uv_ids.specs.declared.id.Id.{Id}
 pub use Rattle.uv_ids.specs.declared.id.Var.{Var}
 pub use Rattle.uv_ids.specs.declared.phase.Kind.{Kind}
 pub use Rattle.uv_model.specs.Found.{found_or}
-pub use Rattle.uv_model.specs.Ids.{same_id, walk_without_id, without_id}
+pub use Rattle.uv_model.specs.Ids.{same_id, without_id}
 pub use Rattle.uv_model.specs.Ops.{Coded, Done, cancel, listed_last, make, on_handle, refuses, says_code, send, set_referenced, set_repeat, start_watcher, stop, succeeds, watcher_started, with_new, with_queued}
 pub use Rattle.uv_model.specs.Queries.{members}
-pub use Rattle.uv_model.specs.State.{State, as_request, live, live_handle, live_id, live_request, refreshed, with_handle, with_id}
-pub use Rattle.uv_model.specs.Timers.{without_timer}
+pub use Rattle.uv_model.specs.State.{State, Watchers, as_request, live, live_handle, live_id, live_request, refreshed, with_handle, with_id, with_watched}
+pub use Rattle.uv_model.specs.Timers.{watchers_without_id, without_timer}
 pub use Rattle.uv_model.specs.declared.place.Place.{Place}
 pub use Rattle.uv_ops.specs.Outside.{Cancels, Sends}
 pub use Rattle.uv_order.proofs.IdLists.{turned}

@@ -1,5 +1,5 @@
 -- A handle gets another record, and is on other lists: what the memory stands for then.
-use Rattle.uv_ops.proofs.Names.{◌≡◌, ℕ, List, map, Some, sym, ap, ◌∙◌, Id, HandleRecord, ListName, Walk, plain_slots, record_at, Entry, id_in, Place, State, with_handle, Content, Handle, handle_of, Image, StandsFor, timer_in, slots_set, ids_kept, map_same, Listed}
+use Rattle.uv_ops.proofs.Names.{◌≡◌, ℕ, List, map, Some, sym, ap, ◌∙◌, Id, HandleRecord, ListName, Walk, plain_slots, record_at, Entry, id_in, Place, State, Watchers, with_handle, Content, Handle, handle_of, Image, StandsFor, timer_in, slots_set, ids_kept, map_same, Listed}
 use Rattle.uv_records.specs.Slots as plain
 use Rattle.uv_arena.specs.Image as arena
 use Rattle.uv_handle.proofs.Counts as handles
@@ -18,9 +18,9 @@ module _ (i : Image Place) (s : State) (h : StandsFor i s) (k : arena.Image Cont
   slots : plain_slots k ≡ (with_handle s d to).arena
   slots = slots_set i s k d (Handle to) h set
 
-  module _ (ready : List Id) (idle prepare check async closing : Walk Id) where
+  module _ (ready : List Id) (watchers : Watchers) (closing : Walk Id) where
     abbrev pub relisted : State
-    relisted = record (with_handle s d to) { ready = ready; idle = idle; prepare = prepare; check = check; async = async; closing = closing }
+    relisted = record (with_handle s d to) { ready = ready; watchers = watchers; closing = closing }
 
     pub relisted_stands : ((l : ListName) → Listed k relisted l) → StandsFor (record i { arena = k; active = m }) relisted
     relisted_stands lists = record {

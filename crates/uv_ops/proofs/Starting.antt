@@ -1,5 +1,5 @@
 -- A watcher is started.
-use Rattle.uv_ops.proofs.Names.{◌≡◌, ◌≢◌, ℕ, ◌∷◌, map, if◌then◌else◌, refl, sym, ap, ◌∙◌, subst, Id, Var, HandleRecord, ListName, WatcherKind, activated, list_of, watcher_kind, with_first, ListUndo, counted, IsEnlisted, IsStarted, id_in, id_is, Place, found_or, State, succeeds, start_watcher, watcher_started, members, Content, Handle, Record, handle_of, By, Image, Held, counted_of, OnlyHandles, Allows, Performs, StandsFor, map_same, Listed, all_but_one}
+use Rattle.uv_ops.proofs.Names.{◌≡◌, ◌≢◌, ℕ, ◌∷◌, map, if◌then◌else◌, refl, sym, ap, ◌∙◌, subst, Id, Var, HandleRecord, ListName, WatcherKind, activated, list_of, watcher_kind, ListUndo, counted, IsEnlisted, IsStarted, id_in, id_is, Place, found_or, State, succeeds, start_watcher, watcher_started, members, Content, Handle, Record, handle_of, By, Image, Held, counted_of, OnlyHandles, Allows, Performs, StandsFor, map_same, Listed, all_but_one}
 use Rattle.uv_ids.specs.declared.code.Code.TheVariants as code
 use Rattle.uv_ids.specs.declared.code.Answer.TheVariants as answer
 use Rattle.uv_script.specs.declared.op.Op.TheVariants as op
@@ -39,21 +39,16 @@ module _ (i : Image Place) (s : State) (h : StandsFor i s) (k : arena.Image Cont
   started_others watcher.Async name.Async ne = absurd (ne refl)
   started_others watcher.Async b ne = refl
 
+  started_list : (kind : WatcherKind) → members (watcher_started s kind d from) (list_of kind) ≡ d ∷ members s (list_of kind)
+  started_list watcher.Idle = refl
+  started_list each = refl
+
   started_stands : (kind : WatcherKind) (u : ListUndo)
       → IsEnlisted handle_of Handle (counted_of i) (counted k m) d from (activated from) (list_of kind) u
       → StandsFor (record i { arena = k; active = m }) (watcher_started s kind d from)
-  started_stands watcher.Idle u c =
-      relisted_stands i s h k m d from (activated from) c.there c.plain s.ready (with_first s.idle d) s.prepare s.check s.async s.closing
-      (relisted name.Idle u c (watcher_started s watcher.Idle d from) (started_others watcher.Idle) refl)
-  started_stands watcher.Prepare u c =
-      relisted_stands i s h k m d from (activated from) c.there c.plain s.ready s.idle (with_first s.prepare d) s.check s.async s.closing
-      (relisted name.Prepare u c (watcher_started s watcher.Prepare d from) (started_others watcher.Prepare) refl)
-  started_stands watcher.Check u c =
-      relisted_stands i s h k m d from (activated from) c.there c.plain s.ready s.idle s.prepare (with_first s.check d) s.async s.closing
-      (relisted name.Check u c (watcher_started s watcher.Check d from) (started_others watcher.Check) refl)
-  started_stands watcher.Async u c =
-      relisted_stands i s h k m d from (activated from) c.there c.plain s.ready s.idle s.prepare s.check (with_first s.async d) s.closing
-      (relisted name.Async u c (watcher_started s watcher.Async d from) (started_others watcher.Async) refl)
+  started_stands kind u c =
+      relisted_stands i s h k m d from (activated from) c.there c.plain s.ready (watcher_started s kind d from).watchers s.closing
+      (relisted (list_of kind) u c (watcher_started s kind d from) (started_others kind) (started_list kind))
 
 -- ---- what the op does
 

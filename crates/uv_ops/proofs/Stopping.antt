@@ -1,10 +1,11 @@
 -- A watcher is stopped. The memory takes its slot off the list that it is on, unless it is closing; the state takes its id off each list that it
 -- could be called from.
-use Rattle.uv_ops.proofs.Names.{◌≡◌, ℕ, ◌++◌, ◌&&◌, true, false, if◌then◌else◌, eqb, List, map, Some, refl, sym, ap, ◌∙◌, subst, Id, Kind, HandleRecord, ListName, is_timer, without, DelistUndo, counted, record_at, IsStopped, id_in, Place, without_id, walk_without_id, State, with_handle, without_timer, stop, succeeds, members, has_id, AreActive, IsReached, Content, Handle, Record, handle_of, By, IsFit, Image, Held, counted_of, OnlyHandles, Does, StandsFor, map_same, IsOn, has_first, has_second, own_id, holds_it, has_it, ready_stays, not_waiting, not_done, not_done_yet, not_closing, not_closing_yet, without_ids, Listed}
+use Rattle.uv_ops.proofs.Names.{◌≡◌, ℕ, ◌++◌, ◌&&◌, true, false, if◌then◌else◌, eqb, List, map, Some, refl, sym, ap, ◌∙◌, subst, Id, Kind, HandleRecord, ListName, is_timer, without, DelistUndo, counted, record_at, IsStopped, id_in, Place, without_id, watchers_without_id, State, with_handle, without_timer, stop, succeeds, members, has_id, AreActive, IsReached, Content, Handle, Record, handle_of, By, IsFit, Image, Held, counted_of, OnlyHandles, Does, StandsFor, map_same, IsOn, has_first, has_second, own_id, holds_it, has_it, ready_stays, not_waiting, not_done, not_done_yet, not_closing, not_closing_yet, without_ids, Listed}
 use Rattle.uv_ids.specs.declared.code.Code.TheVariants as code
 use Rattle.uv_ids.specs.declared.code.Answer.TheVariants as answer
 use Rattle.uv_ids.specs.declared.phase.Kind.TheVariants as kind
 use Rattle.uv_records.specs.declared.lists.ListName.TheVariants as name
+use Rattle.uv_records.specs.declared.lists.WatcherKind.TheVariants as watcher
 use Rattle.uv_records.specs.Handles as records
 use Rattle.uv_arena.specs.Image as arena
 use Rattle.uv_step.specs.Change as change
@@ -57,22 +58,19 @@ module _ (i : Image Place) (s : State) (h : StandsFor i s) (d : Id) (from : Hand
     abbrev pub state_after : State
     state_after = record (with_handle s d (records.stopped from)) {
       ready = without_id s.ready d;
-      idle = walk_without_id s.idle d;
-      prepare = walk_without_id s.prepare d;
-      check = walk_without_id s.check d;
-      async = walk_without_id s.async d;
+      watchers = watchers_without_id s.watchers d;
     }
 
     listed : (l : ListName) → Listed k state_after l
     listed name.Ready = off name.Ready (ready_stays i d from there s h reached)
-    listed name.Idle = (off_both kind.Idle name.Idle name.IdleYet reached.idle).0
-    listed name.IdleYet = (off_both kind.Idle name.Idle name.IdleYet reached.idle).1
-    listed name.Prepare = (off_both kind.Prepare name.Prepare name.PrepareYet reached.prepare).0
-    listed name.PrepareYet = (off_both kind.Prepare name.Prepare name.PrepareYet reached.prepare).1
-    listed name.Check = (off_both kind.Check name.Check name.CheckYet reached.check).0
-    listed name.CheckYet = (off_both kind.Check name.Check name.CheckYet reached.check).1
-    listed name.Async = (off_both kind.Async name.Async name.AsyncYet reached.async).0
-    listed name.AsyncYet = (off_both kind.Async name.Async name.AsyncYet reached.async).1
+    listed name.Idle = (off_both kind.Idle name.Idle name.IdleYet (reached.watchers watcher.Idle)).0
+    listed name.IdleYet = (off_both kind.Idle name.Idle name.IdleYet (reached.watchers watcher.Idle)).1
+    listed name.Prepare = (off_both kind.Prepare name.Prepare name.PrepareYet (reached.watchers watcher.Prepare)).0
+    listed name.PrepareYet = (off_both kind.Prepare name.Prepare name.PrepareYet (reached.watchers watcher.Prepare)).1
+    listed name.Check = (off_both kind.Check name.Check name.CheckYet (reached.watchers watcher.Check)).0
+    listed name.CheckYet = (off_both kind.Check name.Check name.CheckYet (reached.watchers watcher.Check)).1
+    listed name.Async = (off_both kind.Async name.Async name.AsyncYet (reached.watchers watcher.Async)).0
+    listed name.AsyncYet = (off_both kind.Async name.Async name.AsyncYet (reached.watchers watcher.Async)).1
     listed name.Closing = stays name.Closing (not_closing i d from there s h reached)
     listed name.ClosingYet = stays name.ClosingYet (not_closing_yet i d from there s h reached)
     listed name.Waiting = stays name.Waiting (λ e. not_waiting i d from there fit)
@@ -80,8 +78,8 @@ module _ (i : Image Place) (s : State) (h : StandsFor i s) (d : Id) (from : Hand
     listed name.DoneYet = stays name.DoneYet (λ e. not_done_yet i d from there fit)
 
     pub stopped_stands : StandsFor (record i { arena = k; active = m }) state_after
-    stopped_stands = relisted_stands i s h k m d from (records.stopped from) c.there c.plain (without_id s.ready d) (walk_without_id s.idle d)
-        (walk_without_id s.prepare d) (walk_without_id s.check d) (walk_without_id s.async d) s.closing listed
+    stopped_stands = relisted_stands i s h k m d from (records.stopped from) c.there c.plain (without_id s.ready d)
+        (watchers_without_id s.watchers d) s.closing listed
 
     -- it is no timer
     pub stop_is : is_timer from.kind ≡ false → stop s d from ≡ record { state = state_after; answer = answer.Code code.Ok }

@@ -1,5 +1,5 @@
 -- Each handle closes once: every op and every step of the loop appends a line that may follow those before it.
-use Rattle.uv_order.proofs.Names.{◌≡◌, ◌⊎◌, inl, inr, ℕ, zero, suc, ◌+◌, ◌==◌, ◌||◌, List, [], ◌∷◌, ◌++◌, Bool, true, false, drop, Option, Some, None, Ok, length, slice_get, slice_set, unwrap_or, replicate, refl, ap, sym, subst, ◌∙◌, arith, cond_both, both_ways, eqb-true, or_right, false_from_ne_true, same_Some, none-some, Id, Var, Code, Kind, Phase, Seen, Site, Op, Program, op_at, arena_size, worker_count, HandleRecord, WatcherKind, inited, referenced_as, repeating, Slots, freed, Content, Named, Request, digest_in, is_open, request_in, text_of, Finished, Run, Stage, Idle, Prepare, Done, Async, Check, Closing, Walk, all_yet, same_id, has_id, AreDistinct, run_ids, State, fresh, handle, live, live_handle, live_request, with_handle, with_request, watched, with_watched, refreshed, unbound, started, restarted, do_op, Next, Moves, Refuses, call, calls, first_due, collected, front_moved, goes, is_default, may_leave, next_work, work_of, SaysTrue, CancelSays, MakesNew, OpSays, MayFollow, activity}
+use Rattle.uv_order.proofs.Names.{◌≡◌, ◌⊎◌, inl, inr, ℕ, zero, suc, ◌+◌, ◌==◌, ◌||◌, List, [], ◌∷◌, ◌++◌, Bool, true, false, drop, Option, Some, None, Ok, length, slice_get, slice_set, unwrap_or, replicate, refl, ap, sym, subst, ◌∙◌, arith, cond_both, both_ways, eqb-true, or_right, false_from_ne_true, same_Some, none-some, Id, Var, Code, Kind, Phase, Seen, Site, Op, Program, op_at, arena_size, worker_count, HandleRecord, WatcherKind, inited, referenced_as, repeating, Slots, freed, Content, Named, Request, digest_in, is_open, request_in, text_of, Finished, Run, Stage, Walk, all_yet, same_id, has_id, AreDistinct, run_ids, State, fresh, handle, live, live_handle, live_request, with_handle, with_request, watched, with_watched, refreshed, unbound, started, restarted, do_op, Next, Moves, Refuses, call, calls, first_due, collected, front_moved, goes, is_default, may_leave, next_work, work_of, SaysTrue, CancelSays, MakesNew, OpSays, MayFollow, activity, kind_as, Walking, Done, Closing, phase_of}
 use Rattle.uv_ids.specs.declared.code.Code.TheVariants as code
 use Rattle.uv_ids.specs.declared.code.Answer.TheVariants as answer
 use Rattle.uv_ids.specs.declared.phase.Phase.TheVariants as phase
@@ -13,7 +13,7 @@ use Rattle.uv_work.specs.Digests.{digest_of}
 use Rattle.uv_model.specs.Ops as ops
 use Rattle.uv_model.specs.Next as step
 use Rattle.uv_model.specs.Next.{next}
-use Rattle.uv_order.proofs.OpCases.{kind_as, IsRefusal, cancel_both, make_both}
+use Rattle.uv_order.proofs.OpCases.{IsRefusal, cancel_both, make_both}
 use Rattle.uv_order.proofs.IdLists.{on_list, Each, each_back, same, itself, turned, has_new_middle, distinct_back}
 use Rattle.uv_order.proofs.Holding.{names_turned, same_handles, is_held, put_same, Fits, its_handle, Everyone}
 use Rattle.uv_order.proofs.Asked.{request_turns, freed_turns, FrontRequest, TakesFront, RunsWork}
@@ -22,7 +22,7 @@ use Rattle.uv_order.proofs.Working.{Working}
 use Rattle.uv_order.proofs.Keeping.{has_number, Watches, Closes, Rests, Kept, members, not_free}
 use Rattle.uv_order.proofs.Did as row
 use Rattle.uv_order.proofs.Did.{Did, did, FrontOf, IsStill, timed}
-use Rattle.uv_order.proofs.KeptSteps.{everyone, opened}
+use Rattle.uv_order.proofs.KeptSteps.{opened}
 use Rattle.uv_order.proofs.Gone.{IsGone, gone_turned}
 use Rattle.uv_order.proofs.Started.{StartedAt, gone_freed, freed_gone, new_id, ready_started, watcher_is_started}
 use Rattle.uv_order.proofs.Worked.{Worked, IsIdle, worked_ended, worked_taken, worked_finished, worked_collected, not_called, says_true}
@@ -107,7 +107,7 @@ moved_holds : (s : State) (q : WatcherKind) (id i : Id) → handle (front_moved 
 moved_holds s q id i = grind arith
 
 watched_stays : (s : State) (q : WatcherKind) (t : Id × HandleRecord) → FrontOf s (watched s q).yet t → Kept s → t.1.closing ≡ false
-watched_stays s q t f kept = front_stays s (kind_as q) (watched s q) t (everyone s q kept) f kept
+watched_stays s q t f kept = front_stays s (kind_as q) (watched s q) t (kept.watchers q) f kept
 
 walked_known : (p : Program) (past : List Seen) (s : State) (run : Run) (q : WatcherKind) (t : Id × HandleRecord) → FrontOf s (watched s q).yet t →
     Kept s → StartedAt p past s → KnownAt p past s → Follows p past (call p (front_moved s q t.0) run t.0 t.1.name)
@@ -115,7 +115,7 @@ walked_known p past s run q t f kept begun k =
     call_known p past (front_moved s q t.0) run t.0 t.1.name t.1 (moved_holds s q t.0 t.0 ∙ f.holds) (watched_stays s q t f kept)
     (watcher_is_started p past s q t f kept begun) (moved_known p past s q t.0 k)
 
-woken_known : (p : Program) (past : List Seen) (s : State) (run : Run) (t : Id × HandleRecord) → FrontOf s s.async.yet t → Kept s →
+woken_known : (p : Program) (past : List Seen) (s : State) (run : Run) (t : Id × HandleRecord) → FrontOf s s.watchers.async.yet t → Kept s →
     StartedAt p past s → KnownAt p past s →
     Follows p past (call p (with_handle (front_moved s watcher.Async t.0) t.0 (records.woken t.1)) run t.0 t.1.name)
 woken_known p past s run t f kept begun k =

@@ -1,5 +1,5 @@
 -- What a step does, in a row for each way: the tree of the steps is walked here, once, and whatever steps keep is shown by rows.
-use Rattle.uv_order.proofs.Names.{arith, ◌≡◌, ℕ, ◌+◌, List, [], ◌∷◌, Bool, true, false, Option, Some, None, Result, Ok, Err, drop, length, nat_le, nat_lt, slice_get, option_map, refl, ap, cond_both, same_Some, Id, Var, Due, Event, Loop, Take, Finish, Cancel, Send, Tick, Why, Blocked, Ended, Range, Mode, Phase, Seen, Site, HandleRecord, WatcherKind, CallbackLine, MainOp, Op, Program, arena_size, lines_in, main_op, op_at, order_of, Request, digest_in, Body, Place, Main, Run, Stage, Pending, Idle, Prepare, Poll, Done, Async, Check, Closing, Timers, Collecting, Firing, TimersOf, Turn, AtEntry, Behind, BehindClosing, Way, ToTimers, ToPending, ToEnd, State, handle, with_handle, live_handle, live_request, front, front_request, watched, refreshed, restarted, do_op, Next, Moves, Refuses, call, calls, first_due, front_moved, goes, may_leave, next_work, work_of, found_both, BeginsBehind, BeginsIn, BeginsAt}
+use Rattle.uv_order.proofs.Names.{arith, ◌≡◌, ℕ, ◌+◌, List, [], ◌∷◌, Bool, true, false, Option, Some, None, Result, Ok, Err, drop, length, nat_le, nat_lt, slice_get, option_map, refl, ap, cond_both, same_Some, Id, Var, Due, Event, Loop, Take, Finish, Cancel, Send, Tick, Why, Blocked, Ended, Range, Mode, Phase, Seen, Site, HandleRecord, WatcherKind, CallbackLine, MainOp, Op, Program, arena_size, lines_in, main_op, op_at, order_of, Request, digest_in, Body, Place, Main, Run, Stage, Pending, Poll, Done, Closing, Timers, Collecting, Firing, TimersOf, Turn, AtEntry, Behind, BehindClosing, Way, ToTimers, ToPending, ToEnd, State, handle, with_handle, live_handle, live_request, front, front_request, watched, refreshed, restarted, do_op, Next, Moves, Refuses, call, calls, first_due, front_moved, goes, may_leave, next_work, work_of, found_both, BeginsBehind, BeginsIn, BeginsAt, Walking}
 use Rattle.uv_ids.specs.declared.seen.Callback.TheVariants as callback
 use Rattle.uv_ids.specs.declared.seen.Seen.TheVariants as seen
 use Rattle.uv_ids.specs.declared.seen.Site.TheVariants as site
@@ -77,9 +77,9 @@ pub data Did (p : Program) (s : State) : Next → Type 0 where
   -- a watcher is called; an async handle is passed by, one is called
   walked : (run : Run) (q : WatcherKind) (t : Id × HandleRecord) → IsSync q → FrontOf s (watched s q).yet t
       → Did p s (call p (front_moved s q t.0) run t.0 t.1.name)
-  passed : (run : Run) (t : Id × HandleRecord) → FrontOf s s.async.yet t → t.1.pending ≡ false
-      → Did p s (Moves (step.at (front_moved s watcher.Async t.0) run Async) None)
-  woken : (run : Run) (t : Id × HandleRecord) → FrontOf s s.async.yet t → t.1.pending ≡ true
+  passed : (run : Run) (t : Id × HandleRecord) → FrontOf s s.watchers.async.yet t → t.1.pending ≡ false
+      → Did p s (Moves (step.at (front_moved s watcher.Async t.0) run (Walking watcher.Async)) None)
+  woken : (run : Run) (t : Id × HandleRecord) → FrontOf s s.watchers.async.yet t → t.1.pending ≡ true
       → Did p s (call p (with_handle (front_moved s watcher.Async t.0) t.0 (records.woken t.1)) run t.0 t.1.name)
   -- a slot is freed, and its close or after callback begins
   closed : (run : Run) (t : Id × HandleRecord) → FrontOf s s.closing.yet t
@@ -120,15 +120,16 @@ walk_did p s run q sync over = found_both (front s (watched s q).yet) _ _ (Did p
 stage_did : (p : Program) (s : State) (run : Run) (x : Stage) → BeginsBehind x s → Did p s (step.stage_step p s run x)
 stage_did p s run Entry r = turn_did p s run AtEntry
 stage_did p s run Pending r = begun run watcher.Idle r
-stage_did p s run Idle r = walk_did p s run watcher.Idle tt (begun run watcher.Prepare r)
-stage_did p s run Prepare r = walk_did p s run watcher.Prepare tt (still _ s.time s.clock s.stop_flag s.idled _ (poll _))
+stage_did p s run (Walking watcher.Idle) r = walk_did p s run watcher.Idle tt (begun run watcher.Prepare r)
+stage_did p s run (Walking watcher.Prepare) r =
+    walk_did p s run watcher.Prepare tt (still _ s.time s.clock s.stop_flag s.idled _ (poll _))
 stage_did p s run (Poll deadline) r = cond_both (may_leave s deadline) _ _ (Did p s) (λ h. begun_done run r) (λ h. refused Blocked)
 stage_did p s run Done r = found_both (front_request s s.done.yet) _ _ (Did p s)
     (λ t e. ended run t (request_front s s.done.yet t e)) (λ e. begun run watcher.Async r)
-stage_did p s run Async r = found_both (front s s.async.yet) _ _ (Did p s)
-    (λ t e. let f = front_of s s.async.yet t e in cond_both t.1.pending _ _ (Did p s) (λ on. woken run t f on) (λ off. passed run t f off))
+stage_did p s run (Walking watcher.Async) r = found_both (front s s.watchers.async.yet) _ _ (Did p s)
+    (λ t e. let f = front_of s s.watchers.async.yet t e in cond_both t.1.pending _ _ (Did p s) (λ on. woken run t f on) (λ off. passed run t f off))
     (λ e. begun run watcher.Check r)
-stage_did p s run Check r = walk_did p s run watcher.Check tt (begun_closing run r)
+stage_did p s run (Walking watcher.Check) r = walk_did p s run watcher.Check tt (begun_closing run r)
 stage_did p s run Closing r = found_both (front s s.closing.yet) _ _ (Did p s)
     (λ t e. closed run t (front_of s s.closing.yet t e)) (λ e. turn_did p s run BehindClosing)
 stage_did p s run (Timers part Collecting) r = found_both (first_due s s.timers) _ _ (Did p s)

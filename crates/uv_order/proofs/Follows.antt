@@ -1,5 +1,5 @@
 -- A whole step goes on from where the state stands, and so does every list of them.
-use Rattle.uv_order.proofs.Names.{arith, ◌≡◌, ℕ, suc, ◌+◌, ◌||◌, ◌&&◌, List, [], ◌∷◌, ◌++◌, Bool, true, false, Option, Some, None, Result, Ok, Err, drop, length, slice_get, slice_set, nat_le, nat_lt, refl, ap, sym, ◌∙◌, if◌then◌else◌, list_any, cond_both, eq-eqb, Order, V144, V145, Id, Var, Event, Loop, Take, Finish, Cancel, Send, Tick, Answer, Mode, Default, Once, Nowait, Phase, Site, Op, MainOp, CallbackLine, Program, lines_in, main_op, order_of, HandleRecord, Slot, held, Why, Content, content_pends, handle_in, Request, has_some, without_id, has_pending, has_passed, Body, Run, Stage, AtEntry, Collecting, Firing, Place, State, fresh, handle, with_handle, with_request, refreshed, do_op, Next, Moves, Refuses, goes, is_default, call, calls, first_due, collected, front_moved, may_leave, body_from, next_work, work_of, Names, Told, nothing_told, told_of, told_by, Lasting, lasting, at_first, Section, Entry, In, word_of, part_after, part_of, Opens, IsOver, CallsNext, MayCall, is_called, callback_in, IsCallLine, Standing, Begun, Within, Polling, MayLeave, PollsFor, Position, Between, Running, Goes, GoesOn, cut, line, Documented, body_of, next_call, taken_off, BeginsIn, BeginsAt}
+use Rattle.uv_order.proofs.Names.{arith, ◌≡◌, ℕ, suc, ◌+◌, ◌||◌, ◌&&◌, List, [], ◌∷◌, ◌++◌, Bool, true, false, Option, Some, None, Result, Ok, Err, drop, length, slice_get, slice_set, nat_le, nat_lt, refl, ap, sym, ◌∙◌, if◌then◌else◌, list_any, cond_both, eq-eqb, Order, V144, V145, Id, Var, Event, Loop, Take, Finish, Cancel, Send, Tick, Answer, Mode, Default, Once, Nowait, Phase, Site, Op, MainOp, CallbackLine, Program, lines_in, main_op, order_of, HandleRecord, Slot, held, Why, Content, content_pends, handle_in, Request, has_some, without_id, has_pending, has_passed, Body, Run, Stage, AtEntry, Collecting, Firing, Place, State, fresh, handle, with_handle, with_request, refreshed, do_op, Next, Moves, Refuses, goes, is_default, call, calls, first_due, collected, front_moved, may_leave, body_from, next_work, work_of, Names, Told, nothing_told, told_of, told_by, Lasting, lasting, at_first, Section, Entry, In, word_of, part_after, part_of, Opens, IsOver, CallsNext, MayCall, is_called, callback_in, IsCallLine, Standing, Begun, Within, Polling, MayLeave, PollsFor, Position, Between, Running, Goes, GoesOn, cut, line, Documented, body_of, next_call, taken_off, BeginsIn, BeginsAt, phase_of}
 use Rattle.std.specs.Prelude.{option_map}
 use Rattle.uv_ids.specs.declared.code.Code.TheVariants as code
 use Rattle.uv_ids.specs.declared.code.Answer.TheVariants as answer
@@ -28,7 +28,7 @@ use Rattle.uv_order.proofs.Bodies.{IsBody, is_body}
 use Rattle.uv_order.proofs.OpEffects.{op_effect}
 use Rattle.uv_order.proofs.Counted.{Counted, counted_kept, counted_sent, counted_fresh}
 use Rattle.uv_order.proofs.Sends.{pends_in, pends, SentAt, still_sent, pass_more, pends_more}
-use Rattle.uv_order.proofs.Standing.{left_all, bare, begun_with, are_ended, section_of, StandsIn, waiting, rest_in, AsyncIn, rest, Leaves, NobodyLeft, due_now, StandsAt, Stands, FollowsLine, Follows, idle_next, done_next, bare_over, async_moved, begun, pending, idle, prepare, polls, done, async, check, closing, collects, fires, between, running}
+use Rattle.uv_order.proofs.Standing.{left_all, bare, begun_with, are_ended, section_of, StandsIn, waiting, rest_in, AsyncIn, rest, Leaves, NobodyLeft, due_now, StandsAt, Stands, FollowsLine, Follows, idle_next, done_next, bare_over, async_moved, begun, pending, walking, polls, done, closing, collects, fires, between, running}
 use Rattle.uv_order.proofs.TimersFollow.{turn_follows, fire_follows, collect_follows}
 use Rattle.uv_order.proofs.WatchersFollow.{begin_follows, walk_follows, async_follows, done_follows, closing_follows}
 
@@ -81,13 +81,11 @@ stage_follows p told s run stage.Entry at st k h g c begun l = turn_follows p to
 stage_follows p told s run stage.Pending at st k h g c pending l =
     begin_follows p told s run watcher.Idle (Within (In phase.Pending) bare) (bare_over phase.Pending) idle_next k h c (left_all l.timers l.idle
     l.prepare l.check l.async l.closing l.done)
-stage_follows p told s run stage.Idle at st k h g c (idle b) l = walk_follows p told s run watcher.Idle _ (lives_is s g) tt st k h c l b
-stage_follows p told s run stage.Prepare at st k h g c (prepare b) l = walk_follows p told s run watcher.Prepare _ (lives_is s g) tt st k h c l b
+stage_follows p told s run (stage.Walking watcher.Async) at st k h g c (walking b) l = async_follows p told s run _ (lives_is s g) st k h c l b
+stage_follows p told s run (stage.Walking q) at st k h g c (walking b) l = walk_follows p told s run q _ (lives_is s g) tt st k h c l b
 stage_follows p told s run (stage.Poll deadline) at st k h g c polls l = left_poll p told s run deadline h g c (left_all l.timers l.idle l.prepare
     l.check l.async l.closing l.done)
 stage_follows p told s run stage.Done at st k h g c (done b) l = done_follows p told s run _ st k h g c l b
-stage_follows p told s run stage.Async at st k h g c (async b) l = async_follows p told s run _ (lives_is s g) st k h c l b
-stage_follows p told s run stage.Check at st k h g c (check b) l = walk_follows p told s run watcher.Check _ (lives_is s g) tt st k h c l b
 stage_follows p told s run stage.Closing at st k h g c (closing b) l = closing_follows p told s run _ (lives_is s g) st k c l b
 stage_follows p told s run (stage.Timers part Collecting) at st k h g c (collects b) l = collect_follows p told s run part _ (lives_is s g) k c l b
 stage_follows p told s run (stage.Timers part Firing) at st k h g c (fires b) l = fire_follows p told s run part _ (lives_is s g) k c l b
@@ -126,19 +124,19 @@ left_in phase.Done phase.Done names o a w more now was e h = more_left w.ahead w
 left_in x word names o a w more now was e h = still_none now was _ e h
 
 async_in : (s : State) (told : Told) (o : Op) (word : Phase) (w : Walk) (more : List Site) → Kept s → SentAt told.sent s →
-    AsyncIn word s.arena.slots w s.async.yet → AsyncIn word (do_op s o).state.arena.slots
-    (record w { off = taken_off word (names_at s) o (do_op s o).answer ++ w.off; body = more }) (do_op s o).state.async.yet
+    AsyncIn word s.arena.slots w s.watchers.async.yet → AsyncIn word (do_op s o).state.arena.slots
+    (record w { off = taken_off word (names_at s) o (do_op s o).answer ++ w.off; body = more }) (do_op s o).state.watchers.async.yet
 async_in s told o phase.Async w more k h l =
     let f = op_effect s o k in
     record {
       gone = l.gone;
       behind = l.behind;
       all = l.all;
-      left = more_left l.behind w.off _ s.async.yet _ f.async l.left;
+      left = more_left l.behind w.off _ s.watchers.async.yet _ f.async l.left;
       passed = pass_more (taken_off phase.Async (names_at s) o (do_op s o).answer) w.off w.sent l.gone l.passed;
-      still = still_sent s told o s.async.yet _ w.sent k h f.async l.still;
+      still = still_sent s told o s.watchers.async.yet _ w.sent k h f.async l.still;
     }
-async_in s told o word w more k h l = still_none _ s.async.yet _ (op_effect s o k).async l
+async_in s told o word w more k h l = still_none _ s.watchers.async.yet _ (op_effect s o k).async l
 
 -- no op takes a handle off the closing list
 pub closing_takes_none : (s : State) (o : Op) (a : Answer) → taken_off phase.Closing (names_at s) o a ≡ []
@@ -160,9 +158,9 @@ op_left s told o part w more k h l =
     let f = op_effect s o k in
     let a = (do_op s o).answer in
     (left_all (left_in phase.Timers (word_of part) (names_at s) o a w more _ s.ready f.ready l.timers)
-    (left_in phase.Idle (word_of part) (names_at s) o a w more _ s.idle.yet f.idle l.idle)
-    (left_in phase.Prepare (word_of part) (names_at s) o a w more _ s.prepare.yet f.prepare l.prepare)
-    (left_in phase.Check (word_of part) (names_at s) o a w more _ s.check.yet f.check l.check)
+    (left_in phase.Idle (word_of part) (names_at s) o a w more _ s.watchers.idle.yet f.idle l.idle)
+    (left_in phase.Prepare (word_of part) (names_at s) o a w more _ s.watchers.prepare.yet f.prepare l.prepare)
+    (left_in phase.Check (word_of part) (names_at s) o a w more _ s.watchers.check.yet f.check l.check)
     (async_in s told o (word_of part) w more k h l.async)
     (left_in phase.Closing (word_of part) (names_at s) o a w more _ s.closing.yet
     (untouched _ s.closing.yet _ f.closing (closing_takes_none s o a)) l.closing)
@@ -204,24 +202,13 @@ pub body_follows : (p : Program) (told : Told) (s : State) (run : Run) (body : B
     Counted p s.names told → StandsIn p (Some body) x at → Leaves (rest (waiting x s.ready (due_now s)) s) at →
     Follows p told (Running run.mode run.line at) s
     (step.body_step p s run body l)
-body_follows p told s run body x at None st e k h c (idle b) l = absurd (nothing_there e b.there)
-body_follows p told s run body x at None st e k h c (prepare b) l = absurd (nothing_there e b.there)
-body_follows p told s run body x at None st e k h c (check b) l = absurd (nothing_there e b.there)
-body_follows p told s run body x at None st e k h c (async b) l = absurd (nothing_there e b.there)
+body_follows p told s run body x at None st e k h c (walking b) l = absurd (nothing_there e b.there)
 body_follows p told s run body x at None st e k h c (closing b) l = absurd (nothing_there e b.there)
 body_follows p told s run body x at None st e k h c (done b) l = absurd (nothing_there e b.there)
 body_follows p told s run body x at None st e k h c (fires b) l = absurd (nothing_there e b.there)
-body_follows p told s run body x at (Some y) st e k h c (idle {w = w} b) l =
-    op_follows p told s run body (In phase.Idle) w y e k c b (λ more is. rw st (running (idle is) (op_left s told y.op (In phase.Idle) w more k h l)))
-body_follows p told s run body x at (Some y) st e k h c (prepare {w = w} b) l =
-    op_follows p told s run body (In phase.Prepare) w y e k c b
-    (λ more is. rw st (running (prepare is) (op_left s told y.op (In phase.Prepare) w more k h l)))
-body_follows p told s run body x at (Some y) st e k h c (check {w = w} b) l =
-    op_follows p told s run body (In phase.Check) w y e k c b
-    (λ more is. rw st (running (check is) (op_left s told y.op (In phase.Check) w more k h l)))
-body_follows p told s run body x at (Some y) st e k h c (async {w = w} b) l =
-    op_follows p told s run body (In phase.Async) w y e k c b
-    (λ more is. rw st (running (async is) (op_left s told y.op (In phase.Async) w more k h l)))
+body_follows p told s run body x at (Some y) st e k h c (walking {q = q} {w = w} b) l =
+    op_follows p told s run body (In (phase_of q)) w y e k c b
+    (λ more is. rw st (running (walking is) (op_left s told y.op (In (phase_of q)) w more k h l)))
 body_follows p told s run body x at (Some y) st e k h c (closing {w = w} b) l =
     op_follows p told s run body (In phase.Closing) w y e k c b
     (λ more is. rw st (running (closing is) (op_left s told y.op (In phase.Closing) w more k h l)))
@@ -314,7 +301,7 @@ send_follows p told s at v h = cond_both (nat_lt v.0 (length s.names)) _ _ (Foll
         StandsAt p (with_handle s t.0 (records.sent t.1)) x y
     moved t f (place.Main i) y (between e) = between (left_all e.timers e.idle e.prepare e.check e.async e.closing e.done)
     moved t f (place.Running run) y (running {at = b} a l) = running a (left_all l.timers l.idle l.prepare l.check
-        (async_moved s.arena.slots _ (pends_more s.arena.slots t.0 t.1 (records.sent t.1) f refl) b s.async.yet l.async) l.closing l.done)
+        (async_moved s.arena.slots _ (pends_more s.arena.slots t.0 t.1 (records.sent t.1) f refl) b s.watchers.async.yet l.async) l.closing l.done)
 
 -- the lists of requests are no places
 works_on : (p : Program) (s : State) (ids : List Id) (workers : List (Option Id)) (x : Place) (at : Position) → StandsAt p s x at →
@@ -337,7 +324,7 @@ ends_on : (p : Program) (s : State) (t : Id × Request) (x : Request) (ids : Lis
     StandsAt p (record (with_request s t.0 x) { waiting = ids; running = workers; done = record s.done { list = s.done.list ++ t.0 ∷ [] } }) y at
 ends_on p s t x ids workers e (place.Main i) at (between l) = between (left_all l.timers l.idle l.prepare l.check l.async l.closing l.done)
 ends_on p s t x ids workers e (place.Running run) at (running {at = b} a l) = running a (left_all l.timers l.idle l.prepare l.check
-    (async_moved s.arena.slots _ (λ i on. ap pends_in (same i) ∙ on) b s.async.yet l.async) l.closing l.done) where
+    (async_moved s.arena.slots _ (λ i on. ap pends_in (same i) ∙ on) b s.watchers.async.yet l.async) l.closing l.done) where
       same : SameHandles (with_request s t.0 x).arena.slots s.arena.slots
       same = same_handles s.arena.slots _ t.0 _ _ (request_turns s.arena.slots t.0 t.1 x e) refl refl
 
@@ -386,11 +373,11 @@ pub begins_in : (p : Program) (s : State) (body : Option Body) (x : Stage) (at :
     Leaves (rest (waiting x s.ready (due_now s)) s) at → BeginsIn body x s
 begins_in p s (Some body) x at h l = tt
 begins_in p s None stage.Pending at pending l = l.idle
-begins_in p s None stage.Idle at (idle b) l = l.prepare
+begins_in p s None (stage.Walking watcher.Idle) at (walking b) l = l.prepare
 begins_in p s None (stage.Poll deadline) at polls l = l.done
 begins_in p s None stage.Done at (done b) l = l.async
-begins_in p s None stage.Async at (async b) l = l.check
-begins_in p s None stage.Check at (check b) l = l.closing
+begins_in p s None (stage.Walking watcher.Async) at (walking b) l = l.check
+begins_in p s None (stage.Walking watcher.Check) at (walking b) l = l.closing
 begins_in p s None each at h l = tt
 
 pub begins_at : (p : Program) (s : State) (x : Place) (at : Position) → StandsAt p s x at → BeginsAt x s

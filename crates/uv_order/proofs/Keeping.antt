@@ -1,7 +1,7 @@
 -- What every step keeps: the lists and the handles agree. The order of timers has just the active ones, the ready list has inactive
 -- timers, and the lists of watchers, async and closing handles have just those of their kind; no id stands twice on a list. A handle that
 -- closes is inactive. The free slots are empty.
-use Rattle.uv_order.proofs.Names.{◌≡◌, ℕ, zero, suc, ◌+◌, ◌==◌, ◌&&◌, ◌||◌, List, [], ◌∷◌, ◌++◌, Bool, true, false, Some, None, length, slice_get, slice_set, refl, ap, sym, subst, ◌∙◌, append_assoc, arith, if◌then◌else◌, not, option_and_then, cond_both, and_parts, both_ways, or_parts, eqb-true, eq-eqb, same_Some, filter-append, Id, Var, Due, Kind, HandleRecord, Slot, WatcherKind, inited, activated, begun_at, referenced_as, repeating, is_timer, is_async, Slots, held, taken, freed, next_free, next_id, next_unused, id_of, Walk, with_last, Content, same_id, walk_without_id, State, handle, with_handle, without_timer, stopped, started, restarted, due_after, do_op, has_id}
+use Rattle.uv_order.proofs.Names.{◌≡◌, ℕ, zero, suc, ◌+◌, ◌==◌, ◌&&◌, ◌||◌, List, [], ◌∷◌, ◌++◌, Bool, true, false, Some, None, length, slice_get, slice_set, refl, ap, sym, subst, ◌∙◌, append_assoc, arith, if◌then◌else◌, not, option_and_then, cond_both, and_parts, both_ways, or_parts, eqb-true, eq-eqb, same_Some, filter-append, Id, Var, Due, Kind, HandleRecord, Slot, WatcherKind, inited, activated, begun_at, referenced_as, repeating, is_timer, is_async, Slots, held, taken, freed, next_free, next_id, next_unused, id_of, Walk, with_last, Content, same_id, walk_without_id, State, handle, with_handle, without_timer, stopped, started, restarted, due_after, do_op, has_id, kind_as, Watchers, those_of, with_those_of, watchers_without_id, watched, with_watched, with_first}
 use Rattle.uv_ids.specs.declared.phase.Kind.TheVariants as kind
 use Rattle.uv_records.specs.declared.lists.WatcherKind.TheVariants as watcher
 use Rattle.uv_records.specs.Handles as records
@@ -11,7 +11,7 @@ use Rattle.uv_model.specs.Ops as ops
 use Rattle.uv_order.proofs.IdLists.{same, other, without_absent, without_itself}
 use Rattle.uv_order.proofs.Contents.{slot_with, IsThere, Turns, set_turns, pushed_turns, get_set_other}
 use Rattle.uv_order.proofs.Holding.{held_at, is_held, put, slot_of, SameHandles, Grown, grown, Lists, lists_same, everyone_same, times_same, lists_put, lists_without, lists_grown, Everyone, everyone_put, everyone_without, everyone_front, everyone_grown, everyone_listed, IsSet, Times, times_put, times_without, times_with, times_grown, put_same, put_other}
-use Rattle.uv_order.proofs.OpCases.{timer_kind, kind_as}
+use Rattle.uv_order.proofs.OpCases.{timer_kind}
 
 -- ---- what is kept
 
@@ -56,29 +56,23 @@ AreFree slots (n ∷ ns) = IsEmpty slots n × (has_number ns n ≡ false) × Are
 abbrev pub members : Walk Id → List Id
 members w = w.list ++ w.yet
 
-pub record Agree (slots : Slots Content) (drawn : ℕ) (ts : List (Due × Id)) (resting : List Id) (idlers preparers checkers wakers closers : Walk Id)
+pub record Agree (slots : Slots Content) (drawn : ℕ) (ts : List (Due × Id)) (resting : List Id) (watching : Watchers) (closers : Walk Id)
     : Type 0 where
   pub sound : AllSound slots.slots
   pub free : AreFree slots.slots slots.free
   pub timers : Times slots.slots drawn ts
   pub ready : Lists slots.slots Rests resting
-  pub idle : Everyone slots.slots (Watches kind.Idle) (members idlers)
-  pub prepare : Everyone slots.slots (Watches kind.Prepare) (members preparers)
-  pub check : Everyone slots.slots (Watches kind.Check) (members checkers)
-  pub async : Everyone slots.slots (Watches kind.Async) (members wakers)
+  pub watchers : (q : WatcherKind) → Everyone slots.slots (Watches (kind_as q)) (members (those_of q watching))
   pub closing : Everyone slots.slots Closes (members closers)
 
-pub kept_all : {slots : Slots Content} {drawn : ℕ} {ts : List (Due × Id)} {resting : List Id}
-    {idlers preparers checkers wakers closers : Walk Id} → AllSound slots.slots → AreFree slots.slots slots.free → Times slots.slots drawn ts →
-    Lists slots.slots Rests resting → Everyone slots.slots (Watches kind.Idle) (members idlers) →
-    Everyone slots.slots (Watches kind.Prepare) (members preparers) → Everyone slots.slots (Watches kind.Check) (members checkers) →
-    Everyone slots.slots (Watches kind.Async) (members wakers) → Everyone slots.slots Closes (members closers) →
-    Agree slots drawn ts resting idlers preparers checkers wakers closers
-kept_all a b c d e f g h i =
-    record { sound = a; free = b; timers = c; ready = d; idle = e; prepare = f; check = g; async = h; closing = i }
+pub kept_all : {slots : Slots Content} {drawn : ℕ} {ts : List (Due × Id)} {resting : List Id} {watching : Watchers} {closers : Walk Id} →
+    AllSound slots.slots → AreFree slots.slots slots.free → Times slots.slots drawn ts → Lists slots.slots Rests resting →
+    ((q : WatcherKind) → Everyone slots.slots (Watches (kind_as q)) (members (those_of q watching))) →
+    Everyone slots.slots Closes (members closers) → Agree slots drawn ts resting watching closers
+kept_all a b c d e f = record { sound = a; free = b; timers = c; ready = d; watchers = e; closing = f }
 
 abbrev pub Kept : State → Type 0
-Kept s = Agree s.arena s.next_start s.timers s.ready s.idle s.prepare s.check s.async s.closing
+Kept s = Agree s.arena s.next_start s.timers s.ready s.watchers s.closing
 
 -- ---- facts of kinds
 
@@ -91,6 +85,11 @@ open_shut h a b = cc (a, b)
 -- a handle of one kind is none of another
 abbrev pub Apart : Kind → Kind → Type 0
 Apart a b = a ≡ b → ⊥
+
+-- a watcher is no timer
+pub not_timer : (q : WatcherKind) → Apart kind.Timer (kind_as q)
+not_timer watcher.Idle = λ e. cc e
+not_timer each = λ e. cc e
 
 pub other_kind : (h x : HandleRecord) (a b : Kind) → h.kind ≡ a → Apart a b → Watches b h → Watches b x
 other_kind h x a b e d w = absurd (d (sym e ∙ w.kind))
@@ -158,9 +157,11 @@ not_free slots id c (n ∷ ns) e k = grind (arith, eqb-true, filled, not_free sl
 
 -- no handle changes
 pub agree_same : (now was : Slots Content) (s : State) → SameHandles now.slots was.slots → AreFree now.slots now.free →
-    Agree was s.next_start s.timers s.ready s.idle s.prepare s.check s.async s.closing →
-    Agree now s.next_start s.timers s.ready s.idle s.prepare s.check s.async s.closing
-agree_same now was s f free k = grind (arith, lists_same, everyone_same, times_same, kept_all)
+    Agree was s.next_start s.timers s.ready s.watchers s.closing →
+    Agree now s.next_start s.timers s.ready s.watchers s.closing
+agree_same now was s f free k = kept_all (λ id h e. k.sound id h (sym (f id) ∙ e)) free (times_same was.slots now.slots _ _ f k.timers)
+    (lists_same was.slots now.slots Rests _ f k.ready) (λ q. everyone_same was.slots now.slots (Watches (kind_as q)) _ f (k.watchers q))
+    (everyone_same was.slots now.slots Closes _ f k.closing)
 
 -- a handle is changed in what the lists don't speak of
 pub put_kept : (s : State) (id : Id) (h x : HandleRecord) → handle s id ≡ Some h → x.kind ≡ h.kind → x.active ≡ h.active → x.due ≡ h.due → x.closing
@@ -176,10 +177,7 @@ put_kept s id h x e a b c o k = record {
       (λ key t. record { kind = a ∙ t.kind; active = b ∙ t.active; due = c ∙ t.due })
       (λ key t. record { kind = sym a ∙ t.kind; active = sym b ∙ t.active; due = sym c ∙ t.due }) k.timers;
   ready = lists_put s.arena.slots Rests id h x s.ready e (λ r. record { kind = a ∙ r.kind; inactive = b ∙ r.inactive; stays = o ∙ r.stays }) k.ready;
-  idle = everyone_put s.arena.slots (Watches kind.Idle) id h x (members s.idle) e (on kind.Idle) (off kind.Idle) k.idle;
-  prepare = everyone_put s.arena.slots (Watches kind.Prepare) id h x (members s.prepare) e (on kind.Prepare) (off kind.Prepare) k.prepare;
-  check = everyone_put s.arena.slots (Watches kind.Check) id h x (members s.check) e (on kind.Check) (off kind.Check) k.check;
-  async = everyone_put s.arena.slots (Watches kind.Async) id h x (members s.async) e (on kind.Async) (off kind.Async) k.async;
+  watchers = λ q. everyone_put s.arena.slots (Watches (kind_as q)) id h x (members (watched s q)) e (on (kind_as q)) (off (kind_as q)) (k.watchers q);
   closing = everyone_put s.arena.slots Closes id h x (members s.closing) e (λ shut. o ∙ shut) (λ shut. sym o ∙ shut) k.closing;
 } where
   on : (q : Kind) → Watches q h → Watches q x
@@ -193,6 +191,13 @@ pub off_both : (s : State) (id : Id) (h x : HandleRecord) (q : Kind) (w : Walk I
     Everyone s.arena.slots (Watches q) (members w) → Everyone (put s.arena.slots id x) (Watches q) (members (walk_without_id w id))
 off_both s id h x q w e off l = subst (Everyone (put s.arena.slots id x) (Watches q)) (filter-append (λ i. not (same_id i id)) w.list w.yet)
     (everyone_without s.arena.slots (Watches q) id h x (members w) e (λ y. on_off x y.active off) l)
+
+-- of any kind
+off_watched : (s : State) (id : Id) (h x : HandleRecord) (q : WatcherKind) → handle s id ≡ Some h → x.active ≡ false →
+    Everyone s.arena.slots (Watches (kind_as q)) (members (watched s q)) →
+    Everyone (put s.arena.slots id x) (Watches (kind_as q)) (members (those_of q (watchers_without_id s.watchers id)))
+off_watched s id h x watcher.Idle e off l = off_both s id h x kind.Idle s.watchers.idle e off l
+off_watched s id h x each e off l = off_both s id h x (kind_as each) (watched s each) e off l
 
 pub off_times : (s : State) (id : Id) (h x : HandleRecord) → handle s id ≡ Some h → x.active ≡ false → Kept s →
     Times (put s.arena.slots id x) s.next_start (if is_timer h.kind && h.active then without_timer s.timers h.due else s.timers)
@@ -217,10 +222,7 @@ stopped_kept s id h e other k =
       free = free_put s.arena.slots id h x s.arena.free e k.free;
       timers = off_times s id h x e refl k;
       ready = lists_without s.arena.slots Rests id h x s.ready e k.ready;
-      idle = off_both s id h x kind.Idle s.idle e refl k.idle;
-      prepare = off_both s id h x kind.Prepare s.prepare e refl k.prepare;
-      check = off_both s id h x kind.Check s.check e refl k.check;
-      async = off_both s id h x kind.Async s.async e refl k.async;
+      watchers = λ q. off_watched s id h x q e refl (k.watchers q);
       closing = everyone_put s.arena.slots Closes id h x (members s.closing) e (λ shut. shut) (λ shut. shut) k.closing;
     }
 
@@ -232,10 +234,7 @@ closed_kept s id h e stays k =
       free = free_put s.arena.slots id h x s.arena.free e k.free;
       timers = off_times s id h x e refl k;
       ready = lists_without s.arena.slots Rests id h x s.ready e k.ready;
-      idle = off_both s id h x kind.Idle s.idle e refl k.idle;
-      prepare = off_both s id h x kind.Prepare s.prepare e refl k.prepare;
-      check = off_both s id h x kind.Check s.check e refl k.check;
-      async = off_both s id h x kind.Async s.async e refl k.async;
+      watchers = λ q. off_watched s id h x q e refl (k.watchers q);
       closing = everyone_front s.arena.slots Closes id h x (members s.closing) e (λ shut. open_shut h shut stays) refl k.closing;
     }
 
@@ -250,10 +249,7 @@ started_kept s id old h timeout repeat e t off was u stays away k =
       timers = times_with s.arena.slots s.next_start (s.next_start + 1) s.timers (due_after s timeout) id old x e off
           (record { kind = u; active = refl; due = refl }) refl (omega arith) k.timers;
       ready = off_list s.arena.slots Rests id old x s.ready e away k.ready;
-      idle = others s.arena.slots kind.Timer kind.Idle id old x (members s.idle) e t u (λ f. cc f) k.idle;
-      prepare = others s.arena.slots kind.Timer kind.Prepare id old x (members s.prepare) e t u (λ f. cc f) k.prepare;
-      check = others s.arena.slots kind.Timer kind.Check id old x (members s.check) e t u (λ f. cc f) k.check;
-      async = others s.arena.slots kind.Timer kind.Async id old x (members s.async) e t u (λ f. cc f) k.async;
+      watchers = λ q. others s.arena.slots kind.Timer (kind_as q) id old x (members (watched s q)) e t u (not_timer q) (k.watchers q);
       closing = everyone_put s.arena.slots Closes id old x (members s.closing) e (λ shut. absurd (open_shut old shut was)) (λ shut. absurd
           (open_shut h shut stays)) k.closing;
     }
@@ -305,40 +301,26 @@ activated_sound s id h e stays k = (
   everyone_put s.arena.slots Closes id h (activated h) (members s.closing) e (λ shut. shut) (λ shut. shut) k.closing,
 )
 
+-- the lists of one kind are others, and of another kind as they were
+started_lists : (s : State) (k q : WatcherKind) (id : Id) (x : HandleRecord) →
+    Everyone (put s.arena.slots id x) (Watches (kind_as k)) (id ∷ members (watched s k)) →
+    (Apart (kind_as k) (kind_as q) → Everyone (put s.arena.slots id x) (Watches (kind_as q)) (members (watched s q))) →
+    Everyone (put s.arena.slots id x) (Watches (kind_as q)) (members (watched (with_watched s k (with_first (watched s k) id)) q))
+started_lists s watcher.Idle watcher.Idle id x own other = own
+started_lists s watcher.Prepare watcher.Prepare id x own other = own
+started_lists s watcher.Check watcher.Check id x own other = own
+started_lists s watcher.Async watcher.Async id x own other = own
+started_lists s k q id x own other = other (λ f. cc f)
+
 pub watcher_started_kept : (s : State) (k : WatcherKind) (id : Id) (h : HandleRecord) → handle s id ≡ Some h → h.kind ≡ kind_as k → h.active ≡ false →
     h.closing ≡ false → Kept s → Kept (ops.watcher_started s k id h)
-watcher_started_kept s watcher.Idle id h e t off stays k =
+watcher_started_kept s q id h e t off stays k =
     let x = activated h in
     let still = activated_sound s id h e stays k in
-    (kept_all still.0 still.1 (others_times s id h x kind.Idle e t t (λ f. cc f) k) (others_ready s id h x kind.Idle e t (λ f. cc f) k)
-    (in_front s id h x kind.Idle (members s.idle) e off t refl k.idle)
-    (others s.arena.slots kind.Idle kind.Prepare id h x (members s.prepare) e t t (λ f. cc f) k.prepare)
-    (others s.arena.slots kind.Idle kind.Check id h x (members s.check) e t t (λ f. cc f) k.check)
-    (others s.arena.slots kind.Idle kind.Async id h x (members s.async) e t t (λ f. cc f) k.async) still.2)
-watcher_started_kept s watcher.Prepare id h e t off stays k =
-    let x = activated h in
-    let still = activated_sound s id h e stays k in
-    (kept_all still.0 still.1 (others_times s id h x kind.Prepare e t t (λ f. cc f) k) (others_ready s id h x kind.Prepare e t (λ f. cc f) k)
-    (others s.arena.slots kind.Prepare kind.Idle id h x (members s.idle) e t t (λ f. cc f) k.idle)
-    (in_front s id h x kind.Prepare (members s.prepare) e off t refl k.prepare)
-    (others s.arena.slots kind.Prepare kind.Check id h x (members s.check) e t t (λ f. cc f) k.check)
-    (others s.arena.slots kind.Prepare kind.Async id h x (members s.async) e t t (λ f. cc f) k.async) still.2)
-watcher_started_kept s watcher.Check id h e t off stays k =
-    let x = activated h in
-    let still = activated_sound s id h e stays k in
-    (kept_all still.0 still.1 (others_times s id h x kind.Check e t t (λ f. cc f) k) (others_ready s id h x kind.Check e t (λ f. cc f) k)
-    (others s.arena.slots kind.Check kind.Idle id h x (members s.idle) e t t (λ f. cc f) k.idle)
-    (others s.arena.slots kind.Check kind.Prepare id h x (members s.prepare) e t t (λ f. cc f) k.prepare)
-    (in_front s id h x kind.Check (members s.check) e off t refl k.check)
-    (others s.arena.slots kind.Check kind.Async id h x (members s.async) e t t (λ f. cc f) k.async) still.2)
-watcher_started_kept s watcher.Async id h e t off stays k =
-    let x = activated h in
-    let still = activated_sound s id h e stays k in
-    (kept_all still.0 still.1 (others_times s id h x kind.Async e t t (λ f. cc f) k) (others_ready s id h x kind.Async e t (λ f. cc f) k)
-    (others s.arena.slots kind.Async kind.Idle id h x (members s.idle) e t t (λ f. cc f) k.idle)
-    (others s.arena.slots kind.Async kind.Prepare id h x (members s.prepare) e t t (λ f. cc f) k.prepare)
-    (others s.arena.slots kind.Async kind.Check id h x (members s.check) e t t (λ f. cc f) k.check)
-    (in_front s id h x kind.Async (members s.async) e off t refl k.async) still.2)
+    let untimed : Apart (kind_as q) kind.Timer = λ f. not_timer q (sym f) in
+    kept_all still.0 still.1 (others_times s id h x (kind_as q) e t t untimed k) (others_ready s id h x (kind_as q) e t untimed k)
+    (λ r. started_lists s q r id x (in_front s id h x (kind_as q) (members (watched s q)) e off t refl (k.watchers q))
+    (λ apart. others s.arena.slots (kind_as q) (kind_as r) id h x (members (watched s r)) e t t apart (k.watchers r))) still.2
 
 -- ---- a new handle
 
@@ -393,10 +375,8 @@ new_unwatched v each r d w = on_off (inited v each) w.active refl
 
 pub new_by : (s : State) (v : Var) (q : Kind) (id : Id) (w : Walk Id) → Takes s.arena s.arena.free id (inited v q) →
     Everyone (taken id (content.Handle (inited v q)) s.arena).slots (Watches kind.Async) (members w) → Kept s →
-    Agree (taken id (content.Handle (inited v q)) s.arena) s.next_start s.timers s.ready s.idle s.prepare s.check w s.closing
+    Agree (taken id (content.Handle (inited v q)) s.arena) s.next_start s.timers s.ready (with_those_of watcher.Async w s.watchers) s.closing
 new_by s v q id w t async k =
-    let x = inited v q in
-    let more = (taken id (content.Handle x) s.arena).slots in
     record {
       sound = sound_grown s.arena.slots more id x t.0 (record {
         shut = λ shut. absurd
@@ -406,29 +386,41 @@ new_by s v q id w t async k =
       free = t.1;
       timers = times_grown s.arena.slots more s.next_start s.timers id x t.0 (new_unset v q) k.timers;
       ready = lists_grown s.arena.slots more Rests id x s.ready t.0 k.ready;
-      idle = everyone_grown s.arena.slots more (Watches kind.Idle) id x (members s.idle) t.0 (new_unwatched v q kind.Idle (λ f. cc f)) k.idle;
-      prepare = everyone_grown s.arena.slots more (Watches kind.Prepare) id x (members s.prepare) t.0 (new_unwatched v q kind.Prepare (λ f. cc f))
-          k.prepare;
-      check = everyone_grown s.arena.slots more (Watches kind.Check) id x (members s.check) t.0 (new_unwatched v q kind.Check (λ f. cc f)) k.check;
-      async = async;
+      watchers = listed;
       closing = everyone_grown s.arena.slots more Closes id x (members s.closing) t.0 (λ shut. open_shut x shut refl) k.closing;
     }
+  where
+    x : HandleRecord
+    x = inited v q
+
+    more : List (Slot Content)
+    more = (taken id (content.Handle (inited v q)) s.arena).slots
+
+    grown_list : (r : WatcherKind) → Apart kind.Async (kind_as r) → Everyone more (Watches (kind_as r)) (members (watched s r))
+    grown_list r d = everyone_grown s.arena.slots more (Watches (kind_as r)) id x (members (watched s r)) t.0 (new_unwatched v q (kind_as r) d)
+        (k.watchers r)
+
+    listed : (r : WatcherKind) → Everyone more (Watches (kind_as r)) (members (those_of r (with_those_of watcher.Async w s.watchers)))
+    listed watcher.Async = async
+    listed r = grown_list r (λ f. cc f)
 
 -- the list of async handles, where the new one is of another kind
 pub async_still : (s : State) (v : Var) (q : Kind) (id : Id) → is_async q ≡ false → Takes s.arena s.arena.free id (inited v q) → Kept s →
-    Everyone (taken id (content.Handle (inited v q)) s.arena).slots (Watches kind.Async) (members s.async)
-async_still s v q id e t k = grind (arith, everyone_grown, on_off)
+    Everyone (taken id (content.Handle (inited v q)) s.arena).slots (Watches kind.Async) (members s.watchers.async)
+async_still s v q id e t k = everyone_grown s.arena.slots (taken id (content.Handle (inited v q)) s.arena).slots (Watches kind.Async) id (inited v q)
+    (members s.watchers.async) t.0 (λ w. on_off (inited v q) w.active e) (k.watchers watcher.Async)
 
 pub new_kept : (s : State) (v : Var) (q : Kind) (id : Id) → next_free s.arena ≡ Some id → Kept s → Kept (ops.with_new s v q id)
 new_kept s v kind.Async id e k =
     let x = inited v kind.Async in
     let t = takes s.arena s.arena.free id x refl k.free e in
     let more = (taken id (content.Handle x) s.arena).slots in
-    let listed = everyone_listed s.arena.slots more (Watches kind.Async) id x s.async.list s.async.yet t.0 (record {
+    let listed = everyone_listed s.arena.slots more (Watches kind.Async) id x s.watchers.async.list s.watchers.async.yet t.0 (record {
       kind = refl;
       active = refl;
-    }) k.async in
-    new_by s v kind.Async id (with_last s.async id) t (subst (Everyone more (Watches kind.Async)) (sym (append_assoc s.async.list (id ∷ [])
-    s.async.yet)) listed) k
-new_kept s v each id e k = let t = takes s.arena s.arena.free id (inited v each) refl k.free e in new_by s v each id s.async t
+    }) (k.watchers watcher.Async) in
+    let w = s.watchers.async in
+    new_by s v kind.Async id (with_last w id) t
+    (subst (Everyone more (Watches kind.Async)) (sym (append_assoc w.list (id ∷ []) w.yet)) listed) k
+new_kept s v each id e k = let t = takes s.arena s.arena.free id (inited v each) refl k.free e in new_by s v each id s.watchers.async t
     (async_still s v each id refl t k) k

@@ -1,5 +1,5 @@
 -- Each op and each step of the loop keeps what is kept.
-use Rattle.uv_order.proofs.Names.{arith, ◌≡◌, inl, ℕ, ◌+◌, ◌==◌, List, [], ◌∷◌, ◌++◌, true, false, Some, None, drop, refl, ap, sym, subst, ◌∙◌, append_assoc, append-nil, cond_both, false_from_ne_true, Id, Var, HandleRecord, Slot, WatcherKind, inited, activated, begun_at, referenced_as, repeating, is_timer, is_async, Slots, held, freed, taken, next_free, Walk, all_yet, moved_on, Op, Task, Program, arena_size, Content, Request, queued, Run, State, fresh, handle, with_handle, with_request, with_id, live, front, watched, with_watched, started, restarted, do_op, Next, Moves, Refuses, collected, front_moved, begin_walk, has_id}
+use Rattle.uv_order.proofs.Names.{arith, ◌≡◌, inl, ℕ, ◌+◌, ◌==◌, List, [], ◌∷◌, ◌++◌, true, false, Some, None, drop, refl, ap, sym, subst, ◌∙◌, append_assoc, append-nil, cond_both, false_from_ne_true, Id, Var, HandleRecord, Slot, WatcherKind, inited, activated, begun_at, referenced_as, repeating, is_timer, is_async, Slots, held, freed, taken, next_free, Walk, all_yet, moved_on, Op, Task, Program, arena_size, Content, Request, queued, Run, State, fresh, handle, with_handle, with_request, with_id, live, front, watched, with_watched, started, restarted, do_op, Next, Moves, Refuses, collected, front_moved, begin_walk, has_id, kind_as}
 use Rattle.uv_ids.specs.declared.phase.Kind.TheVariants as kind
 use Rattle.uv_records.specs.declared.lists.WatcherKind.TheVariants as watcher
 use Rattle.uv_records.specs.Handles as records
@@ -10,11 +10,11 @@ use Rattle.uv_order.proofs.IdLists.{Each, each_push, distinct_push, member, has_
 use Rattle.uv_order.proofs.Contents.{holds, emptied, get_set_same}
 use Rattle.uv_order.proofs.Holding.{is_held, put, same_handles, Fits, its_handle, Lists, lists_emptied, not_listed, Everyone, everyone_put, everyone_emptied, everyone_rest, fitted_emptied, IsSet, Times, times_rest, times_emptied, put_same}
 use Rattle.uv_order.proofs.OpCases as which
-use Rattle.uv_order.proofs.OpCases.{DidOp, op_did, as_watcher, kind_as, live_held, refuses_none, refuses_timer, refuses_start, refuses_start_watcher, refuses_stop, refuses_again, refuses_close, start_passes, again_passes, start_watcher_passes, close_passes, stop_passes, on_handle_both, send_both, cancel_both, make_both}
+use Rattle.uv_order.proofs.OpCases.{DidOp, op_did, as_watcher, live_held, refuses_none, refuses_timer, refuses_start, refuses_start_watcher, refuses_stop, refuses_again, refuses_close, start_passes, again_passes, start_watcher_passes, close_passes, stop_passes, on_handle_both, send_both, cancel_both, make_both}
 use Rattle.uv_order.proofs.Asked.{request_turns, freed_turns, FrontRequest}
 use Rattle.uv_order.proofs.Did as row
 use Rattle.uv_order.proofs.Did.{Did, FrontOf, FirstOf}
-use Rattle.uv_order.proofs.Keeping.{kept_all, fills, agree_same, free_held, Rests, Watches, Closes, IsSound, AreFree, members, Agree, Kept, on_off, open_shut, others, off_list, sound_put, free_put, free_set, not_free, put_kept, stopped_kept, closed_kept, started_kept, started_again_kept, restarted_again_kept, watcher_started_kept, new_kept}
+use Rattle.uv_order.proofs.Keeping.{kept_all, fills, agree_same, free_held, Rests, Watches, Closes, IsSound, AreFree, members, Agree, Kept, on_off, open_shut, others, off_list, sound_put, free_put, free_set, not_free, put_kept, stopped_kept, closed_kept, started_kept, started_again_kept, restarted_again_kept, watcher_started_kept, new_kept, not_timer}
 
 -- ---- the ops
 
@@ -103,10 +103,8 @@ collected_kept s t f k =
         each = each_push (Fits (put s.arena.slots t.0 x) Rests) s.ready t.0 ready.each last;
         distinct = distinct_push s.ready t.0 ready.distinct away;
       };
-      idle = others s.arena.slots kind.Timer kind.Idle t.0 t.1 x (members s.idle) f.holds set.kind set.kind (λ g. cc g) k.idle;
-      prepare = others s.arena.slots kind.Timer kind.Prepare t.0 t.1 x (members s.prepare) f.holds set.kind set.kind (λ g. cc g) k.prepare;
-      check = others s.arena.slots kind.Timer kind.Check t.0 t.1 x (members s.check) f.holds set.kind set.kind (λ g. cc g) k.check;
-      async = others s.arena.slots kind.Timer kind.Async t.0 t.1 x (members s.async) f.holds set.kind set.kind (λ g. cc g) k.async;
+      watchers = λ q. others s.arena.slots kind.Timer (kind_as q) t.0 t.1 x (members (watched s q)) f.holds set.kind set.kind (not_timer q)
+          (k.watchers q);
       closing = everyone_put s.arena.slots Closes t.0 t.1 x (members s.closing) f.holds (λ shut. shut) (λ shut. shut) k.closing;
     }
 
@@ -118,24 +116,22 @@ yet_listed slots P w e l = subst (Everyone slots P) (ap (λ (ids : List Id). w.l
 -- another list of a kind, with the same members
 pub with_watched_kept : (s : State) (q : WatcherKind) (w : Walk Id) → Everyone s.arena.slots (Watches (kind_as q)) (members w) → Kept s →
     Kept (with_watched s q w)
-with_watched_kept s watcher.Idle w e k = (kept_all k.sound k.free k.timers k.ready e k.prepare k.check k.async k.closing)
-with_watched_kept s watcher.Prepare w e k = (kept_all k.sound k.free k.timers k.ready k.idle e k.check k.async k.closing)
-with_watched_kept s watcher.Check w e k = (kept_all k.sound k.free k.timers k.ready k.idle k.prepare e k.async k.closing)
-with_watched_kept s watcher.Async w e k = (kept_all k.sound k.free k.timers k.ready k.idle k.prepare k.check e k.closing)
-
-pub everyone : (s : State) (q : WatcherKind) → Kept s → Everyone s.arena.slots (Watches (kind_as q)) (members (watched s q))
-everyone s watcher.Idle k = k.idle
-everyone s watcher.Prepare k = k.prepare
-everyone s watcher.Check k = k.check
-everyone s watcher.Async k = k.async
+with_watched_kept s q w e k = kept_all k.sound k.free k.timers k.ready (λ r. at q r e (k.watchers r)) k.closing where
+  at : (q r : WatcherKind) → Everyone s.arena.slots (Watches (kind_as q)) (members w) →
+      Everyone s.arena.slots (Watches (kind_as r)) (members (watched s r)) →
+      Everyone s.arena.slots (Watches (kind_as r)) (members (watched (with_watched s q w) r))
+  at watcher.Idle watcher.Idle now was = now
+  at watcher.Prepare watcher.Prepare now was = now
+  at watcher.Check watcher.Check now was = now
+  at watcher.Async watcher.Async now was = now
+  at q r now was = was
 
 pub begin_kept : (s : State) (run : Run) (q : WatcherKind) → (watched s q).yet ≡ [] → Kept s → StaysKept (begin_walk s run q)
 begin_kept s run q e k = with_watched_kept s q (all_yet (watched s q))
-    (yet_listed s.arena.slots (Watches (kind_as q)) (watched s q) e (everyone s q k)) k
+    (yet_listed s.arena.slots (Watches (kind_as q)) (watched s q) e (k.watchers q)) k
 
 pub begin_closing_kept : (s : State) → s.closing.yet ≡ [] → Kept s → Kept (record s { closing = all_yet s.closing })
-begin_closing_kept s e k = (kept_all k.sound k.free k.timers k.ready k.idle k.prepare k.check k.async
-    (yet_listed s.arena.slots Closes s.closing e k.closing))
+begin_closing_kept s e k = kept_all k.sound k.free k.timers k.ready k.watchers (yet_listed s.arena.slots Closes s.closing e k.closing)
 
 -- the front of those yet to run goes to the end of the list
 pub moved_listed : (s : State) (P : HandleRecord → Type 0) (w : Walk Id) (t : Id × HandleRecord) → FrontOf s w.yet t →
@@ -149,9 +145,9 @@ moved_listed s P w t f l =
 
 pub front_moved_kept : (s : State) (q : WatcherKind) (t : Id × HandleRecord) → FrontOf s (watched s q).yet t → Kept s → Kept (front_moved s q t.0)
 front_moved_kept s q t f k = with_watched_kept s q (moved_on (watched s q) t.0 (drop 1 (watched s q).yet))
-    (moved_listed s (Watches (kind_as q)) (watched s q) t f (everyone s q k)) k
+    (moved_listed s (Watches (kind_as q)) (watched s q) t f (k.watchers q)) k
 
-pub woken_kept : (s : State) (t : Id × HandleRecord) → FrontOf s s.async.yet t → Kept s →
+pub woken_kept : (s : State) (t : Id × HandleRecord) → FrontOf s s.watchers.async.yet t → Kept s →
     Kept (with_handle (front_moved s watcher.Async t.0) t.0 (records.woken t.1))
 woken_kept s t f k = put_kept (front_moved s watcher.Async t.0) t.0 t.1 (records.woken t.1) f.holds refl refl refl refl (front_moved_kept s
     watcher.Async t f k)
@@ -162,7 +158,7 @@ pub gone_kept : (s : State) (t : Id × HandleRecord) (rest : List Id) (n : ℕ) 
     Agree (record s.arena {
       slots = emptied s.arena.slots t.0 n;
       free = free;
-    }) s.next_start s.timers s.ready s.idle s.prepare s.check s.async (record s.closing { yet = rest })
+    }) s.next_start s.timers s.ready s.watchers (record s.closing { yet = rest })
 gone_kept s t rest n free e are f k =
     let l : Everyone s.arena.slots Closes (s.closing.list ++ t.0 ∷ rest) = subst (λ (ids : List Id). Everyone s.arena.slots Closes (s.closing.list
     ++ ids)) are k.closing in
@@ -182,10 +178,8 @@ gone_kept s t rest n free e are f k =
       free = f;
       timers = times_emptied s.arena.slots s.next_start s.timers t.0 t.1 n e (λ key a. on_off t.1 a.active off) k.timers;
       ready = lists_emptied s.arena.slots Rests t.0 t.1 n s.ready e (λ r. open_shut t.1 shut r.stays) k.ready;
-      idle = everyone_emptied s.arena.slots (Watches kind.Idle) t.0 t.1 n (members s.idle) e (λ w. on_off t.1 w.active off) k.idle;
-      prepare = everyone_emptied s.arena.slots (Watches kind.Prepare) t.0 t.1 n (members s.prepare) e (λ w. on_off t.1 w.active off) k.prepare;
-      check = everyone_emptied s.arena.slots (Watches kind.Check) t.0 t.1 n (members s.check) e (λ w. on_off t.1 w.active off) k.check;
-      async = everyone_emptied s.arena.slots (Watches kind.Async) t.0 t.1 n (members s.async) e (λ w. on_off t.1 w.active off) k.async;
+      watchers = λ q. everyone_emptied s.arena.slots (Watches (kind_as q)) t.0 t.1 n (members (watched s q)) e (λ w. on_off t.1 w.active off)
+          (k.watchers q);
       closing = everyone_rest s.arena.slots Closes t.0 t.1 n s.closing.list rest e l;
     }
 
@@ -212,16 +206,16 @@ freed_free slots id c n free e k =
     )
 
 gone_closed : (p : Program) (s : State) (t : Id × HandleRecord) → FrontOf s s.closing.yet t → Kept s →
-    Agree (freed (arena_size p).last_generation t.0 s.arena) s.next_start s.timers s.ready s.idle s.prepare s.check s.async (record s.closing {
+    Agree (freed (arena_size p).last_generation t.0 s.arena) s.next_start s.timers s.ready s.watchers (record s.closing {
       yet = drop 1 s.closing.yet;
     })
 gone_closed p s t f k =
     let c = content.Handle t.1 in
     let e = is_held s.arena.slots t.0 t.1 f.holds in
-    subst (λ (rest : List Id). Agree (freed (arena_size p).last_generation t.0 s.arena) s.next_start s.timers s.ready s.idle s.prepare s.check s.async
+    subst (λ (rest : List Id). Agree (freed (arena_size p).last_generation t.0 s.arena) s.next_start s.timers s.ready s.watchers
     (record s.closing { yet = rest })) (sym f.behind)
     (cond_both (t.0.generation == (arena_size p).last_generation) _ _
-    (λ (u : Slots Content). Agree u s.next_start s.timers s.ready s.idle s.prepare s.check s.async (record s.closing { yet = f.rest }))
+    (λ (u : Slots Content). Agree u s.next_start s.timers s.ready s.watchers (record s.closing { yet = f.rest }))
     (λ last. gone_kept s t f.rest t.0.generation s.arena.free f.holds f.are
     (freed_free s.arena.slots t.0 c t.0.generation s.arena.free e k.free).0 k)
     (λ more. gone_kept s t f.rest (t.0.generation + 1) (t.0.slot ∷ s.arena.free) f.holds f.are
@@ -229,7 +223,7 @@ gone_closed p s t f k =
 
 -- the slot of a request that is done is freed
 gone_ended : (p : Program) (s : State) (t : Id × Request) → FrontRequest s s.done.yet t → Kept s →
-    Agree (freed (arena_size p).last_generation t.0 s.arena) s.next_start s.timers s.ready s.idle s.prepare s.check s.async s.closing
+    Agree (freed (arena_size p).last_generation t.0 s.arena) s.next_start s.timers s.ready s.watchers s.closing
 gone_ended p s t f k =
     let last = (arena_size p).last_generation in
     let c = content.Request t.1 in

@@ -42,15 +42,15 @@ pub use Rattle.uv_model.specs.Found.{found_or}
 pub use Rattle.uv_model.specs.Ids.{has_some, same_id, walk_without_id, without_id}
 pub use Rattle.uv_model.specs.Next.{Moves, Next, Refuses, begin_walk, body_at, body_from, call, calls, collected, first_due, front_moved, goes, idled_at, idled_then, is_default, loop_step, may_leave, next_line, next_work, time_at, way, work_of}
 pub use Rattle.uv_model.specs.Ops.{do_op}
-pub use Rattle.uv_model.specs.State.{State, as_handle, as_request, fresh, front, front_request, handle, live, live_handle, live_request, named, refreshed, request, watched, with_handle, with_id, with_named, with_request, with_watched}
+pub use Rattle.uv_model.specs.State.{State, Watchers, as_handle, as_request, fresh, front, front_request, handle, kind_as, live, live_handle, live_request, named, refreshed, request, those_of, watched, with_handle, with_id, with_named, with_request, with_those_of, with_watched}
 pub use Rattle.uv_model.specs.Timeout.{deadline_of, has_passed, has_pending, is_alive, poll_timeout, poll_timeout_by}
-pub use Rattle.uv_model.specs.Timers.{due_after, restarted, started, stopped, with_timer, without_timer}
+pub use Rattle.uv_model.specs.Timers.{due_after, restarted, started, stopped, watchers_without_id, with_timer, without_timer}
 pub use Rattle.uv_model.specs.declared.place.Body.{Body}
 pub use Rattle.uv_model.specs.declared.place.Place.{Place}
 pub use Rattle.uv_model.specs.declared.place.Place.TheVariants.{Main}
 pub use Rattle.uv_model.specs.declared.place.Run.{Run}
 pub use Rattle.uv_model.specs.declared.place.Stage.{Stage}
-pub use Rattle.uv_model.specs.declared.place.Stage.TheVariants.{Async, Check, Closing, Done, Idle, Pending, Poll, Prepare, Timers}
+pub use Rattle.uv_model.specs.declared.place.Stage.TheVariants.{Closing, Done, Pending, Poll, Timers, Walking}
 pub use Rattle.uv_model.specs.declared.place.TimersOf.{TimersOf}
 pub use Rattle.uv_model.specs.declared.place.Timing.TheVariants.{Collecting, Firing}
 pub use Rattle.uv_model.specs.declared.place.Turn.{Turn}
@@ -72,7 +72,7 @@ pub use Rattle.uv_records.specs.Lists.{phase_of, watcher_kind}
 pub use Rattle.uv_records.specs.Names.{count_of, counted, unbound}
 pub use Rattle.uv_records.specs.Refusals.{again_refusal, close_refusal, invalid_if, is_watcher, no_refusal, only_if, send_refusal, start_timer_refusal, start_watcher_refusal, stop_refusal, timer_refusal}
 pub use Rattle.uv_records.specs.Slots.{Slots, freed, held, held_in, id_of, next_free, next_id, next_unused, taken, taken_from}
-pub use Rattle.uv_records.specs.Walks.{Walk as Listed, Walk, all_yet, moved_on, with_last}
+pub use Rattle.uv_records.specs.Walks.{Walk, Walk as Listed, all_yet, moved_on, with_first, with_last}
 pub use Rattle.uv_records.specs.declared.handle.HandleRecord.{HandleRecord}
 pub use Rattle.uv_records.specs.declared.lists.WatcherKind.{WatcherKind}
 pub use Rattle.uv_records.specs.declared.named.Calls.{Calls}

@@ -1,5 +1,5 @@
 -- What an op leaves of the lists that a section walks, of the counts of calls, and of what lasts from line to line.
-use Rattle.uv_order.proofs.Names.{Bool, true, false, arith, ◌≡◌, ℕ, ◌==◌, List, [], ◌∷◌, Option, Some, None, Ok, length, slice_get, slice_set, unwrap_or, refl, ap, sym, ◌∙◌, zero, suc, cond_both, Id, Var, Code, Answer, Kind, Phase, Op, HandleRecord, Named, Walk, without_id, State, handle, live_handle, unbound, stopped, started, do_op, has_id, Names, lasting, after_op, taken_off, ids_of, off_by}
+use Rattle.uv_order.proofs.Names.{Bool, true, false, arith, ◌≡◌, ℕ, ◌==◌, List, [], ◌∷◌, Option, Some, None, Ok, length, slice_get, slice_set, unwrap_or, refl, ap, sym, ◌∙◌, zero, suc, cond_both, Id, Var, Code, Answer, Kind, Phase, Op, HandleRecord, Named, Walk, without_id, State, handle, live_handle, unbound, stopped, started, do_op, has_id, Names, lasting, after_op, taken_off, ids_of, off_by, WatcherKind, kind_as, watched}
 use Rattle.uv_ids.specs.declared.code.Code.TheVariants as code
 use Rattle.uv_ids.specs.declared.code.Answer.TheVariants as answer
 use Rattle.uv_ids.specs.declared.phase.Kind.TheVariants as kind
@@ -47,10 +47,10 @@ pub record Effect (s : State) (o : Op) (d : ops.Done) : Type 0 where
   pub lasts : lasting d.state ≡ after_op o s
   pub calls : SameCalls d.state.names s.names
   pub ready : d.state.ready ≡ left_of s.ready (taken_off phase.Timers (names_at s) o d.answer)
-  pub idle : d.state.idle.yet ≡ left_of s.idle.yet (taken_off phase.Idle (names_at s) o d.answer)
-  pub prepare : d.state.prepare.yet ≡ left_of s.prepare.yet (taken_off phase.Prepare (names_at s) o d.answer)
-  pub check : d.state.check.yet ≡ left_of s.check.yet (taken_off phase.Check (names_at s) o d.answer)
-  pub async : d.state.async.yet ≡ left_of s.async.yet (taken_off phase.Async (names_at s) o d.answer)
+  pub idle : d.state.watchers.idle.yet ≡ left_of s.watchers.idle.yet (taken_off phase.Idle (names_at s) o d.answer)
+  pub prepare : d.state.watchers.prepare.yet ≡ left_of s.watchers.prepare.yet (taken_off phase.Prepare (names_at s) o d.answer)
+  pub check : d.state.watchers.check.yet ≡ left_of s.watchers.check.yet (taken_off phase.Check (names_at s) o d.answer)
+  pub async : d.state.watchers.async.yet ≡ left_of s.watchers.async.yet (taken_off phase.Async (names_at s) o d.answer)
   pub closing : d.state.closing.yet ≡ s.closing.yet
   pub done : d.state.done.yet ≡ s.done.yet
 
@@ -61,10 +61,10 @@ TakesNone names o a = (word : Phase) → taken_off word names o a ≡ []
 -- who stands on the lists that a section walks
 record SameLists (now was : State) : Type 0 where
   ready : now.ready ≡ was.ready
-  idle : now.idle.yet ≡ was.idle.yet
-  prepare : now.prepare.yet ≡ was.prepare.yet
-  check : now.check.yet ≡ was.check.yet
-  async : now.async.yet ≡ was.async.yet
+  idle : now.watchers.idle.yet ≡ was.watchers.idle.yet
+  prepare : now.watchers.prepare.yet ≡ was.watchers.prepare.yet
+  check : now.watchers.check.yet ≡ was.watchers.check.yet
+  async : now.watchers.async.yet ≡ was.watchers.async.yet
   closing : now.closing.yet ≡ was.closing.yet
   done : now.done.yet ≡ was.done.yet
 
@@ -111,10 +111,10 @@ stop_effect : (s : State) (v : Var) (t : Id × HandleRecord) → live_handle s v
 stop_effect s v t e apart k = assumption (
   same_calls s.names,
   taken_one s v t s.ready e,
-  taken_one s v t s.idle.yet e,
-  taken_one s v t s.prepare.yet e,
-  taken_one s v t s.check.yet e,
-  not_yet s kind.Async s.async t.0 t.1 (live_held s v t e) apart k.async,
+  taken_one s v t s.watchers.idle.yet e,
+  taken_one s v t s.watchers.prepare.yet e,
+  taken_one s v t s.watchers.check.yet e,
+  not_yet s kind.Async s.watchers.async t.0 t.1 (live_held s v t e) apart (k.watchers watcher.Async),
 )
 
 close_effect : (s : State) (v : Var) (t : Id × HandleRecord) → live_handle s v ≡ Ok t → Effect s (op.Close v) (ops.close s t.0 t.1)
@@ -133,17 +133,19 @@ timer_effect s u o v t e is k off lasts same names lists = record {
   lasts = same ∙ sym lasts;
   calls = rw names (same_calls s.names);
   ready = lists.ready ∙ taken_one s v t s.ready e ∙ ap (λ (x : Option Var). left_of s.ready (ids_of (names_at s) x)) (sym (off phase.Timers));
-  idle = lists.idle ∙ stays phase.Idle kind.Idle s.idle (λ f. cc f) refl k.idle;
-  prepare = lists.prepare ∙ stays phase.Prepare kind.Prepare s.prepare (λ f. cc f) refl k.prepare;
-  check = lists.check ∙ stays phase.Check kind.Check s.check (λ f. cc f) refl k.check;
-  async = lists.async ∙ stays phase.Async kind.Async s.async (λ f. cc f) refl k.async;
+  idle = lists.idle ∙ away watcher.Idle (λ f. cc f) ∙ none_by phase.Idle s.watchers.idle.yet refl;
+  prepare = lists.prepare ∙ away watcher.Prepare (λ f. cc f) ∙ none_by phase.Prepare s.watchers.prepare.yet refl;
+  check = lists.check ∙ away watcher.Check (λ f. cc f) ∙ none_by phase.Check s.watchers.check.yet refl;
+  async = lists.async ∙ away watcher.Async (λ f. cc f) ∙ none_by phase.Async s.watchers.async.yet refl;
   closing = lists.closing;
   done = lists.done;
 } where
-  stays : (word : Phase) (q : Kind) (w : Walk Id) → (kind.Timer ≡ q → ⊥) → off_by word (op.Again v) ≡ None →
-      Everyone s.arena.slots (Watches q) (members w) → without_id w.yet t.0 ≡ left_of w.yet (taken_off word (names_at s) o (answer.Code code.Ok))
-  stays word q w d none l = not_yet s q w t.0 t.1 (live_held s v t e) (apart t.1 q is d) l
-      ∙ ap (λ (x : Option Var). left_of w.yet (ids_of (names_at s) x)) (sym none ∙ sym (off word))
+  away : (q : WatcherKind) → (kind.Timer ≡ kind_as q → ⊥) → without_id (watched s q).yet t.0 ≡ left_of (watched s q).yet []
+  away q other = not_yet s (kind_as q) (watched s q) t.0 t.1 (live_held s v t e) (apart t.1 (kind_as q) is other) (k.watchers q)
+
+  none_by : (word : Phase) (ids : List Id) → off_by word (op.Again v) ≡ None → left_of ids [] ≡ left_of ids
+      (taken_off word (names_at s) o (answer.Code code.Ok))
+  none_by word ids none = ap (λ (x : Option Var). left_of ids (ids_of (names_at s) x)) (sym none ∙ sym (off word))
 
 pub start_off : (v : Var) (timeout repeat : ℕ) (word : Phase) → off_by word (op.Start v timeout repeat) ≡ off_by word (op.Again v)
 start_off v timeout repeat word = grind arith

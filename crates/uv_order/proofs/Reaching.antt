@@ -1,6 +1,5 @@
 -- Each state that steps lead to is a reached one.
-use Rattle.uv_order.proofs.Names.{List, Id, Event, Program, State, IsReached, IsSetAside, AreSetAside}
-use Rattle.uv_ids.specs.declared.phase.Kind.TheVariants as kind
+use Rattle.uv_order.proofs.Names.{List, Id, Event, Program, State, IsReached, IsSetAside, AreSetAside, kind_as, watched}
 use Rattle.uv_model.specs.After.{after}
 use Rattle.uv_order.proofs.IdLists.{member}
 use Rattle.uv_order.proofs.Holding.{Fits, Lists}
@@ -19,10 +18,7 @@ set_aside s ids k = record { each = λ id h. rests id (member (Fits s.arena.slot
 is_reached : (p : Program) (s : State) → HoldsAt p s → IsReached s
 is_reached p s h = let k = h.holds in record {
   begins = begins_at p s s.place h.at k.stands.stands;
-  idle = all_active s kind.Idle (members s.idle) k.kept.idle;
-  prepare = all_active s kind.Prepare (members s.prepare) k.kept.prepare;
-  check = all_active s kind.Check (members s.check) k.kept.check;
-  async = all_active s kind.Async (members s.async) k.kept.async;
+  watchers = λ q. all_active s (kind_as q) (members (watched s q)) (k.kept.watchers q);
   timers = are_timers s s.timers s.next_start k.kept.timers;
   drawn = λ due id h. (k.kept.timers.each due id h).1;
   closing = all_closing s (members s.closing) k.kept.closing;

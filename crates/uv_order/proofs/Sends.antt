@@ -1,5 +1,5 @@
 -- Who was sent to, by the lines and by the handles: each step keeps that they agree.
-use Rattle.uv_order.proofs.Names.{arith, ◌≡◌, ℕ, ◌==◌, ◌||◌, List, [], ◌∷◌, ◌++◌, Bool, true, false, drop, Option, Some, None, Ok, refl, ap, sym, subst, ◌∙◌, not, cond_both, both_ways, or_parts, or_right, false_from_ne_true, same_Some, Id, Var, Code, Answer, Kind, Op, Task, Program, arena_size, HandleRecord, Slot, inited, referenced_as, repeating, close_refusal, held, freed, taken, next_free, Walk, Content, Request, queued, same_id, without_id, State, fresh, handle, with_request, live, live_handle, stopped, started, restarted, do_op, Next, Moves, Refuses, has_id, Told, told_by, sent_by, sent_after, ids_of, without_ids, taken_off, AllOff, AllOffOrUnsent, handle_in}
+use Rattle.uv_order.proofs.Names.{arith, ◌≡◌, ℕ, ◌==◌, ◌||◌, List, [], ◌∷◌, ◌++◌, Bool, true, false, drop, Option, Some, None, Ok, refl, ap, sym, subst, ◌∙◌, not, cond_both, both_ways, or_parts, or_right, false_from_ne_true, same_Some, Id, Var, Code, Answer, Kind, Op, Task, Program, arena_size, HandleRecord, Slot, inited, referenced_as, repeating, close_refusal, held, freed, taken, next_free, Walk, Content, Request, queued, same_id, without_id, State, fresh, handle, with_request, live, live_handle, stopped, started, restarted, do_op, Next, Moves, Refuses, has_id, Told, told_by, sent_by, sent_after, ids_of, without_ids, taken_off, AllOff, AllOffOrUnsent, handle_in, kind_as, watched}
 use Rattle.uv_ids.specs.declared.code.Code.TheVariants as code
 use Rattle.uv_ids.specs.declared.code.Answer.TheVariants as answer
 use Rattle.uv_ids.specs.declared.phase.Kind.TheVariants as kind
@@ -232,10 +232,8 @@ did_sent p told s n (row.op x at o e) kept k = placed_sent p s told.sent o _ e k
 did_sent p told s n (row.begun run watcher.Idle e) kept k = k
 did_sent p told s n (row.collected run part t f) kept k = changed s told.sent t (records.stopped t.1) f.holds refl refl refl k
 did_sent p told s n (row.fired run t f) kept k = fired_sent s told.sent t f kept k
-did_sent p told s n (row.walked run watcher.Idle t sync f) kept k = unsent_called s told.sent kind.Idle s.idle t (λ c. cc c) kept.idle f k
-did_sent p told s n (row.walked run watcher.Prepare t sync f) kept k = unsent_called s told.sent kind.Prepare s.prepare t (λ c. cc c) kept.prepare f k
-did_sent p told s n (row.walked run watcher.Check t sync f) kept k = unsent_called s told.sent kind.Check s.check t (λ c. cc c) kept.check f k
 did_sent p told s n (row.walked run watcher.Async t sync f) kept k = absurd sync
+did_sent p told s n (row.walked run q t sync f) kept k = unsent_called s told.sent (kind_as q) (watched s q) t (λ c. cc c) (kept.watchers q) f k
 did_sent p told s n (row.woken run t f on) kept k = sent_clear told.sent s.arena.slots t.0 t.1 (records.woken t.1) f.holds refl k
 did_sent p told s n (row.closed run t f) kept k = closed_sent p s told.sent t f kept k
 did_sent p told s n (row.ended run t f) kept k = ended_sent p s told.sent t f k

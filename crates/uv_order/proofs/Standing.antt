@@ -1,5 +1,5 @@
 -- Where a state stands in the documented order, and the lists of the sections there.
-use Rattle.uv_order.proofs.Names.{arith, ◌≡◌, ℕ, List, [], ◌++◌, Bool, true, false, Option, Some, None, refl, ap, sym, subst, ◌∙◌, append-nil, Order, V144, V145, Id, Due, Kind, Mode, Default, Once, Nowait, Phase, Seen, Program, Body, Run, Stage, TimersOf, Turn, AtEntry, Behind, BehindClosing, Way, ToTimers, ToPending, ToEnd, Collecting, Firing, Place, Listed, Slot, Content, State, Next, Moves, Refuses, way, time_at, idled_at, idled_then, Line, has_id, IsTimer, AreTimers, AreDistinct, AreActive, AreClosing, IsEnded, AreEnded, IsOpened, AreOpened, run_ids, Told, nothing_told, told_of, told_by, AllOffOrUnsent, Lasting, lasting, at_first, Section, Entry, In, word_of, part_after, part_of, Opens, IsOver, CallsNext, MayCall, is_called, callback_in, IsCallLine, Standing, Begun, Within, Polling, MayLeave, PollsFor, Position, Between, Running, Goes, GoesOn, cut, line, Documented, body_of, next_call, taken_off}
+use Rattle.uv_order.proofs.Names.{arith, ◌≡◌, ℕ, List, [], ◌++◌, Bool, true, false, Option, Some, None, refl, ap, sym, subst, ◌∙◌, append-nil, Order, V144, V145, Id, Due, Kind, Mode, Default, Once, Nowait, Phase, Seen, Program, Body, Run, Stage, TimersOf, Turn, AtEntry, Behind, BehindClosing, Way, ToTimers, ToPending, ToEnd, Collecting, Firing, Place, Listed, Slot, Content, State, Next, Moves, Refuses, way, time_at, idled_at, idled_then, Line, has_id, IsTimer, AreTimers, AreDistinct, AreActive, AreClosing, IsEnded, AreEnded, IsOpened, AreOpened, run_ids, Told, nothing_told, told_of, told_by, AllOffOrUnsent, Lasting, lasting, at_first, Section, Entry, In, word_of, part_after, part_of, Opens, IsOver, CallsNext, MayCall, is_called, callback_in, IsCallLine, Standing, Begun, Within, Polling, MayLeave, PollsFor, Position, Between, Running, Goes, GoesOn, cut, line, Documented, body_of, next_call, taken_off, WatcherKind, phase_of}
 use Rattle.uv_ids.specs.declared.phase.Phase.TheVariants as phase
 use Rattle.uv_model.specs.declared.place.Stage.TheVariants as stage
 use Rattle.uv_model.specs.declared.place.TimersOf.TheVariants as timers_of
@@ -27,10 +27,6 @@ bare = record { ahead = []; off = []; sent = []; body = [] }
 abbrev pub begun_with : List Id → Walk
 begun_with ids = record { ahead = ids; off = []; sent = []; body = [] }
 
--- an async section that begins with this list
-abbrev pub async_with : Told → List Id → Walk
-async_with told ids = record { ahead = ids; off = []; sent = told.sent; body = [] }
-
 abbrev pub section_of : TimersOf → Section
 section_of timers_of.Entry = Entry
 section_of timers_of.Iteration = In phase.Timers
@@ -39,12 +35,9 @@ section_of timers_of.Iteration = In phase.Timers
 pub data StandsIn (p : Program) : Option Body → Stage → Standing → Type 0 where
   begun : StandsIn p None stage.Entry Begun
   pending : StandsIn p None stage.Pending (Within (In phase.Pending) bare)
-  idle : {w : Walk} {body : Option Body} → IsBody p body w.body → StandsIn p body stage.Idle (Within (In phase.Idle) w)
-  prepare : {w : Walk} {body : Option Body} → IsBody p body w.body → StandsIn p body stage.Prepare (Within (In phase.Prepare) w)
+  walking : {q : WatcherKind} {w : Walk} {body : Option Body} → IsBody p body w.body → StandsIn p body (stage.Walking q) (Within (In (phase_of q)) w)
   polls : {deadline : Option ℕ} → StandsIn p None (stage.Poll deadline) (Polling deadline)
   done : {w : Walk} {body : Option Body} → IsBody p body w.body → StandsIn p body stage.Done (Within (In phase.Done) w)
-  async : {w : Walk} {body : Option Body} → IsBody p body w.body → StandsIn p body stage.Async (Within (In phase.Async) w)
-  check : {w : Walk} {body : Option Body} → IsBody p body w.body → StandsIn p body stage.Check (Within (In phase.Check) w)
   closing : {w : Walk} {body : Option Body} → IsBody p body w.body → StandsIn p body stage.Closing (Within (In phase.Closing) w)
   collects : {part : TimersOf} {w : Walk} → w.body ≡ [] → StandsIn p None (stage.Timers part Collecting) (Within (section_of part) w)
   fires : {part : TimersOf} {w : Walk} {body : Option Body} → IsBody p body w.body →
@@ -112,10 +105,10 @@ pub record Rest : Type 0 where
 abbrev pub rest : List Id → State → Rest
 rest ready s = record {
   ready = ready;
-  idle = s.idle.yet;
-  prepare = s.prepare.yet;
-  check = s.check.yet;
-  async = s.async.yet;
+  idle = s.watchers.idle.yet;
+  prepare = s.watchers.prepare.yet;
+  check = s.watchers.check.yet;
+  async = s.watchers.async.yet;
   closing = s.closing.yet;
   done = s.done.yet;
   slots = s.arena.slots;

@@ -1,5 +1,5 @@
 -- Who was started, as the lines tell it and as the handles say it, and which ids were made: each step keeps that they agree.
-use Rattle.uv_order.proofs.Names.{arith, ◌≡◌, ◌⊎◌, inl, inr, ℕ, ◌==◌, ◌||◌, ◌&&◌, List, [], ◌∷◌, ◌++◌, Bool, true, false, drop, if◌then◌else◌, Option, Some, None, Ok, refl, ap, sym, subst, ◌∙◌, cond_both, or_right, same_Some, none-some, Id, Var, Code, Answer, Kind, Seen, Site, Op, Program, op_at, arena_size, Task, Request, queued, Content, HandleRecord, WatcherKind, Slot, inited, is_timer, is_async, referenced_as, repeating, Slots, held, freed, taken, next_free, handle_in, same_id, without_id, State, fresh, handle, live_handle, live_request, with_request, watched, stopped, started, restarted, do_op, Next, Moves, Refuses, has_id, Activity, Answered, activity, activity_answered, activity_done, activity_by, activity_called, new_activity, is_some_id, bound, makes, made_by, made_as, first_of}
+use Rattle.uv_order.proofs.Names.{arith, ◌≡◌, ◌⊎◌, inl, inr, ℕ, ◌==◌, ◌||◌, ◌&&◌, List, [], ◌∷◌, ◌++◌, Bool, true, false, drop, if◌then◌else◌, Option, Some, None, Ok, refl, ap, sym, subst, ◌∙◌, cond_both, or_right, same_Some, none-some, Id, Var, Code, Answer, Kind, Seen, Site, Op, Program, op_at, arena_size, Task, Request, queued, Content, HandleRecord, WatcherKind, Slot, inited, is_timer, is_async, referenced_as, repeating, Slots, held, freed, taken, next_free, handle_in, same_id, without_id, State, fresh, handle, live_handle, live_request, with_request, watched, stopped, started, restarted, do_op, Next, Moves, Refuses, has_id, Activity, Answered, activity, activity_answered, activity_done, activity_by, activity_called, new_activity, is_some_id, bound, makes, made_by, made_as, first_of, kind_as}
 use Rattle.uv_ids.specs.declared.code.Code.TheVariants as code
 use Rattle.uv_ids.specs.declared.code.Answer.TheVariants as answer
 use Rattle.uv_ids.specs.declared.phase.Kind.TheVariants as kind
@@ -13,11 +13,10 @@ use Rattle.uv_order.proofs.IdLists.{Each, each_back, absent, same, other, itself
 use Rattle.uv_order.proofs.Contents.{Turns, IsHeld, held_turned}
 use Rattle.uv_order.proofs.Holding.{held_at, is_held, put, put_turns, put_same, SameHandles, same_handles, Fits, its_handle, Lists, IsSet, Times}
 use Rattle.uv_order.proofs.OpCases as which
-use Rattle.uv_order.proofs.OpCases.{DidOp, IsAsked, IsRefusal, op_did, kind_as, live_held, live_bound, send_both, cancel_both}
+use Rattle.uv_order.proofs.OpCases.{DidOp, IsAsked, IsRefusal, op_did, live_held, live_bound, send_both, cancel_both}
 use Rattle.uv_order.proofs.Asked.{request_turns, freed_turns}
 use Rattle.uv_order.proofs.Gone.{IsGone, gone_put, gone_turned, gone_emptied, gone_now}
 use Rattle.uv_order.proofs.Keeping.{Rests, Watches, Kept, fills, not_free}
-use Rattle.uv_order.proofs.KeptSteps.{everyone}
 use Rattle.uv_order.proofs.Did as row
 use Rattle.uv_order.proofs.Did.{Did, FrontOf, FirstOf, IsStill, IsSync, timed}
 use Rattle.uv_order.proofs.Known.{is_answered}
@@ -459,7 +458,7 @@ collected_started p past s t f kept k =
 -- one of a list of watchers is active, and no timer
 front_watches : (s : State) (q : WatcherKind) (t : Id × HandleRecord) → FrontOf s (watched s q).yet t → Kept s → Watches (kind_as q) t.1
 front_watches s q t f kept =
-    let every = everyone s q kept in
+    let every = kept.watchers q in
     let yet = each_back (Fits s.arena.slots (Watches (kind_as q))) (watched s q).list (watched s q).yet every.lists.each in
     its_handle s.arena.slots (Watches (kind_as q)) t.0 t.1 f.holds (subst (Each (Fits s.arena.slots (Watches (kind_as q)))) f.are yet).0
 

@@ -1,5 +1,5 @@
 -- The sections of watchers, of async handles and of closing ones: each step goes on from where the state stands.
-use Rattle.uv_order.proofs.Names.{arith, ◌≡◌, ◌||◌, true, false, subst, List, [], ◌∷◌, ◌++◌, drop, Option, None, refl, ap, sym, ◌∙◌, append_assoc, if◌then◌else◌, cond_both, not, Id, Program, arena_size, order_of, HandleRecord, Run, BehindClosing, WatcherKind, phase_of, freed, Slot, Content, Request, digest_in, request_in, same_id, State, with_handle, front, front_request, watched, is_alive, poll_timeout, deadline_of, Next, Moves, Refuses, goes, is_default, call, calls, first_due, collected, front_moved, may_leave, body_from, has_id, AreDistinct, lives, Told, nothing_told, told_of, told_by, AllOff, AllOffOrUnsent, Lasting, lasting, at_first, Section, Entry, In, word_of, part_after, part_of, Opens, IsOver, CallsNext, MayCall, is_called, callback_in, IsCallLine, Standing, Begun, Within, Polling, MayLeave, PollsFor, Position, Between, Running, Goes, GoesOn, cut, line, Documented, body_of, next_call, taken_off, found_both}
+use Rattle.uv_order.proofs.Names.{arith, ◌≡◌, ◌||◌, true, false, subst, List, [], ◌∷◌, ◌++◌, drop, Option, None, refl, ap, sym, ◌∙◌, append_assoc, if◌then◌else◌, cond_both, not, Id, Program, arena_size, order_of, HandleRecord, Run, BehindClosing, WatcherKind, phase_of, freed, Slot, Content, Request, digest_in, request_in, same_id, State, with_handle, front, front_request, watched, is_alive, poll_timeout, deadline_of, Next, Moves, Refuses, goes, is_default, call, calls, first_due, collected, front_moved, may_leave, body_from, has_id, AreDistinct, lives, Told, nothing_told, told_of, told_by, AllOff, AllOffOrUnsent, Lasting, lasting, at_first, Section, Entry, In, word_of, part_after, part_of, Opens, IsOver, CallsNext, MayCall, is_called, callback_in, IsCallLine, Standing, Begun, Within, Polling, MayLeave, PollsFor, Position, Between, Running, Goes, GoesOn, cut, line, Documented, body_of, next_call, taken_off, found_both, kind_as, with_watched, all_yet, Order, AreActive}
 use Rattle.std.specs.Prelude.{option_map}
 use Rattle.uv_ids.specs.declared.phase.Kind.TheVariants as kind
 use Rattle.uv_ids.specs.declared.phase.Phase.TheVariants as phase
@@ -18,33 +18,56 @@ use Rattle.uv_order.proofs.Holding.{name_in, SameHandles, same_handles, Fits}
 use Rattle.uv_order.proofs.Asked.{freed_turns, FrontRequest, request_front}
 use Rattle.uv_order.proofs.Works.{HasEnded}
 use Rattle.uv_order.proofs.Working.{Working, no_request}
-use Rattle.uv_order.proofs.OpCases.{kind_as}
 use Rattle.uv_order.proofs.Keeping.{Kept, Watches, Closes}
 use Rattle.uv_order.proofs.Did.{FrontOf, front_of}
-use Rattle.uv_order.proofs.KeptSteps.{everyone, no_front}
+use Rattle.uv_order.proofs.KeptSteps.{no_front}
 use Rattle.uv_order.proofs.Lives.{may_wait_is}
 use Rattle.uv_order.proofs.Counted.{Counted}
 use Rattle.uv_order.proofs.Sends.{pends, pends_in, pends_there, SentAt, pass_both, pass_off}
-use Rattle.uv_order.proofs.Standing.{left_all, begun_with, async_with, rest, Leaves, NobodyLeft, Follows, IsNext, async_next, async_moved, prepare_next, poll_next, check_next, closing_next, are_timers, are_active, are_closing, idle, prepare, polls, done, async, check, closing, running}
+use Rattle.uv_order.proofs.Standing.{left_all, begun_with, rest, Leaves, NobodyLeft, Follows, IsNext, async_next, async_moved, prepare_next, poll_next, check_next, closing_next, are_timers, are_active, are_closing, walking, polls, done, closing, running}
 use Rattle.uv_order.proofs.TimersFollow.{call_follows, NextCall, turn_follows, named_of, next_of, call_counted, its_body, called}
 
 -- ---- sections of watchers, and of async handles
 
+-- a section of this kind that begins with this list
 abbrev pub walk_with : Told → WatcherKind → List Id → Walk
-walk_with told watcher.Async ids = async_with told ids
-walk_with told q ids = begun_with ids
+walk_with told q ids = record { ahead = ids; off = []; sent = doc.sent_at (phase_of q) told; body = [] }
 
 pub opens_watched : (told : Told) (s t : State) (q : WatcherKind) → Kept s → (watched s q).yet ≡ [] →
     Opens (phase_of q) told (record { before = s; seen = seen.Section (phase_of q); after = t }) (walk_with told q (watched s q).list)
-opens_watched told s t watcher.Idle k e = record { list = (refl, are_active s kind.Idle s.idle e k.idle); off = refl; sent = refl; body = refl }
-opens_watched told s t watcher.Prepare k e = record {
-  list = (refl, are_active s kind.Prepare s.prepare e k.prepare);
-  off = refl;
-  sent = refl;
-  body = refl;
-}
-opens_watched told s t watcher.Check k e = record { list = (refl, are_active s kind.Check s.check e k.check); off = refl; sent = refl; body = refl }
-opens_watched told s t watcher.Async k e = record { list = (refl, are_active s kind.Async s.async e k.async); off = refl; sent = refl; body = refl }
+opens_watched told s t q k e = record { list = at q (are_active s (kind_as q) (watched s q) e (k.watchers q)); off = refl; sent = refl; body = refl }
+  where
+    at : (q : WatcherKind) → AreActive s (kind_as q) (watched s q).list →
+        doc.HasList (phase_of q) (record { before = s; seen = seen.Section (phase_of q); after = t }) (watched s q).list
+    at watcher.Idle are = (refl, are)
+    at each are = (refl, are)
+
+-- where nobody is left, none of a kind is yet to run
+none_yet : (s : State) (q : WatcherKind) → NobodyLeft (rest s.ready s) → (watched s q).yet ≡ []
+none_yet s watcher.Idle e = e.idle
+none_yet s watcher.Prepare e = e.prepare
+none_yet s watcher.Check e = e.check
+none_yet s watcher.Async e = e.async
+
+-- then as its section begins all of its list are left, and of the others nobody
+begun_left : (told : Told) (s : State) (q : WatcherKind) → SentAt told.sent s → NobodyLeft (rest s.ready s) →
+    Leaves (rest s.ready (with_watched s q (all_yet (watched s q)))) (Within (In (phase_of q)) (walk_with told q (watched s q).list))
+begun_left told s watcher.Idle h e = left_all e.timers (sym (none_off s.watchers.idle.list)) e.prepare e.check e.async e.closing e.done
+begun_left told s watcher.Prepare h e = left_all e.timers e.idle (sym (none_off s.watchers.prepare.list)) e.check e.async e.closing e.done
+begun_left told s watcher.Check h e = left_all e.timers e.idle e.prepare (sym (none_off s.watchers.check.list)) e.async e.closing e.done
+begun_left told s watcher.Async h e = left_all e.timers e.idle e.prepare e.check (record {
+  gone = [];
+  behind = s.watchers.async.list;
+  all = refl;
+  left = sym (none_off s.watchers.async.list);
+  passed = tt;
+  still = λ id on was. sym (h.are id) ∙ was;
+}) e.closing e.done
+
+-- the line of such a section sets nothing
+section_lasts : (o : Order) (q : WatcherKind) (s : State) → lasting s ≡ doc.after_section o (In (phase_of q)) s
+section_lasts o watcher.Idle s = refl
+section_lasts o each s = refl
 
 -- such a section begins behind a part that may be left
 pub begin_follows : (p : Program) (told : Told) (s : State) (run : Run) (q : WatcherKind) (at : Standing) → MayLeave s told at →
@@ -52,45 +75,11 @@ pub begin_follows : (p : Program) (told : Told) (s : State) (run : Run) (q : Wat
     (In (phase_of q))) →
     Kept s → SentAt told.sent s → Counted p s.names told → NobodyLeft (rest s.ready s) →
     Follows p told (Running run.mode run.line at) s (step.begin_walk s run q)
-begin_follows p told s run watcher.Idle at over next k h c e = record {
-  to = Running run.mode run.line (Within (In phase.Idle) (begun_with s.idle.list));
-  goes = doc.section (In phase.Idle) over (next (order_of p) run.mode (doc.goes_on s)) refl (opens_watched told s _ watcher.Idle k e.idle) refl;
-  stands = record {
-    stands = running (idle refl) (left_all e.timers (sym (none_off s.idle.list)) e.prepare e.check e.async e.closing e.done);
-    counted = c;
-  };
-}
-begin_follows p told s run watcher.Prepare at over next k h c e = record {
-  to = Running run.mode run.line (Within (In phase.Prepare) (begun_with s.prepare.list));
-  goes = doc.section (In phase.Prepare) over (next (order_of p) run.mode (doc.goes_on s)) refl
-      (opens_watched told s _ watcher.Prepare k e.prepare) refl;
-  stands = record {
-    stands = running (prepare refl) (left_all e.timers e.idle (sym (none_off s.prepare.list)) e.check e.async e.closing e.done);
-    counted = c;
-  };
-}
-begin_follows p told s run watcher.Check at over next k h c e = record {
-  to = Running run.mode run.line (Within (In phase.Check) (begun_with s.check.list));
-  goes = doc.section (In phase.Check) over (next (order_of p) run.mode (doc.goes_on s)) refl (opens_watched told s _ watcher.Check k e.check) refl;
-  stands = record {
-    stands = running (check refl) (left_all e.timers e.idle e.prepare (sym (none_off s.check.list)) e.async e.closing e.done);
-    counted = c;
-  };
-}
-begin_follows p told s run watcher.Async at over next k h c e = record {
-  to = Running run.mode run.line (Within (In phase.Async) (async_with told s.async.list));
-  goes = doc.section (In phase.Async) over (next (order_of p) run.mode (doc.goes_on s)) refl (opens_watched told s _ watcher.Async k e.async) refl;
-  stands = record {
-    stands = running (async refl) (left_all e.timers e.idle e.prepare e.check (record {
-      gone = [];
-      behind = s.async.list;
-      all = refl;
-      left = sym (none_off s.async.list);
-      passed = tt;
-      still = λ id on was. sym (h.are id) ∙ was;
-    }) e.closing e.done);
-    counted = c;
-  };
+begin_follows p told s run q at over next k h c e = record {
+  to = Running run.mode run.line (Within (In (phase_of q)) (walk_with told q (watched s q).list));
+  goes = doc.section (In (phase_of q)) over (next (order_of p) run.mode (doc.goes_on s)) refl (opens_watched told s _ q k (none_yet s q e))
+      (section_lasts (order_of p) q s);
+  stands = record { stands = running (walking refl) (begun_left told s q h e); counted = c };
 }
 
 -- the poll begins
@@ -146,7 +135,7 @@ plain_calls each told w id more n d b =
 
 -- the next watcher is called
 pub call_watcher : (p : Program) (told : Told) (s : State) (run : Run) (q : WatcherKind) (w : Walk) (t : Id × HandleRecord) → IsPlain q → run.stage ≡
-    step.stage_of q →
+    stage.Walking q →
     FrontOf s (watched s q).yet t → Leaves (rest s.ready s) (Within (In (phase_of q)) w) → w.body ≡ [] → Counted p s.names told →
     Follows p told (Running run.mode run.line (Within (In (phase_of q)) w)) s (call p (front_moved s q t.0) run t.0 t.1.name)
 call_watcher p told s run watcher.Async w t d st f l b c = absurd d
@@ -154,17 +143,17 @@ call_watcher p told s run watcher.Idle w t d st f l b c =
     let next = next_of w t.0 f.rest (sym l.idle ∙ f.are) in
     call_follows p told s (front_moved s watcher.Idle t.0) run run (In phase.Idle) w t next.behind refl
     (plain_calls watcher.Idle told w t.0 f.rest next tt b) f.holds refl refl c
-    (λ is. rw st (running (idle is) (left_all l.timers (f.behind ∙ next.left) l.prepare l.check l.async l.closing l.done)))
+    (λ is. rw st (running (walking is) (left_all l.timers (f.behind ∙ next.left) l.prepare l.check l.async l.closing l.done)))
 call_watcher p told s run watcher.Prepare w t d st f l b c =
     let next = next_of w t.0 f.rest (sym l.prepare ∙ f.are) in
     call_follows p told s (front_moved s watcher.Prepare t.0) run run (In phase.Prepare) w t next.behind refl
     (plain_calls watcher.Prepare told w t.0 f.rest next tt b) f.holds refl refl c
-    (λ is. rw st (running (prepare is) (left_all l.timers l.idle (f.behind ∙ next.left) l.check l.async l.closing l.done)))
+    (λ is. rw st (running (walking is) (left_all l.timers l.idle (f.behind ∙ next.left) l.check l.async l.closing l.done)))
 call_watcher p told s run watcher.Check w t d st f l b c =
     let next = next_of w t.0 f.rest (sym l.check ∙ f.are) in
     call_follows p told s (front_moved s watcher.Check t.0) run run (In phase.Check) w t next.behind refl
     (plain_calls watcher.Check told w t.0 f.rest next tt b) f.holds refl refl c
-    (λ is. rw st (running (check is) (left_all l.timers l.idle l.prepare (f.behind ∙ next.left) l.async l.closing l.done)))
+    (λ is. rw st (running (walking is) (left_all l.timers l.idle l.prepare (f.behind ∙ next.left) l.async l.closing l.done)))
 
 -- the list of a kind is the one that its section walks
 pub own_list : (s : State) (q : WatcherKind) (w : Walk) → IsPlain q → Leaves (rest s.ready s) (Within (In (phase_of q)) w) →
@@ -188,14 +177,14 @@ plain_over watcher.Async w d b o = absurd d
 plain_over each w d b o = record { done = b; may_pass = o }
 
 pub walk_follows : (p : Program) (told : Told) (s : State) (run : Run) (q : WatcherKind) (w : Walk) → lives s ≡ is_alive s → IsPlain q →
-    run.stage ≡ step.stage_of q → Kept s →
+    run.stage ≡ stage.Walking q → Kept s →
     SentAt told.sent s → Counted p s.names told →
     Leaves (rest s.ready s) (Within (In (phase_of q)) w) → w.body ≡ [] → Follows p told (Running run.mode run.line (Within (In (phase_of q)) w)) s
     (step.walk p s run q)
 walk_follows p told s run q w alive d st k h c l b = found_both (front s (watched s q).yet) _ _ (Follows p told (Running run.mode run.line (Within (In
     (phase_of q)) w)) s)
     (λ t e. call_watcher p told s run q w t d st (front_of s (watched s q).yet t e) l b c)
-    (λ e. let each = each_back (Fits s.arena.slots (Watches (kind_as q))) (watched s q).list (watched s q).yet (everyone s q k).lists.each in
+    (λ e. let each = each_back (Fits s.arena.slots (Watches (kind_as q))) (watched s q).list (watched s q).yet (k.watchers q).lists.each in
     let none : (watched s q).yet ≡ [] = no_front s (Watches (kind_as q)) (watched s q).yet each e in
     after_follows p told s run q w alive (plain_over q w d b (all_off w.ahead w.off (sym (own_list s q w d l) ∙ none))) k h c
     (none_own s q w d none l))
@@ -218,17 +207,19 @@ not_sent : (slots : List (Slot Content)) (w : Walk) (t : Id × HandleRecord) →
 not_sent slots w t off is still on = grind arith
 
 -- an async handle is called, or passed by without a line
-pub async_follows : (p : Program) (told : Told) (s : State) (run : Run) (w : Walk) → lives s ≡ is_alive s → run.stage ≡ stage.Async → Kept s →
+pub async_follows : (p : Program) (told : Told) (s : State) (run : Run) (w : Walk) → lives s ≡ is_alive s → run.stage ≡ stage.Walking watcher.Async →
+    Kept s →
     SentAt told.sent s →
     Counted p s.names told →
     Leaves (rest s.ready s) (Within (In phase.Async) w) → w.body ≡ [] → Follows p told (Running run.mode run.line (Within (In phase.Async) w)) s
     (step.walk_async p s run)
-async_follows p told s run w alive st k h c l b = found_both (front s s.async.yet) _ _
+async_follows p told s run w alive st k h c l b = found_both (front s s.watchers.async.yet) _ _
     (Follows p told (Running run.mode run.line (Within (In phase.Async)
     w)) s)
-    (λ t e. at t (front_of s s.async.yet t e))
-    (λ e. let each = each_back (Fits s.arena.slots (Watches kind.Async)) s.async.list s.async.yet k.async.lists.each in
-    let none : s.async.yet ≡ [] = no_front s (Watches kind.Async) s.async.yet each e in
+    (λ t e. at t (front_of s s.watchers.async.yet t e))
+    (λ e. let all = s.watchers.async in
+    let each = each_back (Fits s.arena.slots (Watches kind.Async)) all.list all.yet (k.watchers watcher.Async).lists.each in
+    let none : s.watchers.async.yet ≡ [] = no_front s (Watches kind.Async) s.watchers.async.yet each e in
     let a = l.async in
     let off : AllOff w.off a.behind = all_off a.behind w.off (sym a.left ∙ none) in
     let passes = pass_both w.off w.sent a.gone a.behind a.passed (pass_off w.off w.sent a.behind off) in
@@ -237,9 +228,9 @@ async_follows p told s run w alive st k h c l b = found_both (front s s.async.ye
       may_pass = subst (AllOffOrUnsent w.off w.sent) (sym a.all) passes;
     }) k h c (left_all l.timers l.idle l.prepare l.check none l.closing l.done))
   where
-    at : (t : Id × HandleRecord) → FrontOf s s.async.yet t → Follows p told (Running run.mode run.line (Within (In phase.Async) w)) s
+    at : (t : Id × HandleRecord) → FrontOf s s.watchers.async.yet t → Follows p told (Running run.mode run.line (Within (In phase.Async) w)) s
         (if t.1.pending then call p (with_handle (front_moved s watcher.Async t.0) t.0 (records.woken t.1)) run t.0 t.1.name
-        else Moves (step.at (front_moved s watcher.Async t.0) run stage.Async) None)
+        else Moves (step.at (front_moved s watcher.Async t.0) run (stage.Walking watcher.Async)) None)
     at t f =
         let a = l.async in
         let later : Walk = record w { ahead = a.behind } in
@@ -247,9 +238,9 @@ async_follows p told s run w alive st k h c l b = found_both (front s s.async.ye
         let all : w.ahead ≡ (a.gone ++ next.passed) ++ t.0 ∷ next.behind =
         a.all ∙ ap (λ (ids : List Id). a.gone ++ ids) next.list ∙ sym (append_assoc a.gone next.passed (t.0 ∷ next.behind)) in
         let passes = pass_both w.off w.sent a.gone next.passed a.passed (pass_off w.off w.sent next.passed next.off) in
-        let distinct = distinct_back s.async.list s.async.yet k.async.lists.distinct in
+        let distinct = distinct_back s.watchers.async.list s.watchers.async.yet (k.watchers watcher.Async).lists.distinct in
         let unsent : t.1.pending ≡ false → (has_id w.off t.0 || not (has_id w.sent t.0)) ≡ true =
-        λ off. not_sent s.arena.slots w t off (ap pends_in f.holds) (a.still t.0 (in_front s s.async.yet t f)) next.on in
+        λ off. not_sent s.arena.slots w t off (ap pends_in f.holds) (a.still t.0 (in_front s s.watchers.async.yet t f)) next.on in
         cond_both t.1.pending _ _ (Follows p told (Running run.mode run.line (Within (In phase.Async) w)) s)
         (λ on. call_follows p told s (with_handle (front_moved s watcher.Async t.0) t.0 (records.woken t.1)) run run (In phase.Async) w t next.behind
         refl
@@ -260,24 +251,25 @@ async_follows p told s run w alive st k h c l b = found_both (front s s.async.ye
           may_pass = passes;
           may_call = record { on = next.on; called = h.are t.0 ∙ ap pends_in f.holds ∙ on };
         }) f.holds refl refl c
-        (λ is. rw st (running (async is) (left_all l.timers l.idle l.prepare l.check (record {
+        (λ is. rw st (running (walking {q = watcher.Async} is) (left_all l.timers l.idle l.prepare l.check (record {
           gone = [];
           behind = next.behind;
           all = refl;
           left = f.behind ∙ next.left;
           passed = tt;
-          still = λ id behind was. pends_there s.arena.slots t.0 id t.1 (records.woken t.1) f.holds (apart s s.async.yet t id f distinct behind)
-              ∙ a.still id (in_all s s.async.yet t id f behind) was;
+          still = λ id behind was. pends_there s.arena.slots t.0 id t.1 (records.woken t.1) f.holds
+              (apart s s.watchers.async.yet t id f distinct behind)
+              ∙ a.still id (in_all s s.watchers.async.yet t id f behind) was;
         }) l.closing l.done))))
         (λ off. (
           record {
-            stands = running (async b) (left_all l.timers l.idle l.prepare l.check (record {
+            stands = running (walking {q = watcher.Async} b) (left_all l.timers l.idle l.prepare l.check (record {
               gone = (a.gone ++ next.passed) ++ t.0 ∷ [];
               behind = next.behind;
               all = all ∙ sym (append_assoc (a.gone ++ next.passed) (t.0 ∷ []) next.behind);
               left = f.behind ∙ next.left;
               passed = pass_both w.off w.sent (a.gone ++ next.passed) (t.0 ∷ []) passes (unsent off, tt);
-              still = λ id behind was. a.still id (in_all s s.async.yet t id f behind) was;
+              still = λ id behind was. a.still id (in_all s s.watchers.async.yet t id f behind) was;
             }) l.closing l.done);
             counted = c;
           },
@@ -321,8 +313,8 @@ done_follows p told s run w st k h g c l b = found_both (front_request s s.done.
               (ap (λ (o : Option Content). option_map (λ (r : Request). seen.After (digest_in r.outcome) v t.0) (request_in o)) f.holds) refl;
           stands = record {
             stands = rw st (running (done (its_body p told s callback.After v c)) (left_all l.timers l.idle l.prepare l.check
-                (async_moved s.arena.slots _ (λ i on. ap pends_in (same t f i) ∙ on) (Within (In phase.Done) w) s.async.yet l.async) l.closing
-                (f.behind ∙ next.left)));
+                (async_moved s.arena.slots _ (λ i on. ap pends_in (same t f i) ∙ on) (Within (In phase.Done) w) s.watchers.async.yet l.async)
+                l.closing (f.behind ∙ next.left)));
             counted = call_counted p told s callback.After v t.0 c;
           };
         }

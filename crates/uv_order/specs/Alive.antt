@@ -52,7 +52,7 @@ abbrev pub waits : State → List (Due × Id) → Option ℕ
 waits s timers =
     if s.stop_flag then Some 0
     else (if not (lives s) then Some 0
-    else (if has_some s.idle.list || has_some s.idle.yet then Some 0
+    else (if has_some s.watchers.idle.list || has_some s.watchers.idle.yet then Some 0
     else (if closes_some s then Some 0
     else until_due s.time timers)))
 

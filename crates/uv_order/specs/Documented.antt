@@ -74,7 +74,7 @@ after_run V144 m s = lasting s
 
 -- whether the loop idled, behind the line `pending`: in the order of 1.45 that keeps whether an idle handle is active
 abbrev pub idled_by : Order → State → Bool
-idled_by V145 s = has_some s.idle.list
+idled_by V145 s = has_some s.watchers.idle.list
 idled_by V144 s = s.idled
 
 -- the line of a section of an iteration: on leaving the poll (own) and before the timers the time is set to the clock
@@ -263,13 +263,13 @@ after_section V144 Entry s = record (at_clock s) { idled = false }
 -- of the kind; for done the list before it, which has all requests that were finished or cancelled; for closing the list before it, which
 -- has all handles that close; for timers all active timers that are due after it, in their order. Nothing is called in the other one.
 abbrev pub HasList : Phase → Line → List Id → Type 0
-HasList phase.Idle l ids = (ids ≡ l.before.idle.list) × AreActive l.before kind.Idle ids
-HasList phase.Prepare l ids = (ids ≡ l.before.prepare.list) × AreActive l.before kind.Prepare ids
-HasList phase.Check l ids = (ids ≡ l.before.check.list) × AreActive l.before kind.Check ids
+HasList phase.Idle l ids = (ids ≡ l.before.watchers.idle.list) × AreActive l.before kind.Idle ids
+HasList phase.Prepare l ids = (ids ≡ l.before.watchers.prepare.list) × AreActive l.before kind.Prepare ids
+HasList phase.Check l ids = (ids ≡ l.before.watchers.check.list) × AreActive l.before kind.Check ids
 HasList phase.Timers l ids = AreDue l.after ids
 HasList phase.Pending l ids = ids ≡ []
 HasList phase.Done l ids = (ids ≡ l.before.done.list) × AreEnded l.before ids
-HasList phase.Async l ids = (ids ≡ l.before.async.list) × AreActive l.before kind.Async ids
+HasList phase.Async l ids = (ids ≡ l.before.watchers.async.list) × AreActive l.before kind.Async ids
 HasList phase.Closing l ids = (ids ≡ l.before.closing.list) × AreClosing l.before ids
 
 -- whom an accepted op takes off the list of a section: one that it stops or closes, and in a section of timers one that it starts. A

@@ -4,22 +4,24 @@ use Rattle.uv_ids.specs.declared.id.Id.{Id}
 use Rattle.uv_ids.specs.declared.due.Due.{Due}
 use Rattle.uv_ids.specs.declared.phase.Kind.TheVariants as kind
 use Rattle.uv_records.specs.declared.handle.HandleRecord.{HandleRecord}
+use Rattle.uv_records.specs.declared.lists.WatcherKind.{WatcherKind}
+use Rattle.uv_records.specs.declared.lists.WatcherKind.TheVariants as watcher
 use Rattle.uv_model.specs.declared.place.Body.{Body}
 use Rattle.uv_model.specs.declared.place.Stage.{Stage}
-use Rattle.uv_model.specs.declared.place.Stage.TheVariants.{Pending, Idle, Poll, Done, Async, Check}
+use Rattle.uv_model.specs.declared.place.Stage.TheVariants.{Pending, Walking, Poll, Done}
 use Rattle.uv_model.specs.declared.place.Place.{Place}
 use Rattle.uv_model.specs.declared.place.Place.TheVariants.{Main, Running}
-use Rattle.uv_model.specs.State.{State, handle}
+use Rattle.uv_model.specs.State.{State, handle, kind_as, watched}
 use Rattle.uv_order.specs.Active.{has_id, AreDistinct, AreActive, AreClosing, AreEnded, AreOpened, IsActive, run_ids, AreTimers, Has}
 
 -- where the section behind a stage may begin with the next step, none of its list is yet to run
 abbrev pub BeginsBehind : Stage → State → Type 0
-BeginsBehind Pending s = s.idle.yet ≡ []
-BeginsBehind Idle s = s.prepare.yet ≡ []
+BeginsBehind Pending s = s.watchers.idle.yet ≡ []
+BeginsBehind (Walking watcher.Idle) s = s.watchers.prepare.yet ≡ []
 BeginsBehind (Poll deadline) s = s.done.yet ≡ []
-BeginsBehind Done s = s.async.yet ≡ []
-BeginsBehind Async s = s.check.yet ≡ []
-BeginsBehind Check s = s.closing.yet ≡ []
+BeginsBehind Done s = s.watchers.async.yet ≡ []
+BeginsBehind (Walking watcher.Async) s = s.watchers.check.yet ≡ []
+BeginsBehind (Walking watcher.Check) s = s.closing.yet ≡ []
 BeginsBehind stage s = Unit {0}
 
 -- no section begins while a body is under way
@@ -47,10 +49,7 @@ pub record AreSetAside (s : State) (ids : List Id) : Type 0 where
 pub record IsReached (s : State) : Type 0 where
   pub begins : BeginsAt s.place s
   -- the active watchers of a kind are those on its list and those of it that are yet to run, and no others
-  pub idle : AreActive s kind.Idle (s.idle.list ++ s.idle.yet)
-  pub prepare : AreActive s kind.Prepare (s.prepare.list ++ s.prepare.yet)
-  pub check : AreActive s kind.Check (s.check.list ++ s.check.yet)
-  pub async : AreActive s kind.Async (s.async.list ++ s.async.yet)
+  pub watchers : (q : WatcherKind) → AreActive s (kind_as q) ((watched s q).list ++ (watched s q).yet)
   -- so are the active timers those of the order of timers, and those that close, or are done, those of their lists
   pub timers : AreTimers s s.timers
   -- each of them drew its start number before the next one

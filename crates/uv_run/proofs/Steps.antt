@@ -62,11 +62,8 @@ ended_stage s (stage.Poll deadline) e = cond_both (step.may_leave s deadline) _ 
     (λ h f. cc f) (λ h f. cc f) e
 ended_stage s stage.Entry e = cc e
 ended_stage s stage.Pending e = cc e
-ended_stage s stage.Idle e = cc e
-ended_stage s stage.Prepare e = cc e
+ended_stage s (stage.Walking kind) e = cc e
 ended_stage s stage.Done e = cc e
-ended_stage s stage.Async e = cc e
-ended_stage s stage.Check e = cc e
 ended_stage s stage.Closing e = cc e
 ended_stage s (stage.Timers part _) e = cc e
 

@@ -35,7 +35,7 @@ module _ (i j : Image Place) where
       let here : Listed j.arena t name.Closing = listed_as i.arena j.arena t name.Closing [] [] ids refl refl (b.rest (λ e. cc)) in
       let there : Listed j.arena t name.ClosingYet =
       listed_as i.arena j.arena t name.ClosingYet s.closing.list (arena.members i.arena name.Closing) ids (st.lists name.Closing) refl b.moved in
-      stands_then i j s t st frame (sections_kept s s.arena s.idle s.prepare s.check s.async q s.done s.time)
+      stands_then i j s t st frame (sections_kept s s.arena s.watchers q s.done s.time)
       (time_is st) (b.slots.plain ∙ st.slots)
       (all_but_two i s st j.arena t ids name.Closing name.ClosingYet b.others (beside_closing s s.arena s.time q) here there)
       (all_timers i.arena j.arena s.timers ids)
@@ -51,7 +51,7 @@ module _ (i j : Image Place) where
       let here : Listed j.arena t name.Done = listed_as i.arena j.arena t name.Done [] [] ids refl refl b.done in
       let there : Listed j.arena t name.DoneYet =
       listed_as i.arena j.arena t name.DoneYet s.done.list (arena.members i.arena name.Done) ids (st.lists name.Done) refl b.yet in
-      stands_then i j s t st frame (sections_kept s s.arena s.idle s.prepare s.check s.async s.closing q s.clock)
+      stands_then i j s t st frame (sections_kept s s.arena s.watchers s.closing q s.clock)
       (clock_is st) (b.slots.plain ∙ st.slots)
       (all_but_two i s st j.arena t ids name.Done name.DoneYet b.others (beside_done s s.arena s.clock q) here there)
       (all_timers i.arena j.arena s.timers ids)

@@ -1,5 +1,5 @@
 -- A callback begins behind a change: of what was freed, or of what moved on.
-use Rattle.uv_sections.proofs.Names.{◌≡◌, ◌≢◌, ℕ, Bool, true, if◌then◌else◌, List, Option, None, ◌<◌, ◌^◌, drop, Some, sym, ap, ◌∙◌, subst, Id, Var, Seen, Callback, HandleRecord, WatcherKind, woken, Request, Program, arena_size, Run, Async, Timers, TimersOf, Firing, restarted, Fires, Goes, Place, State, with_handle, digest_in, Moves, calls, close_front, collect_request, walk, walk_async, call, at, fire, front_moved, named, count_of, Record, Recorded, Image, Held, IsReady, StandsFor, RequestGone, HandleGone, HandleMoved, moved_state}
+use Rattle.uv_sections.proofs.Names.{◌≡◌, ◌≢◌, ℕ, Bool, true, if◌then◌else◌, List, Option, None, ◌<◌, ◌^◌, drop, Some, sym, ap, ◌∙◌, subst, Id, Var, Seen, Callback, HandleRecord, WatcherKind, woken, Request, Program, arena_size, Run, Walking, Timers, TimersOf, Firing, restarted, Fires, Goes, Place, State, with_handle, digest_in, Moves, calls, close_front, collect_request, walk, walk_async, call, at, fire, front_moved, named, count_of, Record, Recorded, Image, Held, IsReady, StandsFor, RequestGone, HandleGone, HandleMoved, moved_state}
 use Rattle.uv_ids.specs.declared.seen.Seen.TheVariants as seen
 use Rattle.uv_ids.specs.declared.seen.Callback.TheVariants as callback
 use Rattle.uv_records.specs.declared.lists.WatcherKind.TheVariants as watcher
@@ -52,7 +52,7 @@ async_goes p run j k s id r pending moved on begins =
     let b = begins _ stands (seen.Call r.name id) in
     let waits : r.pending ≡ true = sym moved.was ∙ on in
     let m = front_moved s watcher.Async id in
-    let called = ap (λ x. if x then call p (with_handle m id (woken r)) run id r.name else Moves (at m run Async) None) waits in
+    let called = ap (λ x. if x then call p (with_handle m id (woken r)) run id r.name else Moves (at m run (Walking watcher.Async)) None) waits in
     (b.0, rw moved.front (called ∙ b.1), b.2)
 
 -- that of a timer that was set aside

@@ -49,7 +49,7 @@ module _ (i j : Image Place) (last : ℕ) (so : i.arena.last ≡ last) (d : Id) 
         record {
           front = ap (front_request s) (front_there i s name.DoneYet d st c.first) ∙ ap (λ o. with_id d (model.request_in o)) asks;
           stands = stands_then i j s t st kept
-              (sections_kept s a s.idle s.prepare s.check s.async s.closing (record s.done { yet = drop 1 s.done.yet }) s.time)
+              (sections_kept s a s.watchers s.closing (record s.done { yet = drop 1 s.done.yet }) s.time)
               (time_is st)
               (freed_slots i s st j.arena last d name.DoneYet c.first freed_done off_done)
               (freed_lists i s st j.arena last d name.DoneYet c.first freed_done off_done t (beside_done_yet s a (drop 1 s.done.yet)) refl)
@@ -88,7 +88,7 @@ module _ (i j : Image Place) (last : ℕ) (so : i.arena.last ≡ last) (d : Id) 
         record {
           front = front_is i s st name.ClosingYet e (Some q) f.first f.handle;
           stands = stands_then i j s t st frame
-              (sections_kept s a s.idle s.prepare s.check s.async (record s.closing { yet = drop 1 s.closing.yet }) s.done s.time)
+              (sections_kept s a s.watchers (record s.closing { yet = drop 1 s.closing.yet }) s.done s.time)
               (time_is st)
               (freed_slots i s st j.arena last e name.ClosingYet f.first freed_closing off_closing)
               (freed_lists i s st j.arena last e name.ClosingYet f.first freed_closing off_closing t

@@ -1,5 +1,5 @@
 -- What the steps of sections leave as it was, in the memory and in the state, and what stands then.
-use Rattle.uv_sections.proofs.Names.{◌≡◌, ℕ, List, map, refl, sym, ap, ◌∙◌, subst, Id, Due, ListName, Walk, plain_slots, Entry, id_in, Place, State, members, Content, Image, StandsFor, timer_in, values_in, map_same, Listed}
+use Rattle.uv_sections.proofs.Names.{◌≡◌, ℕ, List, map, refl, sym, ap, ◌∙◌, subst, Id, Due, ListName, Walk, plain_slots, Entry, id_in, Place, State, Watchers, members, Content, Image, StandsFor, timer_in, values_in, map_same, Listed}
 use Rattle.uv_records.specs.Slots as plain
 use Rattle.uv_arena.specs.Image as arena
 
@@ -22,18 +22,15 @@ pub record KeepsState (s t : State) : Type 0 where
   pub timers : t.timers ≡ s.timers
 
 -- its slots, the lists that sections walk, those that close and those that are done, and its time
-pub sections_kept : (s : State) (a : plain.Slots Content) (idle prepare check async closing done : Walk Id) (time : ℕ)
+pub sections_kept : (s : State) (a : plain.Slots Content) (watchers : Watchers) (closing done : Walk Id) (time : ℕ)
     → KeepsState s (record s {
       arena = a;
-      idle = idle;
-      prepare = prepare;
-      check = check;
-      async = async;
+      watchers = watchers;
       closing = closing;
       done = done;
       time = time;
     })
-sections_kept s a idle prepare check async closing done time = record { values = refl; timers = refl }
+sections_kept s a watchers closing done time = record { values = refl; timers = refl }
 
 -- ---- both
 

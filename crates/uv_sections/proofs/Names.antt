@@ -21,14 +21,14 @@ pub use Rattle.uv_ids.specs.declared.seen.Seen.TheVariants.{End, Section}
 pub use Rattle.uv_model.specs.Ids.{same_id}
 pub use Rattle.uv_model.specs.Next.{Moves, at, body_from, call, calls, close_front, collect_request, fire, front_moved, goes_by, refreshes, walk, walk_async, way}
 pub use Rattle.uv_model.specs.Queries.{members}
-pub use Rattle.uv_model.specs.State.{State, front, front_request, refreshed, watched, with_handle, with_id, with_named, with_watched}
+pub use Rattle.uv_model.specs.State.{State, Watchers, front, front_request, refreshed, watched, with_handle, with_id, with_named, with_watched}
 pub use Rattle.uv_model.specs.Timeout.{deadline_of}
 pub use Rattle.uv_model.specs.Timers.{restarted}
 pub use Rattle.uv_model.specs.declared.place.Body.{Body}
 pub use Rattle.uv_model.specs.declared.place.Place.{Place}
 pub use Rattle.uv_model.specs.declared.place.Place.TheVariants.{Main, Running}
 pub use Rattle.uv_model.specs.declared.place.Run.{Run}
-pub use Rattle.uv_model.specs.declared.place.Stage.TheVariants.{Async, Poll, Timers}
+pub use Rattle.uv_model.specs.declared.place.Stage.TheVariants.{Poll, Timers, Walking}
 pub use Rattle.uv_model.specs.declared.place.TimersOf.{TimersOf}
 pub use Rattle.uv_model.specs.declared.place.Timing.TheVariants.{Firing}
 pub use Rattle.uv_model.specs.declared.place.Way.{Way}

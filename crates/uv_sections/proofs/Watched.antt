@@ -49,22 +49,13 @@ module _ (s : State) where
   others_stay watcher.Async q l a b = refl
 
   pub arena_stays : (w : WatcherKind) (q : Walk Id) → (with_watched s w q).arena ≡ s.arena
-  arena_stays watcher.Idle q = refl
-  arena_stays watcher.Prepare q = refl
-  arena_stays watcher.Check q = refl
-  arena_stays watcher.Async q = refl
+  arena_stays w q = refl
 
   pub time_stays : (w : WatcherKind) (q : Walk Id) → (with_watched s w q).time ≡ s.time
-  time_stays watcher.Idle q = refl
-  time_stays watcher.Prepare q = refl
-  time_stays watcher.Check q = refl
-  time_stays watcher.Async q = refl
+  time_stays w q = refl
 
   pub state_stays : (w : WatcherKind) (q : Walk Id) → KeepsState s (with_watched s w q)
-  state_stays watcher.Idle q = sections_kept s s.arena q s.prepare s.check s.async s.closing s.done s.time
-  state_stays watcher.Prepare q = sections_kept s s.arena s.idle q s.check s.async s.closing s.done s.time
-  state_stays watcher.Check q = sections_kept s s.arena s.idle s.prepare q s.async s.closing s.done s.time
-  state_stays watcher.Async q = sections_kept s s.arena s.idle s.prepare s.check q s.closing s.done s.time
+  state_stays w q = sections_kept s s.arena (with_watched s w q).watchers s.closing s.done s.time
 
 -- ---- those that close, and those that are done
 

@@ -1,2 +1,3 @@
+pub mod Behind
 pub mod Gone
 pub mod Moved

@@ -7,7 +7,7 @@ ghost use Rattle.uv_arena.specs.Image.{members};
 ghost use Rattle.uv_script.specs.Program.{order_of};
 ghost use Rattle.uv_script.specs.declared.op.MainOp.TheVariants.{Run as run_line};
 ghost use Rattle.uv_model.specs.State.{State, watched, with_watched, refreshed};
-ghost use Rattle.uv_model.specs.Next.{stage_of, begin_walk, begin_closing, begin_done, main_step, refreshes};
+ghost use Rattle.uv_model.specs.Next.{begin_walk, begin_closing, begin_done, main_step, refreshes};
 ghost use Rattle.uv_step.specs.Image.{held};
 ghost use Rattle.uv_step.specs.Undo.{Recorded};
 ghost use Rattle.uv_stands.specs.Doing.{Returns, Goes};
@@ -19,18 +19,6 @@ use uv_model::{Place, Run, Stage};
 use uv_records::WatcherKind;
 use uv_script::Script;
 use uv_step::Memory;
-
-/// The place of a section that walks handles of a kind.
-fn stage_of(kind: WatcherKind) -> Stage
-    ensures { result ≡ stage_of kind }
-{
-    match kind {
-        WatcherKind::Idle => Stage::Idle,
-        WatcherKind::Prepare => Stage::Prepare,
-        WatcherKind::Check => Stage::Check,
-        WatcherKind::Async => Stage::Async,
-    }
-}
 
 /// The whole list of a kind is yet to run.
 fn make_all_yet(memory: &mut Memory<Place>, kind: WatcherKind)
@@ -51,7 +39,7 @@ pub fn begin_walk(memory: &mut Memory<Place>, run: Run, kind: WatcherKind) -> Se
     ensures pieces { memory.new.slots.room ≡ memory.old.slots.room }
 {
     make_all_yet(memory, kind);
-    stand_in(memory, run, stage_of(kind));
+    stand_in(memory, run, Stage::Walking(kind));
     Seen::Section(kind.phase())
 }
 

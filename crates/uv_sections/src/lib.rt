@@ -16,6 +16,6 @@ pub use beginning::{begin_closing, begin_done, begin_run, begin_walk};
 pub use calling::begin_body;
 pub use iterating::{end_run, turn};
 pub use polling::begin_poll;
-pub use sections::{in_async, in_check, in_closing, in_done, in_idle, in_prepare};
+pub use sections::{in_closing, in_done, in_walk};
 pub use standing::stand_at;
 pub use timers::in_timers;

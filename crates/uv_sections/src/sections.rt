@@ -1,13 +1,14 @@
 //! What a section does next: it calls its front, or is over.
-ghost use Rattle.std.specs.Prelude.{◌≡◌, ◌<◌, ◌^◌, Some, []};
-ghost use Rattle.uv_records.specs.declared.lists.ListName.TheVariants.{PrepareYet, CheckYet, AsyncYet, ClosingYet};
-ghost use Rattle.uv_records.specs.declared.lists.WatcherKind.TheVariants.{Idle as idle, Prepare as prepare, Check as check};
+ghost use Rattle.std.specs.Prelude.{◌≡◌, ◌≢◌, ◌<◌, ◌^◌, Some, []};
+ghost use Rattle.uv_records.specs.declared.lists.ListName.TheVariants.{AsyncYet};
+ghost use Rattle.uv_records.specs.declared.lists.WatcherKind.TheVariants.{Async as async};
 ghost use Rattle.uv_arena.specs.Image.{members};
 ghost use Rattle.uv_script.specs.Program.{arena_size};
-ghost use Rattle.uv_model.specs.Next.{collect_request, close_front, walk, walk_async};
+ghost use Rattle.uv_model.specs.Next.{collect_request, close_front, after_walk, walk, walk_async, in_walk};
 ghost use Rattle.uv_step.specs.Image.{held};
 ghost use Rattle.uv_stands.specs.Doing.{Returns, Goes};
 ghost use Rattle.uv_stands.specs.Ready.{IsReady};
+ghost use Rattle.uv_sections.specs.Behind.{IsClearAfter};
 
 use crate::beginning::{begin_closing, begin_walk};
 use crate::freeing::{close_front, collect_request};
@@ -52,55 +53,43 @@ pub fn in_closing(memory: &mut Memory<Place>, script: &Script, run: Run) -> Seen
     }
 }
 
-/// Goes on in the idle section: the front of the idle handles that are yet to run is called, or the prepare handles begin.
-pub fn in_idle(memory: &mut Memory<Place>, script: &Script, run: Run) -> Seen
+/// Goes on behind the section of a kind.
+fn after_walk(memory: &mut Memory<Place>, run: Run, kind: WatcherKind) -> Seen
     requires ready { IsReady (held memory.old) }
-    requires empty { members (held memory.old).image.arena PrepareYet ≡ [] }
+    requires empty { IsClearAfter kind (held memory.old).image.arena }
     ensures returns { Returns memory.new.step_record (held memory.old) (held memory.new) }
-    ensures goes { Goes (λ s. walk script.now s run idle)
-        (held memory.old).image (held memory.new).image (Some result) }
+    ensures goes { Goes (λ s. after_walk s run kind) (held memory.old).image (held memory.new).image (Some result) }
     ensures pieces { memory.new.slots.room ≡ memory.old.slots.room }
 {
-    match walk(memory, script, run, WatcherKind::Idle) {
-        Some(called) => called,
-        None => begin_walk(memory, run, WatcherKind::Prepare),
+    match kind {
+        WatcherKind::Idle => begin_walk(memory, run, WatcherKind::Prepare),
+        WatcherKind::Prepare => begin_poll(memory, run),
+        WatcherKind::Check => begin_closing(memory, run),
+        WatcherKind::Async => begin_walk(memory, run, WatcherKind::Check),
     }
 }
 
-/// Goes on in the prepare section: the front of the prepare handles that are yet to run is called, or the poll begins.
-pub fn in_prepare(memory: &mut Memory<Place>, script: &Script, run: Run) -> Seen
+/// Goes on in the section of the idle, prepare or check handles: the front of those that are yet to run is called, or the next part begins.
+fn in_plain(memory: &mut Memory<Place>, script: &Script, run: Run, kind: WatcherKind) -> Seen
     requires ready { IsReady (held memory.old) }
+    requires other { kind ≢ async }
+    requires empty { IsClearAfter kind (held memory.old).image.arena }
     ensures returns { Returns memory.new.step_record (held memory.old) (held memory.new) }
-    ensures goes { Goes (λ s. walk script.now s run prepare)
+    ensures goes { Goes (λ s. walk script.now s run kind)
         (held memory.old).image (held memory.new).image (Some result) }
     ensures pieces { memory.new.slots.room ≡ memory.old.slots.room }
 {
-    match walk(memory, script, run, WatcherKind::Prepare) {
+    match walk(memory, script, run, kind) {
         Some(called) => called,
-        None => begin_poll(memory, run),
-    }
-}
-
-/// Goes on in the check section: the front of the check handles that are yet to run is called, or the closing section begins.
-pub fn in_check(memory: &mut Memory<Place>, script: &Script, run: Run) -> Seen
-    requires ready { IsReady (held memory.old) }
-    requires empty { members (held memory.old).image.arena ClosingYet ≡ [] }
-    ensures returns { Returns memory.new.step_record (held memory.old) (held memory.new) }
-    ensures goes { Goes (λ s. walk script.now s run check)
-        (held memory.old).image (held memory.new).image (Some result) }
-    ensures pieces { memory.new.slots.room ≡ memory.old.slots.room }
-{
-    match walk(memory, script, run, WatcherKind::Check) {
-        Some(called) => called,
-        None => begin_closing(memory, run),
+        None => after_walk(memory, run, kind),
     }
 }
 
 /// Goes on in the async section: the front of the async handles that are yet to run is called or passed by, or the check handles
 /// begin.
-pub fn in_async(memory: &mut Memory<Place>, script: &Script, run: Run) -> Option<Seen>
+fn in_async(memory: &mut Memory<Place>, script: &Script, run: Run) -> Option<Seen>
     requires ready { IsReady (held memory.old) }
-    requires empty { members (held memory.old).image.arena CheckYet ≡ [] }
+    requires empty { IsClearAfter async (held memory.old).image.arena }
     ensures returns { Returns memory.new.step_record (held memory.old) (held memory.new) }
     ensures goes { Goes (λ s. walk_async script.now s run)
         (held memory.old).image (held memory.new).image result }
@@ -108,6 +97,28 @@ pub fn in_async(memory: &mut Memory<Place>, script: &Script, run: Run) -> Option
 {
     match walk_async(memory, script, run) {
         Some(passed) => passed,
-        None => Some(begin_walk(memory, run, WatcherKind::Check)),
+        None => Some(after_walk(memory, run, WatcherKind::Async)),
+    }
+}
+
+/// Goes on in the section of a kind: the front of its handles that are yet to run is called or passed by, or the next part begins.
+pub fn in_walk(
+    memory: &mut Memory<Place>,
+    script: &Script,
+    run: Run,
+    kind: WatcherKind,
+) -> Option<Seen>
+    requires ready { IsReady (held memory.old) }
+    requires empty { IsClearAfter kind (held memory.old).image.arena }
+    ensures returns { Returns memory.new.step_record (held memory.old) (held memory.new) }
+    ensures goes { Goes (λ s. in_walk script.now s run kind)
+        (held memory.old).image (held memory.new).image result }
+    ensures pieces { memory.new.slots.room ≡ memory.old.slots.room }
+{
+    match kind {
+        WatcherKind::Idle => Some(in_plain(memory, script, run, kind)),
+        WatcherKind::Prepare => Some(in_plain(memory, script, run, kind)),
+        WatcherKind::Check => Some(in_plain(memory, script, run, kind)),
+        WatcherKind::Async => in_async(memory, script, run),
     }
 }

@@ -71,7 +71,7 @@ pub(crate) fn walk_async(
     ensures goes { IfSome result (λ line. Goes (λ s. walk_async script.now s run)
         (held memory.old).image (held memory.new).image line) }
     ensures same { IfNone result (held memory.new ≡ held memory.old) }
-    ensures none { IfNone result (OfEach (held memory.old).image (λ s. front s s.async.yet ≡ None)) }
+    ensures none { IfNone result (OfEach (held memory.old).image (λ s. front s s.watchers.async.yet ≡ None)) }
     ensures pieces { memory.new.slots.room ≡ memory.old.slots.room }
 {
     match move_on(memory, WatcherKind::Async) {
@@ -82,7 +82,7 @@ pub(crate) fn walk_async(
                 begin_body(memory, script, run, Callback::Handle, name);
                 Some(Some(Seen::Call(name, id)))
             } else {
-                stand_in(memory, run, Stage::Async);
+                stand_in(memory, run, Stage::Walking(WatcherKind::Async));
                 Some(None)
             }
         }

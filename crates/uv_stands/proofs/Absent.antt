@@ -1,7 +1,8 @@
 -- The lists that a handle isn't on, as the memory and the states that it stands for say.
-use Rattle.uv_stands.proofs.ProofNames.{◌≡◌, inl, inr, ℕ, ◌||◌, Bool, true, false, List, [], ◌∷◌, ◌++◌, map, Some, refl, sym, ap, ◌∙◌, subst, both_ways, Id, Kind, HandleRecord, ListName, is_timer, same_itself, IsIn, without_none, record_at, id_in, IsHeld, id_is, content_of, Place, same_id, without_id, members, State, handle, has_id, IsActive, AreActive, IsClosing, IsReached, IsSetAside, Handle, handle_of, request_of, only_handle, IsFit, Image, StandsFor}
+use Rattle.uv_stands.proofs.ProofNames.{◌≡◌, inl, inr, ℕ, ◌||◌, Bool, true, false, List, [], ◌∷◌, ◌++◌, map, Some, refl, sym, ap, ◌∙◌, subst, both_ways, Id, Kind, HandleRecord, ListName, is_timer, same_itself, IsIn, without_none, record_at, id_in, IsHeld, id_is, content_of, Place, same_id, without_id, members, State, handle, has_id, IsActive, AreActive, IsClosing, IsReached, IsSetAside, Handle, handle_of, request_of, only_handle, IsFit, Image, StandsFor, WatcherKind, kind_as, list_of, yet_of}
 use Rattle.uv_ids.specs.declared.phase.Kind.TheVariants as kind
 use Rattle.uv_records.specs.declared.lists.ListName.TheVariants as name
+use Rattle.uv_records.specs.declared.lists.WatcherKind.TheVariants as watcher
 use Rattle.uv_arena.specs.Image as arena
 use Rattle.uv_handle.proofs.Counts as handles
 use Rattle.uv_model.specs.Content as model
@@ -125,30 +126,22 @@ module _ (i : Image Place) (d : Id) (h : HandleRecord) (there : record_at handle
       )
 
       module _ (timer : h.kind ≡ kind.Timer) where
-        pub not_idle : (IsOn i name.Idle d → ⊥) × (IsOn i name.IdleYet d → ⊥)
-        not_idle = off_both kind.Idle name.Idle name.IdleYet reached.idle (λ e. cc (e, timer))
-
-        pub not_prepare : (IsOn i name.Prepare d → ⊥) × (IsOn i name.PrepareYet d → ⊥)
-        not_prepare = off_both kind.Prepare name.Prepare name.PrepareYet reached.prepare (λ e. cc (e, timer))
-
-        pub not_check : (IsOn i name.Check d → ⊥) × (IsOn i name.CheckYet d → ⊥)
-        not_check = off_both kind.Check name.Check name.CheckYet reached.check (λ e. cc (e, timer))
-
-        pub not_async : (IsOn i name.Async d → ⊥) × (IsOn i name.AsyncYet d → ⊥)
-        not_async = off_both kind.Async name.Async name.AsyncYet reached.async (λ e. cc (e, timer))
+        pub not_of : (q : WatcherKind) → (IsOn i (list_of q) d → ⊥) × (IsOn i (yet_of q) d → ⊥)
+        not_of watcher.Idle = off_both kind.Idle name.Idle name.IdleYet (reached.watchers watcher.Idle) (λ e. cc (e, timer))
+        not_of q = off_both (kind_as q) (list_of q) (yet_of q) (reached.watchers q) (λ e. cc (e, timer))
 
         -- nor is it on any list, where it isn't set aside and doesn't close
         pub not_watched : (l : ListName) → (IsOn i name.Ready d → ⊥) → (IsOn i name.Closing d → ⊥) → (IsOn i name.ClosingYet d → ⊥) → IsFit i
             → IsOn i l d → ⊥
         not_watched name.Ready ready closing yet fit on = ready on
-        not_watched name.Idle ready closing yet fit on = not_idle.0 on
-        not_watched name.IdleYet ready closing yet fit on = not_idle.1 on
-        not_watched name.Prepare ready closing yet fit on = not_prepare.0 on
-        not_watched name.PrepareYet ready closing yet fit on = not_prepare.1 on
-        not_watched name.Check ready closing yet fit on = not_check.0 on
-        not_watched name.CheckYet ready closing yet fit on = not_check.1 on
-        not_watched name.Async ready closing yet fit on = not_async.0 on
-        not_watched name.AsyncYet ready closing yet fit on = not_async.1 on
+        not_watched name.Idle ready closing yet fit on = (not_of watcher.Idle).0 on
+        not_watched name.IdleYet ready closing yet fit on = (not_of watcher.Idle).1 on
+        not_watched name.Prepare ready closing yet fit on = (not_of watcher.Prepare).0 on
+        not_watched name.PrepareYet ready closing yet fit on = (not_of watcher.Prepare).1 on
+        not_watched name.Check ready closing yet fit on = (not_of watcher.Check).0 on
+        not_watched name.CheckYet ready closing yet fit on = (not_of watcher.Check).1 on
+        not_watched name.Async ready closing yet fit on = (not_of watcher.Async).0 on
+        not_watched name.AsyncYet ready closing yet fit on = (not_of watcher.Async).1 on
         not_watched name.Closing ready closing yet fit on = closing on
         not_watched name.ClosingYet ready closing yet fit on = yet on
         not_watched name.Waiting ready closing yet fit on = not_waiting fit on

@@ -1,7 +1,8 @@
 -- A watcher that isn't active is on no list.
-use Rattle.uv_stands.proofs.ProofNames.{◌≡◌, Bool, true, false, Some, None, refl, ap, ◌∙◌, Id, Kind, HandleRecord, ListName, start_watcher_refusal, only_if, invalid_if, is_watcher, IsSound, on_list, record_at, Place, State, handle, members, has_id, IsActive, IsReached, handle_of, IsFit, Image, StandsFor}
+use Rattle.uv_stands.proofs.ProofNames.{◌≡◌, Bool, true, false, Some, None, refl, ap, ◌∙◌, Id, Kind, HandleRecord, ListName, start_watcher_refusal, only_if, invalid_if, is_watcher, IsSound, on_list, record_at, Place, State, handle, members, has_id, IsActive, IsReached, handle_of, IsFit, Image, StandsFor, WatcherKind, kind_as, watched, ◌++◌}
 use Rattle.uv_ids.specs.declared.phase.Kind.TheVariants as kind
 use Rattle.uv_records.specs.declared.lists.ListName.TheVariants as name
+use Rattle.uv_records.specs.declared.lists.WatcherKind.TheVariants as watcher
 use Rattle.uv_stands.proofs.Onto.{listed_somewhere}
 use Rattle.uv_stands.proofs.Absent.{IsOn, has_first, has_second, holds_it, has_it, not_waiting, not_done, not_done_yet}
 
@@ -30,22 +31,22 @@ module _ (i : Image Place) (s : State) (stands : StandsFor i s) (reached : IsRea
   idles : (k : Kind) → h.active ≡ false → IsActive s k d → ⊥
   idles k rests a = let same : h ≡ a.its = cc (mine, a.holds) in let on = ap (λ (z : HandleRecord). z.active) same in cc (rests, on, a.active)
 
+  watches : (q : WatcherKind) → h.active ≡ false → has_id ((watched s q).list ++ (watched s q).yet) d ≡ true → ⊥
+  watches q rests on = idles (kind_as q) rests ((reached.watchers q).each d on)
+
   on_none : start_watcher_refusal h ≡ None → h.active ≡ false → (l : ListName) → IsOn i l d → ⊥
   on_none may rests name.Ready on =
       let a = reached.ready.each d (has name.Ready on) in
       let same : h ≡ a.its = cc (mine, a.holds) in no_timer h.kind h.closing (ap (λ (z : HandleRecord). z.kind) same ∙ a.kind) may
-  on_none may rests name.Idle on = idles kind.Idle rests (reached.idle.each d (has_first s.idle.list s.idle.yet d (has name.Idle on)))
-  on_none may rests name.IdleYet on = idles kind.Idle rests (reached.idle.each d (has_second s.idle.list s.idle.yet d (has name.IdleYet on)))
-  on_none may rests name.Prepare on =
-      idles kind.Prepare rests (reached.prepare.each d (has_first s.prepare.list s.prepare.yet d (has name.Prepare on)))
+  on_none may rests name.Idle on = watches watcher.Idle rests (has_first s.watchers.idle.list s.watchers.idle.yet d (has name.Idle on))
+  on_none may rests name.IdleYet on = watches watcher.Idle rests (has_second s.watchers.idle.list s.watchers.idle.yet d (has name.IdleYet on))
+  on_none may rests name.Prepare on = watches watcher.Prepare rests (has_first s.watchers.prepare.list s.watchers.prepare.yet d (has name.Prepare on))
   on_none may rests name.PrepareYet on =
-      idles kind.Prepare rests (reached.prepare.each d (has_second s.prepare.list s.prepare.yet d (has name.PrepareYet on)))
-  on_none may rests name.Check on = idles kind.Check rests (reached.check.each d (has_first s.check.list s.check.yet d (has name.Check on)))
-  on_none may rests name.CheckYet on =
-      idles kind.Check rests (reached.check.each d (has_second s.check.list s.check.yet d (has name.CheckYet on)))
-  on_none may rests name.Async on = idles kind.Async rests (reached.async.each d (has_first s.async.list s.async.yet d (has name.Async on)))
-  on_none may rests name.AsyncYet on =
-      idles kind.Async rests (reached.async.each d (has_second s.async.list s.async.yet d (has name.AsyncYet on)))
+      watches watcher.Prepare rests (has_second s.watchers.prepare.list s.watchers.prepare.yet d (has name.PrepareYet on))
+  on_none may rests name.Check on = watches watcher.Check rests (has_first s.watchers.check.list s.watchers.check.yet d (has name.Check on))
+  on_none may rests name.CheckYet on = watches watcher.Check rests (has_second s.watchers.check.list s.watchers.check.yet d (has name.CheckYet on))
+  on_none may rests name.Async on = watches watcher.Async rests (has_first s.watchers.async.list s.watchers.async.yet d (has name.Async on))
+  on_none may rests name.AsyncYet on = watches watcher.Async rests (has_second s.watchers.async.list s.watchers.async.yet d (has name.AsyncYet on))
   on_none may rests name.Closing on =
       let a = reached.closing.each d (has_first s.closing.list s.closing.yet d (has name.Closing on)) in
       let same : h ≡ a.its = cc (mine, a.holds) in

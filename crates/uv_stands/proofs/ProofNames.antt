@@ -34,7 +34,7 @@ pub use Rattle.uv_model.specs.Layout.{open_requests}
 pub use Rattle.uv_model.specs.Limits.{LONGEST_POLL}
 pub use Rattle.uv_model.specs.Ops.{bound_to, is_in_use}
 pub use Rattle.uv_model.specs.Queries.{members}
-pub use Rattle.uv_model.specs.State.{State, as_handle, handle, live, live_handle, live_id, request, with_handle, with_id, with_named}
+pub use Rattle.uv_model.specs.State.{State, as_handle, handle, kind_as, live, live_handle, live_id, request, watched, with_handle, with_id, with_named}
 pub use Rattle.uv_model.specs.Timeout.{has_closing, has_pending, is_alive, until_first}
 pub use Rattle.uv_model.specs.declared.place.Place.{Place}
 pub use Rattle.uv_order.proofs.IdLists.{same}
@@ -42,12 +42,13 @@ pub use Rattle.uv_order.specs.Active.{AreActive, Before, InOrder, IsActive, IsCl
 pub use Rattle.uv_order.specs.Reached.{IsReached, IsSetAside}
 pub use Rattle.uv_records.specs.Count.{active_count, one_if}
 pub use Rattle.uv_records.specs.Handles.{is_timer, keeps_alive}
-pub use Rattle.uv_records.specs.Lists.{number}
+pub use Rattle.uv_records.specs.Lists.{list_of, number, yet_of}
 pub use Rattle.uv_records.specs.Names.{binding, calling, count_of, named}
 pub use Rattle.uv_records.specs.Refusals.{invalid_if, is_watcher, only_if, refusal, start_watcher_refusal}
 pub use Rattle.uv_records.specs.Walks.{Walk, without}
 pub use Rattle.uv_records.specs.declared.handle.HandleRecord.{HandleRecord}
 pub use Rattle.uv_records.specs.declared.lists.ListName.{ListName}
+pub use Rattle.uv_records.specs.declared.lists.WatcherKind.{WatcherKind}
 pub use Rattle.uv_records.specs.declared.lists.TheConstants.{LIST_COUNT}
 pub use Rattle.uv_records.specs.declared.named.Calls.{Calls}
 pub use Rattle.uv_records.specs.declared.named.Named.{Named}

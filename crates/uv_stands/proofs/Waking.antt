@@ -2,6 +2,7 @@
 use Rattle.uv_stands.proofs.ProofNames.{◌≡◌, ℕ, ◌<◌, suc, ◌||◌, Bool, true, false, if◌then◌else◌, eqb, List, [], ◌∷◌, ◌++◌, append-nil, map, length, Option, Some, None, IfSome, option_and_then, refl, sym, ap, ◌∙◌, subst, inl, inr, arith, list_any, eqb_tells, map-append, append_assoc, list_any-append, Id, HandleRecord, ListName, slot_of, IsListed, first, IsIn, IsApart, IsSound, apart_across, record_at, id_in, list_apart, listed_id, Place, content_pends, handle_in, same_id, State, has_pending, has_id, IsReached, same, Content, handle_of, Image, pends_in, pends_at, StandsFor}
 use Rattle.std.specs.Cmp as tests
 use Rattle.uv_records.specs.declared.lists.ListName.TheVariants as name
+use Rattle.uv_records.specs.declared.lists.WatcherKind.TheVariants as watcher
 use Rattle.uv_records.specs.Slots as plain
 use Rattle.uv_arena.specs.Image as arena
 use Rattle.uv_work.specs.declared.content.Content.TheVariants as holds
@@ -46,7 +47,7 @@ module _ (i : Image Place) (s : State) (h : StandsFor i s) where
 
   module _ (r : IsReached s) where
     abbrev wakers : List Id
-    wakers = s.async.list ++ s.async.yet
+    wakers = s.watchers.async.list ++ s.watchers.async.yet
 
     listed_pending : list_any (λ slot. content_pends slot.content) s.arena.slots ≡ true → list_any (pends_at i.arena) wakers ≡ true
     listed_pending e = let w = somewhere content_pends s.arena.slots e in at w w.content w.held w.fits where
@@ -55,21 +56,22 @@ module _ (i : Image Place) (s : State) (h : StandsFor i s) where
       at w None e f = cc f
       at w (Some (holds.Request x)) e f = cc f
       at w (Some (holds.Handle x)) e f =
-          any_listed (pends_at i.arena) wakers w.id (r.async.all w.id (r.pending w.id x (ap handle_in e) f)) (pends_here w.id x e f)
+          any_listed (pends_at i.arena) wakers w.id ((r.watchers watcher.Async).all w.id (r.pending w.id x (ap handle_in e) f))
+          (pends_here w.id x e f)
 
-    pub pending_lists : has_pending s ≡ (list_any (pends_at i.arena) s.async.list || list_any (pends_at i.arena) s.async.yet)
+    pub pending_lists : has_pending s ≡ (list_any (pends_at i.arena) s.watchers.async.list || list_any (pends_at i.arena) s.watchers.async.yet)
     pending_lists =
         tests.both_ways (has_pending s) (list_any (pends_at i.arena) wakers) listed_pending
         (λ e. let k = someone (pends_at i.arena) wakers e in held_pending k.id k.fits)
-        ∙ list_any-append (pends_at i.arena) s.async.list s.async.yet
+        ∙ list_any-append (pends_at i.arena) s.watchers.async.list s.watchers.async.yet
 
     -- what a walk of both lists finds
     pub pending_there : (a b : Bool)
         → a ≡ list_any (pends_at i.arena) (map (id_in i.arena) (arena.members i.arena name.Async))
         → b ≡ list_any (pends_at i.arena) (map (id_in i.arena) (arena.members i.arena name.AsyncYet)) → has_pending s ≡ (a || b)
     pending_there a b e f =
-        let x : list_any (pends_at i.arena) s.async.list ≡ a = ap (list_any (pends_at i.arena)) (h.lists name.Async) ∙ sym e in
-        let y : list_any (pends_at i.arena) s.async.yet ≡ b = ap (list_any (pends_at i.arena)) (h.lists name.AsyncYet) ∙ sym f in
+        let x : list_any (pends_at i.arena) s.watchers.async.list ≡ a = ap (list_any (pends_at i.arena)) (h.lists name.Async) ∙ sym e in
+        let y : list_any (pends_at i.arena) s.watchers.async.yet ≡ b = ap (list_any (pends_at i.arena)) (h.lists name.AsyncYet) ∙ sym f in
         pending_lists ∙ (λ l. x l || y l)
 
     pub pending_first : (a : Bool) → a ≡ list_any (pends_at i.arena) (map (id_in i.arena) (arena.members i.arena name.Async)) → a ≡ true

@@ -17,6 +17,7 @@ use Rattle.uv_model.specs.declared.place.Place.TheVariants.{Main, Running}
 use Rattle.uv_model.specs.declared.place.Run.{Run}
 use Rattle.uv_model.specs.declared.place.Stage.{Stage}
 use Rattle.uv_model.specs.declared.place.Stage.TheVariants as stage
+use Rattle.uv_records.specs.declared.lists.WatcherKind.TheVariants as watcher
 use Rattle.uv_model.specs.declared.place.TimersOf.TheVariants.{Entry, Iteration}
 use Rattle.uv_model.specs.declared.place.Timing.TheVariants.{Collecting, Firing}
 use Rattle.uv_key.specs.Codes.{number_code, byte_code, Tells}
@@ -97,8 +98,9 @@ bit_tells = part_tells _ bit same_bit byte_tells
 stage_of : ℕ × Option ℕ → Stage
 stage_of p =
     let n = p.0 in
-    if n == 0 then stage.Entry else if n == 1 then stage.Pending else if n == 2 then stage.Idle else if n == 3 then stage.Prepare
-    else if n == 4 then stage.Poll p.1 else if n == 5 then stage.Done else if n == 6 then stage.Async else if n == 7 then stage.Check
+    if n == 0 then stage.Entry else if n == 1 then stage.Pending else if n == 2 then stage.Walking watcher.Idle
+    else if n == 3 then stage.Walking watcher.Prepare else if n == 4 then stage.Poll p.1 else if n == 5 then stage.Done
+    else if n == 6 then stage.Walking watcher.Async else if n == 7 then stage.Walking watcher.Check
     else if n == 8 then stage.Closing else if n == 9 then stage.Timers Entry Collecting else if n == 10 then stage.Timers Entry Firing
     else if n == 11 then stage.Timers Iteration Collecting else stage.Timers Iteration Firing
 
@@ -106,12 +108,12 @@ stage_back : (s : Stage) → stage_of (stage_part s) ≡ s
 unfolding stage_of
 stage_back stage.Entry = refl
 stage_back stage.Pending = refl
-stage_back stage.Idle = refl
-stage_back stage.Prepare = refl
+stage_back (stage.Walking watcher.Idle) = refl
+stage_back (stage.Walking watcher.Prepare) = refl
 stage_back (stage.Poll deadline) = refl
 stage_back stage.Done = refl
-stage_back stage.Async = refl
-stage_back stage.Check = refl
+stage_back (stage.Walking watcher.Async) = refl
+stage_back (stage.Walking watcher.Check) = refl
 stage_back stage.Closing = refl
 stage_back (stage.Timers Entry Collecting) = refl
 stage_back (stage.Timers Entry Firing) = refl

@@ -52,7 +52,7 @@ abbrev Watchers : Type 0
 Watchers = ((Walk Id × Walk Id) × Walk Id) × Walk Id
 
 abbrev watchers_of : State → Watchers
-watchers_of s = (((s.idle, s.prepare), s.check), s.async)
+watchers_of s = (((s.watchers.idle, s.watchers.prepare), s.watchers.check), s.watchers.async)
 
 watchers_tell : Tells {X = Watchers} (λ w. walk_code w.0.0.0 ++ walk_code w.0.0.1 ++ walk_code w.0.1 ++ walk_code w.1)
 watchers_tell = pair_tells _ _ (pair_tells _ _ (pair_tells _ _ walk_tells walk_tells) walk_tells) walk_tells
@@ -97,10 +97,7 @@ same_state a b e timers = λ i. let p = e i in record {
   arena = p.0.0.0.0.0.1;
   timers = timers i;
   ready = p.0.0.0.0.1;
-  idle = p.0.0.0.1.0.0.0;
-  prepare = p.0.0.0.1.0.0.1;
-  check = p.0.0.0.1.0.1;
-  async = p.0.0.0.1.1;
+  watchers = record { idle = p.0.0.0.1.0.0.0; prepare = p.0.0.0.1.0.0.1; check = p.0.0.0.1.0.1; async = p.0.0.0.1.1 };
   closing = p.0.0.1;
   waiting = p.0.1.0.0;
   running = p.0.1.0.1;

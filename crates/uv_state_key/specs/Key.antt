@@ -12,6 +12,7 @@ use Rattle.uv_records.specs.declared.handle.HandleRecord.{HandleRecord}
 use Rattle.uv_records.specs.declared.named.Calls.{Calls}
 use Rattle.uv_records.specs.declared.named.Named.{Named}
 use Rattle.uv_records.specs.declared.slot.Slot.{Slot}
+use Rattle.uv_records.specs.declared.lists.WatcherKind.TheVariants as watcher
 use Rattle.uv_records.specs.Slots.{Slots}
 use Rattle.uv_records.specs.Walks.{Walk}
 use Rattle.uv_work.specs.declared.content.Content.{Content}
@@ -59,12 +60,12 @@ callback_number callback.Close = 2
 abbrev pub stage_part : Stage → ℕ × Option ℕ
 stage_part stage.Entry = (0, None)
 stage_part stage.Pending = (1, None)
-stage_part stage.Idle = (2, None)
-stage_part stage.Prepare = (3, None)
+stage_part (stage.Walking watcher.Idle) = (2, None)
+stage_part (stage.Walking watcher.Prepare) = (3, None)
 stage_part (stage.Poll deadline) = (4, deadline)
 stage_part stage.Done = (5, None)
-stage_part stage.Async = (6, None)
-stage_part stage.Check = (7, None)
+stage_part (stage.Walking watcher.Async) = (6, None)
+stage_part (stage.Walking watcher.Check) = (7, None)
 stage_part stage.Closing = (8, None)
 stage_part (stage.Timers Entry Collecting) = (9, None)
 stage_part (stage.Timers Entry Firing) = (10, None)
@@ -137,7 +138,8 @@ abbrev pub walk_code : Walk Id → List ℕ
 walk_code w = ids_code w.list ++ ids_code w.yet
 
 unfoldable pub watchers_code : State → List ℕ
-watchers_code s = walk_code s.idle ++ walk_code s.prepare ++ walk_code s.check ++ walk_code s.async
+watchers_code s =
+    walk_code s.watchers.idle ++ walk_code s.watchers.prepare ++ walk_code s.watchers.check ++ walk_code s.watchers.async
 
 unfoldable pub requests_code : State → List ℕ
 requests_code s = ids_code s.waiting ++ list_code (option_code id_code) s.running ++ walk_code s.done

@@ -7,6 +7,7 @@ use std::alloc::AllocError;
 use uv_ids::{Callback, Id, Mode};
 use uv_key::push_number;
 use uv_model::{Body, Numbers, Place, Run, Stage, TimersOf, Timing};
+use uv_records::WatcherKind;
 
 /// 1 or 0.
 pub(crate) fn bit(flag: bool) -> u8
@@ -70,12 +71,12 @@ fn stage_number(stage: Stage) -> u8
     match stage {
         Stage::Entry => 0,
         Stage::Pending => 1,
-        Stage::Idle => 2,
-        Stage::Prepare => 3,
+        Stage::Walking(WatcherKind::Idle) => 2,
+        Stage::Walking(WatcherKind::Prepare) => 3,
         Stage::Poll(_) => 4,
         Stage::Done => 5,
-        Stage::Async => 6,
-        Stage::Check => 7,
+        Stage::Walking(WatcherKind::Async) => 6,
+        Stage::Walking(WatcherKind::Check) => 7,
         Stage::Closing => 8,
         Stage::Timers(TimersOf::Entry, Timing::Collecting) => 9,
         Stage::Timers(TimersOf::Entry, Timing::Firing) => 10,
@@ -92,11 +93,11 @@ fn stage_deadline(stage: Stage) -> Option<u64>
         Stage::Poll(deadline) => deadline,
         Stage::Entry => None,
         Stage::Pending => None,
-        Stage::Idle => None,
-        Stage::Prepare => None,
+        Stage::Walking(WatcherKind::Idle) => None,
+        Stage::Walking(WatcherKind::Prepare) => None,
         Stage::Done => None,
-        Stage::Async => None,
-        Stage::Check => None,
+        Stage::Walking(WatcherKind::Async) => None,
+        Stage::Walking(WatcherKind::Check) => None,
         Stage::Closing => None,
         Stage::Timers(TimersOf::Entry, Timing::Collecting) => None,
         Stage::Timers(TimersOf::Entry, Timing::Firing) => None,

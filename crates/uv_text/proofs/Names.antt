@@ -48,7 +48,7 @@ pub use Rattle.uv_model.specs.declared.place.Place.{Place}
 pub use Rattle.uv_model.specs.declared.place.Place.TheVariants.{Main, Running}
 pub use Rattle.uv_model.specs.declared.place.Run.{Run}
 pub use Rattle.uv_model.specs.declared.place.Stage.{Stage}
-pub use Rattle.uv_model.specs.declared.place.Stage.TheVariants.{Async, Check, Closing, Done, Entry, Idle, Pending, Poll, Prepare, Timers}
+pub use Rattle.uv_model.specs.declared.place.Stage.TheVariants.{Closing, Done, Entry, Pending, Poll, Timers, Walking}
 pub use Rattle.uv_model.specs.declared.place.TimersOf.{TimersOf}
 pub use Rattle.uv_model.specs.declared.place.Timing.{Timing}
 pub use Rattle.uv_model.specs.declared.place.Timing.TheVariants.{Collecting, Firing}

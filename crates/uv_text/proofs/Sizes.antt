@@ -1,6 +1,6 @@
 -- What a state keeps of its lists: as many names and workers as the script has, no more slots than a script may ask for, and a digest of
 -- 32 bytes in each request that was finished. So a step that is taken can be written as a line, and so can each callback.
-use Rattle.uv_text.proofs.Names.{◌≡◌, ℕ, suc, zero, ◌+◌, ◌<◌, ◌≤◌, ◌^◌, List, [], ◌∷◌, ◌++◌, length, drop, Bool, true, false, Option, Some, None, IfSome, Result, Ok, Err, All, slice_get, slice_set, option_and_then, nat_le, nat_lt, ◌==◌, refl, ap, subst, ◌∙◌, arith, length-append, length-set, cond, if◌then◌else◌, list_any, elements, cond_both, leb-true, ltb-true, none-some, same_Some, slice_get_within, Id, Var, Kind, Code, Event, Loop, Take, Finish, Cancel, Send, Tick, Why, Range, Seen, Callback, Op, MainOp, CallbackLine, Task, MOST_SLOTS, Program, arena_size, order_of, text_of, HandleRecord, Slot, WatcherKind, inited, is_async, activated, referenced_as, repeating, watcher_kind, start_timer_refusal, start_watcher_refusal, stop_refusal, again_refusal, timer_refusal, close_refusal, no_refusal, send_refusal, Slots, held, held_in, with_held, next_unused, next_id, next_free, taken, taken_from, freed, Walk, with_first, all_yet, Outcome, Open, Finished, Cancelled, IsDigest, is_digest, LATEST, Content, Named, Body, Run, Stage, Entry, Pending, Idle, Prepare, Poll, Done, Async, Check, Closing, Timers, TimersOf, Turn, AtEntry, Behind, BehindClosing, Way, ToTimers, ToPending, ToEnd, Timing, Collecting, Firing, Place, Main, Running, Request, CanStep, queued, digest_in, handle_in, request_in, same_id, State, named, with_handle, with_id, with_named, live, live_handle, live_request, front, front_request, watched, with_watched, refreshed, counted, stopped, started, restarted, do_op, Next, Moves, Refuses, loop_step, main_step, run_step, body_step, stage_step, next_work, finish, work_of, collect_request, timers, first_due, fire, way, goes_by, turns, refreshes, calls, may_leave, goes, begin_walk, after_walk, front_moved, walk, walk_async, close_front, IsMove, if_keeps, found_both, front_freed, request_freed}
+use Rattle.uv_text.proofs.Names.{◌≡◌, ℕ, suc, zero, ◌+◌, ◌<◌, ◌≤◌, ◌^◌, List, [], ◌∷◌, ◌++◌, length, drop, Bool, true, false, Option, Some, None, IfSome, Result, Ok, Err, All, slice_get, slice_set, option_and_then, nat_le, nat_lt, ◌==◌, refl, ap, subst, ◌∙◌, arith, length-append, length-set, cond, if◌then◌else◌, list_any, elements, cond_both, leb-true, ltb-true, none-some, same_Some, slice_get_within, Id, Var, Kind, Code, Event, Loop, Take, Finish, Cancel, Send, Tick, Why, Range, Seen, Callback, Op, MainOp, CallbackLine, Task, MOST_SLOTS, Program, arena_size, order_of, text_of, HandleRecord, Slot, WatcherKind, inited, is_async, activated, referenced_as, repeating, watcher_kind, start_timer_refusal, start_watcher_refusal, stop_refusal, again_refusal, timer_refusal, close_refusal, no_refusal, send_refusal, Slots, held, held_in, with_held, next_unused, next_id, next_free, taken, taken_from, freed, with_first, Outcome, Open, Finished, Cancelled, IsDigest, is_digest, LATEST, Content, Named, Body, Run, Stage, Entry, Pending, Walking, Poll, Done, Closing, Timers, TimersOf, Turn, AtEntry, Behind, BehindClosing, Way, ToTimers, ToPending, ToEnd, Timing, Collecting, Firing, Place, Main, Running, Request, CanStep, queued, digest_in, handle_in, request_in, same_id, State, named, with_handle, with_id, with_named, live, live_handle, live_request, front, front_request, watched, with_watched, refreshed, counted, stopped, started, restarted, do_op, Next, Moves, Refuses, loop_step, main_step, run_step, body_step, stage_step, next_work, finish, work_of, collect_request, timers, first_due, fire, way, goes_by, turns, refreshes, calls, may_leave, goes, begin_walk, after_walk, front_moved, walk, walk_async, close_front, IsMove, if_keeps, found_both, front_freed, request_freed}
 use Rattle.uv_ids.specs.declared.seen.Seen.TheVariants as seen
 use Rattle.uv_ids.specs.declared.seen.Callback.TheVariants as callback
 use Rattle.uv_script.specs.declared.op.Op.TheVariants as op
@@ -127,12 +127,6 @@ module _ (m k : ℕ) where
       (slot_set s id.slot (record { generation = id.generation; content = None }) s.arena.free tt h)
       (slot_set s id.slot (record { generation = id.generation + 1; content = None }) (id.slot ∷ s.arena.free) tt h)
 
-  lists : (s : State) (kind : WatcherKind) (w : Walk Id) → Sized m k s → Sized m k (with_watched s kind w)
-  lists s watcher.Idle w h = h
-  lists s watcher.Prepare w h = h
-  lists s watcher.Check w h = h
-  lists s watcher.Async w h = h
-
   -- ---- the ops
 
   made : (s : State) (t : Option (Id × Content)) (f : Id → State) → Sized m k s → ((id : Id) → next_free s.arena ≡ Some id → Sized m k (f id)) →
@@ -174,7 +168,7 @@ module _ (m k : ℕ) where
   starts_watcher : (s : State) (id : Id) (x : HandleRecord) → Sized m k s → Sized m k (ops.start_watcher s id x).state
   starts_watcher s id x h = if_keeps (Sized m k) x.active s _ h
       (found_both (watcher_kind x.kind) _ s (Sized m k)
-      (λ kind e. handled (with_watched s kind (with_first (watched s kind) id)) id (activated x) (lists s kind _ h)) (λ e. h))
+      (λ kind e. handled (with_watched s kind (with_first (watched s kind) id)) id (activated x) h) (λ e. h))
 
   sends : (s : State) (t : Result (Id × HandleRecord) Code) → Sized m k s → Sized m k (ops.send s t).state
   sends s (Err code) h = h
@@ -281,7 +275,7 @@ module _ (p : Program) (m k : ℕ) where
   timed s run part Firing able h = fired s run part able h
 
   begun : (s : State) (run : Run) (kind : WatcherKind) → Sized m k s → Stays m k (begin_walk s run kind)
-  begun s run kind h = (lists m k s kind (all_yet (watched s kind)) h, tt)
+  begun s run kind h = (h, tt)
 
   walked : (s : State) (run : Run) (kind : WatcherKind) → Sized m k s → Stays m k (after_walk s run kind)
   walked s run watcher.Idle h = begun s run watcher.Prepare h
@@ -291,16 +285,16 @@ module _ (p : Program) (m k : ℕ) where
 
   walks : (s : State) (run : Run) (kind : WatcherKind) → CanStep s → Sized m k s → Stays m k (walk p s run kind)
   walks s run kind able h = found_both (front s (watched s kind).yet) _ _ (Stays m k)
-      (λ t e. called (front_moved s kind t.0) run callback.Handle t.1.name (seen.Call t.1.name t.0) (lists m k s kind _ h)
+      (λ t e. called (front_moved s kind t.0) run callback.Handle t.1.name (seen.Call t.1.name t.0) h
       (short s (watched s kind).yet t e able h))
       (λ e. walked s run kind h)
 
   walks_async : (s : State) (run : Run) → CanStep s → Sized m k s → Stays m k (walk_async p s run)
-  walks_async s run able h = found_both (front s s.async.yet) _ _ (Stays m k)
+  walks_async s run able h = found_both (front s s.watchers.async.yet) _ _ (Stays m k)
       (λ t e. let u = front_moved s watcher.Async t.0 in
       if_keeps (Stays m k) t.1.pending _ _
       (called (with_handle u t.0 (records.woken t.1)) run callback.Handle t.1.name (seen.Call t.1.name t.0) (handled m k u t.0 (records.woken t.1) h)
-      (short s s.async.yet t e able h))
+      (short s s.watchers.async.yet t e able h))
       (h, tt))
       (λ e. walked s run watcher.Async h)
 
@@ -330,12 +324,10 @@ module _ (p : Program) (m k : ℕ) where
   staged : (s : State) (run : Run) (stage : Stage) → CanStep s → Sized m k s → Stays m k (stage_step p s run stage)
   staged s run Entry able h = turned s run AtEntry h
   staged s run Pending able h = begun s run watcher.Idle h
-  staged s run Idle able h = walks s run watcher.Idle able h
-  staged s run Prepare able h = walks s run watcher.Prepare able h
+  staged s run (Walking watcher.Async) able h = walks_async s run able h
+  staged s run (Walking kind) able h = walks s run kind able h
   staged s run (Poll deadline) able h = if_keeps (Stays m k) (may_leave s deadline) _ _ (h, tt) tt
   staged s run Done able h = collects s run able h
-  staged s run Async able h = walks_async s run able h
-  staged s run Check able h = walks s run watcher.Check able h
   staged s run Closing able h = closes s run able h
   staged s run (Timers part timing) able h = timed s run part timing able h
 

@@ -1,7 +1,7 @@
 -- The text of a session's state.
 use Rattle.std.specs.Prelude.{ℕ, zero, suc, ◌+◌, ◌-◌, ◌==◌, nat_le, List, [], ◌++◌, Bool, true, false, length, Option, Some, None, slice_get, if◌then◌else◌, codes, decimal}
 use Rattle.std.specs.List.{flat_map}
-use Rattle.uv_ids.specs.Words.{kind_word, mode_word}
+use Rattle.uv_ids.specs.Words.{kind_word, mode_word, phase_word}
 use Rattle.uv_ids.specs.declared.id.Id.{Id}
 use Rattle.uv_ids.specs.declared.id.Var.{Var}
 use Rattle.uv_ids.specs.declared.phase.Kind.{Kind}
@@ -12,6 +12,7 @@ use Rattle.uv_records.specs.declared.handle.HandleRecord.{HandleRecord}
 use Rattle.uv_records.specs.declared.lists.ListName.{ListName}
 use Rattle.uv_records.specs.declared.lists.ListName.TheVariants as name
 use Rattle.uv_records.specs.declared.slot.Slot.{Slot}
+use Rattle.uv_records.specs.Lists.{phase_of}
 use Rattle.uv_records.specs.Slots.{held, id_of}
 use Rattle.uv_script.specs.Program.{Program}
 use Rattle.uv_script.specs.Text.{name_text, task_text}
@@ -28,7 +29,7 @@ use Rattle.uv_model.specs.declared.place.Body.{Body}
 use Rattle.uv_model.specs.declared.place.Place.{Place}
 use Rattle.uv_model.specs.declared.place.Place.TheVariants.{Main, Running}
 use Rattle.uv_model.specs.declared.place.Stage.{Stage}
-use Rattle.uv_model.specs.declared.place.Stage.TheVariants.{Entry, Pending, Idle, Prepare, Poll, Done, Async, Check, Closing, Timers}
+use Rattle.uv_model.specs.declared.place.Stage.TheVariants.{Entry, Pending, Walking, Poll, Done, Closing, Timers}
 use Rattle.uv_model.specs.declared.place.TimersOf.{TimersOf}
 use Rattle.uv_model.specs.declared.place.TimersOf.TheVariants as timers_of
 use Rattle.uv_model.specs.declared.place.Timing.{Timing}
@@ -65,12 +66,9 @@ timers_text timers_of.Iteration Firing = codes "timers fire"
 abbrev pub stage_text : Stage → List ℕ
 stage_text Entry = codes "entry"
 stage_text Pending = codes "pending"
-stage_text Idle = codes "idle"
-stage_text Prepare = codes "prepare"
+stage_text (Walking kind) = phase_word (phase_of kind)
 stage_text (Poll deadline) = codes "poll " ++ timeout_text deadline
 stage_text Done = codes "done"
-stage_text Async = codes "async"
-stage_text Check = codes "check"
 stage_text Closing = codes "closing"
 stage_text (Timers which timing) = timers_text which timing
 

@@ -170,15 +170,12 @@ fn push_stage(text: &mut Vec<u8>, stage: Stage) -> Result<(), AllocError>
     match stage {
         Stage::Entry => text.extend_from_slice(b"entry"),
         Stage::Pending => text.extend_from_slice(b"pending"),
-        Stage::Idle => text.extend_from_slice(b"idle"),
-        Stage::Prepare => text.extend_from_slice(b"prepare"),
+        Stage::Walking(kind) => text.extend_from_slice(kind.phase().word().as_bytes()),
         Stage::Poll(deadline) => {
             text.extend_from_slice(b"poll ")?;
             push_timeout(text, deadline)
         }
         Stage::Done => text.extend_from_slice(b"done"),
-        Stage::Async => text.extend_from_slice(b"async"),
-        Stage::Check => text.extend_from_slice(b"check"),
         Stage::Closing => text.extend_from_slice(b"closing"),
         Stage::Timers(which, timing) => push_timers(text, which, timing),
     }

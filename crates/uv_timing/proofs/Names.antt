@@ -45,7 +45,7 @@ pub use Rattle.uv_records.specs.declared.lists.ListName.{ListName}
 pub use Rattle.uv_records.specs.declared.slot.Slot.{Slot}
 pub use Rattle.uv_requests.proofs.Rules.{set_back}
 pub use Rattle.uv_requests.specs.Working.{id_in}
-pub use Rattle.uv_stands.proofs.Absent.{IsOn, absent_active, has_it, held_handle, holds_it, not_async, not_check, not_closing, not_closing_yet, not_done, not_done_yet, not_idle, not_prepare, not_waiting, own_id, ready_stays, stays, timer_kind}
+pub use Rattle.uv_stands.proofs.Absent.{IsOn, absent_active, has_it, held_handle, holds_it, not_closing, not_closing_yet, not_done, not_done_yet, not_of, not_waiting, own_id, ready_stays, stays, timer_kind}
 pub use Rattle.uv_stands.proofs.Holding.{ids_kept, map_same, slots_set, state_handle}
 pub use Rattle.uv_stands.proofs.Lists.{Listed, all_but_one, beside_lists, list_is, list_stays}
 pub use Rattle.uv_stands.proofs.Naming.{record_there}

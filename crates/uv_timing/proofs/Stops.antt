@@ -1,8 +1,9 @@
 -- A timer is stopped.
-use Rattle.uv_timing.proofs.Names.{◌≡◌, ℕ, Bool, true, false, not, if◌then◌else◌, eqb, Some, refl, ap, ◌∙◌, subst, Id, success, HandleRecord, ListName, is_timer, without, record_at, TimerChange, TimerUndo, stopping, Timed, IsRescheduled, cleared, id_in, Place, without_id, stop, members, State, taken_off, stopped, IsReached, Content, Handle, Record, handle_of, By, IsFit, Image, Held, timed_of, OnlyTimed, Does, StandsFor, slots_set, ids_kept, Listed, beside_lists, list_stays, IsOn, timer_kind, held_handle, own_id, stays, ready_stays, not_idle, not_prepare, not_check, not_async, start_is, time_is}
+use Rattle.uv_timing.proofs.Names.{◌≡◌, ℕ, Bool, true, false, not, if◌then◌else◌, eqb, Some, refl, ap, ◌∙◌, subst, Id, success, HandleRecord, ListName, is_timer, without, record_at, TimerChange, TimerUndo, stopping, Timed, IsRescheduled, cleared, id_in, Place, without_id, stop, members, State, taken_off, stopped, IsReached, Content, Handle, Record, handle_of, By, IsFit, Image, Held, timed_of, OnlyTimed, Does, StandsFor, slots_set, ids_kept, Listed, beside_lists, list_stays, IsOn, timer_kind, held_handle, own_id, stays, ready_stays, not_of, start_is, time_is}
 use Rattle.uv_ids.specs.declared.code.Answer.TheVariants as answer
 use Rattle.uv_ids.specs.declared.phase.Kind.TheVariants as kind
 use Rattle.uv_records.specs.declared.lists.ListName.TheVariants as name
+use Rattle.uv_records.specs.declared.lists.WatcherKind.TheVariants as watcher
 use Rattle.uv_arena.specs.Image as arena
 use Rattle.uv_step.specs.Change as change
 use Rattle.uv_timing.proofs.Retimed.{retimed, AreRetimed, stands_then, list_left, timers_are}
@@ -54,14 +55,14 @@ module _ (i : Image Place) (n : Timed Content) (room : ℕ) (d : Id) (h : Handle
 
     stayed : (l : ListName) → Listed n.handles.arena t l
     stayed name.Ready = here name.Ready (off name.Ready (ready_stays i d h there s stands reached closing))
-    stayed name.Idle = here name.Idle (off name.Idle (not_idle i d h there s stands reached of_timer).0)
-    stayed name.IdleYet = here name.IdleYet (off name.IdleYet (not_idle i d h there s stands reached of_timer).1)
-    stayed name.Prepare = here name.Prepare (off name.Prepare (not_prepare i d h there s stands reached of_timer).0)
-    stayed name.PrepareYet = here name.PrepareYet (off name.PrepareYet (not_prepare i d h there s stands reached of_timer).1)
-    stayed name.Check = here name.Check (off name.Check (not_check i d h there s stands reached of_timer).0)
-    stayed name.CheckYet = here name.CheckYet (off name.CheckYet (not_check i d h there s stands reached of_timer).1)
-    stayed name.Async = here name.Async (off name.Async (not_async i d h there s stands reached of_timer).0)
-    stayed name.AsyncYet = here name.AsyncYet (off name.AsyncYet (not_async i d h there s stands reached of_timer).1)
+    stayed name.Idle = here name.Idle (off name.Idle (not_of i d h there s stands reached of_timer watcher.Idle).0)
+    stayed name.IdleYet = here name.IdleYet (off name.IdleYet (not_of i d h there s stands reached of_timer watcher.Idle).1)
+    stayed name.Prepare = here name.Prepare (off name.Prepare (not_of i d h there s stands reached of_timer watcher.Prepare).0)
+    stayed name.PrepareYet = here name.PrepareYet (off name.PrepareYet (not_of i d h there s stands reached of_timer watcher.Prepare).1)
+    stayed name.Check = here name.Check (off name.Check (not_of i d h there s stands reached of_timer watcher.Check).0)
+    stayed name.CheckYet = here name.CheckYet (off name.CheckYet (not_of i d h there s stands reached of_timer watcher.Check).1)
+    stayed name.Async = here name.Async (off name.Async (not_of i d h there s stands reached of_timer watcher.Async).0)
+    stayed name.AsyncYet = here name.AsyncYet (off name.AsyncYet (not_of i d h there s stands reached of_timer watcher.Async).1)
     stayed l = here l refl
 
   listed : (b : Bool) → h.closing ≡ b → (l : ListName) → Listed n.handles.arena t l

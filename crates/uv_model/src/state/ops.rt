@@ -61,11 +61,11 @@ impl LoopState {
         if !matches!(kind, Kind::Async) {
             return self.arena.take(id, content);
         }
-        self.asyncs.push_back(id)?;
+        self.watchers.of_mut(WatcherKind::Async).push_back(id)?;
         match self.arena.take(id, content) {
             Ok(()) => Ok(()),
             Err(refused) => {
-                self.asyncs.pop_back();
+                self.watchers.of_mut(WatcherKind::Async).pop_back();
                 Err(refused)
             }
         }

@@ -77,7 +77,7 @@ impl LoopState {
         ensures { goes_by order self.old run Way.ToPending ≡ Moves self.new result.seen }
     {
         if matches!(order, Order::V145) {
-            self.idled = self.idle.any_listed();
+            self.idled = self.watchers.of(WatcherKind::Idle).any_listed();
         }
         self.begin(run, Stage::Pending, Phase::Pending)
     }
@@ -242,12 +242,9 @@ impl LoopState {
         match run.stage {
             Stage::Entry => Ok(self.turn(script.order(), run, Turn::AtEntry)),
             Stage::Pending => Ok(self.begin_walk(run, WatcherKind::Idle)),
-            Stage::Idle => self.in_walk(script, run, WatcherKind::Idle),
-            Stage::Prepare => self.in_walk(script, run, WatcherKind::Prepare),
+            Stage::Walking(kind) => self.in_walk(script, run, kind),
             Stage::Poll(deadline) => self.poll(run, deadline).map_err(Fault::Refused),
             Stage::Done => self.in_done(script, run),
-            Stage::Async => self.in_async(script, run),
-            Stage::Check => self.in_walk(script, run, WatcherKind::Check),
             Stage::Closing => self.in_closing(script, run),
             Stage::Timers(part, timing) => self.in_timers(script, run, part, timing),
         }

@@ -9,7 +9,7 @@ use crate::running::runner_of;
 use crate::state::LoopState;
 use std::alloc::{AllocError, Global};
 use uv_ids::Id;
-use uv_records::ListName;
+use uv_records::{ListName, WatcherKind};
 
 impl LoopState {
     /// Where the loop stands.
@@ -56,14 +56,14 @@ impl LoopState {
     {
         match list {
             ListName::Ready => &self.ready,
-            ListName::Idle => self.idle.list(),
-            ListName::IdleYet => self.idle.yet(),
-            ListName::Prepare => self.prepare.list(),
-            ListName::PrepareYet => self.prepare.yet(),
-            ListName::Check => self.check.list(),
-            ListName::CheckYet => self.check.yet(),
-            ListName::Async => self.asyncs.list(),
-            ListName::AsyncYet => self.asyncs.yet(),
+            ListName::Idle => self.watchers.of(WatcherKind::Idle).list(),
+            ListName::IdleYet => self.watchers.of(WatcherKind::Idle).yet(),
+            ListName::Prepare => self.watchers.of(WatcherKind::Prepare).list(),
+            ListName::PrepareYet => self.watchers.of(WatcherKind::Prepare).yet(),
+            ListName::Check => self.watchers.of(WatcherKind::Check).list(),
+            ListName::CheckYet => self.watchers.of(WatcherKind::Check).yet(),
+            ListName::Async => self.watchers.of(WatcherKind::Async).list(),
+            ListName::AsyncYet => self.watchers.of(WatcherKind::Async).yet(),
             ListName::Closing => self.closing.list(),
             ListName::ClosingYet => self.closing.yet(),
             ListName::Waiting => &self.waiting,

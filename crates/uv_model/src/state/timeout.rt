@@ -6,6 +6,7 @@ ghost use Rattle.uv_model.specs.Timeout.{is_alive, has_closing, has_pending, has
 use crate::limits::LONGEST_POLL;
 use crate::state::LoopState;
 use uv_ids::Mode;
+use uv_records::WatcherKind;
 
 impl LoopState {
     /// Whether a handle closes whose close callback is still to come.
@@ -29,6 +30,13 @@ impl LoopState {
         self.arena.pends()
     }
 
+    /// Whether an idle handle is active.
+    fn has_idle(&self) -> bool
+        ensures { result ≡ has_idle self.now }
+    {
+        self.watchers.of(WatcherKind::Idle).any()
+    }
+
     /// Whether the poll may be left.
     pub(super) fn may_leave(&self, deadline: Option<u64>) -> bool
         ensures { result ≡ may_leave self.now deadline }
@@ -50,7 +58,7 @@ impl LoopState {
         ensures timeout { result ≡ backend_timeout self.now }
         ensures short { IfSome result (λ ms. ms ≤ LONGEST_POLL) }
     {
-        if self.stop_flag || !self.is_alive() || self.idle.any() || self.has_closing() {
+        if self.stop_flag || !self.is_alive() || self.has_idle() || self.has_closing() {
             return Some(0);
         }
         self.until_first()

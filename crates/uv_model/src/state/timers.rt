@@ -28,10 +28,7 @@ impl LoopState {
     {
         remove_timer(&mut self.timers, handle);
         remove_id(&mut self.ready, id);
-        self.idle.remove(id);
-        self.prepare.remove(id);
-        self.check.remove(id);
-        self.asyncs.remove(id);
+        self.watchers.remove(id);
     }
 
     /// Stops a handle (uv_timer_stop and the like).

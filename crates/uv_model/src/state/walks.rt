@@ -4,54 +4,25 @@ ghost use Rattle.uv_records.specs.Walks.{with_first, all_yet};
 ghost use Rattle.uv_model.specs.State.{watched, with_watched};
 ghost use Rattle.uv_model.specs.Ops.{watcher_started};
 ghost use Rattle.uv_model.specs.Bounds.{CanStep};
-ghost use Rattle.uv_model.specs.Next.{Moves, stage_of, begin_walk, begin_closing, after_walk, front_moved, walk, walk_async, close_front};
+ghost use Rattle.uv_model.specs.Next.{Moves, begin_walk, begin_closing, after_walk, front_moved, walk, walk_async, in_walk, close_front};
 ghost use Rattle.uv_model.specs.Steps.{Steps};
 
 use crate::machine::Outcome;
 use crate::place::{Place, Run, Stage, Turn};
 use crate::state::LoopState;
-use crate::walked::Walked;
 use std::alloc::AllocError;
 use uv_ids::{Callback, Fault, Id, Phase, Seen};
 use uv_records::{HandleRecord, WatcherKind};
 use uv_script::Script;
 
-/// The place of a section of watchers.
-fn stage_of(kind: WatcherKind) -> Stage
-    ensures { result ≡ stage_of kind }
-{
-    match kind {
-        WatcherKind::Idle => Stage::Idle,
-        WatcherKind::Prepare => Stage::Prepare,
-        WatcherKind::Check => Stage::Check,
-        WatcherKind::Async => Stage::Async,
-    }
-}
-
 impl LoopState {
-    /// The active handles of a kind.
-    fn watchers(&self, kind: WatcherKind) -> &Walked
-        ensures { result.now ≡ watched self.now kind }
-    {
-        match kind {
-            WatcherKind::Idle => &self.idle,
-            WatcherKind::Prepare => &self.prepare,
-            WatcherKind::Check => &self.check,
-            WatcherKind::Async => &self.asyncs,
-        }
-    }
-
     /// Puts a handle at the front of its list. Without memory nothing changes.
+    #[tactic(auto, using(crate::proofs::Walks::same_those))]
     fn list_watcher(&mut self, kind: WatcherKind, id: Id) -> Result<(), AllocError>
         ensures ok { OnOk result (self.new ≡ with_watched self.old kind (with_first (watched self.old kind) id)) }
         ensures err { OnErr result (self.new ≡ self.old) }
     {
-        match kind {
-            WatcherKind::Idle => self.idle.push_front(id),
-            WatcherKind::Prepare => self.prepare.push_front(id),
-            WatcherKind::Check => self.check.push_front(id),
-            WatcherKind::Async => self.asyncs.push_front(id),
-        }
+        self.watchers.of_mut(kind).push_front(id)
     }
 
     /// Starts a watcher: it is active, and at the front of its list. Without memory nothing changes.
@@ -73,26 +44,17 @@ impl LoopState {
     fn make_all_yet(&mut self, kind: WatcherKind)
         ensures { self.new ≡ with_watched self.old kind (all_yet (watched self.old kind)) }
     {
-        match kind {
-            WatcherKind::Idle => self.idle.begin_walk(),
-            WatcherKind::Prepare => self.prepare.begin_walk(),
-            WatcherKind::Check => self.check.begin_walk(),
-            WatcherKind::Async => self.asyncs.begin_walk(),
-        }
+        self.watchers.of_mut(kind).begin_walk();
     }
 
     /// Moves the front of those yet to run to the end of the list. Without memory nothing changes.
+    #[tactic(auto, using(crate::proofs::Walks::same_those))]
     fn move_on(&mut self, kind: WatcherKind, front: Id) -> Result<(), AllocError>
         requires { 0 < length (watched self.old kind).yet }
         ensures ok { OnOk result (self.new ≡ front_moved self.old kind front) }
         ensures err { OnErr result (self.new ≡ self.old) }
     {
-        match kind {
-            WatcherKind::Idle => self.idle.move_on(front),
-            WatcherKind::Prepare => self.prepare.move_on(front),
-            WatcherKind::Check => self.check.move_on(front),
-            WatcherKind::Async => self.asyncs.move_on(front),
-        }
+        self.watchers.of_mut(kind).move_on(front)
     }
 
     /// Begins a section of watchers.
@@ -100,7 +62,7 @@ impl LoopState {
         ensures { begin_walk self.old run kind ≡ Moves self.new result.seen }
     {
         self.make_all_yet(kind);
-        self.begin(run, stage_of(kind), kind.phase())
+        self.begin(run, Stage::Walking(kind), kind.phase())
     }
 
     /// Begins the closing section.
@@ -131,11 +93,34 @@ impl LoopState {
         ensures ok { IfOk result (λ outcome. walk script.now self.old run kind ≡ Moves self.new outcome.seen) }
         ensures err { OnErr result (self.new ≡ self.old) }
     {
-        let Some((id, handle)) = self.front(self.watchers(kind).yet()) else {
+        let Some((id, handle)) = self.front(self.watchers.of(kind).yet()) else {
             return Ok(self.after_walk(run, kind));
         };
         self.move_on(kind, id)?;
         Ok(self.call(script, run, id, handle.name))
+    }
+
+    /// Calls the front of those yet to run, if it was sent to, or leaves the section. Without memory nothing changes.
+    #[tactic(auto, using(crate::proofs::Walks::walks))]
+    fn walk_async(&mut self, script: &Script, run: Run) -> Result<Outcome, AllocError>
+        requires { CanStep self.old }
+        ensures ok { IfOk result (λ outcome. walk_async script.now self.old run ≡ Moves self.new outcome.seen) }
+        ensures err { OnErr result (self.new ≡ self.old) }
+    {
+        let Some((id, handle)) = self.front(self.watchers.of(WatcherKind::Async).yet()) else {
+            return Ok(self.after_walk(run, WatcherKind::Async));
+        };
+        self.move_on(WatcherKind::Async, id)?;
+        if handle.pending {
+            self.set_handle(id, handle.woken());
+            return Ok(self.call(script, run, id, handle.name));
+        }
+        self.place = Place::Running(Run {
+            stage: Stage::Walking(WatcherKind::Async),
+            body: None,
+            ..run
+        });
+        Ok(Outcome { seen: None })
     }
 
     /// Goes on in a section of watchers.
@@ -146,43 +131,15 @@ impl LoopState {
         kind: WatcherKind,
     ) -> Result<Outcome, Fault>
         requires { CanStep self.old }
-        ensures { Steps (walk script.now self.old run kind) self.old result self.new }
+        ensures { Steps (in_walk script.now self.old run kind) self.old result self.new }
     {
-        match self.walk(script, run, kind) {
-            Ok(outcome) => Ok(outcome),
-            Err(_) => Err(Fault::Memory),
-        }
-    }
-
-    /// Calls the front of those yet to run, if it was sent to, or leaves the section. Without memory nothing changes.
-    #[tactic(auto, using(crate::proofs::Walks::walks))]
-    fn walk_async(&mut self, script: &Script, run: Run) -> Result<Outcome, AllocError>
-        requires { CanStep self.old }
-        ensures ok { IfOk result (λ outcome. walk_async script.now self.old run ≡ Moves self.new outcome.seen) }
-        ensures err { OnErr result (self.new ≡ self.old) }
-    {
-        let Some((id, handle)) = self.front(self.asyncs.yet()) else {
-            return Ok(self.after_walk(run, WatcherKind::Async));
+        let outcome = match kind {
+            WatcherKind::Async => self.walk_async(script, run),
+            WatcherKind::Idle => self.walk(script, run, kind),
+            WatcherKind::Prepare => self.walk(script, run, kind),
+            WatcherKind::Check => self.walk(script, run, kind),
         };
-        self.move_on(WatcherKind::Async, id)?;
-        if handle.pending {
-            self.set_handle(id, handle.woken());
-            return Ok(self.call(script, run, id, handle.name));
-        }
-        self.place = Place::Running(Run {
-            stage: Stage::Async,
-            body: None,
-            ..run
-        });
-        Ok(Outcome { seen: None })
-    }
-
-    /// Goes on in the async section.
-    pub(super) fn in_async(&mut self, script: &Script, run: Run) -> Result<Outcome, Fault>
-        requires { CanStep self.old }
-        ensures { Steps (walk_async script.now self.old run) self.old result self.new }
-    {
-        match self.walk_async(script, run) {
+        match outcome {
             Ok(outcome) => Ok(outcome),
             Err(_) => Err(Fault::Memory),
         }

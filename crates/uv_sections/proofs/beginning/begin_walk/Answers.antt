@@ -1,10 +1,10 @@
-use Rattle.uv_sections.proofs.Names.{Some, sym, Section, all_yet, watched, with_watched, Moves, at}
+use Rattle.uv_sections.proofs.Names.{Some, sym, Section, all_yet, watched, with_watched, Moves, Walking, at}
 use Rattle.uv_sections.proofs.beginning.begin_walk.Goals as goal
 
 pub returns-clause-goes : goal.returns-clause-goes
 returns-clause-goes c s h reached =
     let m = with_watched s c.args.kind (all_yet (watched s c.args.kind)) in (
-      at m c.args.run c.stage_of.result,
-      (λ l. Moves (at m c.args.run (sym c.stage_of.ensures l)) (Some (Section (sym c.phase.ensures l)))),
+      at m c.args.run (Walking c.args.kind),
+      (λ l. Moves (at m c.args.run (Walking c.args.kind)) (Some (Section (sym c.phase.ensures l)))),
       c.stand_in.ensures.stands _ (c.make_all_yet.ensures.stands s h),
     )
