@@ -1,6 +1,7 @@
 pub mod Absorbed
 pub mod Entered
 pub mod Legal
+pub mod Meeting
 mod Names
 pub mod Places
 pub mod Settled

@@ -1,5 +1,5 @@
 -- What a settled run is: the session, the book, the shifts and the loop's seat tell the same story.
-use Rattle.std.specs.Prelude.{◌≡◌, ◌==◌, ◌<◌, ◌≤◌, ◌⊎◌, ◌+◌, ℕ, List, Bool, true, false, Some, None, Result, Ok, Err, length, slice_get, slice_index, count_by, filter, sum_by}
+use Rattle.std.specs.Prelude.{◌≡◌, ◌==◌, ◌<◌, ◌≤◌, ◌⊎◌, ◌+◌, ℕ, List, Bool, true, false, Some, None, Result, Ok, Err, length, drop, slice_get, slice_index, count_by, filter, sum_by}
 use Rattle.uv_ids.specs.declared.event.Event.{Event}
 use Rattle.uv_ids.specs.declared.event.Event.TheVariants as step
 use Rattle.uv_ids.specs.declared.fault.Fault.{Fault}
@@ -36,6 +36,18 @@ pub record IsShift (k : ℕ) (log : List PoolEvent) (x : Worked) : Type 0 where
   pub events : x.events ≡ part_of k log
   pub turns : are_turns k x.events ≡ true
   pub counts : x.finishes ≡ finish_count x.events
+
+-- worker k's thread did this, whatever the log says: each take was finished before the next one; its share counts the finishes
+abbrev pub IsByWorker : ℕ → Worked → Type 0
+IsByWorker k x = (x.worker ≡ k) × (are_turns k x.events ≡ true) × (x.finishes ≡ finish_count x.events)
+
+-- what is left of each shift's events behind those that were met is the part of this log
+abbrev pub AreLeft : List Worked → List ℕ → List PoolEvent → Type 0
+AreLeft shifts met log = (k : ℕ) (x : Worked) → slice_get shifts k ≡ Some x → drop (slice_index met k) x.events ≡ part_of k log
+
+-- each shift's events are the log's part for the worker with its number
+abbrev pub AreParts : List PoolEvent → List Worked → Type 0
+AreParts log shifts = (k : ℕ) (x : Worked) → slice_get shifts k ≡ Some x → x.events ≡ part_of k log
 
 -- the shifts are those of workers 0, 1, .. in order, each with the log's part for its worker
 abbrev pub AreShifts : List PoolEvent → List Worked → Type 0

@@ -10,6 +10,7 @@ mod crew;
 mod follower;
 mod following;
 mod outside;
+mod parts;
 mod running;
 mod settling;
 mod turning;

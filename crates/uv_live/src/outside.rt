@@ -1,5 +1,5 @@
 //! What comes to the loop from outside the thread pool: the sends of the senders' threads.
-ghost use Rattle.std.specs.Prelude.{◌≡◌, ◌<◌, ◌+◌, ◌-◌, ◌++◌, ◌∷◌, ◌⊎◌, [], true, false, cond, All, OnOk, IfErr, vec_len};
+ghost use Rattle.std.specs.Prelude.{◌≡◌, ◌<◌, ◌+◌, ◌-◌, ◌++◌, ◌∷◌, ◌⊎◌, ℕ, [], Some, true, false, cond, All, OnOk, IfErr, vec_len};
 ghost use Rattle.std.specs.List.{list_any};
 ghost use Rattle.uv_ids.specs.declared.fault.Fault.TheVariants as fault;
 ghost use Rattle.uv_wake.specs.Seats.{names_of, AllCarried, AllJoined};
@@ -8,6 +8,7 @@ ghost use Rattle.uv_live.specs.Sending.{Absorbs, AreCarried, Records, is_by, nam
 
 use crate::follower::Follower;
 use std::alloc::Global;
+use std::sync::atomic::{AtomicU64, Ordering};
 use std::thread::{Promise, PromisedHandle, Scope, Threads};
 use uv_ids::{Fault, MOST_SENDERS, ThreadLine, Var};
 use uv_pool::Gate;
@@ -40,19 +41,21 @@ pub(crate) struct Outside<'a> {
     pub(crate) senders: Vec<Sender<'a>>,
     /// The names that some thread sends to, in their order.
     names: Vec<Var>,
-    /// Whether no send may come any more: no sender's thread is left, and every word was absorbed since.
-    quiet: bool,
+    /// How many sends the senders' threads have noted.
+    sent: &'a AtomicU64,
+    /// How many sends were noted when every word was absorbed last; none where a thread was started or joined since.
+    absorbed: Option<u64>,
     /// Whether a seat was lost with a thread that couldn't be started.
     lost: bool,
     pub ghost seated: { seat.board ≡ board.now.board },
     pub ghost known: { All (λ v. v.0 < names_of board.now.board) names.items },
     pub ghost ours: { All (λ h. h.promise.board.now.board ≡ board.now.board) senders.items },
     pub ghost all: { lost ≡ false → seat.knows.splits ≡ seat.knows.joins + vec_len senders },
-    pub ghost rests: { quiet ≡ true → (senders.items ≡ []) × AreCarried seat.knows names.items },
+    pub ghost rests: { (n : ℕ) → absorbed ≡ Some n → AreCarried seat.knows names.items },
 }
 
-/// Sends by a line, if it is the thread's.
-fn send_line(board: &Board, seat: &mut SenderSeat, thread: u8, line: ThreadLine)
+/// Sends by a line, if it is the thread's, and notes behind it that a send was made.
+fn send_line(board: &Board, seat: &mut SenderSeat, sent: &AtomicU64, thread: u8, line: ThreadLine)
     requires seat { seat.old.board ≡ board.now.board }
     requires name { line.name.0 < names_of board.now.board }
     ensures board { seat.new.board ≡ seat.old.board }
@@ -60,6 +63,7 @@ fn send_line(board: &Board, seat: &mut SenderSeat, thread: u8, line: ThreadLine)
 {
     if line.thread == thread {
         board.send(seat, line.name);
+        sent.fetch_add(1, Ordering::SeqCst);
     }
 }
 
@@ -67,6 +71,7 @@ fn send_line(board: &Board, seat: &mut SenderSeat, thread: u8, line: ThreadLine)
 fn send_all<G: Gate>(
     board: &Board,
     seat: SenderSeat,
+    sent: &AtomicU64,
     gate: &G,
     thread: u8,
     lines: &[ThreadLine],
@@ -79,7 +84,7 @@ fn send_all<G: Gate>(
     let mut seat = seat;
     gate.sending(thread);
     'lines: for n in 0..lines.len() {
-        send_line(board, &mut seat, thread, lines[n]);
+        send_line(board, &mut seat, sent, thread, lines[n]);
     }
     seat
 }
@@ -146,7 +151,12 @@ fn absorb_names<S: Follower>(
 
 impl<'a> Outside<'a> {
     /// No thread is started yet.
-    pub(crate) fn new(alloc: Global, board: &'a Board, seat: LoopSeat) -> Outside<'a>
+    pub(crate) fn new(
+        alloc: Global,
+        board: &'a Board,
+        seat: LoopSeat,
+        sent: &'a AtomicU64,
+    ) -> Outside<'a>
         requires board { seat.board ≡ board.now.board }
         requires joined { AllJoined seat.knows }
         ensures board { result.board.now.board ≡ board.now.board }
@@ -157,7 +167,8 @@ impl<'a> Outside<'a> {
             seat,
             senders: Vec::new(alloc),
             names: Vec::new(alloc),
-            quiet: false,
+            sent,
+            absorbed: None,
             lost: false,
         }
     }
@@ -181,7 +192,7 @@ impl<'a> Outside<'a> {
         ensures board { self.new.board.now.board ≡ self.old.board.now.board }
         ensures lost { self.new.lost ≡ self.old.lost }
     {
-        self.quiet = false;
+        self.absorbed = None;
         match self.names.push(name) {
             Ok(()) => Ok(()),
             Err(_) => Err(Fault::Memory),
@@ -224,17 +235,18 @@ impl<'a> Outside<'a> {
         if !has_line(lines, thread) {
             return Ok(());
         }
-        self.quiet = false;
+        self.absorbed = None;
         match self.senders.reserve(1) {
             Ok(()) => {}
             Err(_) => return Err(Fault::Memory),
         }
         let board = self.board;
+        let sent = self.sent;
         let given = board.split(&mut self.seat)?;
         let sending = move || -> SenderSeat
             requires { (given.board ≡ board.now.board) × (given.knows.tickets ≡ []) × AreNamed (names_of board.now.board) lines.now }
             ensures { (result.board ≡ board.entry.now.board) × (names_in result.knows.tickets ≡ names_by thread lines.entry.now) }
-        { send_all(board, given, gate, thread, lines) };
+        { send_all(board, given, sent, gate, thread, lines) };
         let promise = Sends {
             board,
             thread,
@@ -253,7 +265,7 @@ impl<'a> Outside<'a> {
     }
 
     /// Absorbs every word that a send may stand in, in the order of the names, and records a send for each that one stood in. Where no
-    /// send may come any more none is looked at, so that a poll costs no more for all the names that were sent to before it.
+    /// send was noted since that was done last none is looked at, so that a poll costs no more for all the names that may be sent to.
     pub(crate) fn absorb_all<S: Follower>(&mut self, session: &mut S) -> Result<(), Fault>
         requires polling { S.polling session.old ≡ true }
         requires names { names_of self.old.board.now.board ≡ (S.plan session.old).names }
@@ -262,11 +274,12 @@ impl<'a> Outside<'a> {
         ensures carried { OnOk result (AreCarried self.new.seat.knows self.new.names.items) }
         ensures plan { S.plan session.new ≡ S.plan session.old }
     {
-        if self.quiet {
+        let sent = self.sent.load(Ordering::SeqCst);
+        if self.absorbed == Some(sent) {
             return Ok(());
         }
         absorb_names(self.board, &mut self.seat, self.names.as_slice(), session)?;
-        self.quiet = self.senders.is_empty();
+        self.absorbed = Some(sent);
         Ok(())
     }
 
@@ -280,7 +293,7 @@ impl<'a> Outside<'a> {
         match self.senders.pop() {
             None => false,
             Some(sender) => {
-                self.quiet = false;
+                self.absorbed = None;
                 self.board.join(&mut self.seat, sender.join(rt));
                 true
             }

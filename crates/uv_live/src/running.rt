@@ -18,6 +18,7 @@ use crate::turning::turn_rest;
 use std::alloc::Global;
 use std::marker::Brand;
 use std::sync::Wait;
+use std::sync::atomic::AtomicU64;
 use std::sync::ledger::{Blank, Ledger};
 use std::thread;
 use std::thread::{Scope, Threads};
@@ -155,12 +156,13 @@ struct Joined<S, L: Ledger> {
     shifts: Vec<Shift<L>>,
 }
 
-/// What the threads of a run share, and the `thread` lines that they send by.
+/// What the threads of a run share: among it how many sends were made, and the `thread` lines that they are made by.
 #[derive(Drop)]
 pub(crate) struct Shared<'a, L: Ledger, G> {
     alloc: Global,
     book: &'a LockedBook<L>,
     board: &'a Board,
+    sent: &'a AtomicU64,
     lines: &'a [ThreadLine],
     gate: &'a G,
     pub ghost named: { AreNamed (names_of board.now.board) lines.now },
@@ -196,10 +198,11 @@ fn within<
         alloc,
         book,
         board,
+        sent,
         lines,
         gate,
     } = shared;
-    let mut outside = Outside::new(alloc, board, seat);
+    let mut outside = Outside::new(alloc, board, seat, sent);
     let mut crew = Crew::new(alloc, session.worker_count());
     let started = match start_workers(rt, alloc, scope, book, gate, &mut crew) {
         Ok(()) => match outside.note_names(&session) {
@@ -326,10 +329,12 @@ fn live_over<
     };
     let lines = copied_lines(alloc, &session)?;
     let book = LockedBook::new(book);
+    let sent = AtomicU64::new(0);
     let shared = Shared {
         alloc,
         book: &book,
         board: &board,
+        sent: &sent,
         lines: lines.as_slice(),
         gate,
     };

@@ -4,69 +4,16 @@ ghost use Rattle.uv_pool.specs.Book.{finish_count};
 ghost use Rattle.uv_wake.specs.Seats.{names_of};
 ghost use Rattle.uv_live.specs.Following.{Decides};
 ghost use Rattle.uv_live.specs.Settling as spec;
-ghost use Rattle.uv_live.specs.Settling.{worked, part_of, IsShift, AreShifts, counted, SendsFit, AllSendsFit, IsSettled, Settles};
+ghost use Rattle.uv_live.specs.Settling.{worked, counted, SendsFit, AllSendsFit, IsSettled, Settles};
 
 use crate::follower::Follower;
-use crate::following::{first_apart, is_same};
+use crate::following::first_apart;
+use crate::parts::are_shifts;
 use std::sync::ledger::Ledger;
 use uv_ids::{Event, Fault, Var};
 use uv_pool::{PoolBook, Shift};
 use uv_wake::LoopSeat;
 use uv_work::PoolEvent;
-
-fn is_of(k: u16, event: PoolEvent) -> bool
-    ensures { result ≡ spec.is_of k event }
-{
-    match event {
-        PoolEvent::Take(other, _) => other == k,
-        PoolEvent::Finish(other, _) => other == k,
-        _ => false,
-    }
-}
-
-/// Whether the events are the log's part for the worker.
-fn is_part(k: u16, log: &[PoolEvent], events: &[PoolEvent]) -> bool
-    ensures { Decides result (events.now ≡ part_of k log.now) }
-{
-    let mut left = events;
-    'entries: for n in 0..log.len() {
-        let entry = log[n];
-        if is_of(k, entry) {
-            match left.split_first() {
-                None => return false,
-                Some((event, rest)) => {
-                    if !is_same(*event, entry) {
-                        return false;
-                    }
-                    left = rest;
-                }
-            }
-        }
-    }
-    left.is_empty()
-}
-
-fn is_shift<L: Ledger>(k: u16, log: &[PoolEvent], shift: &Shift<L>) -> bool
-    ensures { Decides result (IsShift k log.now (worked shift.now.worker shift.now.events.items shift.now.share.amount)) }
-{
-    if shift.worker != k {
-        return false;
-    }
-    is_part(k, log, shift.events.as_slice())
-}
-
-/// Whether the shifts are those of the workers 0, 1, .. in order.
-fn are_shifts<L: Ledger>(log: &[PoolEvent], shifts: &[Shift<L>]) -> bool
-    requires { length shifts.now < 65536 }
-    ensures { Decides result (AreShifts log.now (map (λ s. worked s.worker s.events.items s.share.amount) shifts.now)) }
-{
-    'shifts: for k in 0..shifts.len() {
-        if !is_shift(k as u16, log, &shifts[k]) {
-            return false;
-        }
-    }
-    true
-}
 
 fn is_finish(event: PoolEvent) -> bool
     ensures { result ≡ Rattle.uv_pool.specs.Book.is_finish event }
