@@ -1,5 +1,5 @@
 -- Text that is gathered and written, a piece at a time.
-use Rattle.uv_engine.proofs.Names.{◌≡◌, ℕ, List, [], ◌++◌, Result, Ok, Err, OnOk, refl, ap, sym, subst, ◌∙◌, append_assoc, append-nil, zero, suc, ◌+◌, ◌-◌, ◌<◌, length, arith, append_cancel_left, Fault, parts_from, next_part, CutShort, Grown, CutOff, Gathered, Gathers, GathersOne}
+use Rattle.uv_engine.proofs.Names.{◌≡◌, ℕ, List, [], ◌++◌, Result, Ok, Err, OnOk, refl, ap, sym, subst, ◌∙◌, append_assoc, append-nil, zero, ◌+◌, ◌-◌, ◌<◌, length, arith, append_cancel_left, Fault, parts_from, next_part, CutShort, Grown, CutOff, Gathered, Gathers, GathersOne}
 use Rattle.uv_text.specs.Parts.{in_parts}
 
 pub grown_none : (w : List ℕ) → Grown w w

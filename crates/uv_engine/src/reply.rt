@@ -1,14 +1,12 @@
 //! What a session answers to one command, as text.
 ghost use Rattle.std.specs.Prelude.{◌≡◌, ◌<◌, ◌++◌, [], length, IfOk, OnOk, codes};
 ghost use Rattle.uv_engine.specs.Reply.{reply, reply_text, reply_after, may_follow, break_text, at_text, back_text, back_after, forward_text, forward_after, add_text, add_after, last_break, break_back_text, break_back_after};
-ghost use Rattle.uv_engine.specs.Steps.{last_seen};
-ghost use Rattle.uv_text.specs.Trace.{appended_text};
 
 use std::alloc::AllocError;
 use uv_ids::{Event, Fault};
 use uv_model::Machine;
 use uv_script::push_number;
-use uv_session::{Break, Session, Stop};
+use uv_session::{Break, Session};
 use uv_text::push_appended;
 
 pub(crate) fn push_refused(text: &mut Vec<u8>, why: &str) -> Result<(), AllocError>
@@ -34,15 +32,6 @@ fn push_at(text: &mut Vec<u8>, length: usize) -> Result<(), AllocError>
     text.extend_from_slice(b"\n")
 }
 
-/// The line of the last step.
-fn push_last<M: Machine>(text: &mut Vec<u8>, session: &Session<M>) -> Result<(), AllocError>
-    requires { 0 < length session.now.standing }
-    ensures { OnOk result (text.new.items ≡ text.old.items ++ appended_text session.now.program (last_seen session.now)) }
-{
-    let machine = session.machine();
-    push_appended(text, machine.script(), machine.seen(machine.len()))
-}
-
 /// One step, and what it prints. Says whether one more may follow.
 #[tactic(auto, using(crate::proofs::Replies::replies))]
 pub(crate) fn tell<M: Machine>(
@@ -54,17 +43,16 @@ pub(crate) fn tell<M: Machine>(
     ensures session { OnOk result (session.new ≡ reply_after session.old (reply session.old event)) }
     ensures text { OnOk result (text.new.items ≡ text.old.items ++ reply_text session.old.program (reply session.old event)) }
 {
-    match session.run_to_break(event, 1) {
-        Ok(Stop::All) => {
-            push_last(text, session)?;
+    match session.do_event(event) {
+        Ok(outcome) => {
+            push_appended(text, session.machine().script(), outcome.seen)?;
+            if session.stops(outcome.seen) {
+                push_break(text, session.steps().len())?;
+                return Ok(false);
+            }
             Ok(true)
         }
-        Ok(Stop::Break(length)) => {
-            push_last(text, session)?;
-            push_break(text, length)?;
-            Ok(false)
-        }
-        Ok(Stop::Refused(why)) => {
+        Err(Fault::Refused(why)) => {
             push_refused(text, why.word())?;
             Ok(false)
         }

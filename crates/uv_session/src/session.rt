@@ -6,6 +6,7 @@ ghost use Rattle.uv_order.specs.Once.{Once};
 ghost use Rattle.uv_order.specs.PoolEvents.{pool_events};
 ghost use Rattle.uv_script.specs.Program.{worker_count};
 ghost use Rattle.uv_work.specs.Pool.{IsLegal};
+ghost use Rattle.uv_session.specs.Breaks.{stops};
 ghost use Rattle.uv_session.specs.Moving.{moved_forward, MovesForward, AddsBreak, RunsTo, NoneFrom, IsLastBreak, GoesToBreak};
 ghost use Rattle.uv_session.specs.Shown.{TakesEvent, TakesResult, MovesBack, IsDocumented, moved_back};
 
@@ -201,6 +202,13 @@ impl<M: Machine> Session<M> {
             }
         }
         Ok(Stop::All)
+    }
+
+    /// Whether a run stops at a step that appended this.
+    pub fn stops(&self, seen: Option<Seen>) -> bool
+        ensures { result ≡ stops self.now.breaks seen }
+    {
+        self.breaks.stop(seen)
     }
 
     /// Goes back to the last step that matches a break, but for the present one, and answers how many steps stand then.
