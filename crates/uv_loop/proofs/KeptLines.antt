@@ -111,6 +111,6 @@ pub popped_said : (ls was : List Line) (ws were more : List Seen) (l : Line) →
     → all_said ws ls ≡ take (pred (length (all_said were was))) (all_said were was)
 popped_said ls was ws were more l is are k =
     let whole : all_said were was ≡ all_said ws ls ++ said (ws ++ more) l ∷ [] =
-        ap (λ xs. all_said were xs) is ∙ ap (λ xs. all_said xs (ls ++ l ∷ [])) are ∙ map-append (said (ws ++ more)) ls (l ∷ [])
-        ∙ ap (λ ss. ss ++ said (ws ++ more) l ∷ []) (said_before 0 ls ws more k.in_a_row (omega (arith, k.all))) in
+    ap (λ xs. all_said were xs) is ∙ ap (λ xs. all_said xs (ls ++ l ∷ [])) are ∙ map-append (said (ws ++ more)) ls (l ∷ [])
+    ∙ ap (λ ss. ss ++ said (ws ++ more) l ∷ []) (said_before 0 ls ws more k.in_a_row (omega (arith, k.all))) in
     sym (ap (λ ss. take (pred (length ss)) ss) whole ∙ take_front (all_said ws ls) (said (ws ++ more) l))
