@@ -284,7 +284,7 @@ stays_sent s sent each id kept d on e = e
 -- who is left after an op
 pub has_left : (ids off : List Id) (id : Id) → has_id (left_of ids off) id ≡ true → (has_id ids id ≡ true) × (has_id off id ≡ false)
 has_left [] off id e = cc e
-has_left (x ∷ ids) off id e = grind (arith, or_right, same, left_of, has_left ids off id)
+has_left (x ∷ ids) off id e = grind (arith, has_left ids off id)
 
 -- an op leaves whoever is left and was sent to before
 pub still_sent : (s : State) (told : Told) (o : Op) (ids now : List Id) (sent : List Id) → Kept s → SentAt told.sent s →
