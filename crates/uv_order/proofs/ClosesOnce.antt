@@ -1,5 +1,5 @@
 -- Each handle closes once: every op and every step of the loop appends a line that may follow those before it.
-use Rattle.uv_order.proofs.Names.{◌≡◌, ◌⊎◌, inl, inr, ℕ, zero, suc, ◌+◌, ◌==◌, ◌||◌, List, [], ◌∷◌, ◌++◌, Bool, true, false, drop, Option, Some, None, Ok, length, slice_get, slice_set, unwrap_or, replicate, refl, ap, sym, subst, ◌∙◌, arith, cond_both, both_ways, eqb-true, or_right, false_from_ne_true, same_Some, none-some, Id, Var, Code, Kind, Phase, Seen, Site, Op, Program, op_at, arena_size, worker_count, HandleRecord, WatcherKind, inited, referenced_as, repeating, Slots, freed, Content, Named, Request, digest_in, is_open, request_in, text_of, Finished, Run, Stage, Idle, Prepare, Done, Async, Check, Closing, Walk, all_yet, same_id, has_id, AreDistinct, run_ids, State, fresh, handle, live, live_handle, live_request, with_handle, with_request, watched, with_watched, refreshed, unbound, started, restarted, do_op, Next, Moves, Refuses, call, calls, first_due, collected, front_moved, goes, is_default, may_leave, next_work, work_of, SaysTrue, CancelSays, MakesNew, OpSays, MayFollow, activity}
+use Rattle.uv_order.proofs.Names.{◌≡◌, inl, inr, ℕ, zero, suc, ◌+◌, ◌==◌, ◌||◌, List, [], ◌∷◌, ◌++◌, true, false, drop, Option, Some, None, Ok, slice_get, slice_set, unwrap_or, replicate, refl, ap, sym, subst, ◌∙◌, arith, cond_both, eqb-true, same_Some, none-some, Id, Var, Code, Kind, Phase, Seen, Site, Op, Program, op_at, arena_size, HandleRecord, WatcherKind, Slots, freed, Content, Named, Request, digest_in, is_open, request_in, text_of, Finished, Run, Stage, Done, Closing, Walk, all_yet, has_id, AreDistinct, run_ids, State, fresh, handle, live, live_handle, live_request, with_handle, with_request, watched, refreshed, unbound, started, restarted, do_op, Next, Moves, Refuses, call, calls, front_moved, CancelSays, MakesNew, OpSays, MayFollow, activity}
 use Rattle.uv_ids.specs.declared.code.Code.TheVariants as code
 use Rattle.uv_ids.specs.declared.code.Answer.TheVariants as answer
 use Rattle.uv_ids.specs.declared.phase.Phase.TheVariants as phase
@@ -14,7 +14,7 @@ use Rattle.uv_model.specs.Ops as ops
 use Rattle.uv_model.specs.Next as step
 use Rattle.uv_model.specs.Next.{next}
 use Rattle.uv_order.proofs.OpCases.{kind_as, IsRefusal, cancel_both, make_both}
-use Rattle.uv_order.proofs.IdLists.{on_list, Each, each_back, same, itself, turned, has_new_middle, distinct_back}
+use Rattle.uv_order.proofs.IdLists.{on_list, Each, each_back, itself, has_new_middle, distinct_back}
 use Rattle.uv_order.proofs.Holding.{names_turned, same_handles, is_held, put_same, Fits, its_handle, Everyone}
 use Rattle.uv_order.proofs.Asked.{request_turns, freed_turns, FrontRequest, TakesFront, RunsWork}
 use Rattle.uv_order.proofs.Works.{once_middle, worker, none_run, waits_open, runs_now, fewer_wait, more_run, fewer_run}

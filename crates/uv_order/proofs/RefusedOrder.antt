@@ -1,10 +1,7 @@
 -- What the documented order refuses.
-use Rattle.uv_order.proofs.Names.{arith, ◌≡◌, ℕ, List, [], ◌∷◌, ◌++◌, Bool, true, false, Option, Some, None, refl, ap, sym, subst, ◌∙◌, if◌then◌else◌, not, both_ways, same_Some, Id, Var, Due, Success, Answer, Kind, Mode, Phase, Callback, Seen, Site, Op, Program, op_at, Request, digest_in, State, request, Line, has_id, closes_some, lives, waits, may_wait, until_due, bound, Names, names_by, ids_of, taken_off, Told, nothing_told, told_by, Lasting, lasting, Section, word_of, is_called, IsCallLine, Within, Position, Between, Running, Goes, GoesOn, line, at_first, past_after, is_within, AllWithin, is_send_op, is_send, AllSilent, RefusedOrder}
-use Rattle.std.specs.Prelude.{option_map}
-use Rattle.uv_ids.specs.declared.code.Code.TheVariants as code
+use Rattle.uv_order.proofs.Names.{arith, ◌≡◌, ℕ, List, [], ◌∷◌, ◌++◌, Bool, true, false, Option, Some, refl, ap, sym, subst, ◌∙◌, if◌then◌else◌, not, both_ways, Id, Var, Due, Success, Answer, Mode, Phase, Seen, Site, Op, Program, op_at, State, Line, has_id, closes_some, may_wait, bound, Names, names_by, taken_off, Told, nothing_told, told_by, Lasting, lasting, Section, word_of, is_called, Within, Position, Between, Running, Goes, GoesOn, line, at_first, past_after, is_within, AllWithin, is_send_op, is_send, AllSilent, RefusedOrder}
 use Rattle.uv_ids.specs.declared.code.Answer.TheVariants as answer
 use Rattle.uv_ids.specs.declared.phase.Phase.TheVariants as phase
-use Rattle.uv_ids.specs.declared.seen.Callback.TheVariants as callback
 use Rattle.uv_ids.specs.declared.seen.Seen.TheVariants as seen
 use Rattle.uv_script.specs.declared.op.Op.TheVariants as op
 use Rattle.uv_order.specs.Documented as doc

@@ -1,11 +1,11 @@
 -- What a worker may do by the pool's rules it may do as the next step.
-use Rattle.uv_order.proofs.Names.{◌≡◌, ℕ, List, [], ◌∷◌, ◌++◌, Bool, true, false, cond, Option, Some, None, Ok, Err, slice_get, refl, ap, sym, ◌∙◌, append_assoc, events_both, Id, Event, Take, Finish, NoWork, IdleWorker, Program, worker_count, Pool, IsLegal, taken_by, finished_by, after_event, after_events, empty_pool, PoolEvent, Request, same_id, found_or, State, request, with_id, front_request, Next, Moves, Refuses, next_work, work_of, lines, has_id, run_ids, pool_events, pool_of, IsTakenAs, or-true}
+use Rattle.uv_order.proofs.Names.{◌≡◌, ℕ, List, [], ◌∷◌, ◌++◌, Bool, true, false, cond, Option, Some, None, Ok, Err, slice_get, refl, ap, sym, ◌∙◌, events_both, Id, Event, Take, Finish, NoWork, IdleWorker, Program, worker_count, Pool, IsLegal, taken_by, finished_by, after_event, after_events, empty_pool, PoolEvent, Request, same_id, found_or, State, request, with_id, front_request, next_work, work_of, lines, has_id, run_ids, pool_events, pool_of, IsTakenAs, or-true}
 use Rattle.uv_work.specs.Pool.{replay}
 use Rattle.uv_work.specs.declared.event.PoolEvent.TheVariants as event
 use Rattle.uv_model.specs.Next as step
 use Rattle.uv_model.specs.Next.{next}
 use Rattle.uv_model.specs.After.{after}
-use Rattle.uv_order.proofs.IdLists.{same, itself, has_new_middle, has_both}
+use Rattle.uv_order.proofs.IdLists.{same, itself, has_both}
 use Rattle.uv_order.proofs.Works.{runs_now}
 use Rattle.uv_order.proofs.Working.{Working}
 use Rattle.uv_order.proofs.Documents.{pools, holds_after}

@@ -1,5 +1,5 @@
 -- Each op and each step of the loop keeps that the requests agree with their lists.
-use Rattle.uv_order.proofs.Names.{arith, drop, ◌≡◌, ℕ, List, [], ◌∷◌, ◌++◌, true, Option, Some, None, Ok, slice_set, refl, ap, sym, subst, ◌∙◌, list_any, Id, Var, Walk, held, freed, next_free, Op, Task, Program, arena_size, text_of, Finished, Cancelled, Request, queued, same_id, State, fresh, live_request, with_id, front_request, do_op, Next, Moves, Refuses, loop_step, first_due, goes, is_default, may_leave, front_moved, next_work, work_of}
+use Rattle.uv_order.proofs.Names.{arith, drop, ◌≡◌, ℕ, List, [], ◌∷◌, ◌++◌, true, Some, None, Ok, slice_set, refl, ap, sym, subst, ◌∙◌, list_any, Id, Var, held, freed, next_free, Op, Task, Program, arena_size, text_of, Finished, Cancelled, Request, queued, same_id, State, fresh, live_request, with_id, front_request, do_op, Next, Moves, Refuses}
 use Rattle.uv_script.specs.declared.op.Op.TheVariants as op
 use Rattle.uv_work.specs.Digests.{digest_of}
 use Rattle.uv_work.specs.declared.content.Content.TheVariants as content
