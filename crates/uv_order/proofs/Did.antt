@@ -142,7 +142,7 @@ body_did p s run body (Some line) e =
     op _ (site.In body.callback body.name body.next) line.op (ap (option_map (λ (x : CallbackLine). x.op)) e)
 
 run_did : (p : Program) (s : State) (run : Run) (body : Option Body) → BeginsIn body run.stage s → Did p s (step.run_step p s run body)
-run_did p s run x3 r = grind (arith, stage_did, body_did)
+run_did p s run body r = grind (arith, stage_did, body_did)
 
 main_did : (p : Program) (s : State) (i : ℕ) (x : Option MainOp) → slice_get p.main i ≡ x → Did p s (step.main_step (order_of p) s i x)
 main_did p s i None e = refused Ended
@@ -154,7 +154,7 @@ main_did p s i (Some (main.Run m)) e = cond_both (step.refreshes (order_of p) m)
 main_did p s i (Some (main.Op o)) e = op _ (site.Main i) o (ap main_op e)
 
 place_did : (p : Program) (s : State) (x : Place) → BeginsAt x s → Did p s (step.loop_step p s x)
-place_did p s x2 r = grind (arith, main_did, run_did)
+place_did p s x r = grind (arith, main_did, run_did)
 
 take_did : (p : Program) (s : State) (n : ℕ) (t : Result (Id × Request) Why) → next_work s (slice_get s.running n) ≡ t → Did p s (step.take s n t)
 take_did p s n (Err why) e = refused why

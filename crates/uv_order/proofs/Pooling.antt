@@ -202,7 +202,7 @@ IsQuiet p (Moves t None) = Unit {0}
 IsQuiet p (Refuses why) = Unit {0}
 
 quiet_step : (p : Program) (s : State) (n : Next) → KeepsWork s n → IsQuiet p n → Pools p s n
-quiet_step p s x2 q none = grind (arith, pool_same)
+quiet_step p s n q none = grind (arith, pool_same)
 
 did_quiet : (p : Program) (s : State) (n : Next) (d : Did p s n) → IsOfLoop d → IsQuiet p n
 did_quiet p s n (row.refused why) h = tt

@@ -248,6 +248,10 @@ sent_fresh p = record { are = λ id. refl; each = λ id h e. cc e }
 
 -- ---- who is left of an async section
 
+still_closed : (sent ids : List Id) (one id : Id) → ids ≡ one ∷ [] → has_id ids id ≡ false → has_id sent id ≡ true →
+    has_id (without_ids sent ids) id ≡ true
+still_closed sent ids one id f g e = grind (arith, still_there, turned)
+
 -- what an op doesn't take off stays sent to, if it is held
 pub stays_sent : (s : State) (sent : List Id) (o : Op) (id : Id) → Kept s → has_id
     (taken_off phase.Async (names_at s) o (do_op s o).answer) id ≡ false →
@@ -267,13 +271,7 @@ stays_sent s sent (op.Close v) id kept d on e =
     (sent_by (op.Close v) x.answer (names_at s) sent) id ≡ true)
     refuses_close
     (λ c no_success f. subst (λ (ids : List Id). has_id ids id ≡ true) (sym (refused_sent s sent (op.Close v) c no_success)) e)
-    (λ t f is g. closed t (one_taken s v t f) g) d
-  where
-    closed : (t : Id × HandleRecord) → ids_of (names_at s) (Some v) ≡ t.0 ∷ [] → has_id (ids_of (names_at s) (Some v)) id ≡ false →
-        has_id (without_ids sent (ids_of (names_at s) (Some v))) id ≡ true
-    closed t f g =
-        let away : same_id t.0 id ≡ false = (or_parts (same_id t.0 id) false (sym (ap (λ (ids : List Id). has_id ids id) f) ∙ g)).0 in
-        subst (λ (ids : List Id). has_id (without_ids sent ids) id ≡ true) (sym f) (still_there sent t.0 id (turned id t.0 ∙ away) e)
+    (λ t f is g. still_closed sent (ids_of (names_at s) (Some v)) t.0 id (one_taken s v t f) g e) d
 stays_sent s sent (op.Send v) id kept d on e = send_both s v
     (λ (c : ops.Coded). has_id (sent_by (op.Send v) (answer.Code c.code) (names_at s) sent) id ≡ true)
     (λ c no_success. subst (λ (ids : List Id). has_id ids id ≡ true) (sym (refused_sent s sent (op.Send v) c no_success)) e)

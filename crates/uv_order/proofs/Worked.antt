@@ -90,7 +90,7 @@ worked_held : (p : Program) (past : List Seen) (arena more : Slots Content) (wai
     ((i : Id) → IsAsked arena i → IsAsked more i ⊎ IsGone more.slots more.free i) →
     ((i : Id) → IsGone arena.slots arena.free i → IsGone more.slots more.free i) → Worked p past arena waiting runs →
     Worked p past more waiting runs
-worked_held p past arena more waiting runs now held_still gone k = grind (arith)
+worked_held p past arena more waiting runs now held_still gone k = grind arith
 
 -- a request turns, another one or none
 turned_asks : (slots more : List (Slot Content)) (id : Id) (was is : Option Content) → Turns slots more id was is → (i : Id) →
@@ -244,8 +244,7 @@ pub worked_collected : (p : Program) (past : List Seen) (arena more : Slots Cont
 worked_collected p past arena more waiting runs digest v id r t now gone k =
     let asks = turned_asks arena.slots more.slots id _ _ t in
     called_back p past more waiting runs digest v id now (worked_held p past arena more waiting runs
-    (λ i y e. inl (asked_before (asked_at arena.slots) (asked_at more.slots) id asks i y e))
-    (λ i a. asked_or_gone arena more id asks now i a) gone k)
+    (λ i y e. inl (asked_before (asked_at arena.slots) (asked_at more.slots) id asks i y e)) (λ i a. asked_or_gone arena more id asks now i a) gone k)
 
 -- what the after callback of a request that ended says
 pub says_true : (p : Program) (past : List Seen) (id : Id) (task : Task) (o : Outcome) → is_open o ≡ false → EndsTrue p past id task o →

@@ -68,14 +68,13 @@ StaysWorking (Moves t seen) = Working t
 StaysWorking (Refuses why) = Unit {0}
 
 quiet : (s : State) (n : Next) → KeepsWork s n → Working s → StaysWorking n
-quiet s x1 q k = grind (arith, works_quiet)
+quiet s n q k = grind (arith, works_quiet)
 
 collected_working : (p : Program) (s : State) (t : Id × Request) → FrontRequest s s.done.yet t → Working s →
     Works (freed (arena_size p).last_generation t.0 s.arena).slots s.waiting s.running (record s.done { yet = drop 1 s.done.yet })
 collected_working p s t f k =
     subst (λ (rest : List Id). Works (freed (arena_size p).last_generation t.0 s.arena).slots s.waiting s.running (record s.done { yet = rest }))
-    (sym f.behind)
-    (works_collected s.arena.slots _ s.waiting s.running s.done t.0 f.rest t.1
+    (sym f.behind) (works_collected s.arena.slots _ s.waiting s.running s.done t.0 f.rest t.1
     (freed_turns (arena_size p).last_generation s.arena t.0 (content.Request t.1) f.holds) f.are k)
 
 taken_working : (s : State) (n : ℕ) (t : Id × Request) → TakesFront s n t → Working s → StaysWorking (step.take s n (Ok t))
