@@ -1,5 +1,5 @@
 -- What once refuses.
-use Rattle.uv_order.proofs.Names.{arith, ◌≡◌, ◌||◌, List, [], ◌∷◌, ◌++◌, Bool, true, false, Option, refl, subst, both_ways, Id, Success, Seen, Op, Program, is_take_line, has_take_line, OpSays, MayFollow, OnceFrom, RefusedOnce}
+use Rattle.uv_order.proofs.Names.{arith, ◌≡◌, ◌||◌, List, [], ◌∷◌, ◌++◌, true, Option, refl, subst, both_ways, Id, Success, Seen, Op, Program, has_take_line, OpSays, MayFollow, OnceFrom, RefusedOnce}
 use Rattle.uv_ids.specs.declared.code.Answer.TheVariants as answer
 use Rattle.uv_ids.specs.declared.seen.Seen.TheVariants as seen
 

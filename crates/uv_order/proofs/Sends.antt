@@ -1,5 +1,5 @@
 -- Who was sent to, by the lines and by the handles: each step keeps that they agree.
-use Rattle.uv_order.proofs.Names.{arith, ◌≡◌, ℕ, ◌==◌, List, [], ◌∷◌, ◌++◌, Bool, true, false, drop, Option, Some, None, Ok, refl, ap, sym, subst, ◌∙◌, cond_both, both_ways, or_parts, or_right, false_from_ne_true, Id, Var, Code, Answer, Kind, Op, Task, Program, arena_size, HandleRecord, Slot, inited, referenced_as, repeating, close_refusal, held, freed, taken, next_free, Walk, Content, Request, queued, same_id, without_id, State, fresh, handle, with_request, live, live_handle, stopped, started, restarted, do_op, Next, Moves, Refuses, has_id, Told, told_by, sent_by, sent_after, ids_of, without_ids, taken_off, AllOff, AllOffOrUnsent, handle_in}
+use Rattle.uv_order.proofs.Names.{arith, ◌≡◌, ℕ, ◌==◌, List, [], ◌∷◌, ◌++◌, Bool, true, false, drop, Option, Some, None, Ok, refl, ap, sym, subst, ◌∙◌, cond_both, both_ways, or_right, false_from_ne_true, Id, Var, Code, Answer, Kind, Op, Task, Program, arena_size, HandleRecord, Slot, inited, referenced_as, repeating, close_refusal, held, freed, taken, next_free, Walk, Content, Request, queued, same_id, without_id, State, fresh, handle, with_request, live, live_handle, stopped, started, restarted, do_op, Next, Moves, Refuses, has_id, Told, told_by, sent_by, sent_after, ids_of, without_ids, taken_off, AllOff, AllOffOrUnsent, handle_in}
 use Rattle.uv_ids.specs.declared.code.Answer.TheVariants as answer
 use Rattle.uv_ids.specs.declared.phase.Kind.TheVariants as kind
 use Rattle.uv_ids.specs.declared.phase.Phase.TheVariants as phase

@@ -1,5 +1,5 @@
 -- What a worker may do by the pool's rules it may do as the next step.
-use Rattle.uv_order.proofs.Names.{drop, ◌≡◌, ℕ, List, [], ◌∷◌, ◌++◌, Bool, true, false, cond, Option, Some, None, Ok, Err, slice_get, refl, ap, sym, ◌∙◌, events_both, Id, Event, Take, Finish, NoWork, IdleWorker, Program, worker_count, Pool, IsLegal, taken_by, finished_by, after_event, after_events, empty_pool, PoolEvent, Request, same_id, found_or, State, request, with_id, front_request, next_work, work_of, lines, has_id, run_ids, pool_events, pool_of, IsTakenAs, or-true, arith, append_assoc}
+use Rattle.uv_order.proofs.Names.{drop, ◌≡◌, ℕ, List, [], ◌∷◌, ◌++◌, true, Option, Some, None, Ok, slice_get, refl, ap, sym, ◌∙◌, events_both, Id, Event, Take, Finish, Program, worker_count, Pool, IsLegal, after_event, after_events, empty_pool, PoolEvent, Request, State, request, next_work, work_of, lines, has_id, run_ids, pool_events, pool_of, IsTakenAs, or-true, arith}
 use Rattle.uv_work.specs.Pool.{replay}
 use Rattle.uv_work.specs.declared.event.PoolEvent.TheVariants as event
 use Rattle.uv_model.specs.Next as step

@@ -1,8 +1,8 @@
 -- The requests: those that wait for a worker or are run by one are open, those that are done are ended; none stands twice, and no other
 -- request is held.
-use Rattle.uv_order.proofs.Names.{arith, ◌≡◌, ◌⊎◌, inl, inr, ℕ, zero, suc, ◌||◌, List, [], ◌∷◌, ◌++◌, Bool, true, false, Option, Some, None, slice_get, slice_set, replicate, refl, ap, sym, subst, ◌∙◌, append_assoc, append-nil, list_any, or-true, both_ways, false_from_ne_true, same_Some, Id, HandleRecord, Slot, held, Walk, is_open, Content, Request, request_in, same_id, without_id, has_id, AreDistinct, run_ids, not, ◌&&◌}
+use Rattle.uv_order.proofs.Names.{arith, ◌≡◌, ◌⊎◌, inl, inr, ℕ, zero, suc, List, [], ◌∷◌, ◌++◌, Bool, true, false, Option, Some, None, slice_get, slice_set, replicate, refl, ap, sym, subst, ◌∙◌, append_assoc, append-nil, list_any, or-true, both_ways, false_from_ne_true, same_Some, Id, HandleRecord, Slot, held, Walk, is_open, Content, Request, request_in, same_id, without_id, has_id, AreDistinct, run_ids, not, ◌&&◌}
 use Rattle.uv_work.specs.declared.content.Content.TheVariants as content
-use Rattle.uv_order.proofs.IdLists.{has_both, has_but_one, on_list, same, other, itself, turned, has_new_middle, has_old_middle, distinct_middle, distinct_but, without_absent, distinct_front}
+use Rattle.uv_order.proofs.IdLists.{has_both, has_but_one, on_list, same, other, turned, has_new_middle, has_old_middle, distinct_middle, distinct_but}
 use Rattle.uv_order.proofs.Contents.{Turns}
 use Rattle.uv_order.proofs.Holding.{held_at, put, put_turns}
 
@@ -52,10 +52,6 @@ all_same slots more P ids f k = record {
 
 -- ---- lists with one more in the middle
 
--- the others stand on it as before
-pub has_middle : (xs ys : List Id) (id i : Id) → same_id i id ≡ false → has_id (xs ++ id ∷ ys) i ≡ has_id (xs ++ ys) i
-has_middle xs ys id i d = grind (arith, has_both, turned)
-
 -- where none stands twice, it stands nowhere else
 pub once_middle : (xs ys : List Id) (id : Id) → AreDistinct (xs ++ id ∷ ys) → has_id (xs ++ ys) id ≡ false
 once_middle [] ys id d = d.0
@@ -63,9 +59,6 @@ once_middle (x ∷ xs) ys id d = grind (arith, false_from_ne_true, same, has_new
 
 pub in_middle : (xs ys : List Id) (id i : Id) → has_id (xs ++ id ∷ ys) i ≡ true → (id ≡ i) ⊎ (has_id (xs ++ ys) i ≡ true)
 in_middle xs ys id i h = grind (arith, has_both, same)
-
-not_once : (ids : List Id) (id i : Id) → has_id ids id ≡ false → has_id ids i ≡ true → same_id i id ≡ false
-not_once ids id i e h = grind (arith, same)
 
 moved_has : (fronts backs cs ds : List Id) (id i : Id) → fronts ++ backs ≡ cs ++ ds → has_id (fronts ++ id ∷ backs) i ≡ has_id (cs ++ id ∷ ds) i
 moved_has fronts backs cs ds id i e = grind (arith, has_both, ap (λ (ids : List Id). has_id ids i) e)
