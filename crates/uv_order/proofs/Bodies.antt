@@ -43,7 +43,7 @@ found kind v call n lines (x ∷ xs) e = let f = first_left n lines x xs e in le
 
 as_body : (p : Program) (kind : Callback) (v : Var) (call : ℕ) (o : Option ℕ) (sites : List Site) → Found (lines_in p kind v) kind v call o sites →
     IsBody p (body_at kind v call o) sites
-as_body p kind v call x4 sites f = grind (arith)
+as_body p kind v call o sites f = grind arith
 
 -- the body from a line on has the ops from there on
 pub is_body : (p : Program) (kind : Callback) (v : Var) (call n : ℕ) → IsBody p (body_from p kind v call n) (sites_from kind v call n (drop n

@@ -1,5 +1,5 @@
 -- Each handle closes once: every op and every step of the loop appends a line that may follow those before it.
-use Rattle.uv_order.proofs.Names.{◌≡◌, ◌⊎◌, inl, inr, ℕ, zero, suc, ◌+◌, ◌==◌, ◌||◌, List, [], ◌∷◌, ◌++◌, Bool, true, false, drop, Option, Some, None, Ok, length, slice_get, slice_set, unwrap_or, replicate, refl, ap, sym, subst, ◌∙◌, arith, cond_both, both_ways, eqb-true, or_right, false_from_ne_true, same_Some, none-some, Id, Var, Code, Kind, Phase, Seen, Site, Op, Program, op_at, arena_size, worker_count, HandleRecord, WatcherKind, inited, referenced_as, repeating, Slots, freed, Content, Named, Request, digest_in, is_open, request_in, text_of, Finished, Run, Stage, Walk, all_yet, same_id, has_id, AreDistinct, run_ids, State, fresh, handle, live, live_handle, live_request, with_handle, with_request, watched, with_watched, refreshed, unbound, started, restarted, do_op, Next, Moves, Refuses, call, calls, first_due, collected, front_moved, goes, is_default, may_leave, next_work, work_of, SaysTrue, CancelSays, MakesNew, OpSays, MayFollow, activity, kind_as, Walking, Done, Closing, phase_of}
+use Rattle.uv_order.proofs.Names.{◌≡◌, inl, inr, ℕ, zero, suc, ◌+◌, ◌==◌, ◌||◌, List, [], ◌∷◌, ◌++◌, true, false, drop, Option, Some, None, Ok, slice_get, slice_set, unwrap_or, replicate, refl, ap, sym, subst, ◌∙◌, arith, cond_both, eqb-true, none-some, Id, Var, Code, Kind, Phase, Seen, Site, Op, Program, op_at, arena_size, HandleRecord, WatcherKind, Slots, freed, Content, Named, Request, digest_in, request_in, text_of, Finished, Run, Stage, Done, Closing, Walk, all_yet, has_id, AreDistinct, run_ids, State, fresh, handle, live, live_handle, live_request, with_handle, with_request, watched, refreshed, unbound, started, restarted, do_op, Next, Moves, Refuses, call, calls, front_moved, CancelSays, MakesNew, OpSays, MayFollow, activity, kind_as, Walking, phase_of, with_watched}
 use Rattle.uv_ids.specs.declared.code.Code.TheVariants as code
 use Rattle.uv_ids.specs.declared.code.Answer.TheVariants as answer
 use Rattle.uv_ids.specs.declared.phase.Phase.TheVariants as phase
@@ -14,10 +14,10 @@ use Rattle.uv_model.specs.Ops as ops
 use Rattle.uv_model.specs.Next as step
 use Rattle.uv_model.specs.Next.{next}
 use Rattle.uv_order.proofs.OpCases.{IsRefusal, cancel_both, make_both}
-use Rattle.uv_order.proofs.IdLists.{on_list, Each, each_back, same, itself, turned, has_new_middle, distinct_back}
+use Rattle.uv_order.proofs.IdLists.{on_list, Each, each_back, itself, has_new_middle, distinct_back}
 use Rattle.uv_order.proofs.Holding.{names_turned, same_handles, is_held, put_same, Fits, its_handle, Everyone}
 use Rattle.uv_order.proofs.Asked.{request_turns, freed_turns, FrontRequest, TakesFront, RunsWork}
-use Rattle.uv_order.proofs.Works.{once_middle, worker, none_run, waits_open, runs_now, fewer_wait, more_run, fewer_run}
+use Rattle.uv_order.proofs.Works.{HasEnded, its_fit, once_middle, worker, none_run, waits_open, runs_now, fewer_wait, more_run, fewer_run}
 use Rattle.uv_order.proofs.Working.{Working}
 use Rattle.uv_order.proofs.Keeping.{has_number, Watches, Closes, Rests, Kept, members, not_free}
 use Rattle.uv_order.proofs.Did as row
@@ -43,14 +43,14 @@ plain : (p : Program) (past : List Seen) (l : Seen) (t : State) → MayFollow p 
 plain p past l t may q k = (may, known_quiet p past l t.arena t.names q.0 q.1 k)
 
 still_line : (p : Program) (l : Seen) → IsStill (Some l) → IsQuiet p l × IsIdle p l
-still_line p l each = grind (arith)
+still_line p l each = grind arith
 
 still_may : (p : Program) (past : List Seen) (l : Seen) → IsStill (Some l) → MayFollow p past l
 still_may p past l (row.section word) = tt
 still_may p past l each = tt
 
 still_known : (p : Program) (past : List Seen) (t : State) (l : Option Seen) → IsStill l → KnownAt p past t → Follows p past (Moves t l)
-still_known p past t x3 q k = grind (arith, plain, still_may, still_line)
+still_known p past t l q k = grind (arith, plain, still_may, still_line)
 
 begins_known : (p : Program) (past : List Seen) (s : State) (run : Run) (x : Stage) (word : Phase) → KnownAt p past s →
     Follows p past (step.begins s run x word)
@@ -67,8 +67,7 @@ call_known : (p : Program) (past : List Seen) (s : State) (run : Run) (id : Id) 
 call_known p past s run id v h e stays begun k = (
   (not_closed p past s.arena s.names id h e stays k, begun),
   known_quiet p past (seen.Call v id) s.arena _ (assumption)
-      (assumption)
-      (called_known p past s v _ refl k),
+      (assumption) (called_known p past s v _ refl k),
 )
 
 -- what holds of each of a list holds of the front of its end
@@ -92,7 +91,7 @@ fired_known p past s run t f kept begun k =
 -- ---- sections of watchers
 
 begin_known : (p : Program) (past : List Seen) (s : State) (run : Run) (q : WatcherKind) → KnownAt p past s → Follows p past (step.begin_walk s run q)
-begin_known p past s run x4 k = grind (arith, begins_known)
+begin_known p past s run q k = grind (arith, begins_known)
 
 -- who is yet to run doesn't close
 front_stays : (s : State) (q : Kind) (w : Walk Id) (t : Id × HandleRecord) → Everyone s.arena.slots (Watches q) (members w) → FrontOf s w.yet t →
@@ -163,9 +162,8 @@ ended_known p past s run t f kept work k =
     let turns = freed_turns last s.arena t.0 (content.Request t.1) f.holds in
     let gone : (i : Id) → IsGone s.arena.slots s.arena.free i → IsGone (freed last t.0 s.arena).slots (freed last t.0 s.arena).free i =
     λ i g. gone_freed s last t.0 (content.Request t.1) f.holds kept i g in
-    let asked = work.ended.each t.0 (ap (λ (ids : List Id). has_id (s.done.list ++ ids) t.0) f.are ∙ has_new_middle s.done.list f.rest t.0) in
-    let ended : is_open t.1.outcome ≡ false =
-    ap (λ (x : Request). is_open x.outcome) (same_Some _ _ (sym (ap request_in f.holds) ∙ asked.holds)) ∙ asked.fits in (
+    let ended = its_fit s.arena.slots HasEnded (s.done.list ++ s.done.yet) t.0 t.1 (ap request_in f.holds)
+    (ap (λ (ids : List Id). has_id (s.done.list ++ ids) t.0) f.are ∙ has_new_middle s.done.list f.rest t.0) work.ended in (
       record {
         task = t.1.task;
         queued = k.worked.queued t.0 t.1 (ap request_in f.holds);
@@ -175,8 +173,7 @@ ended_known p past s run t f kept work k =
       known_names p (seen.After (digest_in t.1.outcome) t.1.name t.0 ∷ past) (freed last t.0 s.arena) _ s.names
           (counted_ids s.names t.1.name _ refl)
           (known_told p past (seen.After (digest_in t.1.outcome) t.1.name t.0) s.arena (freed last t.0 s.arena) s.names
-          (assumption)
-          (same_handles s.arena.slots _ t.0 _ _ turns refl refl) (names_turned s.arena.slots _ t.0 _ _ turns (λ u g. cc g)) gone
+          (assumption) (same_handles s.arena.slots _ t.0 _ _ turns refl refl) (names_turned s.arena.slots _ t.0 _ _ turns (λ u g. cc g)) gone
           (worked_collected p past s.arena (freed last t.0 s.arena) s.waiting (run_ids s.running) (digest_in t.1.outcome) t.1.name t.0 t.1 turns
           (freed_gone s last t.0 (content.Request t.1) f.holds kept) gone k.worked) k),
     )
@@ -264,11 +261,9 @@ cancel_outside : (p : Program) (past : List Seen) (s : State) (v : Var) → Know
     KnownAt p (seen.Cancel v (ops.cancel s (live_request s v)).answer ∷ past) (ops.cancel s (live_request s v)).state
 cancel_outside p past s v k = cancel_both s v (λ (d : ops.Done). KnownAt p (seen.Cancel v d.answer ∷ past) d.state)
     (λ c no_success. known_quiet p past (seen.Cancel v (answer.Code c)) s.arena s.names
-    (assumption)
-    (assumption) k)
+    (assumption) (assumption) k)
     (λ t live on. cancel_told p past (seen.Cancel v (answer.Cancelled t.0)) s t
-    (assumption)
-    (assumption) live.holds on k)
+    (assumption) (assumption) live.holds on k)
 
 pub did_known : (p : Program) (past : List Seen) (s : State) (n : Next) → Did p s n → Kept s → Working s → StartedAt p past s → KnownAt p past s →
     Follows p past n

@@ -1,5 +1,5 @@
 -- What the slots hold, by their ids, and how one of them changes.
-use Rattle.uv_order.proofs.Names.{◌≡◌, ℕ, zero, suc, ◌==◌, List, [], ◌∷◌, ◌++◌, Bool, true, false, cond, Option, Some, None, length, slice_get, slice_set, refl, ap, sym, ◌∙◌, arith, elements, option_and_then, eq-eqb, eqb-true, same_Some, false_from_ne_true, if◌then◌else◌, slice_get_past, Id, HandleRecord, Slot, held_in, held, Content, Request, handle_in, request_in, same_id}
+use Rattle.uv_order.proofs.Names.{◌≡◌, ℕ, ◌==◌, List, [], ◌∷◌, ◌++◌, Bool, true, false, cond, Option, Some, None, length, slice_get, slice_set, refl, ap, ◌∙◌, arith, elements, option_and_then, eq-eqb, eqb-true, false_from_ne_true, if◌then◌else◌, slice_get_past, Id, HandleRecord, Slot, held_in, held, Content, Request, handle_in, request_in, same_id}
 use Rattle.uv_work.specs.declared.content.Content.TheVariants as content
 use Rattle.uv_order.proofs.IdLists.{same, other, itself}
 

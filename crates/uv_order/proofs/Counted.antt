@@ -1,5 +1,5 @@
 -- How often each name was called, as the lines tell it and as the state counts it.
-use Rattle.uv_order.proofs.Names.{◌≡◌, inl, inr, ℕ, zero, suc, ◌+◌, ◌<◌, ◌≤◌, ◌==◌, List, [], ◌∷◌, length, Bool, true, false, Option, None, slice_get, slice_set, unwrap_or, replicate, refl, ap, sym, subst, ◌∙◌, arith, elements, eqb-true, eq-eqb, both_ways, cases_lt, Id, Var, Callback, Program, Callbacks, no_callbacks, lines_of, lines_in, Calls, Named, without_id, fresh, unbound, count_of, counted, body_from, Told, nothing_told, told_of, times, next_call, body_of}
+use Rattle.uv_order.proofs.Names.{◌≡◌, ℕ, zero, suc, ◌+◌, ◌<◌, ◌≤◌, ◌==◌, List, [], ◌∷◌, length, true, false, None, slice_get, slice_set, unwrap_or, replicate, refl, ap, ◌∙◌, arith, elements, eqb-true, eq-eqb, cases_lt, Id, Var, Callback, Program, Callbacks, no_callbacks, lines_of, lines_in, Calls, Named, without_id, fresh, unbound, count_of, counted, body_from, Told, nothing_told, told_of, times, next_call, body_of}
 use Rattle.uv_ids.specs.declared.seen.Callback.TheVariants as callback
 use Rattle.uv_order.proofs.Bodies.{IsBody, whole_body}
 use Rattle.uv_order.proofs.OpEffects.{SameCalls, set_long}

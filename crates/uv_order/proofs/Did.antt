@@ -1,5 +1,5 @@
 -- What a step does, in a row for each way: the tree of the steps is walked here, once, and whatever steps keep is shown by rows.
-use Rattle.uv_order.proofs.Names.{arith, ◌≡◌, ℕ, ◌+◌, List, [], ◌∷◌, Bool, true, false, Option, Some, None, Result, Ok, Err, drop, length, nat_le, nat_lt, slice_get, option_map, refl, ap, cond_both, same_Some, Id, Var, Due, Event, Loop, Take, Finish, Cancel, Send, Tick, Why, Blocked, Ended, Range, Mode, Phase, Seen, Site, HandleRecord, WatcherKind, CallbackLine, MainOp, Op, Program, arena_size, lines_in, main_op, op_at, order_of, Request, digest_in, Body, Place, Main, Run, Stage, Pending, Poll, Done, Closing, Timers, Collecting, Firing, TimersOf, Turn, AtEntry, Behind, BehindClosing, Way, ToTimers, ToPending, ToEnd, State, handle, with_handle, live_handle, live_request, front, front_request, watched, refreshed, restarted, do_op, Next, Moves, Refuses, call, calls, first_due, front_moved, goes, may_leave, next_work, work_of, found_both, BeginsBehind, BeginsIn, BeginsAt, Walking}
+use Rattle.uv_order.proofs.Names.{arith, ◌≡◌, ℕ, ◌+◌, List, [], ◌∷◌, Bool, true, false, Option, Some, None, Result, Ok, Err, drop, length, nat_le, nat_lt, slice_get, option_map, refl, ap, cond_both, same_Some, Id, Var, Due, Event, Loop, Take, Finish, Cancel, Send, Tick, Why, Blocked, Ended, Range, Mode, Phase, Seen, Site, HandleRecord, WatcherKind, CallbackLine, MainOp, Op, Program, arena_size, lines_in, main_op, op_at, order_of, Request, digest_in, Body, Place, Run, Stage, Pending, Poll, Done, Closing, Timers, Collecting, Firing, TimersOf, Turn, AtEntry, Behind, BehindClosing, Way, ToTimers, ToPending, ToEnd, State, handle, with_handle, live_handle, live_request, front, front_request, watched, refreshed, restarted, do_op, Next, Moves, Refuses, call, calls, first_due, front_moved, goes, may_leave, next_work, work_of, found_both, BeginsBehind, BeginsIn, BeginsAt, Walking, Main}
 use Rattle.uv_ids.specs.declared.seen.Callback.TheVariants as callback
 use Rattle.uv_ids.specs.declared.seen.Seen.TheVariants as seen
 use Rattle.uv_ids.specs.declared.seen.Site.TheVariants as site
@@ -143,7 +143,7 @@ body_did p s run body (Some line) e =
     op _ (site.In body.callback body.name body.next) line.op (ap (option_map (λ (x : CallbackLine). x.op)) e)
 
 run_did : (p : Program) (s : State) (run : Run) (body : Option Body) → BeginsIn body run.stage s → Did p s (step.run_step p s run body)
-run_did p s run x3 r = grind (arith, stage_did, body_did)
+run_did p s run body r = grind (arith, stage_did, body_did)
 
 main_did : (p : Program) (s : State) (i : ℕ) (x : Option MainOp) → slice_get p.main i ≡ x → Did p s (step.main_step (order_of p) s i x)
 main_did p s i None e = refused Ended
@@ -155,7 +155,7 @@ main_did p s i (Some (main.Run m)) e = cond_both (step.refreshes (order_of p) m)
 main_did p s i (Some (main.Op o)) e = op _ (site.Main i) o (ap main_op e)
 
 place_did : (p : Program) (s : State) (x : Place) → BeginsAt x s → Did p s (step.loop_step p s x)
-place_did p s x2 r = grind (arith, main_did, run_did)
+place_did p s x r = grind (arith, main_did, run_did)
 
 take_did : (p : Program) (s : State) (n : ℕ) (t : Result (Id × Request) Why) → next_work s (slice_get s.running n) ≡ t → Did p s (step.take s n t)
 take_did p s n (Err why) e = refused why

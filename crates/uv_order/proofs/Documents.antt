@@ -1,9 +1,7 @@
 -- The lines of every list of steps are in the documented order: what names are bound to by the lines is what the accepted ops of a step
 -- find them bound to.
 use Rattle.uv_order.proofs.Names.{arith, false, map, ◌≡◌, List, [], ◌∷◌, ◌++◌, Option, Some, None, Ok, refl, ap, sym, subst, ◌∙◌, same_Some, Id, Var, Event, Code, Answer, Phase, Seen, Op, Program, worker_count, op_at, HandleRecord, State, fresh, named, live_handle, do_op, Next, Moves, Refuses, state_of, lines, Line, line_of_step, history_from, MayFollow, OnceFrom, line_events, pool_events, pool_of, Pool, empty_pool, then_event, after_events, PoolEvent, Names, names_by, ids_of, sent_by, sent_after, off_by, taken_off, Told, nothing_told, told_by, Lasting, lasting, at_first, Within, Position, Between, Running, Goes, GoesOn, cut, line, Documented, word_of}
-use Rattle.uv_ids.specs.declared.code.Code.TheVariants as code
 use Rattle.uv_ids.specs.declared.code.Answer.TheVariants as answer
-use Rattle.uv_ids.specs.declared.phase.Phase.TheVariants as phase
 use Rattle.uv_ids.specs.declared.seen.Seen.TheVariants as seen
 use Rattle.uv_script.specs.declared.op.Op.TheVariants as op
 use Rattle.uv_model.specs.Ops as ops
@@ -59,15 +57,15 @@ off_refused a b o c no_success word = refusal_takes_none a o c no_success word �
 
 off_again : (a b : Names) (v : Var) → ids_of a (Some v) ≡ ids_of b (Some v) → (word : Phase) →
     ids_of a (off_by word (op.Again v)) ≡ ids_of b (off_by word (op.Again v))
-off_again a b v e each = grind (arith)
+off_again a b v e each = grind arith
 
 off_stop : (a b : Names) (v : Var) → ids_of a (Some v) ≡ ids_of b (Some v) → (word : Phase) →
     ids_of a (off_by word (op.Stop v)) ≡ ids_of b (off_by word (op.Stop v))
-off_stop a b v e each = grind (arith)
+off_stop a b v e each = grind arith
 
 off_close : (a b : Names) (v : Var) → ids_of a (Some v) ≡ ids_of b (Some v) → (word : Phase) →
     ids_of a (off_by word (op.Close v)) ≡ ids_of b (off_by word (op.Close v))
-off_close a b v e each = grind (arith)
+off_close a b v e each = grind arith
 
 did_op_off : (names : Names) (s : State) (o : Op) (d : ops.Done) → DidOp s o d → Agrees names s → SameOff (names_at s) names o d.answer
 did_op_off names s o d (which.refused o' c r may) k = off_refused (names_at s) names o' c r
@@ -90,7 +88,7 @@ abbrev SameSent : Names → Names → Op → Answer → Type 0
 SameSent a b o x = (sent : List Id) → sent_by o x a sent ≡ sent_by o x b sent
 
 refused_sends : (a b : Names) (o : Op) (c : Code) → IsRefusal c → SameSent a b o (answer.Code c)
-refused_sends a b each c r sent = grind (arith)
+refused_sends a b each c r sent = grind arith
 
 did_op_sends : (names : Names) (s : State) (o : Op) (d : ops.Done) → DidOp s o d → Agrees names s → SameSent (names_at s) names o d.answer
 did_op_sends names s o d each k = grind (arith, refused_sends, names_at, one_name)

@@ -1,5 +1,5 @@
 -- What the slots hold, and the lists of ids of handles.
-use Rattle.uv_order.proofs.Names.{◌≡◌, ◌⊎◌, inl, inr, ℕ, ◌<◌, List, ◌∷◌, ◌++◌, Bool, true, false, Option, Some, None, slice_set, refl, ap, sym, subst, ◌∙◌, arith, same_Some, Id, Var, Due, HandleRecord, Slot, held, Content, handle_in, same_id, without_id, with_timer, without_timer, Has, InOrder, has_id, AreDistinct, if◌then◌else◌, false_from_ne_true}
+use Rattle.uv_order.proofs.Names.{◌≡◌, ◌⊎◌, inl, inr, ℕ, ◌<◌, List, ◌∷◌, ◌++◌, Bool, true, false, Option, Some, None, slice_set, refl, ap, sym, subst, ◌∙◌, arith, same_Some, Id, Var, Due, HandleRecord, Slot, held, Content, handle_in, same_id, without_id, with_timer, without_timer, Has, InOrder, has_id, AreDistinct, if◌then◌else◌, false_from_ne_true, or_left, or_right, none-some}
 use Rattle.std.specs.Prelude.{option_map}
 use Rattle.uv_ids.specs.declared.phase.Kind.TheVariants as kind
 use Rattle.uv_work.specs.declared.content.Content.TheVariants as content
@@ -133,6 +133,11 @@ fits_apart slots P id h x e d i l = (apart, fitted slots P id h x e i apart l) w
   apart : i ≡ id → ⊥
   apart is = d (its_handle (put slots id x) P id x (put_same slots id h x e) (subst (Fits (put slots id x) P) is l))
 
+-- whoever fits then is that one, or fitted before
+fits_either : (slots : List (Slot Content)) (P : HandleRecord → Type 0) (id : Id) (h x : HandleRecord) → held_at slots id ≡ Some h → (i : Id) →
+    Fits (put slots id x) P i → (same_id id i ≡ true) ⊎ Fits slots P i
+fits_either slots P id h x e i l = grind (arith, turned, put_at slots id h x e)
+
 -- no handle changes
 pub fits_same : (slots more : List (Slot Content)) (P : HandleRecord → Type 0) → SameHandles more slots → (i : Id) → Fits slots P i → Fits more P i
 fits_same slots more P f i k = record { handle = k.handle; holds = f i ∙ k.holds; fits = k.fits }
@@ -196,11 +201,8 @@ everyone_front slots P id h x ids e f g k =
     (lists_without slots P id h x ids e k.lists) in
     record {
       lists = record { each = (record { handle = x; holds = put_same slots id h x e; fits = g }, rest.each); distinct = (away, rest.distinct) };
-      all = λ i l. at i l (same_id i id) refl;
-    } where
-      at : (i : Id) → Fits (put slots id x) P i → (b : Bool) → same_id i id ≡ b → has_id (id ∷ ids) i ≡ true
-      at i l true s = rw (turned id i, s) refl
-      at i l false s = rw (turned id i, s) (k.all i (fitted slots P id h x e i (other i id s) l))
+      all = λ i l. elim (fits_either slots P id h x e i l) [ inl s ↦ or_left _ _ s | inr old ↦ or_right _ _ (k.all i old) ];
+    }
 
 -- ---- one handle more, or one less
 
@@ -224,22 +226,19 @@ everyone_grown slots more P id x ids g d k = grind (arith, fitted_grown, lists_g
 -- the new one is listed, anywhere
 pub everyone_listed : (slots more : List (Slot Content)) (P : HandleRecord → Type 0) (id : Id) (x : HandleRecord) (xs ys : List Id) →
     Grown slots more id x → P x → Everyone slots P (xs ++ ys) → Everyone more P (xs ++ id ∷ ys)
-everyone_listed slots more P id x xs ys g fits k = record {
-  lists = record {
-    each = each_middle (Fits more P) xs ys id (record {
-      handle = x;
-      holds = g.here;
-      fits = fits;
-    }) (lists_grown slots more P id x (xs ++ ys) g k.lists).each;
-    distinct = distinct_middle xs ys id k.lists.distinct (absent (Fits slots P) id (λ f. clash f.handle f.holds) (xs ++ ys) k.lists.each);
-  };
-  all = λ i l. elim (fitted_grown slots more P id x g i l) [
-    | inl new ↦ subst (λ (j : Id). has_id (xs ++ id ∷ ys) j ≡ true) (sym new.0) (has_new_middle xs ys id)
-    | inr old ↦ has_old_middle xs ys id i (k.all i old)
-  ];
-} where
-  clash : (h : HandleRecord) → held_at slots id ≡ Some h → ⊥
-  clash h e = cc (sym g.new ∙ e)
+everyone_listed slots more P id x xs ys g fits k =
+    let new : Fits more P id = record { handle = x; holds = g.here; fits = fits } in
+    let away = absent (Fits slots P) id (λ f. none-some f.handle (sym g.new ∙ f.holds)) (xs ++ ys) k.lists.each in
+    record {
+      lists = record {
+        each = each_middle (Fits more P) xs ys id new (lists_grown slots more P id x (xs ++ ys) g k.lists).each;
+        distinct = distinct_middle xs ys id k.lists.distinct away;
+      };
+      all = λ i l. elim (fitted_grown slots more P id x g i l) [
+        | inl is ↦ subst (λ (j : Id). has_id (xs ++ id ∷ ys) j ≡ true) (sym is.0) (has_new_middle xs ys id)
+        | inr old ↦ has_old_middle xs ys id i (k.all i old)
+      ];
+    }
 
 -- a slot is emptied, whose handle fitted nowhere
 pub fits_emptied : (slots : List (Slot Content)) (P : HandleRecord → Type 0) (id : Id) (h : HandleRecord) (n : ℕ) → held_at slots id ≡ Some h →
@@ -347,14 +346,11 @@ times_with slots drawn more ts key id h x e off a number less k = record {
           (λ (q : Due). q.start < more) new.0 (rw number less),
     )
     | inr old ↦ let m = k.each other_key i old in
-        (fits_put slots (IsSet other_key) id h x e (λ b. absurd (on_and_off h b.active off)) i m.0, omega (arith, m.1, less))
+        (fits_put slots (IsSet other_key) id h x e (λ b. absurd (never_set h other_key off b)) i m.0, omega (arith, m.1, less))
   ];
   all = λ other_key i l. at other_key i l (same_id i id) refl;
   sorted = in_order_with ts key id k.sorted;
 } where
-  on_and_off : (y : HandleRecord) → y.active ≡ true → y.active ≡ false → ⊥
-  on_and_off y on off' = cc (on, off')
-
   fresh : IsNew key ts
   fresh = is_new ts key (λ other_key i l. rw number (k.each other_key i l).1)
 

@@ -1,5 +1,5 @@
 -- An op by its cases: it is refused, or done with the handle of a live name.
-use Rattle.uv_order.proofs.Names.{arith, ℕ, ◌≡◌, Bool, true, false, Option, Some, None, Result, Ok, Err, refl, ap, not, list_any, cond_both, same_Some, Id, Var, Code, Success, Ebusy, Ebound, Efull, Answer, Kind, HandleRecord, WatcherKind, is_timer, is_async, sent, watcher_kind, only_if, invalid_if, is_watcher, timer_refusal, start_timer_refusal, start_watcher_refusal, stop_refusal, again_refusal, close_refusal, send_refusal, no_refusal, held, next_free, Op, Task, Content, Request, handle_in, same_id, State, handle, named, live, live_handle, live_request, as_handle, as_request, with_id, with_handle, refreshed, do_op, found_both, Names, kind_as}
+use Rattle.uv_order.proofs.Names.{arith, ℕ, ◌≡◌, Bool, true, false, Option, Some, None, Result, Ok, Err, refl, ap, not, list_any, cond_both, same_Some, Id, Var, Code, Success, Ebusy, Answer, Kind, HandleRecord, WatcherKind, is_timer, is_async, sent, watcher_kind, only_if, invalid_if, is_watcher, timer_refusal, start_timer_refusal, start_watcher_refusal, stop_refusal, again_refusal, close_refusal, send_refusal, no_refusal, held, next_free, Op, Task, Content, Request, handle_in, same_id, State, handle, named, live, live_handle, live_request, as_handle, as_request, with_id, with_handle, refreshed, do_op, found_both, Names, kind_as}
 use Rattle.std.specs.Prelude.{◌||◌}
 use Rattle.uv_ids.specs.declared.code.Answer.TheVariants as answer
 use Rattle.uv_ids.specs.declared.phase.Kind.TheVariants as kind
@@ -11,7 +11,7 @@ use Rattle.uv_order.proofs.Holding.{name_at}
 -- ---- kinds
 
 pub timer_kind : (k : Kind) → is_timer k ≡ true → k ≡ kind.Timer
-timer_kind each e = grind (arith)
+timer_kind each e = grind arith
 
 pub as_watcher : (q : Kind) (k : WatcherKind) → watcher_kind q ≡ Some k → q ≡ kind_as k
 as_watcher each k e = grind (arith, same_Some)
@@ -57,10 +57,10 @@ abbrev pub Refuses : (HandleRecord → Option Code) → Type 0
 Refuses why = (h : HandleRecord) (c : Code) → why h ≡ Some c → IsRefusal c
 
 invalid_refuses : (b : Bool) (c : Code) → invalid_if b ≡ Some c → IsRefusal c
-invalid_refuses x0 c e ok = grind (arith)
+invalid_refuses b c e ok = grind arith
 
 only_refuses : (b : Bool) (why : Option Code) (c : Code) → (why ≡ Some c → IsRefusal c) → only_if b why ≡ Some c → IsRefusal c
-only_refuses x0 why c f e ok = grind (arith)
+only_refuses b why c f e ok = grind arith
 
 no_code : (c : Code) → ◌≡◌ {A = Option Code} None (Some c) → IsRefusal c
 no_code c e ok = cc e
@@ -91,10 +91,10 @@ refuses_send h c e = only_refuses (is_async h.kind) (invalid_if h.closing) c (in
 
 -- what is not refused
 only_passes : (b : Bool) (why : Option Code) → only_if b why ≡ None → (b ≡ true) × (why ≡ None)
-only_passes x0 why e = grind (arith)
+only_passes b why e = grind arith
 
 invalid_passes : (b : Bool) → invalid_if b ≡ None → b ≡ false
-invalid_passes x0 e = grind (arith)
+invalid_passes b e = grind arith
 
 pub start_passes : (h : HandleRecord) → start_timer_refusal h ≡ None → (h.kind ≡ kind.Timer) × (h.closing ≡ false)
 start_passes h e = let parts = only_passes (is_timer h.kind) (invalid_if h.closing) e in (timer_kind h.kind parts.0, invalid_passes h.closing parts.1)
@@ -107,7 +107,7 @@ start_watcher_passes h e = let parts = only_passes (is_watcher h.kind) (invalid_
 
 -- a handle that may be started so is of a kind of watchers
 is_of_watchers : (q : Kind) → is_watcher q ≡ true → watcher_kind q ≡ None → ⊥
-is_of_watchers each e f = grind (arith)
+is_of_watchers each e f = grind arith
 
 pub close_passes : (h : HandleRecord) → close_refusal h ≡ None → h.closing ≡ false
 close_passes h e = invalid_passes h.closing e
@@ -121,10 +121,10 @@ send_passes h e = grind arith
 
 -- what isn't a live handle or request refuses
 no_handle : (o : Option (Id × Content)) (c : Code) → as_handle o ≡ Err c → IsRefusal c
-no_handle x0 c e ok = grind (arith)
+no_handle o c e ok = grind arith
 
 pub no_request : (o : Option (Id × Content)) (c : Code) → as_request o ≡ Err c → IsRefusal c
-no_request x0 c e ok = grind (arith)
+no_request o c e ok = grind arith
 
 pub on_handle_both : (s : State) (v : Var) (why : HandleRecord → Option Code) (f : Id → HandleRecord → ops.Done) (P : ops.Done → Type 0) →
     Refuses why → ((c : Code) → IsRefusal c → P (ops.refuses s c)) →
@@ -155,7 +155,7 @@ cancel_both s v P refused done = at (live_request s v) refl where
 pub make_both : (s : State) (t : Option (Id × Content)) (made : Id → State) (P : ops.Done → Type 0) → ((c : Code) → IsRefusal c →
     P (ops.refuses s c)) →
     ((id : Id) → next_free s.arena ≡ Some id → P (record { state = made id; answer = answer.Id id })) → P (ops.make s t made)
-make_both s x1 made x3 refused done = grind (arith)
+make_both s t made P refused done = grind arith
 
 -- ---- what an op does
 

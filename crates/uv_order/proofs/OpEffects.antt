@@ -154,19 +154,13 @@ start_effect : (s : State) (v : Var) (timeout repeat : ℕ) (t : Id × HandleRec
     Effect s (op.Start v timeout repeat) (ops.start s timeout repeat t.0 t.1)
 start_effect s v timeout repeat t e is k =
     timer_effect s (started (stopped s t.0 t.1) t.0 t.1 timeout repeat) (op.Start v timeout repeat) v t e is k
-    (start_off v timeout repeat) refl refl refl
-    (assumption)
+    (start_off v timeout repeat) refl refl refl (assumption)
 
 again_effect : (s : State) (v : Var) (t : Id × HandleRecord) → live_handle s v ≡ Ok t → t.1.kind ≡ kind.Timer → Kept s → Effect s (op.Again v)
     (ops.again s t.0 t.1)
-again_effect s v t e is k =
-    cond_both (t.1.repeat == 0) (stopped s t.0 t.1) (started (stopped s t.0 t.1) t.0 t.1 t.1.repeat t.1.repeat) (λ (u : State). Effect s (op.Again
-    v) (ops.succeeds u))
-    (λ z. by (stopped s t.0 t.1) refl refl (assumption))
-    (λ z. by (started (stopped s t.0 t.1) t.0 t.1 t.1.repeat t.1.repeat) refl refl (assumption))
-  where
-    by : (u : State) → lasting u ≡ lasting s → u.names ≡ s.names → SameLists u (stopped s t.0 t.1) → Effect s (op.Again v) (ops.succeeds u)
-    by u same names lists = timer_effect s u (op.Again v) v t e is k (λ word. refl) refl same names lists
+again_effect s v t e is k = cond_both (t.1.repeat == 0) _ _ (λ (u : State). Effect s (op.Again v) (ops.succeeds u))
+    (λ z. timer_effect s (stopped s t.0 t.1) (op.Again v) v t e is k (λ word. refl) refl refl refl (assumption))
+    (λ z. timer_effect s (started (stopped s t.0 t.1) t.0 t.1 t.1.repeat t.1.repeat) (op.Again v) v t e is k (λ word. refl) refl refl refl (assumption))
 
 -- ---- the other ops
 

@@ -1,6 +1,5 @@
 -- What happens once, by the ops: what the line of each tells, and that the handles and the requests are as it tells.
-use Rattle.uv_order.proofs.Names.{◌≡◌, ◌⊎◌, inl, inr, ℕ, ◌<◌, zero, suc, ◌==◌, ◌||◌, List, [], ◌∷◌, ◌++◌, Bool, true, false, Option, Some, None, length, slice_get, slice_set, if◌then◌else◌, refl, ap, sym, ◌∙◌, arith, list_any, cond_both, both_ways, eq-eqb, or_left, false_from_ne_true, option_and_then, same_Some, Id, Var, Code, Answer, Kind, Seen, Site, Op, Task, Program, op_at, HandleRecord, WatcherKind, Slot, inited, referenced_as, repeating, Slots, held, taken, taken_from, next_free, next_id, next_unused, id_of, Content, Request, queued, request_in, Cancelled, same_id, without_id, has_id, run_ids, State, named, handle, live, live_handle, with_request, stopped, restarted, do_op, binds, makes, made_as, closes, has_take_line, has_cancel_line, queued_task}
-use Rattle.uv_ids.specs.declared.code.Code.TheVariants as code
+use Rattle.uv_order.proofs.Names.{◌≡◌, ◌⊎◌, ℕ, ◌==◌, List, [], ◌∷◌, ◌++◌, Bool, true, false, Option, Some, None, slice_set, if◌then◌else◌, refl, ap, sym, ◌∙◌, arith, list_any, cond_both, or_left, same_Some, Id, Var, Code, Answer, Kind, Seen, Site, Op, Task, Program, op_at, HandleRecord, WatcherKind, Slot, inited, referenced_as, repeating, Slots, held, taken, taken_from, next_free, next_id, Content, Request, queued, request_in, Cancelled, same_id, without_id, has_id, run_ids, State, named, handle, live, live_handle, with_request, stopped, restarted, do_op, makes, made_as, has_take_line, has_cancel_line, queued_task}
 use Rattle.uv_ids.specs.declared.code.Answer.TheVariants as answer
 use Rattle.uv_ids.specs.declared.phase.Kind.TheVariants as kind
 use Rattle.uv_ids.specs.declared.seen.Seen.TheVariants as seen
@@ -9,14 +8,14 @@ use Rattle.uv_records.specs.declared.lists.WatcherKind.TheVariants as watcher
 use Rattle.uv_records.specs.Handles as records
 use Rattle.uv_work.specs.declared.content.Content.TheVariants as content
 use Rattle.uv_model.specs.Ops as ops
-use Rattle.uv_order.proofs.IdLists.{has_both, has_but_one, on_list, same, itself, turned, still_absent, without_itself}
+use Rattle.uv_order.proofs.IdLists.{has_both, has_but_one, on_list, same, itself, turned, still_absent}
 use Rattle.uv_order.proofs.Contents.{Turns}
 use Rattle.uv_order.proofs.Holding.{name_in, name_at, names_turned, same_handles, put, put_same}
 use Rattle.uv_order.proofs.OpCases as which
 use Rattle.uv_order.proofs.OpCases.{DidOp, IsAsked, IsLive, op_did, live_held, live_bound, IsRefusal, refuses_none, refuses_timer, refuses_start, refuses_start_watcher, refuses_stop, refuses_again, refuses_close, on_handle_both, send_both, cancel_both, make_both}
 use Rattle.uv_order.proofs.Asked.{request_turns}
 use Rattle.uv_order.proofs.Works.{same_requests}
-use Rattle.uv_order.proofs.Keeping.{has_number, AreFree, Kept, fills, takes as taken_handle}
+use Rattle.uv_order.proofs.Keeping.{AreFree, Kept, fills, takes as taken_handle}
 use Rattle.uv_order.proofs.Gone.{IsGone, not_held, gone_push, gone_fill, gone_turned}
 use Rattle.uv_order.proofs.Worked.{Worked, Tells, worked_told, worked_idle, worked_ended, worked_fewer, worked_queued}
 use Rattle.uv_order.proofs.Known.{Known, IsQuiet, is_answered, known_told, known_put, known_quiet, IsQuietOp, IsIdleOp, quiet_op, idle_op, known_close, known_bound, known_grown}

@@ -1,5 +1,5 @@
 -- Each line is the event of the thread pool that it says, by the rules of the pool.
-use Rattle.uv_order.proofs.Names.{arith, ◌≡◌, ℕ, ◌||◌, List, [], ◌∷◌, ◌++◌, map, Bool, true, false, Option, Some, None, Ok, drop, slice_set, option_map, refl, ap, sym, subst, ◌∙◌, append_assoc, append-nil, map-append, or_comm, or-true, list_any, both_ways, or_right, false_from_ne_true, same_Some, none-some, Id, Var, Code, Answer, Site, Slot, all_yet, held, freed, next_free, Op, Task, Program, arena_size, op_at, text_of, Pool, runs, is_done, has, without, collected_from, after_event, after_events, is_open, queued, Finished, Cancelled, Content, Request, request_in, same_id, without_id, State, request, live, live_request, refreshed, do_op, Next, Moves, Refuses, first_due, goes, is_default, may_leave, next_work, work_of, has_id, AreDistinct, run_ids, op_events, answered_events, outside_events, line_events, was_finished, done_as, pool_of}
+use Rattle.uv_order.proofs.Names.{arith, ◌≡◌, ℕ, ◌||◌, List, [], ◌∷◌, ◌++◌, map, Bool, true, false, Option, Some, None, Ok, drop, slice_set, refl, ap, sym, subst, ◌∙◌, append_assoc, append-nil, map-append, or_comm, list_any, both_ways, or_right, false_from_ne_true, same_Some, none-some, Id, Var, Code, Answer, Site, Slot, all_yet, held, freed, next_free, Op, Task, Program, arena_size, op_at, text_of, Pool, runs, is_done, has, without, collected_from, after_event, after_events, is_open, Finished, Cancelled, Content, Request, request_in, same_id, without_id, State, request, live_request, refreshed, do_op, Next, Moves, Refuses, has_id, AreDistinct, run_ids, op_events, outside_events, line_events, was_finished, done_as, pool_of}
 use Rattle.uv_ids.specs.declared.code.Answer.TheVariants as answer
 use Rattle.uv_ids.specs.declared.seen.Seen.TheVariants as seen
 use Rattle.uv_script.specs.declared.op.Op.TheVariants as op
@@ -10,7 +10,7 @@ use Rattle.uv_work.specs.declared.content.Content.TheVariants as content
 use Rattle.uv_model.specs.Ops as ops
 use Rattle.uv_model.specs.Next as step
 use Rattle.uv_model.specs.Next.{next}
-use Rattle.uv_order.proofs.IdLists.{has_both, on_list, same, other, itself, turned, without_absent, distinct_front, has_new_middle}
+use Rattle.uv_order.proofs.IdLists.{has_both, on_list, same, other, itself, without_absent, distinct_front}
 use Rattle.uv_order.proofs.Contents.{Turns}
 use Rattle.uv_order.proofs.OpCases.{cancel_both, make_both}
 use Rattle.uv_order.proofs.Keeping.{Kept, fills}
@@ -202,7 +202,7 @@ IsQuiet p (Moves t None) = Unit {0}
 IsQuiet p (Refuses why) = Unit {0}
 
 quiet_step : (p : Program) (s : State) (n : Next) → KeepsWork s n → IsQuiet p n → Pools p s n
-quiet_step p s x2 q none = grind (arith, pool_same)
+quiet_step p s n q none = grind (arith, pool_same)
 
 did_quiet : (p : Program) (s : State) (n : Next) (d : Did p s n) → IsOfLoop d → IsQuiet p n
 did_quiet p s n (row.refused why) h = tt

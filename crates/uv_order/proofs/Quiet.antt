@@ -1,5 +1,5 @@
 -- The steps that change no request: those of handles, of the loop's sections but for the requests that are done, and of the clock.
-use Rattle.uv_order.proofs.Names.{◌≡◌, ◌==◌, List, Option, Some, None, drop, refl, ◌∙◌, cond_both, Id, Var, Kind, HandleRecord, Slot, Walk, inited, activated, referenced_as, repeating, begun_at, taken, next_free, Op, Program, arena_size, Content, State, handle, stopped, restarted, do_op, Next, Moves, Refuses}
+use Rattle.uv_order.proofs.Names.{◌≡◌, ◌==◌, List, Option, Some, None, drop, refl, ◌∙◌, cond_both, Id, Var, Kind, HandleRecord, Slot, Walk, inited, activated, referenced_as, repeating, taken, next_free, Op, Program, arena_size, Content, State, handle, stopped, restarted, do_op, Next, Moves, Refuses}
 use Rattle.uv_ids.specs.declared.phase.Kind.TheVariants as kind
 use Rattle.uv_records.specs.declared.lists.WatcherKind.TheVariants as watcher
 use Rattle.uv_records.specs.Handles as records

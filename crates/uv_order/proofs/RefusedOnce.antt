@@ -1,5 +1,5 @@
 -- What once refuses.
-use Rattle.uv_order.proofs.Names.{arith, ◌≡◌, ◌||◌, List, [], ◌∷◌, ◌++◌, Bool, true, false, Option, Some, refl, subst, both_ways, Id, Var, Success, Seen, Op, Program, op_at, is_take_line, has_take_line, OpSays, MayFollow, OnceFrom, RefusedOnce}
+use Rattle.uv_order.proofs.Names.{arith, ◌≡◌, ◌||◌, List, [], ◌∷◌, ◌++◌, true, Option, refl, subst, both_ways, Id, Success, Seen, Op, Program, has_take_line, OpSays, MayFollow, OnceFrom, RefusedOnce}
 use Rattle.uv_ids.specs.declared.code.Answer.TheVariants as answer
 use Rattle.uv_ids.specs.declared.seen.Seen.TheVariants as seen
 
@@ -15,16 +15,9 @@ follows p [] ls past l h = h.0
 follows p (x ∷ before) ls past l h = follows p before ls (x ∷ past) l h.1
 
 -- a take among these lines, or those before them, is one among all
-or_swap : (a b c : Bool) → ((a || b) || c) ≡ true → (b || (a || c)) ≡ true
-or_swap a b c e = grind arith
-
 taken : (past before : List Seen) (id : Id) → (has_take_line before id || has_take_line past id) ≡ true → has_take_line (turned past before) id ≡ true
 taken past [] id e = e
-taken past (x ∷ before) id e =
-    taken (x ∷ past) before id (or_swap (is_take_line x id) (has_take_line before id) (has_take_line past id) e)
-
-or_false : (a : Bool) → a ≡ true → (a || false) ≡ true
-or_false a e = rw e refl
+taken past (x ∷ before) id e = grind (arith, taken (x ∷ past) before id)
 
 pub refused : (p : Program) (before more : List Seen) → RefusedOnce p before more
 refused p before more = record {
@@ -33,5 +26,5 @@ refused p before more = record {
       subst (λ (o : Option Op). OpSays p (turned [] before) o (answer.Code Success)) e
       (follows p before more [] (seen.Op place (answer.Code Success)) h);
   late_cancel = λ v id e h. both_ways (has_take_line (turned [] before) id) (follows p before more [] (seen.Cancel v (answer.Cancelled id)) h).waits
-      (taken [] before id (or_false _ e));
+      (taken [] before id (rw e refl));
 }

@@ -1,15 +1,12 @@
 -- What the documented order refuses.
-use Rattle.uv_order.proofs.Names.{arith, ◌≡◌, ℕ, List, [], ◌∷◌, ◌++◌, Bool, true, false, Option, Some, None, refl, ap, sym, subst, ◌∙◌, if◌then◌else◌, not, both_ways, same_Some, Id, Var, Due, Success, Answer, Kind, Mode, Phase, Callback, Seen, Site, Op, Program, op_at, Request, digest_in, State, request, Line, has_id, closes_some, lives, waits, may_wait, until_due, bound, Names, names_by, ids_of, taken_off, Told, nothing_told, told_by, Lasting, lasting, Section, word_of, is_called, IsCallLine, Within, Position, Between, Running, Goes, GoesOn, line, at_first, past_after, is_within, AllWithin, is_send_op, is_send, AllSilent, RefusedOrder}
-use Rattle.std.specs.Prelude.{option_map}
-use Rattle.uv_ids.specs.declared.code.Code.TheVariants as code
+use Rattle.uv_order.proofs.Names.{arith, ◌≡◌, ℕ, List, [], ◌∷◌, ◌++◌, Bool, true, false, Option, Some, refl, ap, sym, subst, ◌∙◌, if◌then◌else◌, not, both_ways, Id, Var, Due, Success, Answer, Mode, Phase, Seen, Site, Op, Program, op_at, State, Line, has_id, closes_some, may_wait, bound, Names, names_by, taken_off, Told, nothing_told, told_by, Lasting, lasting, Section, word_of, is_called, Within, Position, Between, Running, Goes, GoesOn, line, at_first, past_after, is_within, AllWithin, is_send_op, is_send, AllSilent, RefusedOrder}
 use Rattle.uv_ids.specs.declared.code.Answer.TheVariants as answer
 use Rattle.uv_ids.specs.declared.phase.Phase.TheVariants as phase
-use Rattle.uv_ids.specs.declared.seen.Callback.TheVariants as callback
 use Rattle.uv_ids.specs.declared.seen.Seen.TheVariants as seen
 use Rattle.uv_script.specs.declared.op.Op.TheVariants as op
 use Rattle.uv_order.specs.Documented as doc
 use Rattle.uv_order.specs.Documented.{Walk}
-use Rattle.uv_order.proofs.IdLists.{itself, without_itself, still_absent}
+use Rattle.uv_order.proofs.IdLists.{has_both, itself, without_itself, still_absent}
 
 -- ---- where the lines stand
 
@@ -39,12 +36,7 @@ moved : {p : Program} {a b : Position} {told : Told} {past : List Seen} {was : L
     GoesOn p a told past was ls → GoesOn p b told past was ls
 moved {p = p} {told = told} {past = past} {was = was} {ls = ls} e h = subst (λ (at : Position). GoesOn p at told past was ls) e h
 
--- the line of a callback is one of these
-on_call : (P : Seen → Type 0) (s : State) (kind : Callback) (v : Var) (id : Id) (what : Seen) → P (seen.Call v id) →
-    ((digest : Option (List ℕ)) → P (seen.After digest v id)) → P (seen.Closed v id) → IsCallLine s kind v id what → P what
-on_call x0 s x2 v id what a b c e = grind (arith, same_Some)
-
--- ---- a section begins, or a poll
+-- ---- a section begins
 
 record Begins (word : Phase) (to : Position) : Type 0 where
   mode : Mode
@@ -54,36 +46,9 @@ record Begins (word : Phase) (to : Position) : Type 0 where
   is : to ≡ Running mode number (Within part walk)
   its : word_of part ≡ word
 
-record Waits (l : Line) (timeout : Option ℕ) : Type 0 where
-  mode : Mode
-  timers : List (Due × Id)
-  is : timeout ≡ may_wait l.before timers mode
-
--- what the line of one of them says
-abbrev Opening : Line → Position → Seen → Type 0
-Opening l to (seen.Section word) = Begins word to
-Opening l to (seen.Poll timeout) = Waits l timeout
-Opening l to each = Unit {0}
-
-opening : (p : Program) (told : Told) (names : Names) (l : Line) (at to : Position) → Goes p told names at l to → Opening l to l.seen
-opening p told names l at to (doc.section {m = m} {i = i} {w = w} x a b c d f) =
-    subst (Opening l to) (sym c) (record { mode = m; number = i; part = x; walk = w; is = refl; its = refl })
-opening p told names l at to (doc.poll {m = m} t a b c d f) = subst (Opening l to) (sym d) (record { mode = m; timers = c.timers; is = c.is })
-opening p told names l at to (doc.call kind v id more a b c d f) = on_call (Opening l to) l.before kind v id l.seen tt (λ digest. tt) tt d
-opening p told names l at to (doc.main_line o a f g h) = subst (Opening l to) (sym g) tt
-opening p told names l at to (doc.run m f g h) = subst (Opening l to) (sym g) tt
-opening p told names l at to (doc.ends a b c d) = subst (Opening l to) (sym c) tt
-opening p told names l at to (doc.body_op place rest o a b c d f) = subst (Opening l to) (sym d) tt
-opening p told names l at to (doc.sent v x a b) = subst (Opening l to) (sym a) tt
-opening p told names l at to (doc.taken n v id a called b) = subst (Opening l to) (sym a) tt
-opening p told names l at to (doc.finished n v id a called b) = subst (Opening l to) (sym a) tt
-opening p told names l at to (doc.cancelled v x a b) = subst (Opening l to) (sym a) tt
-opening p told names l at to (doc.outside ms a b) = subst (Opening l to) (sym a) tt
-
-waits_on : {p : Program} {at : Position} {told : Told} {past : List Seen} {was : Lasting} {l : Line} {ls : List Line} (timeout : Option ℕ) →
-    l.seen ≡ seen.Poll timeout → GoesOn p at told past was (l ∷ ls) → Waits l timeout
-waits_on {p = p} {at = at} {told = told} {past = past} {l = l} timeout e (line {to = to} f g h) =
-    subst (Opening l to) e (opening p told (names_by p past) l at to g)
+begins : (p : Program) (told : Told) (names : Names) (l : Line) (at to : Position) (word : Phase) → l.seen ≡ seen.Section word →
+    Goes p told names at l to → Begins word to
+begins p told names l at to word e g = grind arith
 
 record SectionOn (p : Program) (told : Told) (past : List Seen) (word : Phase) (ls : List Line) : Type 0 where
   mode : Mode
@@ -97,7 +62,7 @@ record SectionOn (p : Program) (told : Told) (past : List Seen) (word : Phase) (
 section_on : (p : Program) (at : Position) (told : Told) (past : List Seen) (was : Lasting) (l : Line) (word : Phase) (ls : List Line) →
     l.seen ≡ seen.Section word → GoesOn p at told past was (l ∷ ls) → SectionOn p (told_by p told (names_by p past) l.seen) (l.seen ∷ past) word ls
 section_on p at told past was l word ls e (line {to = to} f g h) =
-    let b : Begins word to = subst (Opening l to) e (opening p told (names_by p past) l at to g) in
+    let b = begins p told (names_by p past) l at to word e g in
     record { mode = b.mode; number = b.number; part = b.part; walk = b.walk; was = lasting l.after; its = b.its; rest = moved b.is h }
 
 -- ---- the lines of a section
@@ -117,24 +82,14 @@ record Stays (p : Program) (told : Told) (names : Names) (m : Mode) (i : ℕ) (p
   tells : Tells p told names part w walk what
 
 still_off : (taken off : List Id) (id : Id) → has_id off id ≡ true → has_id (taken ++ off) id ≡ true
-still_off [] off id e = e
-still_off (x ∷ taken) off id e = grind (arith, still_off taken off id e)
+still_off taken off id e = grind (arith, has_both)
 
 also_off : (taken off : List Id) (id : Id) → has_id taken id ≡ true → has_id (taken ++ off) id ≡ true
-also_off [] off id e = cc e
-also_off (x ∷ taken) off id e = grind (arith, also_off taken off id)
-
-not_within : (what this : Seen) → is_within what ≡ true → what ≡ this → is_within this ≡ false → ⊥
-not_within what this e f g = both_ways (is_within what) (ap is_within f ∙ g) e
-
-same_walk : (p : Program) (told : Told) (names : Names) (m : Mode) (i : ℕ) (part : Section) (w : Walk) (ahead : List Id) (body : List Site)
-    (what : Seen) → Tells p told names part w (record w { ahead = ahead; body = body }) what →
-    Stays p told names m i part w (Running m i (Within part (record w { ahead = ahead; body = body }))) what
-same_walk p told names m i part w ahead body what t = record { walk = _; is = refl; grown = λ id h. h; tells = t }
+also_off taken off id e = grind (arith, has_both)
 
 stays : (p : Program) (told : Told) (names : Names) (m : Mode) (i : ℕ) (part : Section) (w : Walk) (l : Line) (to : Position) →
     is_within l.seen ≡ true → Goes p told names (Running m i (Within part w)) l to → Stays p told names m i part w to l.seen
-stays p told names m i part w l to e x10 = grind (arith, on_call, same_walk, still_off, also_off, same_Some, not_within)
+stays p told names m i part w l to e g = grind (arith, still_off, also_off)
 
 -- a run stands in this section, and whom this says was taken off
 record WalkOn (p : Program) (m : Mode) (i : ℕ) (part : Section) (off : Id → Type 0) (told : Told) (past : List Seen) (ls : List Line) : Type 0 where
@@ -211,6 +166,15 @@ no_wait a b c d n e = grind arith
 closing_zero : (s : State) (timers : List (Due × Id)) (m : Mode) → closes_some s ≡ true → may_wait s timers m ≡ Some 0
 closing_zero s timers m e = grind (arith, no_wait)
 
+-- behind which a poll waits for nothing
+zero_waits : (p : Program) (told : Told) (names : Names) (l : Line) (at to : Position) (timeout : Option ℕ) → closes_some l.before ≡ true →
+    l.seen ≡ seen.Poll timeout → Goes p told names at l to → timeout ≡ Some 0
+zero_waits p told names l at to timeout shut e g = grind (arith, closing_zero)
+
+zero_on : (p : Program) (at : Position) (told : Told) (past : List Seen) (was : Lasting) (l : Line) (ls : List Line) (timeout : Option ℕ) →
+    closes_some l.before ≡ true → l.seen ≡ seen.Poll timeout → GoesOn p at told past was (l ∷ ls) → timeout ≡ Some 0
+zero_on p at told past was l ls timeout shut e (line {to = to} f g h) = zero_waits p told (names_by p past) l at to timeout shut e g
+
 off_started : (names : Names) (v : Var) (id : Id) (timeout repeat : ℕ) (word : Phase) → word ≡ phase.Timers → names.bound v ≡ Some id →
     has_id (taken_off word names (op.Start v timeout repeat) (answer.Code Success)) id ≡ true
 off_started names v id timeout repeat word e f = grind (arith, itself)
@@ -218,8 +182,8 @@ off_started names v id timeout repeat word e f = grind (arith, itself)
 pub refused : (p : Program) (before more : List Line) → RefusedOrder p before more
 refused p before more = record {
   closing_waits = λ l timeout shut d e h.
-      let w = waits_on timeout e (behind p before (l ∷ more) (Between 0) nothing_told [] at_first h).goes in
-      d (w.is ∙ closing_zero l.before w.timers w.mode shut);
+      let k = behind p before (l ∷ more) (Between 0) nothing_told [] at_first h in
+      d (zero_on p k.at _ _ k.was l more timeout shut e k.goes);
   early_timer = λ s l y front mid v x id place timeout repeat es fs el o names ms ek h.
       let k = behind p before (s ∷ (front ++ l ∷ (mid ++ y ∷ more))) (Between 0) nothing_told [] at_first h in
       let b = section_on p k.at _ _ k.was s phase.Timers (front ++ l ∷ (mid ++ y ∷ more)) es k.goes in

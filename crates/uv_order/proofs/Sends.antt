@@ -1,6 +1,5 @@
 -- Who was sent to, by the lines and by the handles: each step keeps that they agree.
-use Rattle.uv_order.proofs.Names.{arith, ◌≡◌, ℕ, ◌==◌, ◌||◌, List, [], ◌∷◌, ◌++◌, Bool, true, false, drop, Option, Some, None, Ok, refl, ap, sym, subst, ◌∙◌, not, cond_both, both_ways, or_parts, or_right, false_from_ne_true, same_Some, Id, Var, Code, Answer, Kind, Op, Task, Program, arena_size, HandleRecord, Slot, inited, referenced_as, repeating, close_refusal, held, freed, taken, next_free, Walk, Content, Request, queued, same_id, without_id, State, fresh, handle, with_request, live, live_handle, stopped, started, restarted, do_op, Next, Moves, Refuses, has_id, Told, told_by, sent_by, sent_after, ids_of, without_ids, taken_off, AllOff, AllOffOrUnsent, handle_in, kind_as, watched}
-use Rattle.uv_ids.specs.declared.code.Code.TheVariants as code
+use Rattle.uv_order.proofs.Names.{arith, ◌≡◌, ℕ, ◌==◌, List, [], ◌∷◌, ◌++◌, Bool, true, false, drop, Option, Some, None, Ok, refl, ap, sym, subst, ◌∙◌, cond_both, both_ways, or_right, false_from_ne_true, Id, Var, Code, Answer, Kind, Op, Task, Program, arena_size, HandleRecord, Slot, inited, referenced_as, repeating, close_refusal, held, freed, taken, next_free, Walk, Content, Request, queued, same_id, without_id, State, fresh, handle, with_request, live, live_handle, stopped, started, restarted, do_op, Next, Moves, Refuses, has_id, Told, told_by, sent_by, sent_after, ids_of, without_ids, taken_off, AllOff, AllOffOrUnsent, handle_in, kind_as, watched}
 use Rattle.uv_ids.specs.declared.code.Answer.TheVariants as answer
 use Rattle.uv_ids.specs.declared.phase.Kind.TheVariants as kind
 use Rattle.uv_ids.specs.declared.phase.Phase.TheVariants as phase
@@ -11,7 +10,7 @@ use Rattle.uv_work.specs.declared.content.Content.TheVariants as content
 use Rattle.uv_model.specs.Ops as ops
 use Rattle.uv_order.proofs.IdLists.{has_both, Each, each_back, same, other, itself, turned, left_of, without_itself, has_without, without_absent, still_there}
 use Rattle.uv_order.proofs.Contents.{Turns, emptied}
-use Rattle.uv_order.proofs.Holding.{grown_at, put_at, SameHandles, same_handles, held_at, put, put_same, put_other, emptied_same, emptied_other, Fits, its_handle, Grown, Everyone}
+use Rattle.uv_order.proofs.Holding.{grown_at, SameHandles, same_handles, held_at, put, put_same, put_other, emptied_same, emptied_other, Fits, its_handle, Grown, Everyone}
 use Rattle.uv_order.proofs.OpCases as which
 use Rattle.uv_order.proofs.OpCases.{DidOp, IsAsked, IsRef, op_did, names_at, live_held, IsRefusal, refuses_none, refuses_timer, refuses_start, refuses_start_watcher, refuses_stop, refuses_again, refuses_close, send_passes, on_handle_both, send_both, cancel_both, make_both}
 use Rattle.uv_order.proofs.Asked.{FrontRequest, request_turns, freed_turns}
@@ -247,6 +246,10 @@ sent_fresh p = record { are = λ id. refl; each = λ id h e. cc e }
 
 -- ---- who is left of an async section
 
+still_closed : (sent ids : List Id) (one id : Id) → ids ≡ one ∷ [] → has_id ids id ≡ false → has_id sent id ≡ true →
+    has_id (without_ids sent ids) id ≡ true
+still_closed sent ids one id f g e = grind (arith, still_there, turned)
+
 -- what an op doesn't take off stays sent to, if it is held
 pub stays_sent : (s : State) (sent : List Id) (o : Op) (id : Id) → Kept s → has_id
     (taken_off phase.Async (names_at s) o (do_op s o).answer) id ≡ false →
@@ -266,13 +269,7 @@ stays_sent s sent (op.Close v) id kept d on e =
     (sent_by (op.Close v) x.answer (names_at s) sent) id ≡ true)
     refuses_close
     (λ c no_success f. subst (λ (ids : List Id). has_id ids id ≡ true) (sym (refused_sent s sent (op.Close v) c no_success)) e)
-    (λ t f is g. closed t (one_taken s v t f) g) d
-  where
-    closed : (t : Id × HandleRecord) → ids_of (names_at s) (Some v) ≡ t.0 ∷ [] → has_id (ids_of (names_at s) (Some v)) id ≡ false →
-        has_id (without_ids sent (ids_of (names_at s) (Some v))) id ≡ true
-    closed t f g =
-        let away : same_id t.0 id ≡ false = (or_parts (same_id t.0 id) false (sym (ap (λ (ids : List Id). has_id ids id) f) ∙ g)).0 in
-        subst (λ (ids : List Id). has_id (without_ids sent ids) id ≡ true) (sym f) (still_there sent t.0 id (turned id t.0 ∙ away) e)
+    (λ t f is g. still_closed sent (ids_of (names_at s) (Some v)) t.0 id (one_taken s v t f) g e) d
 stays_sent s sent (op.Send v) id kept d on e = send_both s v
     (λ (c : ops.Coded). has_id (sent_by (op.Send v) (answer.Code c.code) (names_at s) sent) id ≡ true)
     (λ c no_success. subst (λ (ids : List Id). has_id ids id ≡ true) (sym (refused_sent s sent (op.Send v) c no_success)) e)
@@ -282,7 +279,7 @@ stays_sent s sent each id kept d on e = e
 -- who is left after an op
 pub has_left : (ids off : List Id) (id : Id) → has_id (left_of ids off) id ≡ true → (has_id ids id ≡ true) × (has_id off id ≡ false)
 has_left [] off id e = cc e
-has_left (x ∷ ids) off id e = grind (arith, or_right, same, left_of, has_left ids off id)
+has_left (x ∷ ids) off id e = grind (arith, has_left ids off id)
 
 -- an op leaves whoever is left and was sent to before
 pub still_sent : (s : State) (told : Told) (o : Op) (ids now : List Id) (sent : List Id) → Kept s → SentAt told.sent s →

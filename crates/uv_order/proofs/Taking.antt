@@ -1,11 +1,11 @@
 -- What a worker may do by the pool's rules it may do as the next step.
-use Rattle.uv_order.proofs.Names.{◌≡◌, ℕ, List, [], ◌∷◌, ◌++◌, Bool, true, false, cond, Option, Some, None, Ok, Err, slice_get, refl, ap, sym, ◌∙◌, append_assoc, events_both, Id, Event, Take, Finish, NoWork, IdleWorker, Program, worker_count, Pool, IsLegal, taken_by, finished_by, after_event, after_events, empty_pool, PoolEvent, Request, same_id, found_or, State, request, with_id, front_request, Next, Moves, Refuses, next_work, work_of, lines, has_id, run_ids, pool_events, pool_of, IsTakenAs, or-true}
+use Rattle.uv_order.proofs.Names.{drop, ◌≡◌, ℕ, List, [], ◌∷◌, ◌++◌, true, Option, Some, None, Ok, slice_get, refl, ap, sym, ◌∙◌, events_both, Id, Event, Take, Finish, Program, worker_count, Pool, IsLegal, after_event, after_events, empty_pool, PoolEvent, Request, State, request, next_work, work_of, lines, has_id, run_ids, pool_events, pool_of, IsTakenAs, or-true, arith}
 use Rattle.uv_work.specs.Pool.{replay}
 use Rattle.uv_work.specs.declared.event.PoolEvent.TheVariants as event
 use Rattle.uv_model.specs.Next as step
 use Rattle.uv_model.specs.Next.{next}
 use Rattle.uv_model.specs.After.{after}
-use Rattle.uv_order.proofs.IdLists.{same, itself, has_new_middle, has_both}
+use Rattle.uv_order.proofs.IdLists.{same, itself, has_both}
 use Rattle.uv_order.proofs.Works.{runs_now}
 use Rattle.uv_order.proofs.Working.{Working}
 use Rattle.uv_order.proofs.Documents.{pools, holds_after}
@@ -36,26 +36,19 @@ pub record MayTake (s : State) (k : ℕ) (id : Id) : Type 0 where
   pub request : Request
   pub works : next_work s (slice_get s.running k) ≡ Ok (id, request)
 
-may_take : (s : State) (k : ℕ) (id : Id) (q : Pool) → Working s → after_event (pool_of s) (event.Take k id) ≡ Some q → MayTake s k id
-may_take s k id q w h = at (slice_get s.running k) refl s.waiting refl h where
-  taken : (front : Id) (rest : List Id) → slice_get s.running k ≡ Some None → s.waiting ≡ front ∷ rest → front ≡ id →
-      (r : Request) × (request s front ≡ Some r) → MayTake s k id
-  taken front rest e f g r = record {
-    request = r.0;
-    works = ap (next_work s) e ∙ ap (λ (ids : List Id). found_or (front_request s ids) Ok (Err NoWork)) f
-        ∙ ap (λ (o : Option Request). found_or (with_id front o) Ok (Err NoWork)) r.1 ∙ ap (λ (i : Id). Ok (i, r.0)) g;
-  }
+takes_first : (s : State) (k : ℕ) (id : Id) (q : Pool) → after_event (pool_of s) (event.Take k id) ≡ Some q →
+    (s.waiting ≡ id ∷ drop 1 s.waiting) × (slice_get s.running k ≡ Some None)
+takes_first s k id q h = grind (arith, same)
 
-  at : (o : Option (Option Id)) → slice_get s.running k ≡ o → (ids : List Id) → s.waiting ≡ ids → taken_by (pool_of s) k id o ids ≡ Some q →
-      MayTake s k id
-  at None e ids f g = cc g
-  at (Some (Some x)) e ids f g = cc g
-  at (Some None) e [] f g = cc g
-  at (Some None) e (front ∷ rest) f g = by (same_id front id) refl _ g where
-    by : (b : Bool) → same_id front id ≡ b → (x : Option Pool) → cond b x None ≡ Some q → MayTake s k id
-    by false d x h = cc h
-    by true d x h = taken front rest e f (same front id d)
-        (open_held s front w (ap (λ (ids : List Id). has_id (ids ++ run_ids s.running) front) f ∙ rw (itself front front refl) refl))
+works_next : (s : State) (k : ℕ) (id : Id) (rest : List Id) (r : Request) → s.waiting ≡ id ∷ rest → slice_get s.running k ≡ Some None →
+    request s id ≡ Some r → next_work s (slice_get s.running k) ≡ Ok (id, r)
+works_next s k id rest r e f g = grind arith
+
+may_take : (s : State) (k : ℕ) (id : Id) (q : Pool) → Working s → after_event (pool_of s) (event.Take k id) ≡ Some q → MayTake s k id
+may_take s k id q w h =
+    let t = takes_first s k id q h in
+    let r = open_held s id w (ap (λ (ids : List Id). has_id (ids ++ run_ids s.running) id) t.0 ∙ rw (itself id id refl) refl) in
+    record { request = r.0; works = works_next s k id (drop 1 s.waiting) r.0 t.0 t.1 r.1 }
 
 pub take_is_taken : (p : Program) (es : List Event) (k : ℕ) (id : Id) →
     IsLegal (worker_count p) (pool_events p (lines p es) ++ event.Take k id ∷ []) → IsTakenAs p es (Take k) (event.Take k id)
@@ -71,24 +64,18 @@ pub record MayFinish (s : State) (k : ℕ) (id : Id) : Type 0 where
   pub request : Request
   pub works : work_of s (slice_get s.running k) ≡ Ok (id, request)
 
+finishes : (s : State) (k : ℕ) (id : Id) (q : Pool) → after_event (pool_of s) (event.Finish k id) ≡ Some q → slice_get s.running k ≡ Some (Some id)
+finishes s k id q h = grind (arith, same)
+
+works_now : (s : State) (k : ℕ) (id : Id) (r : Request) → slice_get s.running k ≡ Some (Some id) → request s id ≡ Some r →
+    work_of s (slice_get s.running k) ≡ Ok (id, r)
+works_now s k id r e f = grind arith
+
 may_finish : (s : State) (k : ℕ) (id : Id) (q : Pool) → Working s → after_event (pool_of s) (event.Finish k id) ≡ Some q → MayFinish s k id
-may_finish s k id q w h = at (slice_get s.running k) refl h where
-  runs : (x : Id) → slice_get s.running k ≡ Some (Some x) → has_id (s.waiting ++ run_ids s.running) x ≡ true
-  runs x e = has_both s.waiting (run_ids s.running) x ∙ rw (runs_now s.running k x e) (or-true (has_id s.waiting x))
-
-  finished : (x : Id) → slice_get s.running k ≡ Some (Some x) → x ≡ id → (r : Request) × (request s x ≡ Some r) → MayFinish s k id
-  finished x e g r = record {
-    request = r.0;
-    works = ap (work_of s) e ∙ ap (λ (o : Option Request). found_or (with_id x o) Ok (Err IdleWorker)) r.1 ∙ ap (λ (i : Id). Ok (i, r.0)) g;
-  }
-
-  at : (o : Option (Option Id)) → slice_get s.running k ≡ o → finished_by (pool_of s) k id o ≡ Some q → MayFinish s k id
-  at None e g = cc g
-  at (Some None) e g = cc g
-  at (Some (Some x)) e g = by (same_id x id) refl _ g where
-    by : (b : Bool) → same_id x id ≡ b → (y : Option Pool) → cond b y None ≡ Some q → MayFinish s k id
-    by false d y h = cc h
-    by true d y h = finished x e (same x id d) (open_held s x w (runs x e))
+may_finish s k id q w h =
+    let t = finishes s k id q h in
+    let on = has_both s.waiting (run_ids s.running) id ∙ rw (runs_now s.running k id t) (or-true (has_id s.waiting id)) in
+    let r = open_held s id w on in record { request = r.0; works = works_now s k id r.0 t r.1 }
 
 pub finish_is_taken : (p : Program) (es : List Event) (k : ℕ) (id : Id) →
     IsLegal (worker_count p) (pool_events p (lines p es) ++ event.Finish k id ∷ []) → IsTakenAs p es (Finish k) (event.Finish k id)

@@ -1,5 +1,5 @@
 -- The timers of the entry and of an iteration, and callbacks: each step goes on from where the state stands.
-use Rattle.uv_order.proofs.Names.{arith, ◌≡◌, inl, ℕ, ◌+◌, ◌==◌, List, [], ◌∷◌, ◌++◌, Bool, true, false, drop, Option, Some, None, nat_le, refl, ap, sym, ◌∙◌, append_assoc, append-nil, if◌then◌else◌, cond_both, Id, Var, Due, Callback, Program, order_of, HandleRecord, Named, Run, TimersOf, Turn, Behind, Way, ToTimers, ToPending, ToEnd, Collecting, Firing, State, handle, with_id, front, named, with_named, counted, count_of, started, restarted, is_alive, Next, Moves, Refuses, goes, is_default, call, calls, first_due, collected, front_moved, may_leave, body_from, lives, has_id, Told, nothing_told, told_of, told_by, Lasting, lasting, at_first, Section, Entry, In, word_of, part_after, part_of, Opens, IsOver, CallsNext, MayCall, is_called, callback_in, IsCallLine, Standing, Begun, Within, Polling, MayLeave, PollsFor, Position, Between, Running, Goes, GoesOn, cut, line, Documented, body_of, next_call, taken_off, found_both}
+use Rattle.uv_order.proofs.Names.{arith, ◌≡◌, inl, ℕ, ◌+◌, ◌==◌, List, [], ◌∷◌, ◌++◌, Bool, true, false, drop, Option, Some, None, nat_le, refl, ap, sym, ◌∙◌, append_assoc, append-nil, if◌then◌else◌, cond_both, Id, Var, Due, Callback, Program, order_of, HandleRecord, Named, Run, TimersOf, Turn, Behind, Way, ToTimers, ToPending, ToEnd, Collecting, Firing, State, handle, with_id, front, named, with_named, counted, count_of, started, restarted, is_alive, Moves, goes, call, first_due, collected, body_from, lives, Told, lasting, Section, Entry, In, word_of, part_after, part_of, Opens, IsOver, CallsNext, callback_in, Standing, Within, MayLeave, Between, Running, body_of, next_call, found_both}
 use Rattle.std.specs.Prelude.{option_map}
 use Rattle.uv_ids.specs.declared.phase.Phase.TheVariants as phase
 use Rattle.uv_ids.specs.declared.seen.Seen.TheVariants as seen
@@ -86,10 +86,10 @@ pub record OnlyReady (r : Rest) (w : Walk) : Type 0 where
   pub done : r.done ≡ []
 
 pub timers_left : (part : TimersOf) (r : Rest) (w : Walk) → OnlyReady r w → Leaves r (Within (section_of part) w)
-timers_left x0 r w o = grind (arith)
+timers_left part r w o = grind arith
 
 pub left_timers : (part : TimersOf) (r : Rest) (w : Walk) → Leaves r (Within (section_of part) w) → OnlyReady r w
-left_timers x0 r w l = grind (arith)
+left_timers part r w l = grind arith
 
 -- ---- turns
 
@@ -159,14 +159,14 @@ turn_follows p told s run turn at alive is over k c e =
 -- ---- the calls of timers
 
 pub timers_word : (part : TimersOf) → callback_in (word_of (section_of part)) ≡ callback.Handle
-timers_word x0 = grind (arith)
+timers_word part = grind arith
 
 pub timers_over : (part : TimersOf) (w : Walk) → w.body ≡ [] → doc.AllOff w.off w.ahead → IsOver (word_of (section_of part)) w
-timers_over x0 w b o = grind (arith)
+timers_over part w b o = grind arith
 
 pub timers_call : (part : TimersOf) (told : Told) (w : Walk) (id : Id) (more : List Id) (n : NextCall w id more) → w.body ≡ [] → CallsNext (word_of
     (section_of part)) told w id n.behind
-timers_call x0 told w id more n b = grind (arith)
+timers_call part told w id more n b = grind arith
 
 -- a timer is called from the ready list, in a state that may have started it again
 pub call_timer : (p : Program) (told : Told) (s u : State) (run : Run) (part : TimersOf) (w : Walk) (t : Id × HandleRecord) (more : List Id) →
@@ -177,7 +177,8 @@ call_timer p told s u run part w t more h names lasts o ready b c =
     let next = next_of w t.0 more (sym o.ready) in
     call_follows p told s u run (record run { stage = stage.Timers part Firing }) (section_of part) w t next.behind (timers_word part)
     (timers_call part told w t.0 more next b) h names lasts c
-    (λ is. running (fires is) (timers_left part (rest u.ready u) (called p told callback.Handle w next.behind t.1.name) (assumption (ready ∙ next.left, o))))
+    (λ is. running (fires is) (timers_left part (rest u.ready u) (called p told callback.Handle w next.behind t.1.name)
+    (assumption (ready ∙ next.left, o))))
 
 pub fire_follows : (p : Program) (told : Told) (s : State) (run : Run) (part : TimersOf) (w : Walk) → lives s ≡ is_alive s → Kept s →
     Counted p s.names told → Leaves (rest s.ready s) (Within (section_of part) w) → w.body ≡ [] →
@@ -185,11 +186,9 @@ pub fire_follows : (p : Program) (told : Told) (s : State) (run : Run) (part : T
 fire_follows p told s run part w alive k c l b =
     let o = left_timers part (rest s.ready s) w l in
     found_both (front s s.ready) _ _ (Follows p told (Running run.mode run.line (Within (section_of part) w)) s)
-    (λ t e. fired o t (front_of s s.ready t e))
-    (λ e. let none : s.ready ≡ [] = no_front s Rests s.ready k.ready.each e in
+    (λ t e. fired o t (front_of s s.ready t e)) (λ e. let none : s.ready ≡ [] = no_front s Rests s.ready k.ready.each e in
     turn_follows p told s run (Behind part) (Within (section_of part) w) alive refl
-    (timers_over part w b (all_off w.ahead w.off (sym o.ready ∙ none))) k c
-    (left_all none o.idle o.prepare o.check o.async o.closing o.done))
+    (timers_over part w b (all_off w.ahead w.off (sym o.ready ∙ none))) k c (left_all none o.idle o.prepare o.check o.async o.closing o.done))
   where
     fired : OnlyReady (rest s.ready s) w → (t : Id × HandleRecord) → FrontOf s s.ready t →
         Follows p told (Running run.mode run.line (Within (section_of part) w)) s
@@ -224,8 +223,7 @@ pub collect_follows : (p : Program) (told : Told) (s : State) (run : Run) (part 
 collect_follows p told s run part w alive k c l b =
     let o = left_timers part (rest (s.ready ++ due_now s) s) w l in
     found_both (first_due s s.timers) _ _ (Follows p told (Running run.mode run.line (Within (section_of part) w)) s)
-    (λ t e. moved o t (first_of s s.timers t e))
-    (λ e. fire_follows p told s run part w alive k c (timers_left part (rest s.ready s) w (assumption
+    (λ t e. moved o t (first_of s s.timers t e)) (λ e. fire_follows p told s run part w alive k c (timers_left part (rest s.ready s) w (assumption
     (sym (append-nil s.ready) ∙ ap (λ (ids : List Id). s.ready ++ ids) (sym (late_due s s.timers s.next_start k.timers e)) ∙ o.ready, o))) b)
   where
     moved : OnlyReady (rest (s.ready ++ due_now s) s) w → (t : Id × HandleRecord) → FirstOf s s.timers t →

@@ -1,10 +1,10 @@
 -- What the lines of a trace tell of requests, and how each change keeps it.
-use Rattle.uv_order.proofs.Names.{arith, ◌≡◌, ◌⊎◌, inl, inr, ℕ, ◌||◌, List, ◌∷◌, Bool, true, false, Option, Some, None, option_map, refl, ap, sym, subst, ◌∙◌, if◌then◌else◌, or-true, both_ways, or_right, or_cases, false_from_ne_true, same_Some, none-some, Id, Var, Seen, Site, Op, Task, Program, op_at, Slots, held, is_open, queued, digest_in, Outcome, Open, Finished, Cancelled, Content, Request, request_in, same_id, has_id, Answered, answered, queued_by, cancelled_by, first_of, queued_task, is_take_line, has_take_line, is_cancel_line, has_cancel_line, is_finish_line, has_finish_line, is_after_line, has_after_line, SaysTrue, Slot}
+use Rattle.uv_order.proofs.Names.{arith, ◌≡◌, ◌⊎◌, inl, inr, ℕ, List, ◌∷◌, Bool, true, false, Option, Some, None, refl, ap, sym, subst, ◌∙◌, if◌then◌else◌, false_from_ne_true, same_Some, none-some, Id, Var, Seen, Site, Task, Program, op_at, Slots, held, is_open, queued, digest_in, Outcome, Open, Finished, Cancelled, Content, Request, request_in, same_id, has_id, answered, queued_by, first_of, queued_task, is_take_line, has_take_line, is_cancel_line, has_cancel_line, is_finish_line, has_finish_line, is_after_line, has_after_line, SaysTrue, Slot}
 use Rattle.uv_ids.specs.declared.code.Answer.TheVariants as answer
 use Rattle.uv_ids.specs.declared.seen.Seen.TheVariants as seen
 use Rattle.uv_script.specs.declared.op.Op.TheVariants as op
 use Rattle.uv_work.specs.declared.content.Content.TheVariants as content
-use Rattle.uv_order.proofs.IdLists.{same, other, itself, turned}
+use Rattle.uv_order.proofs.IdLists.{same, itself, turned}
 use Rattle.uv_order.proofs.Contents.{Turns, turned_to}
 use Rattle.uv_order.proofs.Works.{asked_at, SameRequests}
 use Rattle.uv_order.proofs.Gone.{IsGone, not_held}
@@ -90,7 +90,7 @@ worked_held : (p : Program) (past : List Seen) (arena more : Slots Content) (wai
     ((i : Id) → IsAsked arena i → IsAsked more i ⊎ IsGone more.slots more.free i) →
     ((i : Id) → IsGone arena.slots arena.free i → IsGone more.slots more.free i) → Worked p past arena waiting runs →
     Worked p past more waiting runs
-worked_held p past arena more waiting runs now held_still gone k = grind (arith)
+worked_held p past arena more waiting runs now held_still gone k = grind arith
 
 -- a request turns, another one or none
 turned_asks : (slots more : List (Slot Content)) (id : Id) (was is : Option Content) → Turns slots more id was is → (i : Id) →
@@ -244,8 +244,7 @@ pub worked_collected : (p : Program) (past : List Seen) (arena more : Slots Cont
 worked_collected p past arena more waiting runs digest v id r t now gone k =
     let asks = turned_asks arena.slots more.slots id _ _ t in
     called_back p past more waiting runs digest v id now (worked_held p past arena more waiting runs
-    (λ i y e. inl (asked_before (asked_at arena.slots) (asked_at more.slots) id asks i y e))
-    (λ i a. asked_or_gone arena more id asks now i a) gone k)
+    (λ i y e. inl (asked_before (asked_at arena.slots) (asked_at more.slots) id asks i y e)) (λ i a. asked_or_gone arena more id asks now i a) gone k)
 
 -- what the after callback of a request that ended says
 pub says_true : (p : Program) (past : List Seen) (id : Id) (task : Task) (o : Outcome) → is_open o ≡ false → EndsTrue p past id task o →

@@ -1,5 +1,5 @@
 -- Each op and each step of the loop keeps that the requests agree with their lists.
-use Rattle.uv_order.proofs.Names.{arith, drop, ◌≡◌, ℕ, List, [], ◌∷◌, ◌++◌, true, Option, Some, None, Ok, slice_set, refl, ap, sym, subst, ◌∙◌, list_any, Id, Var, Walk, held, freed, next_free, Op, Task, Program, arena_size, text_of, Finished, Cancelled, Request, queued, same_id, State, fresh, live_request, with_id, front_request, do_op, Next, Moves, Refuses, loop_step, first_due, goes, is_default, may_leave, front_moved, next_work, work_of}
+use Rattle.uv_order.proofs.Names.{arith, drop, ◌≡◌, ℕ, List, [], ◌∷◌, ◌++◌, true, Some, None, Ok, slice_set, refl, ap, sym, subst, ◌∙◌, list_any, Id, Var, held, freed, next_free, Op, Task, Program, arena_size, text_of, Finished, Cancelled, Request, queued, same_id, State, fresh, live_request, with_id, front_request, do_op, Next, Moves, Refuses}
 use Rattle.uv_script.specs.declared.op.Op.TheVariants as op
 use Rattle.uv_work.specs.Digests.{digest_of}
 use Rattle.uv_work.specs.declared.content.Content.TheVariants as content
@@ -68,14 +68,13 @@ StaysWorking (Moves t seen) = Working t
 StaysWorking (Refuses why) = Unit {0}
 
 quiet : (s : State) (n : Next) → KeepsWork s n → Working s → StaysWorking n
-quiet s x1 q k = grind (arith, works_quiet)
+quiet s n q k = grind (arith, works_quiet)
 
 collected_working : (p : Program) (s : State) (t : Id × Request) → FrontRequest s s.done.yet t → Working s →
     Works (freed (arena_size p).last_generation t.0 s.arena).slots s.waiting s.running (record s.done { yet = drop 1 s.done.yet })
 collected_working p s t f k =
     subst (λ (rest : List Id). Works (freed (arena_size p).last_generation t.0 s.arena).slots s.waiting s.running (record s.done { yet = rest }))
-    (sym f.behind)
-    (works_collected s.arena.slots _ s.waiting s.running s.done t.0 f.rest t.1
+    (sym f.behind) (works_collected s.arena.slots _ s.waiting s.running s.done t.0 f.rest t.1
     (freed_turns (arena_size p).last_generation s.arena t.0 (content.Request t.1) f.holds) f.are k)
 
 taken_working : (s : State) (n : ℕ) (t : Id × Request) → TakesFront s n t → Working s → StaysWorking (step.take s n (Ok t))

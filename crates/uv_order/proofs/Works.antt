@@ -1,8 +1,8 @@
 -- The requests: those that wait for a worker or are run by one are open, those that are done are ended; none stands twice, and no other
 -- request is held.
-use Rattle.uv_order.proofs.Names.{arith, ◌≡◌, ◌⊎◌, inl, inr, ℕ, zero, suc, ◌||◌, List, [], ◌∷◌, ◌++◌, Bool, true, false, Option, Some, None, slice_get, slice_set, replicate, refl, ap, sym, subst, ◌∙◌, append_assoc, append-nil, list_any, or-true, both_ways, false_from_ne_true, same_Some, Id, HandleRecord, Slot, held, Walk, is_open, Content, Request, request_in, same_id, without_id, has_id, AreDistinct, run_ids}
+use Rattle.uv_order.proofs.Names.{arith, ◌≡◌, ◌⊎◌, inl, inr, ℕ, zero, suc, List, [], ◌∷◌, ◌++◌, Bool, true, false, Option, Some, None, slice_get, slice_set, replicate, refl, ap, sym, subst, ◌∙◌, append_assoc, append-nil, list_any, or-true, both_ways, false_from_ne_true, same_Some, Id, HandleRecord, Slot, held, Walk, is_open, Content, Request, request_in, same_id, without_id, has_id, AreDistinct, run_ids, not, ◌&&◌}
 use Rattle.uv_work.specs.declared.content.Content.TheVariants as content
-use Rattle.uv_order.proofs.IdLists.{has_both, same, other, itself, turned, has_new_middle, has_old_middle, distinct_middle, distinct_but, without_absent, distinct_front}
+use Rattle.uv_order.proofs.IdLists.{has_both, has_but_one, on_list, same, other, turned, has_new_middle, has_old_middle, distinct_middle, distinct_but}
 use Rattle.uv_order.proofs.Contents.{Turns}
 use Rattle.uv_order.proofs.Holding.{held_at, put, put_turns}
 
@@ -52,10 +52,6 @@ all_same slots more P ids f k = record {
 
 -- ---- lists with one more in the middle
 
--- the others stand on it as before
-pub has_middle : (xs ys : List Id) (id i : Id) → same_id i id ≡ false → has_id (xs ++ id ∷ ys) i ≡ has_id (xs ++ ys) i
-has_middle xs ys id i d = grind (arith, has_both, turned)
-
 -- where none stands twice, it stands nowhere else
 pub once_middle : (xs ys : List Id) (id : Id) → AreDistinct (xs ++ id ∷ ys) → has_id (xs ++ ys) id ≡ false
 once_middle [] ys id d = d.0
@@ -63,9 +59,6 @@ once_middle (x ∷ xs) ys id d = grind (arith, false_from_ne_true, same, has_new
 
 pub in_middle : (xs ys : List Id) (id i : Id) → has_id (xs ++ id ∷ ys) i ≡ true → (id ≡ i) ⊎ (has_id (xs ++ ys) i ≡ true)
 in_middle xs ys id i h = grind (arith, has_both, same)
-
-not_once : (ids : List Id) (id i : Id) → has_id ids id ≡ false → has_id ids i ≡ true → same_id i id ≡ false
-not_once ids id i e h = grind (arith, same)
 
 moved_has : (fronts backs cs ds : List Id) (id i : Id) → fronts ++ backs ≡ cs ++ ds → has_id (fronts ++ id ∷ backs) i ≡ has_id (cs ++ id ∷ ds) i
 moved_has fronts backs cs ds id i e = grind (arith, has_both, ap (λ (ids : List Id). has_id ids i) e)
@@ -80,21 +73,48 @@ asks_still : {slots more : List (Slot Content)} {id : Id} {was is : Option Conte
     same_id i id ≡ false → Asks slots P i → Asks more P i
 asks_still {slots = slots} {more = more} {id = id} P t i s a = asks_same slots more P i (ap request_in (t.others i (other i id s))) a
 
-asks_were : {slots more : List (Slot Content)} {id : Id} {was is : Option Content} (P : Request → Type 0) → Turns slots more id was is → FitsNot P is →
-    (i : Id) → Asks more P i → (same_id i id ≡ false) × Asks slots P i
+asks_were : {slots more : List (Slot Content)} {id : Id} {was is : Option Content} (P : Request → Type 0) → Turns slots more id was is →
+    FitsNot P is → (i : Id) → Asks more P i → (same_id i id ≡ false) × Asks slots P i
 asks_were {slots = slots} {more = more} {id = id} P t d i a = at (same_id i id) refl where
   at : (b : Bool) → same_id i id ≡ b → (same_id i id ≡ false) × Asks slots P i
   at true s = absurd (d a.request (sym (ap request_in t.here) ∙ ap (asked_at more) (sym (same i id s)) ∙ a.holds) a.fits)
   at false s = (s, asks_still P (turned_back t) i s a)
 
--- one that doesn't fit any more leaves
+not_both : (a b : Bool) → (a && not b) ≡ true → (a ≡ true) × (b ≡ false)
+not_both a b e = grind arith
+
+-- one that doesn't fit any more leaves, by who is left
+less : (slots more : List (Slot Content)) (P : Request → Type 0) (id : Id) (was is : Option Content) (ids few : List Id) →
+    Turns slots more id was is → FitsNot P is → ((i : Id) → has_id few i ≡ (has_id ids i && not (same_id i id))) → AreDistinct few →
+    AllAsk slots P ids → AllAsk more P few
+less slots more P id was is ids few t d on once k = record {
+  each = λ i h. let b = not_both (has_id ids i) (same_id i id) (sym (on i) ∙ h) in asks_still P t i b.1 (k.each i b.0);
+  all = λ i a. let b = asks_were P t d i a in on i ∙ rw (k.all i b.1, b.0) refl;
+  distinct = once;
+}
+
+but_middle : (xs ys : List Id) (id : Id) → AreDistinct (xs ++ id ∷ ys) → (i : Id) →
+    has_id (xs ++ ys) i ≡ (has_id (xs ++ id ∷ ys) i && not (same_id i id))
+but_middle xs ys id d i = grind (arith, has_both, same, turned, once_middle xs ys id d)
+
+-- the first of two lists without one of its own
+apart : (xs ys : List Id) (i : Id) → AreDistinct (xs ++ ys) → has_id xs i ≡ true → has_id ys i ≡ false
+apart [] ys i d h = cc h
+apart (x ∷ xs) ys i d h = grind (arith, has_both, same, apart xs ys i d.1)
+
+but_front : (xs ys : List Id) (id : Id) → AreDistinct (xs ++ ys) → has_id xs id ≡ true → (i : Id) →
+    has_id (without_id xs id ++ ys) i ≡ (has_id (xs ++ ys) i && not (same_id i id))
+but_front xs ys id d h i = grind (arith, has_both, has_but_one, same, apart xs ys id d h)
+
+distinct_left : (xs ys : List Id) (id : Id) → AreDistinct (xs ++ ys) → AreDistinct (without_id xs id ++ ys)
+distinct_left [] ys id d = d
+distinct_left (x ∷ xs) ys id d = grind (arith, has_both, has_but_one, distinct_left xs ys id d.1)
+
+-- and so of one in the middle
 pub less_middle : (slots more : List (Slot Content)) (P : Request → Type 0) (id : Id) (was is : Option Content) (xs ys : List Id) →
     Turns slots more id was is → FitsNot P is → AllAsk slots P (xs ++ id ∷ ys) → AllAsk more P (xs ++ ys)
-less_middle slots more P id was is xs ys t d k = record {
-  each = λ i h. asks_still P t i (not_once (xs ++ ys) id i (once_middle xs ys id k.distinct) h) (k.each i (has_old_middle xs ys id i h));
-  all = λ i a. let b = asks_were P t d i a in sym (has_middle xs ys id i b.0) ∙ k.all i b.1;
-  distinct = distinct_but xs ys id k.distinct;
-}
+less_middle slots more P id was is xs ys t d k =
+    less slots more P id was is (xs ++ id ∷ ys) (xs ++ ys) t d (but_middle xs ys id k.distinct) (distinct_but xs ys id k.distinct) k
 
 -- one that fits from now on comes
 pub more_middle : (slots more : List (Slot Content)) (P : Request → Type 0) (id : Id) (was is : Option Content) (r : Request) (xs ys : List Id) →
@@ -131,28 +151,6 @@ moved_middle slots P id fronts backs cs ds e k = record {
       (ap (λ (ids : List Id). has_id ids id) (sym e) ∙ once_middle fronts backs id k.distinct);
 }
 
--- ---- where one stands
-
--- who stands on a list, by what is in front of it and behind it
-pub record Splits (ids : List Id) (id : Id) : Type 0 where
-  pub front : List Id
-  pub behind : List Id
-  pub are : ids ≡ front ++ id ∷ behind
-
-pub splits : (ids : List Id) (id : Id) → list_any (same_id id) ids ≡ true → Splits ids id
-splits [] id e = cc e
-splits (x ∷ ids) id e = at (same_id id x) refl e (splits ids id) where
-  at : (b : Bool) → same_id id x ≡ b → (b || list_any (same_id id) ids) ≡ true → (list_any (same_id id) ids ≡ true → Splits ids id) →
-      Splits (x ∷ ids) id
-  at true s h rest = record { front = []; behind = ids; are = ap (λ (i : Id). i ∷ ids) (sym (same id x s)) }
-  at false s h rest = let k = rest h in record { front = x ∷ k.front; behind = k.behind; are = ap (λ (is : List Id). x ∷ is) k.are }
-
--- the list without it
-pub without_middle : (xs ys : List Id) (id : Id) → AreDistinct (xs ++ id ∷ ys) → without_id (xs ++ id ∷ ys) id ≡ xs ++ ys
-without_middle [] ys id d = rw (itself id id refl) (without_absent ys id d.0)
-without_middle (x ∷ xs) ys id d =
-    grind (arith, itself, without_absent, false_from_ne_true, both_ways, same, has_new_middle, without_middle xs ys id d.1)
-
 -- ---- the workers
 
 -- who is run, by what a worker runs, whatever it runs then
@@ -163,7 +161,7 @@ pub record Worker (running : List (Option Id)) (k : ℕ) (o : Option Id) : Type 
   pub are : (q : Option Id) → run_ids (slice_set running k q) ≡ front ++ (run_ids (q ∷ []) ++ behind)
 
 runs_first : (q : Option Id) (running : List (Option Id)) → run_ids (q ∷ running) ≡ run_ids (q ∷ []) ++ run_ids running
-runs_first x0 running = grind (arith)
+runs_first q running = grind arith
 
 pub worker : (running : List (Option Id)) (k : ℕ) (o : Option Id) → slice_get running k ≡ Some o → Worker running k o
 worker [] k o e = cc e
@@ -249,20 +247,20 @@ ended_by slots more done id r x t opened over k = subst (AllAsk more HasEnded) (
     (more_middle slots more HasEnded id (Some (content.Request r)) (Some (content.Request x)) x done.list done.yet t
     (request_fits_not HasEnded r (open_over r opened)) refl over k)
 
--- the request that stands there is open
-its_open : (slots : List (Slot Content)) (ids : List Id) (id : Id) (r : Request) → asked_at slots id ≡ Some r → has_id ids id ≡ true →
-    AllAsk slots IsOpen ids → IsOpen r
-its_open slots ids id r e h k = let a = k.each id h in subst IsOpen (same_Some _ _ (sym a.holds ∙ e)) a.fits
+-- the request that stands there fits
+pub its_fit : (slots : List (Slot Content)) (P : Request → Type 0) (ids : List Id) (id : Id) (r : Request) → asked_at slots id ≡ Some r →
+    has_id ids id ≡ true → AllAsk slots P ids → P r
+its_fit slots P ids id r e h k = let a = k.each id h in subst P (same_Some _ _ (sym a.holds ∙ e)) a.fits
 
--- and so it is of one that waits, or is run
+-- so one that waits, or is run, is open
 pub waits_open : (slots : List (Slot Content)) (waiting : List Id) (running : List (Option Id)) (done : Walk Id) (id : Id) (r : Request) →
     held slots id ≡ Some (content.Request r) → has_id waiting id ≡ true → Works slots waiting running done → IsOpen r
 waits_open slots waiting running done id r e on k =
-    its_open slots (waiting ++ run_ids running) id r (ap request_in e) (has_both waiting (run_ids running) id ∙ rw on refl) k.open_ones
+    its_fit slots IsOpen (waiting ++ run_ids running) id r (ap request_in e) (has_both waiting (run_ids running) id ∙ rw on refl) k.open_ones
 
 pub runs_open : (slots : List (Slot Content)) (waiting : List Id) (running : List (Option Id)) (done : Walk Id) (id : Id) (r : Request) →
     held slots id ≡ Some (content.Request r) → has_id (run_ids running) id ≡ true → Works slots waiting running done → IsOpen r
-runs_open slots waiting running done id r e on k = its_open slots (waiting ++ run_ids running) id r (ap request_in e)
+runs_open slots waiting running done id r e on k = its_fit slots IsOpen (waiting ++ run_ids running) id r (ap request_in e)
     (has_both waiting (run_ids running) id ∙ rw on (or-true (has_id waiting id))) k.open_ones
 
 -- a request that waits is cancelled
@@ -270,20 +268,13 @@ pub works_cancelled : (slots more : List (Slot Content)) (waiting : List Id) (ru
     (r x : Request) → Turns slots more id (Some (content.Request r)) (Some (content.Request x)) → list_any (same_id id) waiting ≡ true → HasEnded x →
     Works slots waiting running done → Works more (without_id waiting id) running (record done { list = done.list ++ id ∷ [] })
 works_cancelled slots more waiting running done id r x t on over k =
-    let s = splits waiting id on in
     let runs = run_ids running in
-    let all : (waiting ++ runs) ≡ s.front ++ id ∷ (s.behind ++ runs) =
-    ap (λ (ids : List Id). ids ++ runs) s.are ∙ append_assoc s.front (id ∷ s.behind) runs in
-    let listed : AllAsk slots IsOpen (s.front ++ id ∷ (s.behind ++ runs)) = subst (AllAsk slots IsOpen) all k.open_ones in
-    let apart : AreDistinct (s.front ++ id ∷ s.behind) = subst AreDistinct s.are (distinct_front waiting runs k.open_ones.distinct) in
-    let left : without_id waiting id ≡ s.front ++ s.behind =
-    ap (λ (ids : List Id). without_id ids id) s.are ∙ without_middle s.front s.behind id apart in
-    let opened = its_open slots (s.front ++ id ∷ (s.behind ++ runs)) id r (ap request_in t.before) (has_new_middle s.front (s.behind ++ runs) id)
-    listed in
+    let here = on_list waiting id on in
+    let opened = its_fit slots IsOpen (waiting ++ runs) id r (ap request_in t.before) (has_both waiting runs id ∙ rw here refl) k.open_ones in
+    let d = k.open_ones.distinct in
     record {
-      open_ones = subst (AllAsk more IsOpen) (sym (append_assoc s.front s.behind runs) ∙ ap (λ (ids : List Id). ids ++ runs) (sym left))
-          (less_middle slots more IsOpen id (Some (content.Request r)) (Some (content.Request x)) s.front (s.behind ++ runs) t
-          (request_fits_not IsOpen x (λ o. open_over x o over)) listed);
+      open_ones = less slots more IsOpen id _ _ (waiting ++ runs) _ t (request_fits_not IsOpen x (λ o. open_over x o over))
+          (but_front waiting runs id d here) (distinct_left waiting runs id d) k.open_ones;
       ended = ended_by slots more done id r x t opened over k.ended;
     }
 
@@ -293,7 +284,8 @@ pub works_taken : (slots : List (Slot Content)) (id : Id) (rest : List Id) (runn
 works_taken slots id rest running done n e k =
     let t = worker running n None e in
     record {
-      open_ones = subst (AllAsk slots IsOpen) (append_assoc rest t.front (id ∷ t.behind) ∙ ap (λ (ids : List Id). rest ++ ids) (sym (t.are (Some id))))
+      open_ones = subst (AllAsk slots IsOpen)
+          (append_assoc rest t.front (id ∷ t.behind) ∙ ap (λ (ids : List Id). rest ++ ids) (sym (t.are (Some id))))
           (moved_middle slots IsOpen id [] (rest ++ run_ids running) (rest ++ t.front) t.behind
           (ap (λ (ids : List Id). rest ++ ids) t.were ∙ sym (append_assoc rest t.front t.behind)) k.open_ones);
       ended = k.ended;
@@ -308,7 +300,7 @@ works_finished slots more waiting running done n id r x t e over k =
     let all : (waiting ++ run_ids running) ≡ (waiting ++ g.front) ++ id ∷ g.behind =
     ap (λ (ids : List Id). waiting ++ ids) g.were ∙ sym (append_assoc waiting g.front (id ∷ g.behind)) in
     let listed : AllAsk slots IsOpen ((waiting ++ g.front) ++ id ∷ g.behind) = subst (AllAsk slots IsOpen) all k.open_ones in
-    let opened = its_open slots ((waiting ++ g.front) ++ id ∷ g.behind) id r (ap request_in t.before) (has_new_middle
+    let opened = its_fit slots IsOpen ((waiting ++ g.front) ++ id ∷ g.behind) id r (ap request_in t.before) (has_new_middle
     (waiting ++ g.front) g.behind id)
     listed in
     record {
