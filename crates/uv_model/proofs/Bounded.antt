@@ -21,11 +21,8 @@ use Rattle.uv_model.proofs.Counting.{AreUpTo, Counts, Drawn, Freed, IsBounded, S
 
 -- a handle that is made is no active timer
 inited_before : (n : ℕ) (v : Var) (kind : Kind) → StartsBefore n (inited v kind)
-inited_before n v kind.Timer = λ t a. cc a
-inited_before n v kind.Idle = λ t a. cc a
-inited_before n v kind.Prepare = λ t a. cc a
-inited_before n v kind.Check = λ t a. cc a
 inited_before n v kind.Async = λ t a. cc t
+inited_before n v each = λ t a. cc a
 
 taken_drawn : (n : ℕ) (free : List ℕ) (id : Id) (x : Content) (s : Slots Content) → Drawn n s.slots → HoldsBefore n (handle_in (Some x)) →
     Drawn n (taken_from free id x s).slots

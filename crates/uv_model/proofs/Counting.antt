@@ -77,10 +77,7 @@ never n h e = λ t a. cc (a, e)
 
 pub never_timer : (k : Kind) (w : WatcherKind) → watcher_kind k ≡ Some w → is_timer k ≡ true → ⊥
 never_timer kind.Timer w e t = cc e
-never_timer kind.Idle w e t = cc t
-never_timer kind.Prepare w e t = cc t
-never_timer kind.Check w e t = cc t
-never_timer kind.Async w e t = cc t
+never_timer each w e t = cc t
 
 pub counts_at : (n : ℕ) (s : State) (v : Var) → Counts n s.names → AreUpTo n (named s v).calls
 counts_at n s v h =

@@ -51,9 +51,7 @@ timers_moves p s run part Firing = fire_moves p s run part
 
 after_moves : (s : State) (run : Run) (kind : WatcherKind) → IsTaken (step.after_walk s run kind)
 after_moves s run watcher.Idle = tt
-after_moves s run watcher.Prepare = tt
-after_moves s run watcher.Check = tt
-after_moves s run watcher.Async = tt
+after_moves s run each = tt
 
 walk_moves : (p : Program) (s : State) (run : Run) (kind : WatcherKind) → IsTaken (step.walk p s run kind)
 walk_moves p s run kind = found_both (front s (watched s kind).yet) _ _ IsTaken (λ t e. tt) (λ e. after_moves s run kind)

@@ -13,10 +13,7 @@ use Rattle.uv_ops.proofs.Made.{make_done, taken_ids, at_end, with_asyncs, handle
 -- which kinds are listed as they are made, in the memory and in the state
 async_as : (k : Kind) → records.is_async k ≡ is_async k
 async_as kind.Timer = refl
-async_as kind.Idle = refl
-async_as kind.Prepare = refl
-async_as kind.Check = refl
-async_as kind.Async = refl
+async_as each = refl
 
 module _ (h w : Held Place) (frame : OnlyHandles h.image w.image) (v : Var) (k : Kind) (d : Id)
     (u : Added) (c : IsMade (counted_of h.image) (counted_of w.image) v k d u) where

@@ -20,6 +20,7 @@ use Rattle.uv_order.proofs.Works.{HasEnded}
 use Rattle.uv_order.proofs.Working.{Working, no_request}
 use Rattle.uv_order.proofs.Keeping.{Kept, Watches, Closes}
 use Rattle.uv_order.proofs.Did.{FrontOf, front_of}
+use Rattle.uv_order.proofs.Did.{IsSync}
 use Rattle.uv_order.proofs.KeptSteps.{no_front}
 use Rattle.uv_order.proofs.Lives.{may_wait_is}
 use Rattle.uv_order.proofs.Counted.{Counted}
@@ -122,19 +123,14 @@ after_follows p told s run watcher.Check w alive over k h c e = closing_begins p
 after_follows p told s run watcher.Async w alive over k h c e = begin_follows p told s run watcher.Check
     (Within (In phase.Async) w) over check_next k h c e
 
--- an idle, prepare or check handle
-abbrev pub IsPlain : WatcherKind → Type 0
-IsPlain watcher.Async = ⊥
-IsPlain q = Unit {0}
-
-plain_calls : (q : WatcherKind) (told : Told) (w : Walk) (id : Id) (more : List Id) (n : NextCall w id more) → IsPlain q → w.body ≡ [] →
+plain_calls : (q : WatcherKind) (told : Told) (w : Walk) (id : Id) (more : List Id) (n : NextCall w id more) → IsSync q → w.body ≡ [] →
     CallsNext (phase_of q) told w id n.behind
 plain_calls watcher.Async told w id more n d b = absurd d
 plain_calls each told w id more n d b =
     record { done = b; passed = n.passed; list = n.list; may_pass = n.off; may_call = record { on = n.on; called = refl } }
 
 -- the next watcher is called
-pub call_watcher : (p : Program) (told : Told) (s : State) (run : Run) (q : WatcherKind) (w : Walk) (t : Id × HandleRecord) → IsPlain q → run.stage ≡
+pub call_watcher : (p : Program) (told : Told) (s : State) (run : Run) (q : WatcherKind) (w : Walk) (t : Id × HandleRecord) → IsSync q → run.stage ≡
     stage.Walking q →
     FrontOf s (watched s q).yet t → Leaves (rest s.ready s) (Within (In (phase_of q)) w) → w.body ≡ [] → Counted p s.names told →
     Follows p told (Running run.mode run.line (Within (In (phase_of q)) w)) s (call p (front_moved s q t.0) run t.0 t.1.name)
@@ -156,7 +152,7 @@ call_watcher p told s run watcher.Check w t d st f l b c =
     (λ is. rw st (running (walking is) (left_all l.timers l.idle l.prepare (f.behind ∙ next.left) l.async l.closing l.done)))
 
 -- the list of a kind is the one that its section walks
-pub own_list : (s : State) (q : WatcherKind) (w : Walk) → IsPlain q → Leaves (rest s.ready s) (Within (In (phase_of q)) w) →
+pub own_list : (s : State) (q : WatcherKind) (w : Walk) → IsSync q → Leaves (rest s.ready s) (Within (In (phase_of q)) w) →
     (watched s q).yet ≡ left_of
     w.ahead w.off
 own_list s watcher.Idle w d l = l.idle
@@ -165,18 +161,18 @@ own_list s watcher.Check w d l = l.check
 own_list s watcher.Async w d l = absurd d
 
 -- with none of its own left, nobody is left
-pub none_own : (s : State) (q : WatcherKind) (w : Walk) → IsPlain q → (watched s q).yet ≡ [] → Leaves (rest s.ready s) (Within (In (phase_of q)) w) →
+pub none_own : (s : State) (q : WatcherKind) (w : Walk) → IsSync q → (watched s q).yet ≡ [] → Leaves (rest s.ready s) (Within (In (phase_of q)) w) →
     NobodyLeft (rest s.ready s)
 none_own s watcher.Idle w d e l = (left_all l.timers e l.prepare l.check l.async l.closing l.done)
 none_own s watcher.Prepare w d e l = (left_all l.timers l.idle e l.check l.async l.closing l.done)
 none_own s watcher.Check w d e l = (left_all l.timers l.idle l.prepare e l.async l.closing l.done)
 none_own s watcher.Async w d e l = absurd d
 
-pub plain_over : (q : WatcherKind) (w : Walk) → IsPlain q → w.body ≡ [] → doc.AllOff w.off w.ahead → IsOver (phase_of q) w
+pub plain_over : (q : WatcherKind) (w : Walk) → IsSync q → w.body ≡ [] → doc.AllOff w.off w.ahead → IsOver (phase_of q) w
 plain_over watcher.Async w d b o = absurd d
 plain_over each w d b o = record { done = b; may_pass = o }
 
-pub walk_follows : (p : Program) (told : Told) (s : State) (run : Run) (q : WatcherKind) (w : Walk) → lives s ≡ is_alive s → IsPlain q →
+pub walk_follows : (p : Program) (told : Told) (s : State) (run : Run) (q : WatcherKind) (w : Walk) → lives s ≡ is_alive s → IsSync q →
     run.stage ≡ stage.Walking q → Kept s →
     SentAt told.sent s → Counted p s.names told →
     Leaves (rest s.ready s) (Within (In (phase_of q)) w) → w.body ≡ [] → Follows p told (Running run.mode run.line (Within (In (phase_of q)) w)) s

@@ -60,12 +60,7 @@ events_more p es e t l m =
 ended_stage : (s : State) (x : Stage) → stage_refusal s x ≡ Some Ended → ⊥
 ended_stage s (stage.Poll deadline) e = cond_both (step.may_leave s deadline) _ _ (λ (o : Option Why). o ≡ Some Ended → ⊥)
     (λ h f. cc f) (λ h f. cc f) e
-ended_stage s stage.Entry e = cc e
-ended_stage s stage.Pending e = cc e
-ended_stage s (stage.Walking kind) e = cc e
-ended_stage s stage.Done e = cc e
-ended_stage s stage.Closing e = cc e
-ended_stage s (stage.Timers part _) e = cc e
+ended_stage s each e = cc e
 
 ended_run : (p : Program) (s : State) (run : Run) (body : Option Body) → refusal_of (step.run_step p s run body) ≡ Some Ended → ⊥
 ended_run p s run None e = ended_stage s run.stage (sym (stage_moves p s run run.stage) ∙ e)

@@ -11,10 +11,8 @@ use Rattle.uv_sections.proofs.Watched.{list_is, yet_is, list_now, yet_now, other
 
 -- a handle that isn't an async one isn't woken
 pub calls_all : (w : WatcherKind) (r : HandleRecord) → w ≢ watcher.Async → pending_of w (Some r) ≡ false
-calls_all watcher.Idle r ne = refl
-calls_all watcher.Prepare r ne = refl
-calls_all watcher.Check r ne = refl
 calls_all watcher.Async r ne = absurd (ne refl)
+calls_all each r ne = refl
 
 -- none is yet to run
 pub none_moves : (i : Image Place) (s : State) → StandsFor i s → (w : WatcherKind) → NoHandleFirst i.arena (yet_of w)

@@ -9,30 +9,22 @@ use Rattle.uv_sections.proofs.Keeping.{KeepsState, sections_kept}
 
 pub list_is : (s : State) (w : WatcherKind) → members s (list_of w) ≡ (watched s w).list
 list_is s watcher.Idle = refl
-list_is s watcher.Prepare = refl
-list_is s watcher.Check = refl
-list_is s watcher.Async = refl
+list_is s each = refl
 
 pub yet_is : (s : State) (w : WatcherKind) → members s (yet_of w) ≡ (watched s w).yet
 yet_is s watcher.Idle = refl
-yet_is s watcher.Prepare = refl
-yet_is s watcher.Check = refl
-yet_is s watcher.Async = refl
+yet_is s each = refl
 
 -- ---- one that changes
 
 module _ (s : State) where
   pub list_now : (w : WatcherKind) (q : Walk Id) → members (with_watched s w q) (list_of w) ≡ q.list
   list_now watcher.Idle q = refl
-  list_now watcher.Prepare q = refl
-  list_now watcher.Check q = refl
-  list_now watcher.Async q = refl
+  list_now each q = refl
 
   pub yet_now : (w : WatcherKind) (q : Walk Id) → members (with_watched s w q) (yet_of w) ≡ q.yet
   yet_now watcher.Idle q = refl
-  yet_now watcher.Prepare q = refl
-  yet_now watcher.Check q = refl
-  yet_now watcher.Async q = refl
+  yet_now each q = refl
 
   pub others_stay : (w : WatcherKind) (q : Walk Id) (l : ListName) → l ≢ list_of w → l ≢ yet_of w → members (with_watched s w q) l ≡ members s l
   others_stay watcher.Idle q name.Idle a b = absurd (a refl)

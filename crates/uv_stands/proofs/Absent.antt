@@ -38,10 +38,7 @@ has_second (x ∷ xs) ys d e = at (same_id x d) (has_second xs ys d e) where
 
 pub timer_kind : (k : Kind) → is_timer k ≡ true → k ≡ kind.Timer
 timer_kind kind.Timer e = refl
-timer_kind kind.Idle e = cc e
-timer_kind kind.Prepare e = cc e
-timer_kind kind.Check e = cc e
-timer_kind kind.Async e = cc e
+timer_kind each e = cc e
 
 -- the slot of an id is on this list
 abbrev pub IsOn : Image Place → ListName → Id → Type 0

@@ -75,10 +75,7 @@ kind_of n =
 kind_back : (k : Kind) → kind_of (kind_number k) ≡ k
 unfolding kind_of
 kind_back kind.Timer = refl
-kind_back kind.Idle = refl
-kind_back kind.Prepare = refl
-kind_back kind.Check = refl
-kind_back kind.Async = refl
+kind_back each = refl
 
 kind_tells : Tells (λ k. byte_code (kind_number k))
 kind_tells = part_tells _ kind_number (settled_back kind_number kind_of kind_back) byte_tells
@@ -106,19 +103,10 @@ stage_of p =
 
 stage_back : (s : Stage) → stage_of (stage_part s) ≡ s
 unfolding stage_of
-stage_back stage.Entry = refl
-stage_back stage.Pending = refl
 stage_back (stage.Walking watcher.Idle) = refl
-stage_back (stage.Walking watcher.Prepare) = refl
-stage_back (stage.Poll deadline) = refl
-stage_back stage.Done = refl
-stage_back (stage.Walking watcher.Async) = refl
-stage_back (stage.Walking watcher.Check) = refl
-stage_back stage.Closing = refl
 stage_back (stage.Timers Entry Collecting) = refl
-stage_back (stage.Timers Entry Firing) = refl
 stage_back (stage.Timers Iteration Collecting) = refl
-stage_back (stage.Timers Iteration Firing) = refl
+stage_back each = refl
 
 stage_tells : Tells stage_code
 stage_tells = part_tells _ stage_part (settled_back stage_part stage_of stage_back) (pair_tells _ _ byte_tells (option_tells _ numbers_tell))

@@ -60,13 +60,7 @@ phase_right word =
 section_found : (x : Phase) → section_of (phase_word x) ≡ Some (at.Section x)
 unfolding phase_of
 section_found phase.Pending = refl
-section_found phase.Idle = refl
-section_found phase.Prepare = refl
-section_found phase.Done = refl
-section_found phase.Async = refl
-section_found phase.Check = refl
-section_found phase.Closing = refl
-section_found phase.Timers = refl
+section_found each = refl
 
 -- ---- what is read is so
 
