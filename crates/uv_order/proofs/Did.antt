@@ -1,5 +1,5 @@
 -- What a step does, in a row for each way: the tree of the steps is walked here, once, and whatever steps keep is shown by rows.
-use Rattle.uv_order.proofs.Names.{arith, ◌≡◌, ℕ, ◌+◌, List, [], ◌∷◌, Bool, true, false, Option, Some, None, Result, Ok, Err, drop, length, nat_le, nat_lt, slice_get, option_map, refl, ap, cond_both, same_Some, Id, Var, Due, Event, Loop, Take, Finish, Cancel, Send, Tick, Why, Blocked, Ended, Range, Mode, Phase, Seen, Site, HandleRecord, WatcherKind, CallbackLine, MainOp, Op, Program, arena_size, lines_in, main_op, op_at, order_of, Request, digest_in, Body, Place, Run, Stage, Pending, Poll, Done, Closing, Timers, Collecting, Firing, TimersOf, Turn, AtEntry, Behind, BehindClosing, Way, ToTimers, ToPending, ToEnd, State, handle, with_handle, live_handle, live_request, front, front_request, watched, refreshed, restarted, do_op, Next, Moves, Refuses, call, calls, first_due, front_moved, goes, may_leave, next_work, work_of, found_both, BeginsBehind, BeginsIn, BeginsAt, Walking, Main}
+use Rattle.uv_order.proofs.Names.{arith, ◌≡◌, ℕ, ◌+◌, List, [], ◌∷◌, Bool, true, false, Option, Some, None, Result, Ok, Err, drop, length, nat_le, nat_lt, slice_get, option_map, refl, ap, cond_both, same_Some, Id, Var, Due, Event, Loop, Take, Finish, Cancel, Send, Tick, Why, Blocked, Ended, Range, Mode, Phase, Seen, Site, HandleRecord, WatcherKind, CallbackLine, MainOp, Op, Program, arena_size, lines_in, main_op, op_at, order_of, Request, digest_in, Body, Place, Run, Stage, Pending, Poll, Done, Closing, Timers, Collecting, Firing, TimersOf, Turn, AtEntry, Behind, BehindClosing, Way, ToTimers, ToPending, ToEnd, State, handle, with_handle, live_handle, live_request, front, front_request, watched, refreshed, restarted, do_op, Next, Moves, Refuses, call, calls, first_due, front_moved, goes, may_leave, next_work, work_of, found_both, BeginsBehind, BeginsIn, BeginsAt, Walking}
 use Rattle.uv_ids.specs.declared.seen.Callback.TheVariants as callback
 use Rattle.uv_ids.specs.declared.seen.Seen.TheVariants as seen
 use Rattle.uv_ids.specs.declared.seen.Site.TheVariants as site

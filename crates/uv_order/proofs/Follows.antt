@@ -1,5 +1,5 @@
 -- A whole step goes on from where the state stands, and so does every list of them.
-use Rattle.uv_order.proofs.Names.{arith, ◌≡◌, ℕ, suc, ◌+◌, ◌||◌, ◌&&◌, List, [], ◌∷◌, ◌++◌, Bool, true, false, Option, Some, None, Result, Ok, Err, drop, length, slice_get, slice_set, nat_le, nat_lt, refl, ap, sym, ◌∙◌, if◌then◌else◌, list_any, cond_both, eq-eqb, Order, V144, V145, Id, Var, Event, Loop, Take, Finish, Cancel, Send, Tick, Answer, Mode, Default, Once, Nowait, Phase, Site, Op, MainOp, CallbackLine, Program, lines_in, main_op, order_of, HandleRecord, Slot, held, Why, Content, content_pends, handle_in, Request, has_some, without_id, has_pending, has_passed, Body, Run, Stage, AtEntry, Collecting, Firing, Place, State, fresh, handle, with_handle, with_request, refreshed, do_op, Next, Moves, Refuses, goes, is_default, call, calls, first_due, collected, front_moved, may_leave, body_from, next_work, work_of, Names, Told, nothing_told, told_of, told_by, Lasting, lasting, at_first, Section, Entry, In, word_of, part_after, part_of, Opens, IsOver, CallsNext, MayCall, is_called, callback_in, IsCallLine, Standing, Begun, Within, Polling, MayLeave, PollsFor, Position, Between, Running, Goes, GoesOn, cut, line, Documented, body_of, next_call, taken_off, BeginsIn, BeginsAt, phase_of}
+use Rattle.uv_order.proofs.Names.{arith, ◌≡◌, ℕ, suc, ◌+◌, ◌||◌, ◌&&◌, List, [], ◌∷◌, ◌++◌, Bool, true, false, Option, Some, None, Result, Ok, Err, drop, length, slice_get, slice_set, nat_le, nat_lt, refl, ap, sym, ◌∙◌, if◌then◌else◌, list_any, cond_both, eq-eqb, Order, V144, V145, Id, Var, Event, Loop, Take, Finish, Cancel, Send, Tick, Answer, Mode, Default, Once, Nowait, Phase, Site, Op, MainOp, CallbackLine, Program, lines_in, main_op, order_of, HandleRecord, Slot, held, Why, Content, content_pends, handle_in, Request, has_some, without_id, has_pending, has_passed, Body, Run, Stage, AtEntry, Collecting, Firing, Place, State, fresh, handle, with_handle, with_request, refreshed, do_op, may_leave, body_from, next_work, work_of, Names, Told, nothing_told, lasting, Section, In, word_of, Standing, Begun, Within, Polling, Position, Between, Running, taken_off, BeginsIn, BeginsAt, phase_of}
 use Rattle.std.specs.Prelude.{option_map}
 use Rattle.uv_ids.specs.declared.code.Code.TheVariants as code
 use Rattle.uv_ids.specs.declared.code.Answer.TheVariants as answer

@@ -1,7 +1,7 @@
 -- What every step keeps: the lists and the handles agree. The order of timers has just the active ones, the ready list has inactive
 -- timers, and the lists of watchers, async and closing handles have just those of their kind; no id stands twice on a list. A handle that
 -- closes is inactive. The free slots are empty.
-use Rattle.uv_order.proofs.Names.{◌≡◌, ℕ, zero, suc, ◌+◌, ◌==◌, ◌&&◌, ◌||◌, List, [], ◌∷◌, ◌++◌, Bool, true, false, Some, None, length, slice_get, slice_set, refl, ap, sym, subst, ◌∙◌, append_assoc, arith, if◌then◌else◌, not, option_and_then, cond_both, and_parts, both_ways, or_parts, eqb-true, eq-eqb, same_Some, filter-append, Id, Var, Due, Kind, HandleRecord, Slot, WatcherKind, inited, activated, begun_at, referenced_as, repeating, is_timer, is_async, Slots, held, taken, freed, next_free, next_id, next_unused, id_of, Walk, with_last, Content, same_id, walk_without_id, State, handle, with_handle, without_timer, stopped, started, restarted, due_after, do_op, has_id, kind_as, Watchers, those_of, with_those_of, watchers_without_id, watched, with_watched, with_first}
+use Rattle.uv_order.proofs.Names.{◌≡◌, ℕ, zero, suc, ◌+◌, ◌==◌, ◌&&◌, ◌||◌, List, [], ◌∷◌, ◌++◌, Bool, true, false, Some, None, length, slice_get, slice_set, refl, ap, sym, subst, ◌∙◌, append_assoc, arith, if◌then◌else◌, not, option_and_then, cond_both, and_parts, both_ways, or_parts, eqb-true, eq-eqb, same_Some, filter-append, Id, Var, Due, Kind, HandleRecord, Slot, WatcherKind, inited, activated, begun_at, is_timer, is_async, Slots, held, taken, next_free, next_id, next_unused, id_of, Walk, with_last, Content, same_id, walk_without_id, State, handle, with_handle, without_timer, stopped, started, restarted, due_after, has_id, kind_as, Watchers, those_of, with_those_of, watchers_without_id, watched, with_watched, with_first}
 use Rattle.uv_ids.specs.declared.phase.Kind.TheVariants as kind
 use Rattle.uv_records.specs.declared.lists.WatcherKind.TheVariants as watcher
 use Rattle.uv_records.specs.Handles as records

@@ -1,5 +1,5 @@
 -- Who was started, as the lines tell it and as the handles say it, and which ids were made: each step keeps that they agree.
-use Rattle.uv_order.proofs.Names.{arith, ◌≡◌, ◌⊎◌, inl, inr, ℕ, ◌==◌, ◌||◌, ◌&&◌, List, [], ◌∷◌, ◌++◌, Bool, true, false, drop, if◌then◌else◌, Option, Some, None, Ok, refl, ap, sym, subst, ◌∙◌, cond_both, or_right, same_Some, none-some, Id, Var, Code, Answer, Kind, Seen, Site, Op, Program, op_at, arena_size, Task, Request, queued, Content, HandleRecord, WatcherKind, Slot, inited, is_timer, is_async, referenced_as, repeating, Slots, held, freed, taken, next_free, handle_in, same_id, without_id, State, fresh, handle, live_handle, live_request, with_request, watched, stopped, started, restarted, do_op, Next, Moves, Refuses, has_id, Activity, Answered, activity, activity_answered, activity_done, activity_by, activity_called, new_activity, is_some_id, bound, makes, made_by, made_as, first_of, kind_as}
+use Rattle.uv_order.proofs.Names.{arith, ◌≡◌, ◌⊎◌, inl, inr, ℕ, ◌==◌, ◌||◌, ◌&&◌, List, [], ◌∷◌, ◌++◌, Bool, true, false, drop, if◌then◌else◌, Option, Some, None, Ok, refl, ap, sym, subst, ◌∙◌, cond_both, or_right, same_Some, none-some, Id, Var, Code, Answer, Kind, Seen, Site, Op, Program, op_at, arena_size, Task, Request, queued, Content, HandleRecord, WatcherKind, Slot, inited, is_timer, referenced_as, repeating, Slots, held, freed, taken, next_free, handle_in, same_id, without_id, State, fresh, handle, live_handle, live_request, with_request, watched, stopped, started, restarted, do_op, Next, Moves, Refuses, has_id, Activity, Answered, activity, activity_answered, activity_done, activity_by, activity_called, new_activity, is_some_id, bound, makes, made_by, made_as, first_of, kind_as}
 use Rattle.uv_ids.specs.declared.code.Code.TheVariants as code
 use Rattle.uv_ids.specs.declared.code.Answer.TheVariants as answer
 use Rattle.uv_ids.specs.declared.phase.Kind.TheVariants as kind

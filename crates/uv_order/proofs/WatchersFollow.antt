@@ -1,5 +1,5 @@
 -- The sections of watchers, of async handles and of closing ones: each step goes on from where the state stands.
-use Rattle.uv_order.proofs.Names.{arith, ◌≡◌, ◌||◌, true, false, subst, List, [], ◌∷◌, ◌++◌, drop, Option, None, refl, ap, sym, ◌∙◌, append_assoc, if◌then◌else◌, cond_both, not, Id, Program, arena_size, order_of, HandleRecord, Run, BehindClosing, WatcherKind, phase_of, freed, Slot, Content, Request, digest_in, request_in, same_id, State, with_handle, front, front_request, watched, is_alive, poll_timeout, deadline_of, Next, Moves, Refuses, goes, is_default, call, calls, first_due, collected, front_moved, may_leave, body_from, has_id, AreDistinct, lives, Told, nothing_told, told_of, told_by, AllOff, AllOffOrUnsent, Lasting, lasting, at_first, Section, Entry, In, word_of, part_after, part_of, Opens, IsOver, CallsNext, MayCall, is_called, callback_in, IsCallLine, Standing, Begun, Within, Polling, MayLeave, PollsFor, Position, Between, Running, Goes, GoesOn, cut, line, Documented, body_of, next_call, taken_off, found_both, kind_as, with_watched, all_yet, Order, AreActive}
+use Rattle.uv_order.proofs.Names.{arith, ◌≡◌, ◌||◌, true, false, subst, List, [], ◌∷◌, ◌++◌, drop, Option, None, refl, ap, sym, ◌∙◌, append_assoc, if◌then◌else◌, cond_both, not, Id, Program, arena_size, order_of, HandleRecord, Run, BehindClosing, WatcherKind, phase_of, freed, Slot, Content, Request, digest_in, request_in, same_id, State, with_handle, front, front_request, watched, is_alive, poll_timeout, deadline_of, Moves, call, calls, front_moved, has_id, AreDistinct, lives, Told, AllOff, AllOffOrUnsent, lasting, In, part_of, Opens, IsOver, CallsNext, Standing, Within, Polling, MayLeave, Running, found_both, kind_as, with_watched, all_yet, Order, AreActive}
 use Rattle.std.specs.Prelude.{option_map}
 use Rattle.uv_ids.specs.declared.phase.Kind.TheVariants as kind
 use Rattle.uv_ids.specs.declared.phase.Phase.TheVariants as phase
