@@ -87,7 +87,8 @@ fn put_section(sections: &mut Vec<Phase>, section: Phase) -> Result<(), AllocErr
 impl Sets {
     /// Puts what a break is of. Want of memory leaves them as before.
     fn put(&mut self, at: Break) -> Result<(), AllocError>
-        ensures ok { OnOk result ((breaks : List Break) → AreSets breaks self.old.names.items self.old.codes.items self.old.sections.items self.old.polls
+        ensures ok { OnOk result ((breaks : List Break)
+            → AreSets breaks self.old.names.items self.old.codes.items self.old.sections.items self.old.polls
             → AreSets (breaks ++ at ∷ []) self.new.names.items self.new.codes.items self.new.sections.items self.new.polls) }
         ensures err { OnErr result ((self.new.names.items ≡ self.old.names.items) × (self.new.codes.items ≡ self.old.codes.items)
             × (self.new.sections.items ≡ self.old.sections.items) × (self.new.polls ≡ self.old.polls)) }

@@ -5,7 +5,8 @@ use Rattle.uv_live.proofs.parts.are_parts.Goals as goal
 pub entries-init : goal.entries-init
 entries-init g c = record {
   long = c.none_met-met.ensures.length;
-  left = none_met (map (λ s. worked s.worker s.events.items s.share.amount) c.args.shifts.now) c.none_met-met.result c.args.log.now c.none_met-met.ensures.none;
+  left = none_met (map (λ s. worked s.worker s.events.items s.share.amount) c.args.shifts.now)
+      c.none_met-met.result c.args.log.now c.none_met-met.ensures.none;
 }
 
 pub returns-then-not-meets : goal.returns-then-not-meets
@@ -28,5 +29,6 @@ entries-preserved g c =
 
 pub returns : goal.returns
 returns g c =
-    all_entries (map (λ s. worked s.worker s.events.items s.share.amount) c.args.shifts.now) c.entries.met c.args.log.now c.entries.n c.all_met.result (omega (arith, c.entries-test.false))
+    all_entries (map (λ s. worked s.worker s.events.items s.share.amount) c.args.shifts.now)
+    c.entries.met c.args.log.now c.entries.n c.all_met.result (omega (arith, c.entries-test.false))
     c.entries.invariant.left c.all_met.ensures

@@ -25,5 +25,6 @@ returns-then-is_of_name-2 c = λ id.
 pub returns-else-is_of_name-2 : goal.returns-else-is_of_name-2
 returns-else-is_of_name-2 c = λ id.
     let bs = c.args.self.now.listed.items in
-    rw c.in-None.is (c.match_code-else-is_of_name-2.ensures ∙ ap (λ (b : Bool). b || list_any (is_of_code code.Ecanceled) bs) c.if-is_of_name-2.ensures
+    rw c.in-None.is (c.match_code-else-is_of_name-2.ensures
+    ∙ ap (λ (b : Bool). b || list_any (is_of_code code.Ecanceled) bs) c.if-is_of_name-2.ensures
     ∙ cancelled_matches c.args.name id bs)
