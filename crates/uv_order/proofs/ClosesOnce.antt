@@ -143,8 +143,8 @@ closed_known : (p : Program) (past : List Seen) (s : State) (run : Run) (t : Id 
       closing = record s.closing { yet = drop 1 s.closing.yet };
     }) run callback.Close t.1.name (seen.Closed t.1.name t.0))
 closed_known p past s run t f kept k =
-    let yet = each_back (Fits s.arena.slots Closes) s.closing.list s.closing.yet kept.closing.lists.each in
-    let its : Fits s.arena.slots Closes t.0 = (subst (Each (Fits s.arena.slots Closes)) f.are yet).0 in (
+    let shut = front_fits s Closes s.closing.list s.closing.yet t kept.closing.lists.each f in
+    let its : Fits s.arena.slots Closes t.0 = record { handle = t.1; holds = f.holds; fits = shut } in (
       (k.closing t.0 its, not_over p past s.arena s.names t.0 t.1 f.holds k),
       known_names p (seen.Closed t.1.name t.0 ∷ past) (freed (arena_size p).last_generation t.0 s.arena) _ s.names
           (counted_ids s.names t.1.name _ refl) (freed_known p past s t f.holds kept k),

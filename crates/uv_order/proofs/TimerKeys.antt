@@ -1,5 +1,5 @@
 -- The timers in their order: one is put in, one is taken out, and those that are due stand in front.
-use Rattle.uv_order.proofs.Names.{◌≡◌, ◌⊎◌, inl, inr, ℕ, ◌<◌, ◌≤◌, List, [], ◌∷◌, Bool, true, false, cond, nat_le, refl, ap, sym, ◌∙◌, arith, filter, ordering_then, nat_cmp, is_eq, ordering_reverse, MatchOrdering, is_at, Ordering, Less, Equal, Greater, nat_tests, ranked, tied_itself, due_cmp, Id, Due, with_timer, without_timer, Has, Before, InOrder, has_id, AreDistinct, due_cmp_total}
+use Rattle.uv_order.proofs.Names.{cond_both, ◌≡◌, ◌⊎◌, inl, inr, ℕ, ◌<◌, ◌≤◌, List, [], ◌∷◌, Bool, true, false, cond, nat_le, refl, ap, sym, ◌∙◌, arith, filter, ordering_then, nat_cmp, is_eq, ordering_reverse, MatchOrdering, is_at, Ordering, Less, Equal, Greater, nat_tests, ranked, tied_itself, due_cmp, Id, Due, with_timer, without_timer, Has, Before, InOrder, has_id, AreDistinct, due_cmp_total}
 use Rattle.std.specs.Prelude.{map}
 use Rattle.uv_order.proofs.IdLists.{same}
 
@@ -133,12 +133,11 @@ due_has time (t ∷ ts) id h = grind (arith, same, h t.0, due_has time ts id (λ
 pub distinct_due : (time : ℕ) (ts : List (Due × Id)) → InOrder ts → ((a b : Due) (id : Id) → Has ts a id → Has ts b id → a ≡ b) →
     AreDistinct (due_ids time ts)
 distinct_due time [] s one = tt
-distinct_due time (t ∷ ts) s one = at (nat_le t.0.at time) (distinct_due time ts s.1 (λ a b id h k. one a b id (inr h) (inr k))) where
-  at : (b : Bool) → AreDistinct (due_ids time ts) → AreDistinct
-      (map (λ (u : Due × Id). u.1) (cond b (t ∷ filter (λ (u : Due × Id). nat_le u.0.at time) ts) (filter (λ (u : Due × Id). nat_le u.0.at time) ts)))
-  at true rest = (
-    due_has time ts t.1 (λ key k. not_before_itself t.0 key (one t.0 key t.1 (inl (refl, refl)) (inr k))
-        (before_each ts t.0 key t.1 s.0 k)),
-    rest,
-  )
-  at false rest = rest
+distinct_due time (t ∷ ts) s one =
+    let rest = distinct_due time ts s.1 (λ a b id h k. one a b id (inr h) (inr k)) in
+    cond_both (nat_le t.0.at time) _ _ (λ (us : List (Due × Id)). AreDistinct (map (λ (u : Due × Id). u.1) us))
+    (λ on. (
+      due_has time ts t.1 (λ key k. not_before_itself t.0 key (one t.0 key t.1 (inl (refl, refl)) (inr k))
+          (before_each ts t.0 key t.1 s.0 k)),
+      rest,
+    )) (λ off. rest)
