@@ -18,38 +18,14 @@ name_of n =
 there : (l : ListName) → name_of (number l) ≡ l
 unfolding name_of
 there Ready = refl
-there Idle = refl
-there IdleYet = refl
-there Prepare = refl
-there PrepareYet = refl
-there Check = refl
-there CheckYet = refl
-there Async = refl
-there AsyncYet = refl
-there Closing = refl
-there ClosingYet = refl
-there Waiting = refl
-there Done = refl
-there DoneYet = refl
+there l = refl
 
 pub number_apart : (a b : ListName) → number a ≡ number b → a ≡ b
 number_apart a b e = sym (there a) ∙ ap name_of e ∙ there b
 
 pub number_below : (l : ListName) → number l < LIST_COUNT
 number_below Ready = omega arith
-number_below Idle = omega arith
-number_below IdleYet = omega arith
-number_below Prepare = omega arith
-number_below PrepareYet = omega arith
-number_below Check = omega arith
-number_below CheckYet = omega arith
-number_below Async = omega arith
-number_below AsyncYet = omega arith
-number_below Closing = omega arith
-number_below ClosingYet = omega arith
-number_below Waiting = omega arith
-number_below Done = omega arith
-number_below DoneYet = omega arith
+number_below l = omega arith
 
 -- where the name of list k comes from, once the lists a and b changed places
 abbrev Moves : ℕ → ℕ → ℕ → ℕ → Type 0

@@ -22,15 +22,11 @@ other l k bar o e = bar (subst OfRequests e o)
 
 pub list_not : (k : WatcherKind) → OfRequests (list_of k) → ⊥
 list_not watcher.Idle o = o
-list_not watcher.Prepare o = o
-list_not watcher.Check o = o
-list_not watcher.Async o = o
+list_not each o = o
 
 pub yet_not : (k : WatcherKind) → OfRequests (yet_of k) → ⊥
 yet_not watcher.Idle o = o
-yet_not watcher.Prepare o = o
-yet_not watcher.Check o = o
-yet_not watcher.Async o = o
+yet_not each o = o
 
 pub work_changed : (a b : Counted Content) (r : Running) (d : Id) (from to : HandleRecord) (u : RecordUndo) → Work a.arena r
     → record_at handle_of a.arena d ≡ Some from → IsChanged handle_of Handle a b d from to u → Work b.arena r

@@ -18,9 +18,7 @@ use Rattle.uv_watch.specs.Watch.{pending_of, woken_if, IsWoken, IsMovedOn}
 -- the two lists of a walk are two
 pub lists_apart : (w : WatcherKind) → list_of w ≢ yet_of w
 lists_apart watcher.Idle e = cc
-lists_apart watcher.Prepare e = cc
-lists_apart watcher.Check e = cc
-lists_apart watcher.Async e = cc
+lists_apart each e = cc
 
 module _ {X : Type 0} (read : X → Option HandleRecord) (make : HandleRecord → X) where
   pub moved_done : (i k l j : Image X) (n m : ℕ) (w : WatcherKind) (d : Id) (t : ChainPlace) (pending : Bool) (u : Option RecordUndo)
