@@ -13,6 +13,7 @@ from dataclasses import dataclass
 from pathlib import Path
 
 from conversation import OUT, ROOT, Fault
+from said import SECTIONS as ALL_SECTIONS
 
 SOURCES = ROOT / "tools" / "libuv"
 BUILT = OUT / "libuv"
@@ -97,7 +98,7 @@ def cut(text: str) -> dict[str, list[str]]:
 
 
 # The lines of uvt that libuv's runs have no counterpart of.
-SECTIONS = frozenset(["pending", "idle", "prepare", "done", "async", "check", "closing", "timers"])
+SECTIONS = frozenset(ALL_SECTIONS) - {"poll"}
 
 
 def common(line: str) -> str | None:

@@ -13,11 +13,10 @@ from typing import Callable
 from conversation import Conversation, Fault, Script, State, read_input
 from dap_breaks import More, Unknown, more_of
 from places import Place, next_line, read_place
+from said import CODES, SECTIONS
 from walk import Walk, longest_way
 from why import why
 
-CODES = ["EINVAL", "EBUSY", "ECANCELED", "EBOUND", "EFULL", "ESTALE", "EKIND"]
-SECTIONS = ["pending", "idle", "prepare", "poll", "done", "async", "check", "closing", "timers"]
 OPS = re.compile(r"main |(on|after|closed) \S+ ")
 THREAD = 1
 SCOPES = ["Loop", "Handles and requests", "Lists", "Names", "Heap"]
@@ -172,7 +171,7 @@ class Adapter:
 
     def on_initialize(self, arguments: dict) -> dict:
         self.base = [0 if arguments.get(it) is False else 1 for it in ("linesStartAt1", "columnsStartAt1")]
-        filters = [{"filter": it, "label": f"an op that answers {it}"} for it in CODES]
+        filters = [{"filter": it, "label": f"an op that answers {it}"} for it in CODES[1:]]
         filters += [{"filter": f"section {it}", "label": f"the section {it} begins"} for it in SECTIONS]
         return {"supportsConfigurationDoneRequest": True, "supportsFunctionBreakpoints": True, "supportsStepBack": True,
                 "supportsConditionalBreakpoints": True, "supportsHitConditionalBreakpoints": True, "supportsLogPoints": True,
@@ -250,7 +249,7 @@ class Adapter:
         return {"breakpoints": shown}
 
     def on_setExceptionBreakpoints(self, arguments: dict) -> None:
-        known = {*CODES, *(f"section {it}" for it in SECTIONS)}
+        known = {*CODES[1:], *(f"section {it}" for it in SECTIONS)}
         self.filters = {it for it in self.listed(arguments, "filters") if isinstance(it, str) and it in known}
         self.set_breaks()
 

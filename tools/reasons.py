@@ -4,6 +4,8 @@ The program alone says which line is the first bad one. Here it is only looked a
 import re
 from typing import Dict, List, NamedTuple, Optional
 
+from said import CODES, SECTIONS
+
 LARGEST = 2**64 - 1
 
 # Each row: a word for it, and the sentence, with what is filled in.
@@ -61,8 +63,8 @@ MAIN_OPS = {'run': 'MODE', 'closeloop': ''}
 STEPS = {'loop': '', 'take': 'K', 'finish': 'K', 'cancel': 'NAME', 'send': 'NAME', 'tick': 'MS'}
 WORDS = {'KIND': ('timer', 'idle', 'prepare', 'check', 'async'), 'MODE': ('default', 'once', 'nowait'), 'VERSION': ('1.44', '1.45')}
 LISTED = {
-    'CODE': ('ok', 'EINVAL', 'EBUSY', 'ECANCELED', 'EBOUND', 'EFULL', 'ESTALE', 'EKIND'),
-    'WORD': ('pending', 'idle', 'prepare', 'poll', 'done', 'async', 'check', 'closing', 'timers'),
+    'CODE': tuple(CODES),
+    'WORD': tuple(SECTIONS),
 }
 SETTINGS = {'order': 'VERSION', 'slots': 'N [G]', 'workers': 'N'}
 RANGES = {'workers N': (1, 1024), 'slots N': (1, 16777215), 'slots G': (0, 4294967295), 'ROUNDS': (1, 1000), 'thread K': (0, 63), 'K': (0, 65535)}

@@ -7,13 +7,12 @@ from typing import Callable
 
 from conversation import BAD, Conversation, State
 from places import Place, next_line, read_place
+from said import CODES, SECTIONS
 from shell_breaks import Break, Breaks
 from walk import Walk
 from why import why
 
 OWN = ["loop", "take", "finish", "cancel", "send", "tick", "back", "forward", "break", "rback", "trace", "state", "image", "record"]
-CODES = ["ok", "EINVAL", "EBUSY", "ECANCELED", "EBOUND", "EFULL", "ESTALE", "EKIND"]
-SECTIONS = ["pending", "idle", "prepare", "poll", "done", "async", "check", "closing", "timers"]
 INFO = ["timers", "handles", "requests", "loop", "breaks"]
 SHORT = {
     "s": "step", "n": "next", "c": "continue", "b": "break", "d": "delete", "l": "list", "i": "info", "p": "print", "r": "run",
@@ -99,7 +98,7 @@ class Shell:
             case "tbreak" | "until", 1:
                 found = [*self.names(), *CODES, *SECTIONS]
             case "break", 2:
-                found = {"call": self.names(), "code": CODES, "section": [it for it in SECTIONS]}.get(typed[1], [])
+                found = {"call": self.names(), "code": CODES, "section": SECTIONS}.get(typed[1], [])
             case "info", 1:
                 found = INFO
             case "print" | "why" | "send" | "cancel" | "watch", 1:

@@ -6,10 +6,10 @@ import collections
 from dataclasses import dataclass, field
 
 from conversation import Slot
+from said import REFUSED
 from walk import Walk
 
 WATCHERS = ("idle", "prepare", "check")
-REFUSED = ("EINVAL", "EBUSY", "EBOUND", "EFULL", "ESTALE", "EKIND")
 
 
 @dataclass

@@ -24,8 +24,8 @@ from conversation import Conversation, Script
 from record_fast import CLOCK, END, NOW, Ways
 from record_log import NO_CLOCK, WATCHERS
 from record_script import Item, Program, is_pool
+from said import SECTIONS
 
-SECTIONS = ["pending", "idle", "prepare", "poll", "done", "async", "check", "closing", "timers"]
 FAR = 40
 MANY_WORKERS = 64
 PATIENCE = 5000
