@@ -20,6 +20,7 @@ kind_word kind.Idle = codes "idle"
 kind_word kind.Prepare = codes "prepare"
 kind_word kind.Check = codes "check"
 kind_word kind.Async = codes "async"
+kind_word kind.Io = codes "io"
 
 -- the word names no kind
 abbrev pub IsNoKind : List ℕ → Type 0

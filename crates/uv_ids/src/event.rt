@@ -15,6 +15,8 @@ pub enum Event {
     Cancel(Var),
     /// Another thread sends to an async handle (uv_async_send).
     Send(Var),
+    /// What a handle of I/O waits for has come, and its callback begins: the order of these is the environment's (own).
+    Io(Var),
     /// The clock goes on by so many milliseconds.
     Tick(u64),
 }

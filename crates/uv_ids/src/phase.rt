@@ -17,6 +17,9 @@ pub enum Kind {
     Check,
     /// Called in the poll after a send, from any thread (uv_async_t).
     Async,
+    /// Called in the poll when what it waits for has come: a handle of I/O, as a stream, a socket for datagrams, a watched
+    /// descriptor, a signal (uv_tcp_t, uv_pipe_t, uv_udp_t, uv_poll_t and the like).
+    Io,
 }
 
 impl Kind {
@@ -30,6 +33,7 @@ impl Kind {
             Kind::Prepare => "prepare",
             Kind::Check => "check",
             Kind::Async => "async",
+            Kind::Io => "io",
         }
     }
 
@@ -48,6 +52,8 @@ impl Kind {
             Some(Kind::Check)
         } else if is(word, b"async") {
             Some(Kind::Async)
+        } else if is(word, b"io") {
+            Some(Kind::Io)
         } else {
             None
         }

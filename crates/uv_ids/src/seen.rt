@@ -37,6 +37,8 @@ pub enum Seen {
     Poll(Option<u64>),
     /// The callback of a handle began.
     Call(Var, Id),
+    /// The callback of a handle of I/O began, since what it waits for has come.
+    Io(Var, Id),
     /// The after callback of a request began, whose slot was freed: a worker finished it with this digest, or it was
     /// cancelled. Fields lie in the order of the source, and with the digest first a line is smaller.
     After(Option<[u8; 32]>, Var, Id),

@@ -70,7 +70,7 @@ pub use Rattle.uv_order.specs.Taking.{IsTakenAs}
 pub use Rattle.uv_records.specs.Handles.{activated, begun_at, inited, is_async, is_timer, keeps_alive, referenced_as, repeating, sent}
 pub use Rattle.uv_records.specs.Lists.{phase_of, watcher_kind}
 pub use Rattle.uv_records.specs.Names.{count_of, counted, unbound}
-pub use Rattle.uv_records.specs.Refusals.{again_refusal, close_refusal, invalid_if, is_watcher, no_refusal, only_if, send_refusal, start_timer_refusal, start_watcher_refusal, stop_refusal, timer_refusal}
+pub use Rattle.uv_records.specs.Refusals.{again_refusal, close_refusal, invalid_if, is_startable, no_refusal, only_if, send_refusal, start_timer_refusal, start_watcher_refusal, stop_refusal, timer_refusal}
 pub use Rattle.uv_records.specs.Slots.{Slots, freed, held, held_in, id_of, next_free, next_id, next_unused, taken, taken_from}
 pub use Rattle.uv_records.specs.Walks.{Walk, Walk as Listed, all_yet, moved_on, with_first, with_last}
 pub use Rattle.uv_records.specs.declared.handle.HandleRecord.{HandleRecord}

@@ -1,5 +1,5 @@
 -- An op by its cases: it is refused, or done with the handle of a live name.
-use Rattle.uv_order.proofs.Names.{arith, ℕ, ◌≡◌, Bool, true, false, Option, Some, None, Result, Ok, Err, refl, ap, not, list_any, cond_both, same_Some, Id, Var, Code, Success, Ebusy, Answer, Kind, HandleRecord, WatcherKind, is_timer, is_async, sent, watcher_kind, only_if, invalid_if, is_watcher, timer_refusal, start_timer_refusal, start_watcher_refusal, stop_refusal, again_refusal, close_refusal, send_refusal, no_refusal, held, next_free, Op, Task, Content, Request, handle_in, same_id, State, handle, named, live, live_handle, live_request, as_handle, as_request, with_id, with_handle, refreshed, do_op, found_both, Names, kind_as}
+use Rattle.uv_order.proofs.Names.{arith, ℕ, ◌≡◌, Bool, true, false, Option, Some, None, Result, Ok, Err, refl, ap, not, list_any, cond_both, same_Some, Id, Var, Code, Success, Ebusy, Answer, Kind, HandleRecord, WatcherKind, is_timer, is_async, sent, watcher_kind, only_if, invalid_if, is_startable, timer_refusal, start_timer_refusal, start_watcher_refusal, stop_refusal, again_refusal, close_refusal, send_refusal, no_refusal, held, next_free, Op, Task, Content, Request, handle_in, same_id, State, handle, named, live, live_handle, live_request, as_handle, as_request, with_id, with_handle, refreshed, do_op, found_both, Names, kind_as}
 use Rattle.std.specs.Prelude.{◌||◌}
 use Rattle.uv_ids.specs.declared.code.Answer.TheVariants as answer
 use Rattle.uv_ids.specs.declared.phase.Kind.TheVariants as kind
@@ -75,7 +75,7 @@ pub refuses_start : Refuses start_timer_refusal
 refuses_start h c e = only_refuses (is_timer h.kind) (invalid_if h.closing) c (invalid_refuses h.closing c) e
 
 pub refuses_start_watcher : Refuses start_watcher_refusal
-refuses_start_watcher h c e = only_refuses (is_watcher h.kind) (invalid_if h.closing) c (invalid_refuses h.closing c) e
+refuses_start_watcher h c e = only_refuses (is_startable h.kind) (invalid_if h.closing) c (invalid_refuses h.closing c) e
 
 pub refuses_stop : Refuses stop_refusal
 refuses_stop h c e = only_refuses (not (is_async h.kind)) None c (no_code c) e
@@ -102,11 +102,11 @@ start_passes h e = let parts = only_passes (is_timer h.kind) (invalid_if h.closi
 pub again_passes : (h : HandleRecord) → again_refusal h ≡ None → (h.kind ≡ kind.Timer) × (h.closing ≡ false)
 again_passes h e = grind arith
 
-pub start_watcher_passes : (h : HandleRecord) → start_watcher_refusal h ≡ None → (is_watcher h.kind ≡ true) × (h.closing ≡ false)
-start_watcher_passes h e = let parts = only_passes (is_watcher h.kind) (invalid_if h.closing) e in (parts.0, invalid_passes h.closing parts.1)
+pub start_watcher_passes : (h : HandleRecord) → start_watcher_refusal h ≡ None → (is_startable h.kind ≡ true) × (h.closing ≡ false)
+start_watcher_passes h e = let parts = only_passes (is_startable h.kind) (invalid_if h.closing) e in (parts.0, invalid_passes h.closing parts.1)
 
 -- a handle that may be started so is of a kind of watchers
-is_of_watchers : (q : Kind) → is_watcher q ≡ true → watcher_kind q ≡ None → ⊥
+is_of_watchers : (q : Kind) → is_startable q ≡ true → watcher_kind q ≡ None → ⊥
 is_of_watchers each e f = grind arith
 
 pub close_passes : (h : HandleRecord) → close_refusal h ≡ None → h.closing ≡ false
@@ -209,7 +209,7 @@ pub data DidOp (s : State) : Op → ops.Done → Type 0 where
   sent_to : (v : Var) (t : Id × HandleRecord) → live_handle s v ≡ Ok t → t.1.kind ≡ kind.Async → t.1.closing ≡ false
       → DidOp s (op.Send v) (record { state = with_handle s t.0 (sent t.1); answer = answer.Code Success })
 
-watcher_did : (s : State) (v : Var) (t : Id × HandleRecord) → live_handle s v ≡ Ok t → (is_watcher t.1.kind ≡ true) × (t.1.closing ≡ false) →
+watcher_did : (s : State) (v : Var) (t : Id × HandleRecord) → live_handle s v ≡ Ok t → (is_startable t.1.kind ≡ true) × (t.1.closing ≡ false) →
     DidOp s (op.StartWatcher v) (ops.start_watcher s t.0 t.1)
 watcher_did s v t e may =
     let by : State → Type 0 = λ u. DidOp s (op.StartWatcher v) (ops.succeeds u) in

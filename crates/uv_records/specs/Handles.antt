@@ -12,6 +12,7 @@ is_timer kind.Idle = false
 is_timer kind.Prepare = false
 is_timer kind.Check = false
 is_timer kind.Async = false
+is_timer kind.Io = false
 
 abbrev pub is_async : Kind → Bool
 is_async kind.Timer = false
@@ -19,6 +20,7 @@ is_async kind.Idle = false
 is_async kind.Prepare = false
 is_async kind.Check = false
 is_async kind.Async = true
+is_async kind.Io = false
 
 -- the due time of a timer that isn't active (own)
 abbrev pub no_due : Due
@@ -42,7 +44,7 @@ inited v k = record {
 abbrev pub stopped : HandleRecord → HandleRecord
 stopped h = record h { active = false; due = no_due }
 
--- a watcher, started
+-- a watcher or a handle of I/O, started
 abbrev pub activated : HandleRecord → HandleRecord
 activated h = record h { active = true }
 

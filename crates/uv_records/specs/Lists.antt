@@ -32,13 +32,14 @@ all_lists =
     name.Ready ∷ name.Idle ∷ name.IdleYet ∷ name.Prepare ∷ name.PrepareYet ∷ name.Check ∷ name.CheckYet ∷ name.Async ∷ name.AsyncYet
     ∷ name.Closing ∷ name.ClosingYet ∷ name.Waiting ∷ name.Done ∷ name.DoneYet ∷ []
 
--- the kind as one of these, unless it is a timer
+-- the kind as one of these, unless it is a timer or a handle of I/O
 abbrev pub watcher_kind : Kind → Option WatcherKind
 watcher_kind kind.Timer = None
 watcher_kind kind.Idle = Some watcher.Idle
 watcher_kind kind.Prepare = Some watcher.Prepare
 watcher_kind kind.Check = Some watcher.Check
 watcher_kind kind.Async = Some watcher.Async
+watcher_kind kind.Io = None
 
 -- the list of them
 abbrev pub list_of : WatcherKind → ListName

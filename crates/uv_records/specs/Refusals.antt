@@ -15,12 +15,13 @@ refusal why (Some None) = Some Ekind
 refusal why (Some (Some h)) = why h
 
 -- the kinds that `start v` starts
-abbrev pub is_watcher : Kind → Bool
-is_watcher kind.Timer = false
-is_watcher kind.Idle = true
-is_watcher kind.Prepare = true
-is_watcher kind.Check = true
-is_watcher kind.Async = false
+abbrev pub is_startable : Kind → Bool
+is_startable kind.Timer = false
+is_startable kind.Idle = true
+is_startable kind.Prepare = true
+is_startable kind.Check = true
+is_startable kind.Async = false
+is_startable kind.Io = true
 
 -- EINVAL if this holds
 abbrev pub invalid_if : Bool → Option Code
@@ -44,9 +45,9 @@ timer_refusal h = only_if (is_timer h.kind) None
 abbrev pub start_timer_refusal : HandleRecord → Option Code
 start_timer_refusal h = only_if (is_timer h.kind) (invalid_if h.closing)
 
--- `start v`: EKIND if not idle, prepare or check; EINVAL if closing (own)
+-- `start v`: EKIND if not idle, prepare, check or io; EINVAL if closing (own)
 abbrev pub start_watcher_refusal : HandleRecord → Option Code
-start_watcher_refusal h = only_if (is_watcher h.kind) (invalid_if h.closing)
+start_watcher_refusal h = only_if (is_startable h.kind) (invalid_if h.closing)
 
 -- `stop v`: EKIND if async
 abbrev pub stop_refusal : HandleRecord → Option Code

@@ -98,12 +98,12 @@ pub enum WatcherKind {
 }
 
 impl WatcherKind {
-    /// The kind as one of these, unless it is a timer.
+    /// The kind as one of these, unless it is a timer or a handle of I/O.
     pub fn from_kind(kind: Kind) -> Option<WatcherKind>
         ensures { result ≡ watcher_kind kind }
     {
         match kind {
-            Kind::Timer => None,
+            Kind::Timer | Kind::Io => None,
             Kind::Idle => Some(WatcherKind::Idle),
             Kind::Prepare => Some(WatcherKind::Prepare),
             Kind::Check => Some(WatcherKind::Check),

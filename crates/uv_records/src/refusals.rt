@@ -32,7 +32,7 @@ impl HandleRecord {
         }
     }
 
-    /// Why it can't be started as an idle, prepare or check handle.
+    /// Why it can't be started as an idle, prepare, check or I/O handle.
     pub fn start_watcher_refusal(self) -> Option<Code>
         ensures { result ≡ start_watcher_refusal self }
     {

@@ -1,5 +1,5 @@
 -- A watcher that isn't active is on no list.
-use Rattle.uv_stands.proofs.ProofNames.{◌≡◌, Bool, true, false, Some, None, refl, ap, ◌∙◌, Id, Kind, HandleRecord, ListName, start_watcher_refusal, only_if, invalid_if, is_watcher, IsSound, on_list, record_at, Place, State, handle, members, has_id, IsActive, IsReached, handle_of, IsFit, Image, StandsFor, WatcherKind, kind_as, watched, ◌++◌}
+use Rattle.uv_stands.proofs.ProofNames.{◌≡◌, Bool, true, false, Some, None, refl, ap, ◌∙◌, Id, Kind, HandleRecord, ListName, start_watcher_refusal, only_if, invalid_if, is_startable, IsSound, on_list, record_at, Place, State, handle, members, has_id, IsActive, IsReached, handle_of, IsFit, Image, StandsFor, WatcherKind, kind_as, watched, ◌++◌}
 use Rattle.uv_ids.specs.declared.phase.Kind.TheVariants as kind
 use Rattle.uv_records.specs.declared.lists.ListName.TheVariants as name
 use Rattle.uv_records.specs.declared.lists.WatcherKind.TheVariants as watcher
@@ -8,7 +8,7 @@ use Rattle.uv_stands.proofs.Absent.{IsOn, has_first, has_second, holds_it, has_i
 
 -- ---- who may be started
 
-no_timer : (k : Kind) (b : Bool) → k ≡ kind.Timer → only_if (is_watcher k) (invalid_if b) ≡ None → ⊥
+no_timer : (k : Kind) (b : Bool) → k ≡ kind.Timer → only_if (is_startable k) (invalid_if b) ≡ None → ⊥
 no_timer kind.Timer b e r = cc
 no_timer each b e r = cc
 
@@ -47,11 +47,11 @@ module _ (i : Image Place) (s : State) (stands : StandsFor i s) (reached : IsRea
   on_none may rests name.Closing on =
       let a = reached.closing.each d (has_first s.closing.list s.closing.yet d (has name.Closing on)) in
       let same : h ≡ a.its = cc (mine, a.holds) in
-      none_closes (is_watcher h.kind) h.closing (ap (λ (z : HandleRecord). z.closing) same ∙ a.closing) may
+      none_closes (is_startable h.kind) h.closing (ap (λ (z : HandleRecord). z.closing) same ∙ a.closing) may
   on_none may rests name.ClosingYet on =
       let a = reached.closing.each d (has_second s.closing.list s.closing.yet d (has name.ClosingYet on)) in
       let same : h ≡ a.its = cc (mine, a.holds) in
-      none_closes (is_watcher h.kind) h.closing (ap (λ (z : HandleRecord). z.closing) same ∙ a.closing) may
+      none_closes (is_startable h.kind) h.closing (ap (λ (z : HandleRecord). z.closing) same ∙ a.closing) may
   on_none may rests name.Waiting on = not_waiting i d h there fit on
   on_none may rests name.Done on = not_done i d h there fit on
   on_none may rests name.DoneYet on = not_done_yet i d h there fit on

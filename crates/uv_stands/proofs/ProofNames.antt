@@ -44,7 +44,7 @@ pub use Rattle.uv_records.specs.Count.{active_count, one_if}
 pub use Rattle.uv_records.specs.Handles.{is_timer, keeps_alive}
 pub use Rattle.uv_records.specs.Lists.{list_of, number, yet_of}
 pub use Rattle.uv_records.specs.Names.{binding, calling, count_of, named}
-pub use Rattle.uv_records.specs.Refusals.{invalid_if, is_watcher, only_if, refusal, start_watcher_refusal}
+pub use Rattle.uv_records.specs.Refusals.{invalid_if, is_startable, only_if, refusal, start_watcher_refusal}
 pub use Rattle.uv_records.specs.Walks.{Walk, without}
 pub use Rattle.uv_records.specs.declared.handle.HandleRecord.{HandleRecord}
 pub use Rattle.uv_records.specs.declared.lists.ListName.{ListName}
