@@ -173,6 +173,8 @@ blank = record {
   size = DEFAULT_SIZE;
   workers = DEFAULT_WORKERS;
   order = DEFAULT_ORDER;
+  io = false;
+  heap = false;
   threads = [];
 }
 

@@ -37,6 +37,10 @@ pub record Program : Type 0 where
   pub workers : ℕ
   -- where the timers stand in an iteration of the loop
   pub order : Order
+  -- handles of I/O may be made
+  pub io : Bool
+  -- due timers are called straight from their heap, and not collected first
+  pub heap : Bool
   -- the lines of the senders' threads, as they came
   pub threads : List ThreadLine
 
@@ -121,12 +125,20 @@ DEFAULT_ORDER = orders.V145
 abbrev pub order_of : Program → Order
 order_of p = p.order
 
+-- whether the script may have handles of I/O: as the line `io` says (own)
+abbrev pub has_io : Program → Bool
+has_io p = p.io
+
+-- whether due timers are called straight from their heap, as in libuv before 1.48: as the line `timers heap` says (own)
+abbrev pub from_heap : Program → Bool
+from_heap p = p.heap
+
 -- a line of a sender's thread, where there are so many names: threads have numbers below 64 (own), and the name is declared
 pub record IsThreadLine (names : ℕ) (line : ThreadLine) : Type 0 where
   pub thread : line.thread < MOST_SENDERS
   pub declared : line.name.0 < names
 
--- the lines that count: all but `order`, `workers`, `slots`, empty ones and comments
+-- the lines that count: all but `order`, `io`, `timers heap`, `workers`, `slots`, empty ones and comments
 abbrev pub line_count : Program → ℕ
 line_count p = length p.names + length p.main + sum_by callback_count p.callbacks + length p.threads
 

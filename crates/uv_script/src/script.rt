@@ -3,7 +3,7 @@ ghost use Rattle.std.specs.Prelude.{◌≡◌, slice_get, length, OnOk, All};
 ghost use Rattle.uv_script.specs.Grammar.{Declares, InMain, InCallback, InThread, Sizes, HasRoom, WasRead, with_statement, blank};
 ghost use Rattle.uv_script.specs.Reading.{has_room, IsSound, IsSaid};
 ghost use Rattle.uv_script.specs.Said.{said};
-ghost use Rattle.uv_script.specs.Program.{lines_in, op_at, arena_size, worker_count, order_of, with_workers, IsWorkerCount, IsThreadLine, IsWhole};
+ghost use Rattle.uv_script.specs.Program.{lines_in, op_at, arena_size, worker_count, order_of, has_io, from_heap, with_workers, IsWorkerCount, IsThreadLine, IsWhole};
 
 use crate::limits::{MOST_LINES, MOST_NAMES};
 use crate::names::Names;
@@ -23,8 +23,12 @@ pub struct Script {
     size: ArenaSize,
     workers: u16,
     order: Order,
+    /// Whether handles of I/O may be made.
+    io: bool,
+    /// Whether due timers are called straight from their heap, and not collected first.
+    heap: bool,
     threads: Vec<ThreadLine>,
-    /// How many lines count: all but `order`, `workers`, `slots`, empty ones and comments.
+    /// How many lines count: all but `order`, `io`, `timers heap`, `workers`, `slots`, empty ones and comments.
     lines: usize,
 }
 
@@ -47,6 +51,8 @@ impl Model for Script {
       size = script.size;
       workers = script.workers;
       order = script.order;
+      io = script.io;
+      heap = script.heap;
       threads = script.threads.items;
     } };
 
@@ -57,6 +63,8 @@ impl Model for Script {
       size = script.size;
       workers = script.workers;
       order = script.order;
+      io = script.io;
+      heap = script.heap;
       threads = script.threads.items;
     }) };
 }
@@ -73,6 +81,8 @@ impl Script {
             size: ArenaSize::by_default(),
             workers: DEFAULT_WORKERS,
             order: DEFAULT_ORDER,
+            io: false,
+            heap: false,
             threads: Vec::new(alloc),
             lines: 0,
         }
@@ -210,6 +220,20 @@ impl Script {
         ensures { result ≡ order_of self.now }
     {
         self.order
+    }
+
+    /// Whether the script may have handles of I/O: only where a line `io` says so.
+    pub fn has_io(&self) -> bool
+        ensures { result ≡ has_io self.now }
+    {
+        self.io
+    }
+
+    /// Whether due timers are called straight from their heap, and not collected first: only where a line `timers heap` says so.
+    pub fn timers_from_heap(&self) -> bool
+        ensures { result ≡ from_heap self.now }
+    {
+        self.heap
     }
 
     /// The lines of the senders' threads, as they came.
