@@ -1,5 +1,5 @@
 -- One more line, and all lines.
-use Rattle.uv_script.proofs.ProofNames.{◌≡◌, ◌≢◌, ◌⊎◌, inl, inr, ℕ, ◌+◌, ◌<◌, ◌≤◌, Bool, true, false, not, ◌&&◌, ◌==◌, cond, nat_lt, List, [], ◌∷◌, ◌++◌, length, map, Option, Some, None, Err, Contains, refl, ap, sym, subst, ◌∙◌, arith, append_assoc, append-nil, length-append, onto_first, cases_Bool, cond_both, and_parts, and_from, ltb-true, lt-ltb, map-append, length-map, all_pairs_push, Contains-get_or, same_Some, cond_some, none-some, slice_get_within, Fault, Settings, Statement, Declares, InMain, InCallback, Sizes, HasWorkers, Orders, InThread, Says, declares, in_main, runs, closes_loop, in_callback, in_call, sizes, sizes_to, has_workers, orders, in_thread, HasRoom, IsNew, with_statement, with_said, Draft, Reads, skips, says, ReadsAll, none, one, IsBadLineFrom, ParsesFrom, MOST_NAMES, MOST_LINES, lines_of, fields_of, Program, line_count, has_room, is_new, IsSound, IsSaid, ReadsLine, is_line, is_skipped}
+use Rattle.uv_script.proofs.ProofNames.{◌≡◌, ◌≢◌, ◌⊎◌, inl, inr, ℕ, ◌+◌, ◌<◌, ◌≤◌, Bool, true, false, not, ◌&&◌, ◌||◌, ◌==◌, cond, nat_lt, List, [], ◌∷◌, ◌++◌, length, map, Option, Some, None, Err, Contains, refl, ap, sym, subst, ◌∙◌, arith, append_assoc, append-nil, length-append, onto_first, cases_Bool, cond_both, and_parts, and_from, ltb-true, lt-ltb, map-append, length-map, all_pairs_push, Contains-get_or, same_Some, cond_some, none-some, slice_get_within, Fault, Settings, Statement, Declares, InMain, InCallback, Sizes, HasWorkers, Orders, HasIo, FromHeap, InThread, Says, declares, in_main, runs, closes_loop, in_callback, in_call, sizes, sizes_to, has_workers, orders, says_io, says_heap, in_thread, HasRoom, IsNew, asks_io, MayMake, with_statement, with_said, Draft, Reads, skips, says, ReadsAll, none, one, IsBadLineFrom, ParsesFrom, MOST_NAMES, MOST_LINES, lines_of, fields_of, Program, line_count, has_room, is_new, may_make, may_come, has_io, IsSound, IsSaid, ReadsLine, is_line, is_skipped}
 use Rattle.uv_ids.specs.declared.fault.Fault.TheVariants as fault
 use Rattle.uv_ids.specs.declared.seen.Callback.TheVariants as callback
 use Rattle.uv_script.specs.Reading.{statement_of, after_line}
@@ -17,6 +17,8 @@ new_sound said (InCallback kind v line) e = tt
 new_sound said (Sizes size) e = unsaid said.slots e
 new_sound said (HasWorkers n) e = unsaid said.workers e
 new_sound said (Orders o) e = unsaid said.order e
+new_sound said HasIo e = unsaid said.io e
+new_sound said FromHeap e = unsaid said.timers e
 new_sound said (InThread line) e = tt
 
 new_complete : (said : Settings) (s : Statement) → IsNew said s → is_new said s ≡ true
@@ -26,6 +28,8 @@ new_complete said (InCallback kind v line) h = refl
 new_complete said (Sizes size) h = ap not h
 new_complete said (HasWorkers n) h = ap not h
 new_complete said (Orders o) h = ap not h
+new_complete said HasIo h = ap not h
+new_complete said FromHeap h = ap not h
 new_complete said (InThread line) h = refl
 
 pub room_sound : (p : Program) (s : Statement) → has_room p s ≡ true → HasRoom p s
@@ -37,6 +41,8 @@ room_sound p (InCallback kind v line) e = ltb-true (line_count p) MOST_LINES e
 room_sound p (Sizes size) e = tt
 room_sound p (HasWorkers n) e = tt
 room_sound p (Orders o) e = tt
+room_sound p HasIo e = tt
+room_sound p FromHeap e = tt
 room_sound p (InThread line) e = ltb-true (line_count p) MOST_LINES e
 
 room_complete : (p : Program) (s : Statement) → HasRoom p s → has_room p s ≡ true
@@ -48,7 +54,25 @@ room_complete p (InCallback kind v line) h = lt-ltb (line_count p) MOST_LINES h
 room_complete p (Sizes size) h = refl
 room_complete p (HasWorkers n) h = refl
 room_complete p (Orders o) h = refl
+room_complete p HasIo h = refl
+room_complete p FromHeap h = refl
 room_complete p (InThread line) h = lt-ltb (line_count p) MOST_LINES h
+
+pub may_sound : (p : Program) (s : Statement) → may_make p s ≡ true → MayMake p s
+may_sound p s e asked = by (has_io p) (asks_io s) e asked
+  where
+    by : (io asks : Bool) → (io || not asks) ≡ true → asks ≡ true → io ≡ true
+    by true asks e h = refl
+    by false true e h = e
+    by false false e h = h
+
+may_complete : (p : Program) (s : Statement) → MayMake p s → may_make p s ≡ true
+may_complete p s h = by (has_io p) (asks_io s) h
+  where
+    by : (io asks : Bool) → (asks ≡ true → io ≡ true) → (io || not asks) ≡ true
+    by true asks h = refl
+    by false true h = h refl
+    by false false h = refl
 
 -- what a line says can be added
 pub says_sound : (p : Program) (fields : List (List ℕ)) (s : Statement) → Says p.names fields s → IsSound p s
@@ -62,6 +86,8 @@ says_sound p fields s (sizes slots n e is fits) = fits
 says_sound p fields s (sizes_to slots last n g e is fits last_is small) = fits
 says_sound p fields s (has_workers number n e is fits) = fits
 says_sound p fields s (orders o e) = tt
+says_sound p fields s (says_io e) = tt
+says_sound p fields s (says_heap e) = tt
 says_sound p fields s (in_thread number k name v e is few declared) = record {
   thread = few;
   declared = slice_get_within p.names v.0 name declared;
@@ -100,6 +126,8 @@ says_no_skip names line s (sizes slots n e is fits) = line_begins line _ _ _ e
 says_no_skip names line s (sizes_to slots last n g e is fits last_is small) = line_begins line _ _ _ e
 says_no_skip names line s (has_workers number n e is fits) = line_begins line _ _ _ e
 says_no_skip names line s (orders o e) = line_begins line _ _ _ e
+says_no_skip names line s (says_io e) = line_begins line _ _ _ e
+says_no_skip names line s (says_heap e) = line_begins line _ _ _ e
 says_no_skip names line s (in_thread number k name v e is few declared) = line_begins line _ _ _ e
 
 -- a choice that gave something
@@ -125,16 +153,18 @@ after_sound d e line same =
       | inl skip ↦ subst (Reads d line) (same_Some _ _ skip.1) (skips rule ((is_skipped_decides line).0 skip.0))
       | inr said ↦
           let s = bound _ (statement_of names (fields_of line)) e said.1 in
-          let fits = cond_some (is_new d.said s.0 && has_room d.program s.0) (with_one d s.0) e s.2 in
-          let tests = and_parts (is_new d.said s.0) (has_room d.program s.0) fits.0 in
+          let fits = cond_some (may_come d s.0) (with_one d s.0) e s.2 in
+          let tests = and_parts (is_new d.said s.0) (has_room d.program s.0 && may_make d.program s.0) fits.0 in
+          let room = and_parts (has_room d.program s.0) (may_make d.program s.0) tests.1 in
           subst (Reads d line) fits.1
-          (says s.0 rule (statement_sound names (fields_of line) s.0 s.1) (new_sound d.said s.0 tests.0) (room_sound d.program s.0 tests.1))
+          (says s.0 rule (statement_sound names (fields_of line) s.0 s.1) (new_sound d.said s.0 tests.0) (room_sound d.program s.0 room.0)
+          (may_sound d.program s.0 room.1))
     ]
 
 pub after_complete : (d e : Draft) (line : List ℕ) → AreDistinct d.program.names → Reads d line e → after_line d line ≡ Some e
 unfolding after_line
 after_complete d e line distinct (skips is skipped) = rw ((is_line_decides line).1 is, (is_skipped_decides line).1 skipped) refl
-after_complete d e line distinct (says s is said new room) =
+after_complete d e line distinct (says s is said new room may) =
     rw (
       (is_line_decides line).1 is,
       says_no_skip d.program.names line s said,
@@ -142,6 +172,7 @@ after_complete d e line distinct (says s is said new room) =
           (fields_of line) s distinct said,
       new_complete d.said s new,
       room_complete d.program s room,
+      may_complete d.program s may,
     ) refl
 
 -- the names of a script are distinct
@@ -153,11 +184,13 @@ distinct_push p (InCallback kind v line) distinct sound = distinct
 distinct_push p (Sizes size) distinct sound = distinct
 distinct_push p (HasWorkers n) distinct sound = distinct
 distinct_push p (Orders o) distinct sound = distinct
+distinct_push p HasIo distinct sound = distinct
+distinct_push p FromHeap distinct sound = distinct
 distinct_push p (InThread line) distinct sound = distinct
 
 pub distinct_reads : (d e : Draft) (line : List ℕ) → AreDistinct d.program.names → Reads d line e → AreDistinct e.program.names
 distinct_reads d e line distinct (skips is skipped) = distinct
-distinct_reads d e line distinct (says s is said new room) =
+distinct_reads d e line distinct (says s is said new room may) =
     distinct_push d.program s distinct (says_sound d.program (fields_of line) s said)
 
 pub distinct_all : (d e : Draft) (lines : List (List ℕ)) → AreDistinct d.program.names → ReadsAll d lines e → AreDistinct e.program.names

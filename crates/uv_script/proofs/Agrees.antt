@@ -1,9 +1,9 @@
 -- The reader's functions agree with the grammar.
-use Rattle.uv_script.proofs.ProofNames.{◌≡◌, ◌≢◌, inl, inr, ℕ, ◌<◌, ◌≤◌, ◌^◌, true, false, ◌&&◌, ◌==◌, cond, nat_le, nat_lt, List, [], ◌∷◌, Option, Some, None, slice_get, option_map, Contains, refl, ap, sym, subst, ◌∙◌, codes, is_none, option_and_then, AllPairs, join_with_byte, bytes_eq, cases_order, and_parts, and_from, eqb-true, ltb-true, lt-ltb, leb-true, le-leb, same_Some, none-some, cond_some, slice_get_within, get_or_from_slice_get, Var, Mode, Callback, Order, kind_word, mode_word, order_word, MOST_SENDERS, Op, Statement, Declares, InMain, InCallback, Sizes, HasWorkers, Orders, InThread, named_word, bare_word, IsOp, init, start, repeat, queue, queue_text, on_name, bare, callback_word, Says, declares, in_main, runs, closes_loop, in_callback, in_call, sizes, sizes_to, has_workers, orders, in_thread, MOST_SLOTS, first_of, none_left, start_by, filled, text_by, marked, Task, rest_of, IsTask, text_of, IsSlotCount, LAST_GENERATION, IsWorkerCount, is_name, IsName, IsNumber, IsDeclared, task_of-complete, task_of-sound}
+use Rattle.uv_script.proofs.ProofNames.{◌≡◌, ◌≢◌, inl, inr, ℕ, ◌<◌, ◌≤◌, ◌^◌, true, false, ◌&&◌, ◌==◌, cond, nat_le, nat_lt, List, [], ◌∷◌, Option, Some, None, slice_get, option_map, Contains, refl, ap, sym, subst, ◌∙◌, codes, is_none, option_and_then, AllPairs, join_with_byte, bytes_eq, cases_order, and_parts, and_from, eqb-true, ltb-true, lt-ltb, leb-true, le-leb, same_Some, none-some, cond_some, slice_get_within, get_or_from_slice_get, Var, Mode, Callback, Order, kind_word, mode_word, order_word, MOST_SENDERS, Op, Statement, Declares, InMain, InCallback, Sizes, HasWorkers, Orders, InThread, named_word, bare_word, IsOp, init, start, repeat, queue, queue_text, on_name, bare, callback_word, Says, declares, in_main, runs, closes_loop, in_callback, in_call, sizes, sizes_to, has_workers, orders, says_io, says_heap, in_thread, MOST_SLOTS, first_of, none_left, start_by, filled, text_by, marked, Task, rest_of, IsTask, text_of, IsSlotCount, LAST_GENERATION, IsWorkerCount, is_name, IsName, IsNumber, IsDeclared, task_of-complete, task_of-sound}
 use Rattle.uv_ids.specs.declared.seen.Callback.TheVariants as callback
 use Rattle.uv_script.specs.declared.op.Op.TheVariants as op
 use Rattle.uv_script.specs.declared.op.MainOp.TheVariants as main
-use Rattle.uv_script.specs.Reading.{place_of, kind_of, mode_of, version_of, init_of, timer_start_of, start_of, repeat_of, queue_of, bare_op, named_op, name_alone, short_op_of, op_of, declaration_of, run_of, close_loop_of, main_by, main_of, call_of, in_calls_of, in_call_of, calls_of, callback_of, last_of, size_of, workers_of, orders_of, sender_of, thread_of, setting_of, statement_of}
+use Rattle.uv_script.specs.Reading.{place_of, kind_of, mode_of, version_of, init_of, timer_start_of, start_of, repeat_of, queue_of, bare_op, named_op, name_alone, short_op_of, op_of, declaration_of, run_of, close_loop_of, main_by, main_of, call_of, in_calls_of, in_call_of, calls_of, callback_of, last_of, size_of, workers_of, orders_of, io_of, timers_of, sender_of, thread_of, setting_of, statement_of}
 use Rattle.uv_work.specs.TaskReading.{task_of}
 use Rattle.uv_script.specs.Checks.{number_of}
 use Rattle.uv_script.proofs.OpWords.{named_op-sound, bare_op-sound}
@@ -364,6 +364,26 @@ orders_sound names fields s e =
     subst (Says names (codes "order" ∷ fields)) (same_Some _ _ end.2)
     (orders o.0 (ap (λ r. codes "order" ∷ r) (a ∙ ap (λ r. version.0.0 ∷ r) none ∙ ap (λ w. w ∷ []) word)))
 
+io_sound : (names fields : List (List ℕ)) (s : Statement) → io_of fields ≡ Some s → Says names (codes "io" ∷ fields) s
+unfolding io_of
+io_sound names fields s e =
+    let end = bound _ (none_left fields) s e in
+    let none = none_is fields end.0 end.1 in
+    subst (Says names (codes "io" ∷ fields)) (same_Some _ _ end.2) (says_io (ap (λ r. codes "io" ∷ r) none))
+
+timers_sound : (names fields : List (List ℕ)) (s : Statement) → timers_of fields ≡ Some s → Says names (codes "timers" ∷ fields) s
+unfolding timers_of
+timers_sound names fields s e =
+    let word = bound _ (first_of fields) s e in
+    let end = bound _ (none_left word.0.1) s word.2 in
+    let a = first_is fields word.0 word.1 in
+    let none = none_is word.0.1 end.0 end.1 in
+    elim (choice_cases word.0.0 (codes "heap") _ _ (Some s) end.2) [
+      | inl is ↦ subst (Says names (codes "timers" ∷ fields)) (same_Some _ _ is.1)
+          (says_heap (ap (λ r. codes "timers" ∷ r) (a ∙ ap (λ r. word.0.0 ∷ r) none ∙ ap (λ w. w ∷ []) is.0)))
+      | inr wrong ↦ cc
+    ]
+
 says_word : (names : List (List ℕ)) (this word : List ℕ) (fields : List (List ℕ)) (s : Statement) → word ≡ this → Says names (this ∷ fields) s →
     Says names (word ∷ fields) s
 says_word names this word fields s e is = subst (λ (w : List ℕ). Says names (w ∷ fields) s) (sym e) is
@@ -405,9 +425,15 @@ setting_sound names word fields s e =
         | inl is ↦ says_word names (codes "workers") word fields s is.0 (workers_sound names fields s is.1)
         | inr order ↦ elim (choice_cases word (codes "order") _ _ (Some s) order) [
           | inl is ↦ says_word names (codes "order") word fields s is.0 (orders_sound names fields s is.1)
-          | inr thread ↦ elim (choice_cases word (codes "thread") _ _ (Some s) thread) [
-            | inl is ↦ says_word names (codes "thread") word fields s is.0 (thread_sound names fields s is.1)
-            | inr wrong ↦ cc
+          | inr io ↦ elim (choice_cases word (codes "io") _ _ (Some s) io) [
+            | inl is ↦ says_word names (codes "io") word fields s is.0 (io_sound names fields s is.1)
+            | inr timers ↦ elim (choice_cases word (codes "timers") _ _ (Some s) timers) [
+              | inl is ↦ says_word names (codes "timers") word fields s is.0 (timers_sound names fields s is.1)
+              | inr thread ↦ elim (choice_cases word (codes "thread") _ _ (Some s) thread) [
+                | inl is ↦ says_word names (codes "thread") word fields s is.0 (thread_sound names fields s is.1)
+                | inr wrong ↦ cc
+              ]
+            ]
           ]
         ]
       ]
@@ -679,7 +705,7 @@ by_word names callback.After fields = refl
 by_word names callback.Close fields = refl
 
 pub statement_complete : (names fields : List (List ℕ)) (s : Statement) → AreDistinct names → Says names fields s → statement_of names fields ≡ Some s
-unfolding statement_of setting_of main_of main_by close_loop_of last_of
+unfolding statement_of setting_of main_of main_by close_loop_of last_of io_of timers_of
 statement_complete names fields s distinct (declares name e is fresh) = ap (statement_of names) e ∙ declaration_complete names name is fresh
 statement_complete names fields s distinct (in_main rest op e is) =
     ap (statement_of names) e ∙ main_complete names rest op (op_parts names rest op distinct is)
@@ -698,5 +724,7 @@ statement_complete names fields s distinct (sizes_to slots last n g e is fits la
     ap (statement_of names) e ∙ size_complete slots (last ∷ []) n g is fits (last_complete last g last_is small)
 statement_complete names fields s distinct (has_workers number n e is fits) = ap (statement_of names) e ∙ workers_complete number n is fits
 statement_complete names fields s distinct (orders o e) = ap (statement_of names) e ∙ orders_complete o
+statement_complete names fields s distinct (says_io e) = ap (statement_of names) e
+statement_complete names fields s distinct (says_heap e) = ap (statement_of names) e
 statement_complete names fields s distinct (in_thread number k name v e is few declared) =
     ap (statement_of names) e ∙ thread_complete names number k name v distinct is few declared

@@ -1,5 +1,5 @@
 -- A line that says something is the text of what it says, byte for byte.
-use Rattle.uv_script.proofs.ProofNames.{◌≡◌, ◌≢◌, ℕ, ◌<◌, List, [], ◌∷◌, ◌++◌, length, Option, Some, None, refl, ap, sym, ◌∙◌, arith, length-append, append-nil, append_assoc, codes, decimal, join_with_byte, append_snoc, get_or_append_left, join_with_byte-slice_split, same_Some, none-some, slice_get_within, slice_get-get_or, get_or_from_slice_get, Var, Callback, kind_word, Op, CallbackLine, Statement, Declares, InMain, InCallback, Sizes, HasWorkers, Orders, InThread, named_word, bare_word, IsOp, init, start, repeat, queue, queue_text, on_name, bare, callback_word, Says, declares, in_main, runs, closes_loop, in_callback, in_call, sizes, sizes_to, has_workers, orders, in_thread, fields_of, text_of, text_or_none, name_text, task_text, op_text, call_text, front_text, callback_line, main_line, var_line, order_line, workers_line, slots_line, thread_line, IsDeclared}
+use Rattle.uv_script.proofs.ProofNames.{◌≡◌, ◌≢◌, ℕ, ◌<◌, List, [], ◌∷◌, ◌++◌, length, Option, Some, None, refl, ap, sym, ◌∙◌, arith, length-append, append-nil, append_assoc, codes, decimal, join_with_byte, append_snoc, get_or_append_left, join_with_byte-slice_split, same_Some, none-some, slice_get_within, slice_get-get_or, get_or_from_slice_get, Var, Callback, kind_word, Op, CallbackLine, Statement, Declares, InMain, InCallback, Sizes, HasWorkers, Orders, HasIo, FromHeap, InThread, named_word, bare_word, IsOp, init, start, repeat, queue, queue_text, on_name, bare, callback_word, Says, declares, in_main, runs, closes_loop, in_callback, in_call, sizes, sizes_to, has_workers, orders, says_io, says_heap, in_thread, fields_of, text_of, text_or_none, name_text, task_text, op_text, call_text, front_text, callback_line, main_line, var_line, order_line, io_line, heap_line, workers_line, slots_line, thread_line, IsDeclared}
 use Rattle.uv_ids.specs.declared.seen.Callback.TheVariants as callback
 use Rattle.uv_script.specs.declared.op.Op.TheVariants as op
 
@@ -122,6 +122,8 @@ statement_text names (InCallback kind v line) = callback_line names kind v line
 statement_text names (Sizes size) = slots_line size
 statement_text names (HasWorkers n) = workers_line n
 statement_text names (Orders o) = order_line o
+statement_text names HasIo = io_line
+statement_text names FromHeap = heap_line
 statement_text names (InThread line) = thread_line names line
 
 -- all but the size of the arena, whose last generation may be left out
@@ -165,6 +167,8 @@ says_exact names fields s kept (sizes slots n e is fits) = absurd kept
 says_exact names fields s kept (sizes_to slots last n g e is fits last_is small) = absurd kept
 says_exact names fields s kept (has_workers number n e is fits) = ap joined e ∙ ap (λ digits. codes "workers " ++ digits) is.is
 says_exact names fields s kept (orders o e) = ap joined e
+says_exact names fields s kept (says_io e) = ap joined e
+says_exact names fields s kept (says_heap e) = ap joined e
 says_exact names fields s kept (in_thread number k name v e is few declared) =
     let a = is.is in
     let b = named names name v declared in
@@ -212,5 +216,7 @@ says_more names more fields s other (sizes slots n e is fits) = sizes slots n e 
 says_more names more fields s other (sizes_to slots last n g e is fits last_is small) = sizes_to slots last n g e is fits last_is small
 says_more names more fields s other (has_workers number n e is fits) = has_workers number n e is fits
 says_more names more fields s other (orders o e) = orders o e
+says_more names more fields s other (says_io e) = says_io e
+says_more names more fields s other (says_heap e) = says_heap e
 says_more names more fields s other (in_thread number k name v e is few declared) =
     in_thread number k name v e is few (declared_more names more name v declared)

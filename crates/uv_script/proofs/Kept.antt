@@ -1,5 +1,5 @@
 -- What the type of scripts keeps.
-use Rattle.uv_script.proofs.ProofNames.{◌≡◌, ℕ, ◌+◌, ◌<◌, [], ◌∷◌, length, All, sym, ap, ◌∙◌, subst, refl, arith, length-append, Contains-get_or, sum_by_push, sum_by-set, unwrap_or-slice_get, Statement, Declares, InMain, InCallback, Sizes, HasWorkers, Orders, InThread, HasRoom, with_statement, WasRead, IsReadScript, blank, Program, no_callbacks, callbacks_of, with_line, callback_count, line_count, with_workers, IsWorkerCount, IsThreadLine, IsWhole, IsSound, IsSaid}
+use Rattle.uv_script.proofs.ProofNames.{◌≡◌, ℕ, ◌+◌, ◌<◌, [], ◌∷◌, length, All, sym, ap, ◌∙◌, subst, refl, arith, length-append, Contains-get_or, sum_by_push, sum_by-set, unwrap_or-slice_get, Statement, Declares, InMain, InCallback, Sizes, HasWorkers, Orders, HasIo, FromHeap, InThread, HasRoom, with_statement, WasRead, IsReadScript, blank, Program, no_callbacks, callbacks_of, with_line, callback_count, line_count, with_workers, IsWorkerCount, IsThreadLine, IsWhole, IsSound, IsSaid}
 use Rattle.uv_script.proofs.AfterLines.{says_sound, said_sound}
 use Rattle.uv_script.proofs.ReadBack.{was_read}
 use Rattle.uv_script.proofs.Written.{AreWritten, count_more, script_written, after_said, set_workers, written_none}
@@ -26,6 +26,8 @@ added (InCallback kind v line) = 1
 added (Sizes size) = 0
 added (HasWorkers n) = 0
 added (Orders o) = 0
+added HasIo = 0
+added FromHeap = 0
 added (InThread line) = 1
 
 count_statement : (p : Program) (s : Statement) → AreWritten p → IsSound p s → line_count (with_statement p s) ≡ line_count p + added s
@@ -41,6 +43,8 @@ count_statement p (InCallback kind v line) is sound =
 count_statement p (Sizes size) is sound = omega arith
 count_statement p (HasWorkers n) is sound = omega arith
 count_statement p (Orders o) is sound = omega arith
+count_statement p HasIo is sound = omega arith
+count_statement p FromHeap is sound = omega arith
 count_statement p (InThread line) is sound = omega (arith, length-append p.threads (line ∷ []))
 
 -- one more line
@@ -49,7 +53,7 @@ more : (lines n : ℕ) (p q : Program) (s : Statement) → IsReadScript lines p 
     IsReadScript n q
 more lines n p q s is said room same count =
     let written = script_written p is.read.lines is.read.makes in
-    let read = was_read (with_statement p s) (after_said p said.line s written said.is said.says room) in
+    let read = was_read (with_statement p s) (after_said p said.line s written said.is said.says room said.may) in
     let counted = count_statement p s written (said_sound p s said) in
     subst (IsReadScript n) same (record {
       counted = record { whole = whole (with_statement p s) read; counted = count ∙ ap (λ k. k + added s) is.counted.counted ∙ sym counted };

@@ -27,6 +27,7 @@ kind_of-some word kind.Idle e = ap kind_of e
 kind_of-some word kind.Prepare e = ap kind_of e
 kind_of-some word kind.Check e = ap kind_of e
 kind_of-some word kind.Async e = ap kind_of e
+kind_of-some word kind.Io e = ap kind_of e
 
 pub kind_of-none : (word : List ℕ) → IsNoKind word → kind_of word ≡ None
 unfolding kind_of
@@ -36,6 +37,7 @@ kind_of-none word none =
     ∙ choice_other word (codes "prepare") _ _ (none kind.Prepare)
     ∙ choice_other word (codes "check") _ _ (none kind.Check)
     ∙ choice_other word (codes "async") _ _ (none kind.Async)
+    ∙ choice_other word (codes "io") _ _ (none kind.Io)
 
 pub kind_of-sound : (word : List ℕ) (k : Kind) → kind_of word ≡ Some k → word ≡ kind_word k
 unfolding kind_of
@@ -48,9 +50,12 @@ kind_of-sound word k e =
           | inl is ↦ is.0 ∙ ap kind_word (same_Some _ _ is.1)
           | inr e''' ↦ elim (choice_cases word (codes "check") _ _ (Some k) e''') [
             | inl is ↦ is.0 ∙ ap kind_word (same_Some _ _ is.1)
-            | inr last ↦ elim (choice_cases word (codes "async") _ _ (Some k) last) [
+            | inr e4 ↦ elim (choice_cases word (codes "async") _ _ (Some k) e4) [
               | inl is ↦ is.0 ∙ ap kind_word (same_Some _ _ is.1)
-              | inr wrong ↦ cc
+              | inr last ↦ elim (choice_cases word (codes "io") _ _ (Some k) last) [
+                | inl is ↦ is.0 ∙ ap kind_word (same_Some _ _ is.1)
+                | inr wrong ↦ cc
+              ]
             ]
           ]
         ]

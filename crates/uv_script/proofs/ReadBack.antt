@@ -1,5 +1,5 @@
 -- A script's text is read back.
-use Rattle.uv_script.proofs.ProofNames.{◌≡◌, ◌⊎◌, inl, inr, ℕ, zero, suc, ◌+◌, ◌<◌, ◌≤◌, ◌^◌, true, false, ◌&&◌, ◌==◌, nat_le, List, [], ◌∷◌, ◌++◌, length, map, get_or, Ok, Err, Result, slice_get, unwrap_or, Contains, All, refl, ap, sym, subst, ◌∙◌, arith, length-append, append-nil, append_assoc, codes, decimal, slice_set, sum_by, AllByRecursion, list_all, is_ascii_digit, all_ascii_digits, get_or-append_seam, set-append_seam, ne_eqb, Decides-by_and, digits_decimal, length-decimal-le, get_or_append_left, All-append, sum_by-cons, sum_by-append, unwrap_or-slice_get, numerals_by_value, tells_all_ascii_digits, Fault, Var, Order, Callback, MainOp, CallbackLine, ArenaSize, ThreadLine, Declares, InMain, InCallback, Sizes, HasWorkers, Orders, InThread, declares, sizes_to, has_workers, orders, Draft, Reads, skips, says, ReadsAll, none, one, unread, WasRead, IsScript, Parses, IsBack, IsReadBack, MOST_NAMES, MOST_LINES, lines_of, fields_of, IsLine, Program, Callbacks, no_callbacks, callbacks_of, lines_in_callbacks, with_line, callback_count, line_count, IsWorkerCount, order_line, workers_line, slots_line, var_line, main_line, callback_line, name_lines, callback_lines, thread_line, script_lines, lines_text, IsLetter, IsDigit, IsName, IsNumber}
+use Rattle.uv_script.proofs.ProofNames.{◌≡◌, ◌⊎◌, inl, inr, ℕ, zero, suc, ◌+◌, ◌<◌, ◌≤◌, ◌^◌, Bool, true, false, ◌&&◌, ◌==◌, nat_le, List, [], ◌∷◌, ◌++◌, length, map, get_or, Ok, Err, Result, slice_get, unwrap_or, Contains, All, refl, ap, sym, subst, ◌∙◌, arith, length-append, append-nil, append_assoc, codes, decimal, slice_set, sum_by, AllByRecursion, list_all, is_ascii_digit, all_ascii_digits, get_or-append_seam, set-append_seam, ne_eqb, Decides-by_and, digits_decimal, length-decimal-le, get_or_append_left, All-append, sum_by-cons, sum_by-append, unwrap_or-slice_get, numerals_by_value, tells_all_ascii_digits, Fault, Var, Order, Callback, MainOp, CallbackLine, ArenaSize, ThreadLine, Declares, InMain, InCallback, Sizes, HasWorkers, Orders, HasIo, FromHeap, InThread, declares, sizes_to, has_workers, orders, says_io, says_heap, Draft, Reads, skips, says, ReadsAll, none, one, unread, WasRead, IsScript, Parses, IsBack, IsReadBack, Settings, MOST_NAMES, MOST_LINES, lines_of, fields_of, IsLine, Program, Callbacks, no_callbacks, callbacks_of, lines_in_callbacks, with_line, callback_count, line_count, IsWorkerCount, order_line, io_line, heap_line, line_if, setting_lines, workers_line, slots_line, var_line, main_line, callback_line, name_lines, callback_lines, thread_line, script_lines, lines_text, IsLetter, IsDigit, IsName, IsNumber}
 use Rattle.uv_ids.specs.declared.fault.Fault.TheVariants as fault
 use Rattle.uv_ids.specs.declared.order.Order.TheVariants as order
 use Rattle.uv_ids.specs.declared.seen.Callback.TheVariants as callback
@@ -52,10 +52,28 @@ printable_more front text e h = All-append (λ b. (32 ≤ b) × (b ≤ 126)) fro
 pub is_number : (n : ℕ) → n < 2 ^ 64 → IsNumber (decimal n) n
 is_number n h = record { is = refl; fits = h }
 
--- the order of a run's phases, the number of workers, and the size of the arena
+-- a line that makes no handle of I/O stands anywhere
+makes_none : {b : Bool} → false ≡ true → b ≡ true
+makes_none wrong = absurd cc
+
+-- the order of a run's phases, that handles of I/O may be made, how due timers are called, the number of workers, and the size of the arena
 order_read : (d : Draft) (o : Order) → d.said.order ≡ false → Reads d (order_line o) (with_one d (Orders o))
 order_read d order.V144 unsaid = says (Orders order.V144) ((is_line_decides (order_line order.V144)).0 refl) (orders order.V144 refl) unsaid tt
+    makes_none
 order_read d order.V145 unsaid = says (Orders order.V145) ((is_line_decides (order_line order.V145)).0 refl) (orders order.V145 refl) unsaid tt
+    makes_none
+
+io_read : (p : Program) (said : Settings) (b : Bool) →
+    ReadsAll (record { program = record p { io = false }; said = record said { io = false } }) (line_if b io_line)
+    (record { program = record p { io = b }; said = record said { io = b } })
+io_read p said true = one (says HasIo ((is_line_decides io_line).0 refl) (says_io refl) refl tt makes_none) none
+io_read p said false = none
+
+heap_read : (p : Program) (said : Settings) (b : Bool) →
+    ReadsAll (record { program = record p { heap = false }; said = record said { timers = false } }) (line_if b heap_line)
+    (record { program = record p { heap = b }; said = record said { timers = b } })
+heap_read p said true = one (says FromHeap ((is_line_decides heap_line).0 refl) (says_heap refl) refl tt makes_none) none
+heap_read p said false = none
 
 workers_read : (d : Draft) (n : ℕ) → IsWorkerCount n → d.said.workers ≡ false → Reads d (workers_line n) (with_one d (HasWorkers n))
 workers_read d n fits unsaid =
@@ -66,7 +84,7 @@ workers_read d n fits unsaid =
     } in
     let fields : fields_of (workers_line n) ≡ codes "workers" ∷ decimal n ∷ [] = ap (λ r. codes "workers" ∷ r)
     (fields-last (decimal n) (decimal_unspaced n small)) in
-    says (HasWorkers n) line (has_workers (decimal n) n fields (is_number n small) fits) unsaid tt
+    says (HasWorkers n) line (has_workers (decimal n) n fields (is_number n small) fits) unsaid tt makes_none
 
 slots_read : (d : Draft) (size : ArenaSize) → IsSize size → d.said.slots ≡ false → Reads d (slots_line size) (with_one d (Sizes size))
 slots_read d size is unsaid =
@@ -94,7 +112,7 @@ slots_read d size is unsaid =
     ∙ ap (λ r. decimal n ∷ r) (fields-last (decimal g) (decimal_unspaced g last_small)) in
     let fields : fields_of (slots_line size) ≡ codes "slots" ∷ decimal n ∷ decimal g ∷ [] = ap fields_of text ∙ ap (λ r. codes "slots" ∷ r) parts in
     says (Sizes size) (subst IsLine (sym text) line)
-    (sizes_to (decimal n) (decimal g) n g fields (is_number n small) is.slots (is_number g last_small) is.last) unsaid tt
+    (sizes_to (decimal n) (decimal g) n g fields (is_number n small) is.slots (is_number g last_small) is.last) unsaid tt makes_none
 
 -- no callbacks for each of these
 blanks : {A : Type 0} → List A → List Callbacks
@@ -118,9 +136,9 @@ blanks_same [] (y ∷ ys) e = absurd (omega arith)
 blanks_same (x ∷ xs) [] e = absurd (omega arith)
 blanks_same (x ∷ xs) (y ∷ ys) e = ap (λ cs. no_callbacks ∷ cs) (blanks_same xs ys (omega arith))
 
--- a script whose settings were said
+-- a script whose settings were said; `io` and `timers heap` only where it has them
 abbrev pub settled : Program → Draft
-settled p = record { program = p; said = record { slots = true; workers = true; order = true } }
+settled p = record { program = p; said = record { slots = true; workers = true; order = true; io = p.io; timers = p.heap } }
 
 -- lines behind them
 abbrev ReadsOn : Program → List (List ℕ) → Program → Type 0
@@ -129,17 +147,9 @@ ReadsOn p lines q = ReadsAll (settled p) lines (settled q)
 lines_on : (p q r : Program) (xs ys : List (List ℕ)) → ReadsOn p xs q → ReadsOn q ys r → ReadsOn p (xs ++ ys) r
 lines_on p q r xs ys first second = reads_on (settled p) (settled q) (settled r) xs ys first second
 
--- the script of these names alone
-abbrev declared : ArenaSize → ℕ → Order → List (List ℕ) → Program
-declared size workers o names = record {
-  names = names;
-  main = [];
-  callbacks = blanks names;
-  size = size;
-  workers = workers;
-  order = o;
-  threads = [];
-}
+-- the script with these names alone, and these settings
+abbrev declared : Program → List (List ℕ) → Program
+declared p names = record p { names = names; main = []; callbacks = blanks names; threads = [] }
 
 pub name_unspaced : (name : List ℕ) → IsName name → AreNot 32 name
 name_unspaced name is = subst (AreNot 32) (sym is.is) (by is.first is.rest is.letter is.others)
@@ -160,50 +170,49 @@ fresh_name before after name distinct (k, inside, is) =
     distinct k (length before) name inside (omega arith)
     (get_or_append_left before (name ∷ after) name k inside ∙ is ∙ sym (get_or-append_seam before name after name))
 
-names_read : (size : ArenaSize) (workers : ℕ) (o : Order) (before names : List (List ℕ)) →
+names_read : (p : Program) (before names : List (List ℕ)) →
     ((name : List ℕ) → Contains names name → IsName name × IsLine (var_line name)) → AreDistinct (before ++ names) →
-    length before + length names ≤ MOST_NAMES →
-    ReadsOn (declared size workers o before) (map var_line names) (declared size workers o (before ++ names))
-names_read size workers o before [] each distinct few =
-    subst (λ (ns : List (List ℕ)). ReadsOn (declared size workers o before) [] (declared size workers o ns)) (sym (append-nil before)) none
-names_read size workers o before (name ∷ names) each distinct few =
-    let p = declared size workers o before in
+    length before + length names ≤ MOST_NAMES → ReadsOn (declared p before) (map var_line names) (declared p (before ++ names))
+names_read p before [] each distinct few =
+    subst (λ (ns : List (List ℕ)). ReadsOn (declared p before) [] (declared p ns)) (sym (append-nil before)) none
+names_read p before (name ∷ names) each distinct few =
+    let q = declared p before in
     let here = each name (contains_first name names) in
     let none_counted = blanks_sum before in
-    let first : Reads (settled p) (var_line name)
-    (settled (record p { names = before ++ name ∷ []; callbacks = blanks before ++ no_callbacks ∷ [] })) =
+    let first : Reads (settled q) (var_line name)
+    (settled (record q { names = before ++ name ∷ []; callbacks = blanks before ++ no_callbacks ∷ [] })) =
     says (Declares name) here.1
     (declares name (ap (λ r. codes "var" ∷ r) (fields-last name (name_unspaced name here.0))) here.0 (fresh_name before names name distinct)) tt
-    (omega (arith, none_counted, few), omega (arith, few)) in
+    (omega (arith, none_counted, few), omega (arith, few)) makes_none in
     let onto = subst
-    (λ (cs : List Callbacks). Reads (settled p) (var_line name) (settled (record p { names = before ++ name ∷ []; callbacks = cs })))
+    (λ (cs : List Callbacks). Reads (settled q) (var_line name) (settled (record q { names = before ++ name ∷ []; callbacks = cs })))
     (sym (blanks_push before name)) first in
     let same = append_assoc before (name ∷ []) names in
-    let rest = names_read size workers o (before ++ name ∷ []) names (λ x h. each x (contains_later name x names h))
+    let rest = names_read p (before ++ name ∷ []) names (λ x h. each x (contains_later name x names h))
     (subst AreDistinct (sym same) distinct) (omega (arith, length-append before (name ∷ []), few)) in
-    subst (λ (ns : List (List ℕ)). ReadsOn p (map var_line (name ∷ names)) (declared size workers o ns)) same (one onto rest)
+    subst (λ (ns : List (List ℕ)). ReadsOn q (map var_line (name ∷ names)) (declared p ns)) same (one onto rest)
 
 -- the main program
-main_read : (p : Program) (ops : List MainOp) → ((o : MainOp) → Contains ops o → IsWritten p.names (InMain o)) →
+main_read : (p : Program) (ops : List MainOp) → ((o : MainOp) → Contains ops o → IsWritten p.names p.io (InMain o)) →
     line_count p + length ops ≤ MOST_LINES → ReadsOn p (map (main_line p.names) ops) (record p { main = p.main ++ ops })
 main_read p [] each few = subst (λ (m : List MainOp). ReadsOn p [] (record p { main = m })) (sym (append-nil p.main)) none
 main_read p (o ∷ ops) each few =
     let here = each o (contains_first o ops) in
     let first : Reads (settled p) (main_line p.names o) (settled (record p { main = p.main ++ o ∷ [] })) =
-    says (InMain o) here.line here.says tt (omega (arith, few)) in
+    says (InMain o) here.line here.says tt (omega (arith, few)) here.may in
     let rest = main_read (record p { main = p.main ++ o ∷ [] }) ops (λ x h. each x (contains_later o x ops h))
     (omega (arith, length-append p.main (o ∷ []), few)) in
     subst (λ (m : List MainOp). ReadsOn p (map (main_line p.names) (o ∷ ops)) (record p { main = m })) (append_assoc p.main (o ∷ []) ops)
     (one first rest)
 
 -- what threads send
-threads_read : (p : Program) (lines : List ThreadLine) → ((line : ThreadLine) → Contains lines line → IsWritten p.names (InThread line)) →
+threads_read : (p : Program) (lines : List ThreadLine) → ((line : ThreadLine) → Contains lines line → IsWritten p.names p.io (InThread line)) →
     line_count p + length lines ≤ MOST_LINES → ReadsOn p (map (thread_line p.names) lines) (record p { threads = p.threads ++ lines })
 threads_read p [] each few = subst (λ (ls : List ThreadLine). ReadsOn p [] (record p { threads = ls })) (sym (append-nil p.threads)) none
 threads_read p (line ∷ lines) each few =
     let here = each line (contains_first line lines) in
     let first : Reads (settled p) (thread_line p.names line) (settled (record p { threads = p.threads ++ line ∷ [] })) =
-    says (InThread line) here.line here.says tt (omega (arith, few)) in
+    says (InThread line) here.line here.says tt (omega (arith, few)) here.may in
     let rest = threads_read (record p { threads = p.threads ++ line ∷ [] }) lines (λ x h. each x (contains_later line x lines h))
     (omega (arith, length-append p.threads (line ∷ []), few)) in
     subst (λ (ls : List ThreadLine). ReadsOn p (map (thread_line p.names) (line ∷ lines)) (record p { threads = ls }))
@@ -244,7 +253,7 @@ callbacks_at done later c =
 
 module _ (p : Program) where
   lines_read : (kind : Callback) (done later : List Callbacks) (c : Callbacks) (lines : List CallbackLine) →
-      ((line : CallbackLine) → Contains lines line → IsWritten p.names (InCallback kind (place done) line)) →
+      ((line : CallbackLine) → Contains lines line → IsWritten p.names p.io (InCallback kind (place done) line)) →
       line_count (with_callbacks p (done ++ c ∷ later)) + length lines ≤ MOST_LINES →
       ReadsOn (with_callbacks p (done ++ c ∷ later)) (map (callback_line p.names kind (place done)) lines)
       (with_callbacks p (done ++ with_lines kind c lines ∷ later))
@@ -257,7 +266,7 @@ module _ (p : Program) where
       let here = each line (contains_first line lines) in
       let first : Reads (settled before) (callback_line p.names kind v line)
       (settled (with_callbacks p (slice_set (done ++ c ∷ later) (length done) (with_line kind (callbacks_of before v) line)))) =
-      says (InCallback kind v line) here.line here.says tt (omega (arith, few)) in
+      says (InCallback kind v line) here.line here.says tt (omega (arith, few)) here.may in
       let put : slice_set (done ++ c ∷ later) (length done) (with_line kind (callbacks_of before v) line) ≡ done ++ with_line kind c line ∷ later =
       ap (λ (x : Callbacks). slice_set (done ++ c ∷ later) (length done) (with_line kind x line)) (callbacks_at done later c)
       ∙ set-append_seam done c later (with_line kind c line) in
@@ -275,7 +284,7 @@ module _ (p : Program) where
 
   -- all of one name
   name_read : (done later : List Callbacks) (c : Callbacks) →
-      ((kind : Callback) (line : CallbackLine) → Contains (lines_in_callbacks kind c) line → IsWritten p.names (InCallback kind (place done) line)) →
+      ((kind : Callback) (line : CallbackLine) → Contains (lines_in_callbacks kind c) line → IsWritten p.names p.io (InCallback kind (place done) line)) →
       line_count (with_callbacks p (done ++ c ∷ later)) ≤ MOST_LINES →
       ReadsOn (with_callbacks p (done ++ no_callbacks ∷ later)) (own_lines (place done) c) (with_callbacks p (done ++ c ∷ later))
   unfolding with_lines own_lines
@@ -334,7 +343,7 @@ line_unfed line is = λ k d inside. ne_eqb _ 10 (λ e. omega (arith, (is.printab
 
 read_line : (d e : Draft) (line : List ℕ) → Reads d line e → IsLine line
 read_line d e line (skips is skipped) = is
-read_line d e line (says s is said new room) = is
+read_line d e line (says s is said new room may) = is
 
 pub read_lines : (d e : Draft) (lines : List (List ℕ)) → ReadsAll d lines e → AllByRecursion IsLine lines
 read_lines d e [] none = tt
@@ -344,27 +353,36 @@ pub lines_back : (lines : List (List ℕ)) → AllByRecursion IsLine lines → l
 lines_back [] h = refl
 lines_back (line ∷ lines) h = lines_append line (lines_text lines) (line_unfed line h.0) ∙ ap (λ ls. line ∷ ls) (lines_back lines h.1)
 
+settings_read : (p : Program) → AreWritten p → ReadsAll unread (setting_lines p) (settled (declared p []))
+unfolding blanks
+settings_read p is =
+    let ordered = with_one unread (Orders p.order) in
+    let io : Draft = record { program = record ordered.program { io = p.io }; said = record ordered.said { io = p.io } } in
+    let heap : Draft = record { program = record io.program { heap = p.heap }; said = record io.said { timers = p.heap } } in
+    let workers = workers_read heap p.workers is.workers refl in
+    let slots = slots_read (with_one heap (HasWorkers p.workers)) p.size is.size refl in
+    let first = one (order_read unread p.order refl) (io_read ordered.program ordered.said p.io) in
+    reads_on unread heap (settled (declared p [])) _ _
+    (reads_on unread io heap (order_line p.order ∷ line_if p.io io_line) (line_if p.heap heap_line) first (heap_read io.program io.said p.heap))
+    (one workers (one slots none))
+
 pub lines_read_back : (p : Program) → AreWritten p → ReadsAll unread (script_lines p) (settled p)
 unfolding blanks
 lines_read_back p is =
-    let order_first = order_read unread p.order refl in
-    let ordered = with_one unread (Orders p.order) in
-    let workers = workers_read ordered p.workers is.workers refl in
-    let slots = slots_read (with_one ordered (HasWorkers p.workers)) p.size is.size refl in
-    let first = declared p.size p.workers p.order [] in
-    let named = declared p.size p.workers p.order p.names in
+    let first = declared p [] in
+    let named = declared p p.names in
     let few = is.few in
-    let names = names_read p.size p.workers p.order [] p.names is.names is.distinct (omega (arith, is.few_names)) in
+    let names = names_read p [] p.names is.names is.distinct (omega (arith, is.few_names)) in
     let main = main_read named p.main is.main (omega (arith, blanks_sum p.names)) in
     let all = with_callbacks p p.callbacks in
     let callbacks = subst
     (λ (cs : List Callbacks). ReadsOn (with_callbacks p cs) (callback_lines p 0 p.names) all) (blanks_same p.callbacks p.names is.each)
     (callbacks_read p [] p.callbacks p.names refl (sym is.each) is) in
     let threads = threads_read all p.threads is.threads (omega (arith, few)) in
-    let front = lines_on first named (with_callbacks p (blanks p.names)) _ _ names main in
-    let middle = lines_on first (with_callbacks p (blanks p.names)) all _ _ front callbacks in
-    let rest = lines_on first all p _ _ middle threads in
-    one order_first (one workers (one slots rest))
+    reads_on unread (settled all) (settled p) _ _
+    (reads_on unread (settled (with_callbacks p (blanks p.names))) (settled all) _ _
+    (reads_on unread (settled named) (settled (with_callbacks p (blanks p.names))) _ _
+    (reads_on unread (settled first) (settled named) _ _ (settings_read p is) names) main) callbacks) threads
 
 pub text_makes : (p : Program) → AreWritten p → IsScript (script_text p) p
 unfolding script_text

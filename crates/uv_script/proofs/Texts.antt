@@ -27,20 +27,28 @@ pub lines_end : {A : Type 0} (f : A → List ℕ) (xs : List A) (i : ℕ) (start
 lines_end f xs i start text at_end all =
     sym (append-nil text) ∙ ap (λ l. text ++ lines_text (map f l)) (sym (ap (λ n. drop n xs) at_end ∙ drop-length xs)) ∙ all
 
--- three lines
-pub three_lines : (text a b c : List ℕ) → text ++ a ++ 10 ∷ [] ++ b ++ 10 ∷ [] ++ c ++ 10 ∷ [] ≡ text ++ lines_text (a ∷ b ∷ c ∷ [])
-three_lines text a b c =
-    sym (append-nil (text ++ a ++ 10 ∷ [] ++ b ++ 10 ∷ [] ++ c ++ 10 ∷ []))
-    ∙ line_more (text ++ a ++ 10 ∷ [] ++ b ++ 10 ∷ []) c []
-    ∙ line_more (text ++ a ++ 10 ∷ []) b (c ∷ [])
-    ∙ line_more text a (b ∷ c ∷ [])
+-- lines behind others
+lines_behind : (text : List ℕ) (xs ys : List (List ℕ)) → text ++ lines_text xs ++ lines_text ys ≡ text ++ lines_text (xs ++ ys)
+lines_behind text xs ys = append_assoc text (lines_text xs) (lines_text ys) ∙ ap (λ t. text ++ t) (sym (lines_text-append xs ys))
 
 -- the texts of three lists of lines
 pub three_lists : (text : List ℕ) (xs ys zs : List (List ℕ)) →
     text ++ lines_text xs ++ lines_text ys ++ lines_text zs ≡ text ++ lines_text (xs ++ ys ++ zs)
-three_lists text xs ys zs =
-    ap (λ t. t ++ lines_text zs) (append_assoc text (lines_text xs) (lines_text ys) ∙ ap (λ t. text ++ t) (sym (lines_text-append xs ys)))
-    ∙ append_assoc text (lines_text (xs ++ ys)) (lines_text zs) ∙ ap (λ t. text ++ t) (sym (lines_text-append (xs ++ ys) zs))
+three_lists text xs ys zs = ap (λ t. t ++ lines_text zs) (lines_behind text xs ys) ∙ lines_behind text (xs ++ ys) zs
+
+-- two lines
+two_lines : (text a b : List ℕ) → text ++ a ++ 10 ∷ [] ++ b ++ 10 ∷ [] ≡ text ++ lines_text (a ∷ b ∷ [])
+two_lines text a b =
+    sym (append-nil (text ++ a ++ 10 ∷ [] ++ b ++ 10 ∷ [])) ∙ line_more (text ++ a ++ 10 ∷ []) b [] ∙ line_more text a (b ∷ [])
+
+-- the lines of all settings: some are there only where they were said
+pub setting_texts : (text order : List ℕ) (xs ys : List (List ℕ)) (workers slots : List ℕ) →
+    text ++ order ++ 10 ∷ [] ++ lines_text xs ++ lines_text ys ++ workers ++ 10 ∷ [] ++ slots ++ 10 ∷ []
+    ≡ text ++ lines_text (order ∷ xs ++ ys ++ workers ∷ slots ∷ [])
+setting_texts text order xs ys workers slots =
+    two_lines (text ++ order ++ 10 ∷ [] ++ lines_text xs ++ lines_text ys) workers slots
+    ∙ ap (λ t. t ++ lines_text ys ++ lines_text (workers ∷ slots ∷ [])) (line_more text order xs)
+    ∙ three_lists text (order ∷ xs) ys (workers ∷ slots ∷ [])
 
 -- a name's number is its place
 name_at : (names : List (List ℕ)) (i : ℕ) → i < length names → name_text names (record { 0 = i }) ≡ get_or names i []
@@ -88,8 +96,5 @@ whole_text text p =
     let main = map (main_line p.names) p.main in
     let callbacks = callback_lines p 0 p.names in
     let threads = map (thread_line p.names) p.threads in
-    ap (λ t. t ++ lines_text threads) (three_lists (text ++ lines_text settings) names main callbacks)
-    ∙ append_assoc (text ++ lines_text settings) (lines_text (names ++ main ++ callbacks)) (lines_text threads)
-    ∙ append_assoc text (lines_text settings) (lines_text (names ++ main ++ callbacks) ++ lines_text threads)
-    ∙ ap (λ t. text ++ (lines_text settings ++ t)) (sym (lines_text-append (names ++ main ++ callbacks) threads))
-    ∙ ap (λ t. text ++ t) (sym (lines_text-append settings (names ++ main ++ callbacks ++ threads)))
+    ap (λ t. t ++ lines_text callbacks ++ lines_text threads) (three_lists text settings names main)
+    ∙ three_lists text (settings ++ names ++ main) callbacks threads

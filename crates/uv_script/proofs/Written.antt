@@ -1,15 +1,16 @@
 -- What every script's parts are: each was written in a line of its own.
-use Rattle.uv_script.proofs.ProofNames.{◌≡◌, ◌⊎◌, inl, inr, ℕ, zero, suc, ◌+◌, ◌<◌, ◌≤◌, ◌^◌, List, [], ◌∷◌, ◌++◌, length, get_or, slice_get, unwrap_or, Contains, refl, ap, sym, subst, ◌∙◌, arith, length-append, length-set, slice_set, cases_order, get_or-set_same, get_or-set_other, Contains-push_cases, sum_by_push, sum_by-set, unwrap_or-slice_get, Var, Order, Callback, MainOp, CallbackLine, ArenaSize, ThreadLine, Statement, Declares, InMain, InCallback, Sizes, HasWorkers, Orders, InThread, Says, declares, in_main, runs, closes_loop, in_callback, in_call, sizes, sizes_to, has_workers, orders, in_thread, HasRoom, with_statement, Draft, Reads, skips, says, ReadsAll, none, one, blank, unread, Makes, MOST_NAMES, MOST_LINES, fields_of, IsLine, Program, Callbacks, no_callbacks, callbacks_of, with_line, lines_in, callback_count, line_count, IsSlotCount, IsWorkerCount, IsSound, var_line, IsName}
+use Rattle.uv_script.proofs.ProofNames.{◌≡◌, ◌⊎◌, inl, inr, ℕ, zero, suc, ◌+◌, ◌<◌, ◌≤◌, ◌^◌, Bool, true, List, [], ◌∷◌, ◌++◌, length, get_or, slice_get, unwrap_or, Contains, refl, ap, sym, subst, ◌∙◌, arith, length-append, length-set, slice_set, cases_order, get_or-set_same, get_or-set_other, Contains-push_cases, sum_by_push, sum_by-set, unwrap_or-slice_get, Var, Order, Callback, MainOp, CallbackLine, ArenaSize, ThreadLine, Statement, Declares, InMain, InCallback, Sizes, HasWorkers, Orders, HasIo, FromHeap, InThread, Says, declares, in_main, runs, closes_loop, in_callback, in_call, sizes, sizes_to, has_workers, orders, says_io, says_heap, in_thread, HasRoom, asks_io, MayMake, with_statement, Draft, Reads, skips, says, ReadsAll, none, one, blank, unread, Makes, MOST_NAMES, MOST_LINES, fields_of, IsLine, Program, Callbacks, no_callbacks, callbacks_of, with_line, lines_in, callback_count, line_count, IsSlotCount, IsWorkerCount, IsSound, var_line, IsName}
 use Rattle.uv_ids.specs.declared.seen.Callback.TheVariants as callback
 use Rattle.uv_script.specs.Program.{lines_of}
 use Rattle.uv_script.proofs.Agrees.{AreDistinct}
 use Rattle.uv_script.proofs.AfterLines.{says_sound, distinct_push, distinct_none}
 use Rattle.uv_script.proofs.Exact.{statement_text, IsKept, IsNoName, line_exact, says_more}
 
--- the text of what a line says is a line that says it
-pub record IsWritten (names : List (List ℕ)) (s : Statement) : Type 0 where
+-- the text of what a line says is a line that says it; and it makes no handle of I/O, or the line `io` was said
+pub record IsWritten (names : List (List ℕ)) (io : Bool) (s : Statement) : Type 0 where
   pub line : IsLine (statement_text names s)
   pub says : Says names (fields_of (statement_text names s)) s
+  pub may : asks_io s ≡ true → io ≡ true
 
 pub record IsSize (size : ArenaSize) : Type 0 where
   pub slots : IsSlotCount size.slots
@@ -19,23 +20,29 @@ pub record AreWritten (p : Program) : Type 0 where
   pub names : (name : List ℕ) → Contains p.names name → IsName name × IsLine (var_line name)
   pub distinct : AreDistinct p.names
   pub few_names : length p.names ≤ MOST_NAMES
-  pub main : (o : MainOp) → Contains p.main o → IsWritten p.names (InMain o)
+  pub main : (o : MainOp) → Contains p.main o → IsWritten p.names p.io (InMain o)
   pub callbacks : (kind : Callback) (v : Var) (line : CallbackLine) → Contains (lines_in p kind v) line →
-      IsWritten p.names (InCallback kind v line)
+      IsWritten p.names p.io (InCallback kind v line)
   pub each : length p.callbacks ≡ length p.names
   pub few : line_count p ≤ MOST_LINES
   pub size : IsSize p.size
   pub workers : IsWorkerCount p.workers
-  pub threads : (line : ThreadLine) → Contains p.threads line → IsWritten p.names (InThread line)
+  pub threads : (line : ThreadLine) → Contains p.threads line → IsWritten p.names p.io (InThread line)
 
-written : (names : List (List ℕ)) (line : List ℕ) (s : Statement) → IsKept s → IsLine line → Says names (fields_of line) s → IsWritten names s
-written names line s kept is said =
+written : (names : List (List ℕ)) (io : Bool) (line : List ℕ) (s : Statement) → IsKept s → IsLine line → Says names (fields_of line) s →
+    (asks_io s ≡ true → io ≡ true) → IsWritten names io s
+written names io line s kept is said may =
     let same = line_exact names line s kept said in
-    record { line = subst IsLine same is; says = subst (λ (l : List ℕ). Says names (fields_of l) s) same said }
+    record { line = subst IsLine same is; says = subst (λ (l : List ℕ). Says names (fields_of l) s) same said; may = may }
 
-written_more : (names more : List (List ℕ)) (s : Statement) → IsKept s → IsNoName s → IsWritten names s → IsWritten (names ++ more) s
-written_more names more s kept other w =
-    written (names ++ more) (statement_text names s) s kept w.line (says_more names more (fields_of (statement_text names s)) s other w.says)
+written_more : (names more : List (List ℕ)) (io : Bool) (s : Statement) → IsKept s → IsNoName s → IsWritten names io s →
+    IsWritten (names ++ more) io s
+written_more names more io s kept other w =
+    written (names ++ more) io (statement_text names s) s kept w.line (says_more names more (fields_of (statement_text names s)) s other w.says) w.may
+
+-- behind the line `io` any handle may be made
+written_io : (names : List (List ℕ)) (io : Bool) (s : Statement) → IsWritten names io s → IsWritten names true s
+written_io names io s w = record { line = w.line; says = w.says; may = λ asks. refl }
 
 none_there : {A : Type 0} (x : A) → Contains [] x → ⊥
 none_there x (k, inside, is) = omega arith
@@ -68,6 +75,8 @@ says_last names fields s (sizes slots n e is fits) = omega arith
 says_last names fields s (sizes_to slots last n g e is fits last_is small) = small
 says_last names fields s (has_workers number n e is fits) = tt
 says_last names fields s (orders o e) = tt
+says_last names fields s (says_io e) = tt
+says_last names fields s (says_heap e) = tt
 says_last names fields s (in_thread number k name v e is few declared) = tt
 
 -- a line of a callback to which one was added is the added one, or was there
@@ -130,6 +139,36 @@ set_order o p is = record {
   threads = is.threads;
 }
 
+-- handles of I/O may be made
+set_io : (p : Program) → AreWritten p → AreWritten (record p { io = true })
+set_io p is = record {
+  names = is.names;
+  distinct = is.distinct;
+  few_names = is.few_names;
+  main = λ o h. written_io p.names p.io (InMain o) (is.main o h);
+  callbacks = λ kind v line h. written_io p.names p.io (InCallback kind v line) (is.callbacks kind v line h);
+  each = is.each;
+  few = is.few;
+  size = is.size;
+  workers = is.workers;
+  threads = λ line h. written_io p.names p.io (InThread line) (is.threads line h);
+}
+
+-- due timers are called from their heap
+set_heap : (p : Program) → AreWritten p → AreWritten (record p { heap = true })
+set_heap p is = record {
+  names = is.names;
+  distinct = is.distinct;
+  few_names = is.few_names;
+  main = is.main;
+  callbacks = is.callbacks;
+  each = is.each;
+  few = is.few;
+  size = is.size;
+  workers = is.workers;
+  threads = is.threads;
+}
+
 module _ (p : Program) (is : AreWritten p) where
   after_name : (name : List ℕ) → IsName name → (Contains p.names name → ⊥) → IsLine (var_line name) → HasRoom p (Declares name) →
       AreWritten (with_statement p (Declares name))
@@ -140,25 +179,25 @@ module _ (p : Program) (is : AreWritten p) where
     ];
     distinct = distinct_push p (Declares name) is.distinct (is_name, fresh);
     few_names = omega (arith, length-append p.names (name ∷ []), room.1);
-    main = λ o h. written_more p.names (name ∷ []) (InMain o) tt tt (is.main o h);
-    callbacks = λ kind v line h. written_more p.names (name ∷ []) (InCallback kind v line) tt tt
+    main = λ o h. written_more p.names (name ∷ []) p.io (InMain o) tt tt (is.main o h);
+    callbacks = λ kind v line h. written_more p.names (name ∷ []) p.io (InCallback kind v line) tt tt
         (is.callbacks kind v line (subst (λ (c : Callbacks). Contains (lines_of kind c) line)
         (unwrapped (p.callbacks ++ no_callbacks ∷ []) p.callbacks no_callbacks v.0 (push_default p.callbacks no_callbacks v.0)) h));
     each = omega (arith, length-append p.names (name ∷ []), length-append p.callbacks (no_callbacks ∷ []), is.each);
     few = omega (arith, length-append p.names (name ∷ []), sum_by_push callback_count p.callbacks no_callbacks, room.0);
     size = is.size;
     workers = is.workers;
-    threads = λ line h. written_more p.names (name ∷ []) (InThread line) tt tt (is.threads line h);
+    threads = λ line h. written_more p.names (name ∷ []) p.io (InThread line) tt tt (is.threads line h);
   }
 
-  after_main : (o : MainOp) → IsWritten p.names (InMain o) → HasRoom p (InMain o) → AreWritten (with_statement p (InMain o))
+  after_main : (o : MainOp) → IsWritten p.names p.io (InMain o) → HasRoom p (InMain o) → AreWritten (with_statement p (InMain o))
   after_main o line room = record {
     names = is.names;
     distinct = is.distinct;
     few_names = is.few_names;
     main = λ other h. elim (Contains-push_cases p.main o other h) [
       | inl old ↦ is.main other old
-      | inr new ↦ subst (λ (x : MainOp). IsWritten p.names (InMain x)) new line
+      | inr new ↦ subst (λ (x : MainOp). IsWritten p.names p.io (InMain x)) new line
     ];
     callbacks = is.callbacks;
     each = is.each;
@@ -183,9 +222,9 @@ module _ (p : Program) (is : AreWritten p) where
             (get_or-set_other p.callbacks v.0 w.0 c no_callbacks (λ e. elim order [ inl less ↦ omega (arith, e) | inr more ↦ omega (arith, e) ])))
       ]
 
-  callback_there : (kind : Callback) (v : Var) (line : CallbackLine) → v.0 < length p.callbacks → IsWritten p.names (InCallback kind v line) →
+  callback_there : (kind : Callback) (v : Var) (line : CallbackLine) → v.0 < length p.callbacks → IsWritten p.names p.io (InCallback kind v line) →
       (other : Callback) (w : Var) (x : CallbackLine) →
-      Contains (lines_in (with_statement p (InCallback kind v line)) other w) x → IsWritten p.names (InCallback other w x)
+      Contains (lines_in (with_statement p (InCallback kind v line)) other w) x → IsWritten p.names p.io (InCallback other w x)
   callback_there kind v line within new other w x h =
       elim (callbacks_after v w (with_line kind (callbacks_of p v) line) within) [
         | inl same ↦
@@ -196,12 +235,12 @@ module _ (p : Program) (is : AreWritten p) where
                   (slice_get p.callbacks k) no_callbacks)) x) same.0 old)
               | inr added ↦
                   let all : ◌≡◌ {A = Callback × ℕ × CallbackLine} (kind, v.0, line) (other, w.0, x) = λ i. (added.0 i, same.0 i, added.1 i) in
-                  subst (λ (q : Callback × ℕ × CallbackLine). IsWritten p.names (InCallback q.0 (record { 0 = q.1 }) q.2)) all new
+                  subst (λ (q : Callback × ℕ × CallbackLine). IsWritten p.names p.io (InCallback q.0 (record { 0 = q.1 }) q.2)) all new
             ]
         | inr kept ↦ is.callbacks other w x (subst (λ (c : Callbacks). Contains (lines_of other c) x) kept h)
       ]
 
-  after_callback : (kind : Callback) (v : Var) (line : CallbackLine) → v.0 < length p.names → IsWritten p.names (InCallback kind v line) →
+  after_callback : (kind : Callback) (v : Var) (line : CallbackLine) → v.0 < length p.names → IsWritten p.names p.io (InCallback kind v line) →
       HasRoom p (InCallback kind v line) → AreWritten (with_statement p (InCallback kind v line))
   after_callback kind v line declared new room =
       let c = callbacks_of p v in
@@ -221,7 +260,7 @@ module _ (p : Program) (is : AreWritten p) where
         threads = is.threads;
       }
 
-  after_thread : (line : ThreadLine) → IsWritten p.names (InThread line) → HasRoom p (InThread line) → AreWritten (with_statement p (InThread line))
+  after_thread : (line : ThreadLine) → IsWritten p.names p.io (InThread line) → HasRoom p (InThread line) → AreWritten (with_statement p (InThread line))
   after_thread line new room = record {
     names = is.names;
     distinct = is.distinct;
@@ -234,11 +273,11 @@ module _ (p : Program) (is : AreWritten p) where
     workers = is.workers;
     threads = λ other h. elim (Contains-push_cases p.threads line other h) [
       | inl old ↦ is.threads other old
-      | inr same ↦ subst (λ (x : ThreadLine). IsWritten p.names (InThread x)) same new
+      | inr same ↦ subst (λ (x : ThreadLine). IsWritten p.names p.io (InThread x)) same new
     ];
   }
 
-  after_statement : (s : Statement) → IsSound p s → last_fits s → HasRoom p s → (IsKept s → IsWritten p.names s) → AreWritten (with_statement p s)
+  after_statement : (s : Statement) → IsSound p s → last_fits s → HasRoom p s → (IsKept s → IsWritten p.names p.io s) → AreWritten (with_statement p s)
   unfolding last_fits
   after_statement (Declares name) (is_name, fresh) last room new = after_name name is_name fresh (new tt).line room
   after_statement (InMain o) sound last room new = after_main o (new tt) room
@@ -257,17 +296,19 @@ module _ (p : Program) (is : AreWritten p) where
   }
   after_statement (HasWorkers n) sound last room new = set_workers n p sound is
   after_statement (Orders o) sound last room new = set_order o p is
+  after_statement HasIo sound last room new = set_io p is
+  after_statement FromHeap sound last room new = set_heap p is
   after_statement (InThread line) sound last room new = after_thread line (new tt) room
 
 pub after_said : (p : Program) (line : List ℕ) (s : Statement) → AreWritten p → IsLine line → Says p.names (fields_of line) s → HasRoom p s →
-    AreWritten (with_statement p s)
-after_said p line s is rule said room =
+    MayMake p s → AreWritten (with_statement p s)
+after_said p line s is rule said room may =
     after_statement p is s (says_sound p (fields_of line) s said) (says_last p.names (fields_of line) s said) room
-    (λ kept. written p.names line s kept rule said)
+    (λ kept. written p.names p.io line s kept rule said may)
 
 after_one : (d e : Draft) (line : List ℕ) → AreWritten d.program → Reads d line e → AreWritten e.program
 after_one d e line is (skips rule skipped) = is
-after_one d e line is (says s rule said new room) = after_said d.program line s is rule said room
+after_one d e line is (says s rule said new room may) = after_said d.program line s is rule said room may
 
 after_all : (d e : Draft) (lines : List (List ℕ)) → AreWritten d.program → ReadsAll d lines e → AreWritten e.program
 after_all d e [] is none = is

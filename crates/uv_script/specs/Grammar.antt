@@ -1,5 +1,5 @@
 -- The grammar of scripts: which lines make which script.
-use Rattle.std.specs.Prelude.{◌≡◌, ◌≢◌, ℕ, ◌+◌, ◌<◌, ◌≤◌, ◌^◌, true, false, List, [], ◌∷◌, ◌++◌, length, Contains, Option, Some, None, Result, Ok, Err, slice_set, codes}
+use Rattle.std.specs.Prelude.{◌≡◌, ◌≢◌, ℕ, ◌+◌, ◌<◌, ◌≤◌, ◌^◌, Bool, true, false, List, [], ◌∷◌, ◌++◌, length, Contains, Option, Some, None, Result, Ok, Err, slice_set, codes}
 use Rattle.std.specs.List.{join_with_byte}
 use Rattle.uv_ids.specs.declared.id.Var.{Var}
 use Rattle.uv_ids.specs.declared.phase.Kind.{Kind}
@@ -21,7 +21,7 @@ use Rattle.uv_work.specs.declared.task.Task.{Task}
 use Rattle.uv_ids.specs.declared.thread_line.ThreadLine.{ThreadLine}
 use Rattle.uv_script.specs.Limits.{MOST_NAMES, MOST_LINES, MOST_SENDERS}
 use Rattle.uv_script.specs.Lines.{lines_of, fields_of, IsLine, IsSkipped}
-use Rattle.uv_script.specs.Program.{Program, no_callbacks, callbacks_of, with_line, line_count, IsSlotCount, LAST_GENERATION, IsWorkerCount, DEFAULT_SIZE, DEFAULT_WORKERS, DEFAULT_ORDER, IsCounted}
+use Rattle.uv_script.specs.Program.{Program, no_callbacks, callbacks_of, with_line, line_count, makes_io, has_io, IsSlotCount, LAST_GENERATION, IsWorkerCount, DEFAULT_SIZE, DEFAULT_WORKERS, DEFAULT_ORDER, IsCounted}
 use Rattle.uv_work.specs.Tasks.{text_of}
 use Rattle.uv_script.specs.Words.{IsName, IsNumber, IsDeclared}
 
@@ -39,6 +39,10 @@ pub data Statement : Type 0 where
   HasWorkers : ℕ → Statement
   -- `order VERSION`
   Orders : Order → Statement
+  -- `io`
+  HasIo : Statement
+  -- `timers heap`
+  FromHeap : Statement
   -- `thread k send NAME`
   InThread : ThreadLine → Statement
 
@@ -111,6 +115,8 @@ pub data Says (names : List (List ℕ)) (fields : List (List ℕ)) : Statement �
   has_workers : (number : List ℕ) (n : ℕ) → fields ≡ codes "workers" ∷ number ∷ [] → IsNumber number n → IsWorkerCount n →
       Says names fields (HasWorkers n)
   orders : (o : Order) → fields ≡ codes "order" ∷ order_word o ∷ [] → Says names fields (Orders o)
+  says_io : fields ≡ codes "io" ∷ [] → Says names fields HasIo
+  says_heap : fields ≡ codes "timers" ∷ codes "heap" ∷ [] → Says names fields FromHeap
   in_thread : (number : List ℕ) (k : ℕ) (name : List ℕ) (v : Var) → fields ≡ codes "thread" ∷ number ∷ codes "send" ∷ name ∷ [] →
       IsNumber number k → k < MOST_SENDERS → IsDeclared names name v → Says names fields (InThread (record { thread = k; name = v }))
 
@@ -122,6 +128,8 @@ HasRoom p (InCallback kind v line) = line_count p < MOST_LINES
 HasRoom p (Sizes size) = Unit {0}
 HasRoom p (HasWorkers n) = Unit {0}
 HasRoom p (Orders o) = Unit {0}
+HasRoom p HasIo = Unit {0}
+HasRoom p FromHeap = Unit {0}
 HasRoom p (InThread line) = line_count p < MOST_LINES
 
 -- a setting is said once at most
@@ -129,7 +137,19 @@ abbrev pub IsNew : Settings → Statement → Type 0
 IsNew said (Sizes size) = said.slots ≡ false
 IsNew said (HasWorkers n) = said.workers ≡ false
 IsNew said (Orders o) = said.order ≡ false
+IsNew said HasIo = said.io ≡ false
+IsNew said FromHeap = said.timers ≡ false
 IsNew said _ = Unit {0}
+
+-- the line's op makes a handle of I/O
+abbrev pub asks_io : Statement → Bool
+asks_io (InMain (main.Op o)) = makes_io o
+asks_io (InCallback kind v line) = makes_io line.op
+asks_io _ = false
+
+-- such a line stands only behind the line `io`
+abbrev pub MayMake : Program → Statement → Type 0
+MayMake p s = asks_io s ≡ true → has_io p ≡ true
 
 -- the script with what one more line says
 abbrev pub with_statement : Program → Statement → Program
@@ -139,6 +159,8 @@ with_statement p (InCallback kind v line) = record p { callbacks = slice_set p.c
 with_statement p (Sizes size) = record p { size = size }
 with_statement p (HasWorkers n) = record p { workers = n }
 with_statement p (Orders o) = record p { order = o }
+with_statement p HasIo = record p { io = true }
+with_statement p FromHeap = record p { heap = true }
 with_statement p (InThread line) = record p { threads = p.threads ++ line ∷ [] }
 
 -- which settings are said with one more line
@@ -146,6 +168,8 @@ abbrev pub with_said : Settings → Statement → Settings
 with_said said (Sizes size) = record said { slots = true }
 with_said said (HasWorkers n) = record said { workers = true }
 with_said said (Orders o) = record said { order = true }
+with_said said HasIo = record said { io = true }
+with_said said FromHeap = record said { timers = true }
 with_said said _ = said
 
 -- a script as far as it was read: what its lines make, and which settings they said
@@ -157,7 +181,7 @@ pub record Draft : Type 0 where
 pub data Reads (d : Draft) (line : List ℕ) : Draft → Type 0 where
   skips : IsLine line → IsSkipped line → Reads d line d
   says : (s : Statement) → IsLine line → Says d.program.names (fields_of line) s → IsNew d.said s → HasRoom d.program s →
-      Reads d line (record { program = with_statement d.program s; said = with_said d.said s })
+      MayMake d.program s → Reads d line (record { program = with_statement d.program s; said = with_said d.said s })
 
 -- so do these lines, one after another
 pub data ReadsAll : Draft → List (List ℕ) → Draft → Type 0 where
@@ -180,11 +204,15 @@ blank = record {
 
 -- before the first line
 abbrev pub unread : Draft
-unread = record { program = blank; said = record { slots = false; workers = false; order = false } }
+unread = record { program = blank; said = record { slots = false; workers = false; order = false; io = false; timers = false } }
 
--- before the first line of a text that takes no line `order`: the order counts as said
+-- before the first line of a text that takes no line `io` and no `timers heap`: both count as said
+abbrev pub io_said : Draft
+io_said = record { program = blank; said = record { slots = false; workers = false; order = false; io = true; timers = true } }
+
+-- before the first line of a text that takes no line `order` either: the order counts as said, too
 abbrev pub order_said : Draft
-order_said = record { program = blank; said = record { slots = false; workers = false; order = true } }
+order_said = record { program = blank; said = record { slots = false; workers = false; order = true; io = true; timers = true } }
 
 -- these lines go on from a draft, and then the script is this one
 pub record MakesFrom (d : Draft) (lines : List (List ℕ)) (p : Program) : Type 0 where

@@ -1,5 +1,5 @@
 -- A script, as its parts.
-use Rattle.std.specs.Prelude.{◌≡◌, ℕ, ◌+◌, ◌<◌, ◌≤◌, ◌==◌, Bool, true, List, [], ◌∷◌, ◌++◌, Option, Some, None, option_map, unwrap_or, slice_get, length, sum_by, All}
+use Rattle.std.specs.Prelude.{◌≡◌, ℕ, ◌+◌, ◌<◌, ◌≤◌, ◌==◌, Bool, true, false, List, [], ◌∷◌, ◌++◌, Option, Some, None, option_map, unwrap_or, slice_get, length, sum_by, All}
 use Rattle.uv_ids.specs.declared.id.Var.{Var}
 use Rattle.uv_ids.specs.declared.order.Order.{Order}
 use Rattle.uv_ids.specs.declared.order.Order.TheVariants as orders
@@ -7,7 +7,9 @@ use Rattle.uv_ids.specs.declared.seen.Callback.{Callback}
 use Rattle.uv_ids.specs.declared.seen.Callback.TheVariants as callback
 use Rattle.uv_ids.specs.declared.seen.Site.{Site}
 use Rattle.uv_ids.specs.declared.seen.Site.TheVariants as site
+use Rattle.uv_ids.specs.declared.phase.Kind.TheVariants as kinds
 use Rattle.uv_script.specs.declared.op.Op.{Op}
+use Rattle.uv_script.specs.declared.op.Op.TheVariants as op
 use Rattle.uv_script.specs.declared.op.MainOp.{MainOp}
 use Rattle.uv_script.specs.declared.op.MainOp.TheVariants as main
 use Rattle.uv_script.specs.declared.op.CallbackLine.{CallbackLine}
@@ -76,6 +78,11 @@ main_op None = None
 abbrev pub op_at : Program → Site → Option Op
 op_at p (site.Main line) = main_op (slice_get p.main line)
 op_at p (site.In kind v line) = option_map (λ (l : CallbackLine). l.op) (slice_get (lines_in p kind v) line)
+
+-- the op makes a handle of I/O
+abbrev pub makes_io : Op → Bool
+makes_io (op.Init v kinds.Io) = true
+makes_io _ = false
 
 -- a line of a callback with no number is for every call, one with a number for that call
 abbrev pub is_for : ℕ → Option ℕ → Bool

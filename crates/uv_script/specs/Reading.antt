@@ -1,5 +1,5 @@
 -- How the reader reads, as functions of lists. They serve private clauses; that they agree with the grammar is proved.
-use Rattle.std.specs.Prelude.{◌≡◌, ℕ, ◌&&◌, ◌==◌, ◌<◌, Bool, true, not, nat_le, nat_lt, List, [], ◌∷◌, length, Contains, Option, Some, None, Result, Ok, Err, option_and_then, option_map, is_none, codes, if◌then◌else◌}
+use Rattle.std.specs.Prelude.{◌≡◌, ℕ, ◌&&◌, ◌||◌, ◌==◌, ◌<◌, Bool, true, not, nat_le, nat_lt, List, [], ◌∷◌, length, Contains, Option, Some, None, Result, Ok, Err, option_and_then, option_map, is_none, codes, if◌then◌else◌}
 use Rattle.std.specs.List.{position}
 use Rattle.std.specs.Str.{bytes_eq}
 use Rattle.uv_ids.specs.declared.id.Var.{Var}
@@ -17,10 +17,10 @@ use Rattle.uv_script.specs.declared.op.Op.{Op}
 use Rattle.uv_script.specs.declared.op.Op.TheVariants as op
 use Rattle.uv_script.specs.declared.op.MainOp.TheVariants as main
 use Rattle.uv_script.specs.declared.settings.Settings.{Settings}
-use Rattle.uv_script.specs.Grammar.{Statement, Declares, InMain, InCallback, Sizes, HasWorkers, Orders, InThread, Says, Draft, with_statement, with_said}
+use Rattle.uv_script.specs.Grammar.{Statement, Declares, InMain, InCallback, Sizes, HasWorkers, Orders, HasIo, FromHeap, InThread, Says, asks_io, MayMake, Draft, with_statement, with_said}
 use Rattle.uv_script.specs.Limits.{MOST_SLOTS, MOST_NAMES, MOST_LINES, MOST_SENDERS}
 use Rattle.uv_script.specs.Lines.{fields_of, rest_of, IsLine}
-use Rattle.uv_script.specs.Program.{Program, line_count, IsSlotCount, LAST_GENERATION, IsWorkerCount, IsThreadLine}
+use Rattle.uv_script.specs.Program.{Program, line_count, has_io, IsSlotCount, LAST_GENERATION, IsWorkerCount, IsThreadLine}
 use Rattle.uv_script.specs.Checks.{is_line, is_skipped, is_name, number_of}
 use Rattle.uv_work.specs.TaskReading.{task_of}
 use Rattle.uv_script.specs.Words.{IsName}
@@ -50,6 +50,7 @@ kind_of word =
     else if bytes_eq word (codes "prepare") then Some kind.Prepare
     else if bytes_eq word (codes "check") then Some kind.Check
     else if bytes_eq word (codes "async") then Some kind.Async
+    else if bytes_eq word (codes "io") then Some kind.Io
     else None
 
 unfoldable pub mode_of : List ℕ → Option Mode
@@ -274,6 +275,19 @@ orders_of fields = do
   end ← none_left version.1
   Some (Orders o)
 
+-- what stands behind `io`: nothing
+unfoldable pub io_of : List (List ℕ) → Option Statement
+io_of fields = do
+  end ← none_left fields
+  Some HasIo
+
+-- what stands behind `timers`: the word `heap`
+unfoldable pub timers_of : List (List ℕ) → Option Statement
+timers_of fields = do
+  word ← first_of fields
+  end ← none_left word.1
+  if bytes_eq word.0 (codes "heap") then Some FromHeap else None
+
 -- what stands behind the number of a thread and the word of what it does
 unfoldable pub sender_of : List (List ℕ) → ℕ → List (List ℕ) → Option Statement
 sender_of names k fields = do
@@ -288,12 +302,15 @@ thread_of names fields = do
   word ← first_of number.1
   if bytes_eq word.0 (codes "send") then sender_of names k word.1 else None
 
--- what stands behind the word of a line that says what the loop runs on: how large it is, which threads there are, and its order
+-- what stands behind the word of a line that says what the loop runs on: how large it is, which threads there are, its order, that it has
+-- handles of I/O, and how its timers are called
 unfoldable pub setting_of : List (List ℕ) → List ℕ → List (List ℕ) → Option Statement
 setting_of names word fields =
     if bytes_eq word (codes "slots") then size_of fields
     else if bytes_eq word (codes "workers") then workers_of fields
     else if bytes_eq word (codes "order") then orders_of fields
+    else if bytes_eq word (codes "io") then io_of fields
+    else if bytes_eq word (codes "timers") then timers_of fields
     else if bytes_eq word (codes "thread") then thread_of names fields
     else None
 
@@ -316,6 +333,8 @@ has_room p (InCallback kind v line) = nat_lt (line_count p) MOST_LINES
 has_room p (Sizes size) = true
 has_room p (HasWorkers n) = true
 has_room p (Orders o) = true
+has_room p HasIo = true
+has_room p FromHeap = true
 has_room p (InThread line) = nat_lt (line_count p) MOST_LINES
 
 -- whether a setting is said for the first time
@@ -323,7 +342,17 @@ abbrev pub is_new : Settings → Statement → Bool
 is_new said (Sizes size) = not said.slots
 is_new said (HasWorkers n) = not said.workers
 is_new said (Orders o) = not said.order
+is_new said HasIo = not said.io
+is_new said FromHeap = not said.timers
 is_new said _ = true
+
+-- whether a line that makes a handle of I/O stands behind the line `io`
+abbrev pub may_make : Program → Statement → Bool
+may_make p s = has_io p || not (asks_io s)
+
+-- whether the statement may come next
+abbrev pub may_come : Draft → Statement → Bool
+may_come d s = is_new d.said s && (has_room d.program s && may_make d.program s)
 
 -- what a statement needs beside room
 abbrev pub IsSound : Program → Statement → Type 0
@@ -333,19 +362,22 @@ IsSound p (InCallback kind v line) = v.0 < length p.names
 IsSound p (Sizes size) = IsSlotCount size.slots
 IsSound p (HasWorkers n) = IsWorkerCount n
 IsSound p (Orders o) = Unit {0}
+IsSound p HasIo = Unit {0}
+IsSound p FromHeap = Unit {0}
 IsSound p (InThread line) = IsThreadLine (length p.names) line
 
--- some line says this
+-- some line says this, and may say it there
 pub record IsSaid (p : Program) (s : Statement) : Type 0 where
   pub line : List ℕ
   pub is : IsLine line
   pub says : Says p.names (fields_of line) s
+  pub may : MayMake p s
 
 -- the script after one more line
 unfoldable pub after_line : Draft → List ℕ → Option Draft
 after_line d line = if is_line line then (if is_skipped line then Some d else (do
   s ← statement_of d.program.names (fields_of line)
-  if is_new d.said s && has_room d.program s then Some (record { program = with_statement d.program s; said = with_said d.said s }) else None))
+  if may_come d s then Some (record { program = with_statement d.program s; said = with_said d.said s }) else None))
     else None
 
 -- what reading a line of this number answers

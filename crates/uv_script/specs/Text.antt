@@ -1,5 +1,5 @@
 -- The text of a script, and of its ops.
-use Rattle.std.specs.Prelude.{ℕ, ◌+◌, List, [], ◌∷◌, ◌++◌, map, Option, Some, None, slice_get, codes, decimal}
+use Rattle.std.specs.Prelude.{ℕ, ◌+◌, Bool, true, false, List, [], ◌∷◌, ◌++◌, map, Option, Some, None, slice_get, codes, decimal}
 use Rattle.uv_ids.specs.declared.id.Var.{Var}
 use Rattle.uv_ids.specs.declared.seen.Callback.{Callback}
 use Rattle.uv_ids.specs.declared.seen.Callback.TheVariants as callback
@@ -12,7 +12,7 @@ use Rattle.uv_script.specs.declared.op.MainOp.TheVariants as main
 use Rattle.uv_script.specs.declared.op.CallbackLine.{CallbackLine}
 use Rattle.uv_script.specs.declared.size.ArenaSize.{ArenaSize}
 use Rattle.uv_ids.specs.declared.thread_line.ThreadLine.{ThreadLine}
-use Rattle.uv_script.specs.Program.{Program, lines_in, arena_size, worker_count, order_of}
+use Rattle.uv_script.specs.Program.{Program, lines_in, arena_size, worker_count, order_of, has_io, from_heap}
 use Rattle.uv_work.specs.Tasks.{text_of}
 
 abbrev pub text_or_none : Option (List ℕ) → List ℕ
@@ -53,11 +53,23 @@ op_text names op.Now = codes "now"
 op_text names op.IsAlive = codes "alive"
 op_text names op.Timeout = codes "timeout"
 
--- the lines of a script, in their order: the order of a run's phases, the number of workers, the size of the arena, the names, the main
--- program, and then for each name the lines of its callbacks, and last what threads send
+-- the lines of a script, in their order: the order of a run's phases, that it has handles of I/O and that due timers are called from their
+-- heap where it says so, the number of workers, the size of the arena, the names, the main program, and then for each name the lines of its
+-- callbacks, and last what threads send
 
 abbrev pub order_line : Order → List ℕ
 order_line o = codes "order " ++ order_word o
+
+abbrev pub io_line : List ℕ
+io_line = codes "io"
+
+abbrev pub heap_line : List ℕ
+heap_line = codes "timers heap"
+
+-- a line that stands only where it was said
+abbrev pub line_if : Bool → List ℕ → List (List ℕ)
+line_if true line = line ∷ []
+line_if false line = []
 
 abbrev pub workers_line : ℕ → List ℕ
 workers_line n = codes "workers " ++ decimal n
@@ -99,7 +111,8 @@ abbrev pub thread_line : List (List ℕ) → ThreadLine → List ℕ
 thread_line names line = codes "thread " ++ decimal line.thread ++ codes " send " ++ name_text names line.name
 
 abbrev pub setting_lines : Program → List (List ℕ)
-setting_lines p = order_line (order_of p) ∷ workers_line (worker_count p) ∷ slots_line (arena_size p) ∷ []
+setting_lines p = order_line (order_of p) ∷ line_if (has_io p) io_line ++ line_if (from_heap p) heap_line
+    ++ workers_line (worker_count p) ∷ slots_line (arena_size p) ∷ []
 
 abbrev pub script_lines : Program → List (List ℕ)
 script_lines p = setting_lines p

@@ -1,7 +1,7 @@
 //! What a script's lines do.
 
 ghost use Rattle.std.specs.Prelude.{◌≡◌, OnOk, OnErr};
-ghost use Rattle.uv_script.specs.Program.{no_callbacks, lines_of, with_line};
+ghost use Rattle.uv_script.specs.Program.{no_callbacks, lines_of, makes_io, with_line};
 
 use std::alloc::{AllocError, Global};
 use std::marker::Model;
@@ -56,6 +56,15 @@ pub enum Op {
     IsAlive,
     /// `timeout`: how long a poll might wait, in ms (uv_backend_timeout).
     Timeout,
+}
+
+impl Op {
+    /// Whether the op makes a handle of I/O.
+    pub(crate) fn makes_io(self) -> bool
+        ensures { result ≡ makes_io self }
+    {
+        matches!(self, Op::Init(_, Kind::Io))
+    }
 }
 
 /// A line of the main program.

@@ -1,6 +1,6 @@
 //! Reading a script's text.
 ghost use Rattle.std.specs.Prelude.{◌≡◌, ℕ, List};
-ghost use Rattle.uv_script.specs.Grammar.{IsScript, Parses, ParsesFrom, blank, order_said};
+ghost use Rattle.uv_script.specs.Grammar.{IsScript, Parses, ParsesFrom, blank, order_said, io_said};
 ghost use Rattle.uv_script.specs.Laws.{HasReading, HasOneScript, HasNoBadLine, HasOneBadLine, IsReadBack};
 ghost use Rattle.uv_script.specs.Program.{Program};
 ghost use Rattle.uv_script.specs.Reading.{ReadsLine};
@@ -37,11 +37,29 @@ impl Script {
             slots: false,
             workers: false,
             order: false,
+            io: false,
+            timers: false,
         };
         Script::parse_from(alloc, none_said, text)
     }
 
-    /// The script of a text that takes no line `order`, since it is of a time when there was none. Else as `parse`.
+    /// The script of a text that takes no line `io` and no `timers heap`, since it is of a time when there were none. Else as
+    /// `parse`.
+    pub fn parse_without_io(alloc: Global, text: &[u8]) -> Result<Script, Fault>
+        ensures { ParsesFrom io_said text.now result }
+    {
+        let io_said = Settings {
+            slots: false,
+            workers: false,
+            order: false,
+            io: true,
+            timers: true,
+        };
+        Script::parse_from(alloc, io_said, text)
+    }
+
+    /// The script of a text that takes no line `order` either, since it is of a time when there was none. Else as
+    /// `parse_without_io`.
     pub fn parse_without_order(alloc: Global, text: &[u8]) -> Result<Script, Fault>
         ensures { ParsesFrom order_said text.now result }
     {
@@ -49,6 +67,8 @@ impl Script {
             slots: false,
             workers: false,
             order: true,
+            io: true,
+            timers: true,
         };
         Script::parse_from(alloc, order_said, text)
     }
@@ -91,7 +111,10 @@ impl Script {
         let Some(statement) = statement_in(self.names(), line) else {
             return Err(Fault::Script { line: number });
         };
-        if !settings.is_new(&statement) || !self.has_room(&statement) {
+        if !settings.is_new(&statement)
+            || !self.has_room(&statement)
+            || !self.may_make(&statement)
+        {
             return Err(Fault::Script { line: number });
         }
         *settings = settings.with(&statement);

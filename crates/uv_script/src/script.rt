@@ -1,7 +1,7 @@
 //! A script's parts.
 ghost use Rattle.std.specs.Prelude.{◌≡◌, slice_get, length, OnOk, All};
 ghost use Rattle.uv_script.specs.Grammar.{Declares, InMain, InCallback, InThread, Sizes, HasRoom, WasRead, with_statement, blank};
-ghost use Rattle.uv_script.specs.Reading.{has_room, IsSound, IsSaid};
+ghost use Rattle.uv_script.specs.Reading.{has_room, may_make, IsSound, IsSaid};
 ghost use Rattle.uv_script.specs.Said.{said};
 ghost use Rattle.uv_script.specs.Program.{lines_in, op_at, arena_size, worker_count, order_of, has_io, from_heap, with_workers, IsWorkerCount, IsThreadLine, IsWhole};
 
@@ -99,8 +99,17 @@ impl Script {
             Statement::Sizes(_) => true,
             Statement::HasWorkers(_) => true,
             Statement::Orders(_) => true,
+            Statement::HasIo => true,
+            Statement::FromHeap => true,
             Statement::InThread(_) => self.lines < MOST_LINES,
         }
+    }
+
+    /// Whether a line that makes a handle of I/O stands behind the line `io`.
+    pub(crate) fn may_make(&self, statement: &Statement<'_>) -> bool
+        ensures { result ≡ may_make self.now (said statement.now) }
+    {
+        self.io || !statement.asks_io()
     }
 
     /// Adds what one more line says.
@@ -123,6 +132,14 @@ impl Script {
             }
             Statement::Orders(order) => {
                 self.order = order;
+                Ok(())
+            }
+            Statement::HasIo => {
+                self.io = true;
+                Ok(())
+            }
+            Statement::FromHeap => {
+                self.heap = true;
                 Ok(())
             }
             Statement::InThread(line) => self.push_thread(line),

@@ -15,6 +15,10 @@ pub struct Settings {
     pub workers: bool,
     /// `order VERSION`
     pub order: bool,
+    /// `io`
+    pub io: bool,
+    /// `timers heap`
+    pub timers: bool,
 }
 
 impl Settings {
@@ -29,6 +33,8 @@ impl Settings {
             Statement::Sizes(_) => !self.slots,
             Statement::HasWorkers(_) => !self.workers,
             Statement::Orders(_) => !self.order,
+            Statement::HasIo => !self.io,
+            Statement::FromHeap => !self.timers,
             Statement::InThread(_) => true,
         }
     }
@@ -51,6 +57,11 @@ impl Settings {
             },
             Statement::Orders(_) => Settings {
                 order: true,
+                ..self
+            },
+            Statement::HasIo => Settings { io: true, ..self },
+            Statement::FromHeap => Settings {
+                timers: true,
                 ..self
             },
             Statement::InThread(_) => self,

@@ -1,7 +1,8 @@
 //! What the lines of a script say, one at a time.
 ghost use Rattle.std.specs.Prelude.{◌≡◌, Some, option_map};
+ghost use Rattle.uv_script.specs.Grammar.{asks_io};
 ghost use Rattle.uv_script.specs.Lines.{fields_of};
-ghost use Rattle.uv_script.specs.Reading.{none_left, kind_of, mode_of, init_of, timer_start_of, start_of, repeat_of, text_by, queue_of, bare_op, named_op, name_alone, short_op_of, op_of, declaration_of, run_of, main_of, main_by, close_loop_of, call_of, marked, in_calls_of, in_call_of, callback_of, last_of, size_of, workers_of, orders_of, sender_of, thread_of, setting_of, statement_of};
+ghost use Rattle.uv_script.specs.Reading.{none_left, kind_of, mode_of, init_of, timer_start_of, start_of, repeat_of, text_by, queue_of, bare_op, named_op, name_alone, short_op_of, op_of, declaration_of, run_of, main_of, main_by, close_loop_of, call_of, marked, in_calls_of, in_call_of, callback_of, last_of, size_of, workers_of, orders_of, io_of, timers_of, sender_of, thread_of, setting_of, statement_of};
 ghost use Rattle.uv_script.specs.Said.{said};
 ghost use Rattle.uv_work.specs.TaskReading.{task_of};
 
@@ -29,8 +30,32 @@ pub(crate) enum Statement<'a> {
     HasWorkers(u16),
     /// `order VERSION`
     Orders(Order),
+    /// `io`
+    HasIo,
+    /// `timers heap`
+    FromHeap,
     /// `thread k send NAME`
     InThread(ThreadLine),
+}
+
+impl Statement<'_> {
+    /// Whether its op makes a handle of I/O.
+    pub(crate) fn asks_io(&self) -> bool
+        ensures { result ≡ asks_io (said self.now) }
+    {
+        match self {
+            Statement::Declares(_) => false,
+            Statement::InMain(MainOp::Op(op)) => op.makes_io(),
+            Statement::InMain(MainOp::Run(_)) => false,
+            Statement::InCallback(_, _, line) => line.op.makes_io(),
+            Statement::Sizes(_) => false,
+            Statement::HasWorkers(_) => false,
+            Statement::Orders(_) => false,
+            Statement::HasIo => false,
+            Statement::FromHeap => false,
+            Statement::InThread(_) => false,
+        }
+    }
 }
 
 /// Nothing, where no field is left.
@@ -236,7 +261,8 @@ pub(crate) fn statement_in<'a>(names: &Names, line: &'a [u8]) -> Option<Statemen
     }
 }
 
-/// A line that says what the loop runs on: how large it is, which threads there are, and its order.
+/// A line that says what the loop runs on: how large it is, which threads there are, its order, that it has handles of I/O,
+/// and how its timers are called.
 #[tactic(auto, unfolding(crate::specs::Reading::setting_of))]
 fn setting<'a>(names: &Names, word: &[u8], fields: Fields<'a>) -> Option<Statement<'a>>
     ensures { option_map said result ≡ setting_of names.now word.now fields.entry }
@@ -247,6 +273,10 @@ fn setting<'a>(names: &Names, word: &[u8], fields: Fields<'a>) -> Option<Stateme
         workers(fields)
     } else if is(word, b"order") {
         orders(fields)
+    } else if is(word, b"io") {
+        io(fields)
+    } else if is(word, b"timers") {
+        timers(fields)
     } else if is(word, b"thread") {
         thread(names, fields)
     } else {
@@ -418,6 +448,27 @@ fn orders<'a>(mut fields: Fields<'a>) -> Option<Statement<'a>>
     let order = Order::from_word(fields.next()?)?;
     none_left(fields)?;
     Some(Statement::Orders(order))
+}
+
+#[tactic(auto, unfolding(crate::specs::Reading::io_of))]
+fn io<'a>(fields: Fields<'a>) -> Option<Statement<'a>>
+    ensures { option_map said result ≡ io_of fields.entry }
+{
+    none_left(fields)?;
+    Some(Statement::HasIo)
+}
+
+#[tactic(auto, unfolding(crate::specs::Reading::timers_of))]
+fn timers<'a>(mut fields: Fields<'a>) -> Option<Statement<'a>>
+    ensures { option_map said result ≡ timers_of fields.entry }
+{
+    let word = fields.next()?;
+    none_left(fields)?;
+    if is(word, b"heap") {
+        Some(Statement::FromHeap)
+    } else {
+        None
+    }
 }
 
 /// A line of a thread, from the name that it sends on.

@@ -5,7 +5,7 @@ ghost use Rattle.uv_script.specs.Grammar.{WasRead};
 ghost use Rattle.uv_script.specs.Laws.{IsReadBack};
 ghost use Rattle.uv_script.specs.Program.{arena_size, worker_count, order_of};
 ghost use Rattle.uv_script.specs.declared.op.Op.TheVariants.{Start, Queue};
-ghost use Rattle.uv_script.specs.Text.{op_text, name_text, task_text, order_line, workers_line, slots_line, setting_lines, var_line, main_line, call_text, front_text, callback_line, name_lines, callback_lines, thread_line, lines_text, script_text};
+ghost use Rattle.uv_script.specs.Text.{op_text, name_text, task_text, order_line, line_if, workers_line, slots_line, setting_lines, var_line, main_line, call_text, front_text, callback_line, name_lines, callback_lines, thread_line, lines_text, script_text};
 
 use crate::names::Names;
 use crate::op::{CallbackLine, MainOp, Op};
@@ -214,6 +214,17 @@ fn push_callback(
     Ok(())
 }
 
+/// Writes a line where it was said, and else nothing.
+fn push_line_if(text: &mut Vec<u8>, said: bool, line: &[u8]) -> Result<(), AllocError>
+    ensures { OnOk result (text.new.items ≡ text.old.items ++ lines_text (line_if said line.now)) }
+{
+    if said {
+        text.extend_from_slice(line)?;
+        text.extend_from_slice(b"\n")?;
+    }
+    Ok(())
+}
+
 /// Writes the line of a thread.
 fn push_thread_line(text: &mut Vec<u8>, names: &Names, line: ThreadLine) -> Result<(), AllocError>
     ensures { OnOk result (text.new.items ≡ text.old.items ++ thread_line names.now line) }
@@ -249,9 +260,9 @@ impl Names {
 }
 
 impl Script {
-    /// The script as a text, which says all settings: the lines `order`, `workers` and `slots`, the names, the main program,
-    /// for each name the lines of its callbacks, and last the lines of threads, as they came. Such a text is read back as
-    /// this very script.
+    /// The script as a text, which says all settings: the line `order`, `io` and `timers heap` where they were said, the lines
+    /// `workers` and `slots`, the names, the main program, for each name the lines of its callbacks, and last the lines of
+    /// threads, as they came. Such a text is read back as this very script.
     pub fn text(&self) -> Result<Vec<u8>, Fault>
         ensures text { IfOk result (λ text. text.items ≡ script_text self.now) }
         ensures err { IfErr result (λ fault. fault ≡ Memory) }
@@ -309,6 +320,8 @@ impl Script {
     {
         self.push_order(text)?;
         text.extend_from_slice(b"\n")?;
+        push_line_if(text, self.has_io(), b"io")?;
+        push_line_if(text, self.timers_from_heap(), b"timers heap")?;
         self.push_workers(text)?;
         text.extend_from_slice(b"\n")?;
         self.push_slots(text)?;

@@ -1,4 +1,4 @@
-use Rattle.uv_script.proofs.ProofNames.{refl, subst, rules, Declares, InCallback, Sizes, HasWorkers, Orders, HasRoom, IsReadScript, IsSaid, said}
+use Rattle.uv_script.proofs.ProofNames.{refl, subst, rules, Declares, InCallback, Sizes, HasWorkers, Orders, HasIo, FromHeap, HasRoom, IsReadScript, IsSaid, said}
 use Rattle.uv_script.specs.declared.statement.Statement.{Statement}
 use Rattle.uv_script.proofs.AfterLines.{said_sound}
 use Rattle.uv_script.proofs.Kept.{uncounted_more}
@@ -29,6 +29,22 @@ invariant_of-self-in-Orders c =
     uncounted_more self.inside.lines p _ (Orders c.in-Orders.order) refl is
     (subst (λ (s : Statement). IsSaid p (said s)) c.in-Orders.is c.requires.said)
     (subst (λ (s : Statement). HasRoom p (said s)) c.in-Orders.is c.requires.room) (search rules)
+
+pub invariant_of-self-in-HasIo : goal.invariant_of-self-in-HasIo
+invariant_of-self-in-HasIo c =
+    let p = c.args.self.now in
+    let self = c.self-in-HasIo in
+    let is = subst (IsReadScript self.inside.lines) self.view_is self.invariant in
+    uncounted_more self.inside.lines p _ HasIo refl is (subst (λ (s : Statement). IsSaid p (said s)) c.in-HasIo.is c.requires.said)
+    (subst (λ (s : Statement). HasRoom p (said s)) c.in-HasIo.is c.requires.room) (search rules)
+
+pub invariant_of-self-in-FromHeap : goal.invariant_of-self-in-FromHeap
+invariant_of-self-in-FromHeap c =
+    let p = c.args.self.now in
+    let self = c.self-in-FromHeap in
+    let is = subst (IsReadScript self.inside.lines) self.view_is self.invariant in
+    uncounted_more self.inside.lines p _ FromHeap refl is (subst (λ (s : Statement). IsSaid p (said s)) c.in-FromHeap.is c.requires.said)
+    (subst (λ (s : Statement). HasRoom p (said s)) c.in-FromHeap.is c.requires.room) (search rules)
 
 pub declare-requires-clause-sound : goal.declare-requires-clause-sound
 declare-requires-clause-sound c =

@@ -23,5 +23,7 @@ invariant_of-self-2 c =
       size = c.self.inside.size;
       workers = c.self.inside.workers;
       order = c.self.inside.order;
+      io = c.self.inside.io;
+      heap = c.self.inside.heap;
       threads = c.self.inside.threads.items;
     })
