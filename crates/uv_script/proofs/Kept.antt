@@ -1,8 +1,30 @@
 -- What the type of scripts keeps.
-use Rattle.uv_script.proofs.ProofNames.{◌≡◌, ℕ, ◌+◌, ◌<◌, [], ◌∷◌, length, All, sym, ap, ◌∙◌, subst, refl, arith, length-append, Contains-get_or, sum_by_push, sum_by-set, unwrap_or-slice_get, Statement, Declares, InMain, InCallback, Sizes, HasWorkers, Orders, HasIo, FromHeap, InThread, HasRoom, with_statement, WasRead, IsReadScript, blank, Program, no_callbacks, callbacks_of, with_line, callback_count, line_count, with_workers, IsWorkerCount, IsThreadLine, IsWhole, IsSound, IsSaid}
+use Rattle.uv_script.proofs.ProofNames.{◌≡◌, ℕ, ◌+◌, ◌<◌, true, List, [], ◌∷◌, length, Option, Some, None, slice_get, option_map, Contains, All, sym, ap, ◌∙◌, subst, refl, arith, length-append, Contains-get_or, none-some, same_Some, slice_get_within, get_or_from_slice_get, MainOp, Op, CallbackLine, sum_by_push, sum_by-set, unwrap_or-slice_get, Statement, Declares, InMain, InCallback, Sizes, HasWorkers, Orders, HasIo, FromHeap, InThread, HasRoom, with_statement, WasRead, IsReadScript, blank, Program, no_callbacks, callbacks_of, with_line, callback_count, line_count, makes_io, has_io, main_op, op_at, lines_in, with_workers, IsWorkerCount, IsThreadLine, IsWhole, IsSound, IsSaid}
+use Rattle.uv_ids.specs.declared.seen.Site.{Site}
+use Rattle.uv_ids.specs.declared.seen.Site.TheVariants as site
+use Rattle.uv_script.specs.declared.op.MainOp.TheVariants as main
 use Rattle.uv_script.proofs.AfterLines.{says_sound, said_sound}
 use Rattle.uv_script.proofs.ReadBack.{was_read}
 use Rattle.uv_script.proofs.Written.{AreWritten, count_more, script_written, after_said, set_workers, written_none}
+
+found_there : {A : Type 0} (xs : List A) (k : ℕ) (x : A) → slice_get xs k ≡ Some x → Contains xs x
+found_there xs k x at = (k, slice_get_within xs k x at, get_or_from_slice_get xs k x x at)
+
+-- what makes a handle of I/O is of a script that may have some
+io_may : (p : Program) → AreWritten p → (at : Site) (o : Op) → op_at p at ≡ Some o → makes_io o ≡ true → has_io p ≡ true
+io_may p is (site.Main line) o at makes = by (slice_get p.main line) refl at
+  where
+    by : (m : Option MainOp) → slice_get p.main line ≡ m → main_op m ≡ Some o → has_io p ≡ true
+    by (Some (main.Op x)) there same =
+        (is.main (main.Op x) (found_there p.main line (main.Op x) there)).may (ap makes_io (same_Some x o same) ∙ makes)
+    by (Some (main.Run mode)) there same = absurd (none-some o same)
+    by None there same = absurd (none-some o same)
+io_may p is (site.In kind v line) o at makes = by (slice_get (lines_in p kind v) line) refl at
+  where
+    by : (l : Option CallbackLine) → slice_get (lines_in p kind v) line ≡ l → option_map (λ (x : CallbackLine). x.op) l ≡ Some o → has_io p ≡ true
+    by (Some x) there same =
+        (is.callbacks kind v x (found_there (lines_in p kind v) line x there)).may (ap makes_io (same_Some x.op o same) ∙ makes)
+    by None there same = absurd (none-some o same)
 
 -- a script that was read is whole
 pub whole : (p : Program) → WasRead p → IsWhole p
@@ -16,6 +38,7 @@ whole p read =
       slots = is.size.slots;
       workers = is.workers;
       threads = threads;
+      io = io_may p is;
     }
 
 -- how many lines count more

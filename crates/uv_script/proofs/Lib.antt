@@ -6,6 +6,7 @@ pub mod Exact
 pub mod Fresh
 pub mod Kept
 pub mod KindWords
+pub mod Older
 pub mod OneReading
 pub mod OpWords
 pub mod Places

@@ -33,11 +33,11 @@ pub use Rattle.uv_ids.specs.declared.thread_line.ThreadLine.{ThreadLine}
 pub use Rattle.uv_script.specs.Checks.{is_canonical, is_line, is_name, is_name_byte, is_number, is_printable, is_skipped}
 pub use Rattle.uv_script.specs.Fields.{fields_left}
 pub use Rattle.uv_script.specs.Grammar.{Declares, Draft, FromHeap, HasIo, HasRoom, HasWorkers, InCallback, InMain, InThread, IsBadLine, IsBadLineFrom, IsNew, IsOp, IsReadScript, IsScript, Makes, MakesFrom, MayMake, Orders, Parses, ParsesFrom, Reads, ReadsAll, Says, Sizes, Statement, WasRead, asks_io, bare, bare_word, blank, callback_word, closes_loop, declares, has_workers, in_call, in_callback, in_main, in_thread, init, io_said, named_word, none, on_name, one, orders, queue, queue_text, repeat, runs, says, says_heap, says_io, sizes, sizes_to, skips, start, unread, with_said, with_statement}
-pub use Rattle.uv_script.specs.Laws.{HasNoBadLine, HasOneBadLine, HasOneScript, HasReading, IsBack, IsReadBack}
+pub use Rattle.uv_script.specs.Laws.{HasNoBadLine, HasOneBadLine, HasOneScript, HasReading, IsBack, IsReadBack, IsReadWithoutIo}
 pub use Rattle.uv_script.specs.Limits.{MOST_LINES, MOST_NAMES, MOST_SENDERS, MOST_SLOTS}
 pub use Rattle.uv_script.specs.Lines.{IsCut, IsLine, IsSkipped, comment, empty, fields_of, lines_of, rest_of}
 pub use Rattle.uv_script.specs.Names.{AreNames}
-pub use Rattle.uv_script.specs.Program.{Callbacks, IsSlotCount, IsThreadLine, IsWhole, IsWorkerCount, LAST_GENERATION, Program, arena_size, callback_count, callbacks_of, from_heap, has_io, line_count, lines_in, lines_of as lines_in_callbacks, no_callbacks, order_of, with_line, with_workers, worker_count}
+pub use Rattle.uv_script.specs.Program.{Callbacks, IsSlotCount, IsThreadLine, IsWhole, IsWorkerCount, LAST_GENERATION, Program, arena_size, callback_count, callbacks_of, from_heap, has_io, line_count, lines_in, lines_of as lines_in_callbacks, main_op, makes_io, no_callbacks, op_at, order_of, with_line, with_workers, worker_count}
 pub use Rattle.uv_script.specs.Reading.{IsSaid, IsSound, ReadsLine, filled, first_of, has_room, is_new, marked, may_come, may_make, none_left, start_by, text_by}
 pub use Rattle.uv_script.specs.Said.{said}
 pub use Rattle.uv_script.specs.Text.{call_text, callback_line, callback_lines, front_text, heap_line, io_line, line_if, lines_text, main_line, name_lines, name_text, op_text, order_line, script_lines, setting_lines, slots_line, task_text, text_or_none, thread_line, var_line, workers_line}

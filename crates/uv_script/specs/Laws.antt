@@ -1,9 +1,11 @@
--- What a text's reading is free of: two scripts, a script beside a bad line, two first bad lines. And that a script's text is read back.
-use Rattle.std.specs.Prelude.{◌≡◌, ◌⊎◌, ℕ, List, Result, Ok, Err}
+-- What a text's reading is free of: two scripts, a script beside a bad line, two first bad lines. That a script's text is read back. And that
+-- what doesn't say `io` or `timers heap` is read as in the time when there were no such lines.
+use Rattle.std.specs.Prelude.{◌≡◌, ◌⊎◌, ℕ, false, List, Result, Ok, Err}
 use Rattle.uv_ids.specs.declared.fault.Fault.{Fault}
 use Rattle.uv_ids.specs.declared.fault.Fault.TheVariants as fault
-use Rattle.uv_script.specs.Grammar.{IsScript, IsBadLine, Parses}
-use Rattle.uv_script.specs.Program.{Program}
+use Rattle.uv_script.specs.Grammar.{MakesFrom, io_said, IsScript, IsBadLine, Parses}
+use Rattle.uv_script.specs.Lines.{lines_of}
+use Rattle.uv_script.specs.Program.{Program, has_io, from_heap}
 use Rattle.uv_script.specs.Text.{script_text}
 
 -- a text has at most one script
@@ -32,3 +34,7 @@ IsBack p (Err _) = ⊥
 pub record IsReadBack (p : Program) : Type 0 where
   pub script : IsScript (script_text p) p
   pub answer : (answer : Result Program Fault) → Parses (script_text p) answer → IsBack p answer
+
+-- a text whose script says neither `io` nor `timers heap` has this script where both count as said, too
+abbrev pub IsReadWithoutIo : List ℕ → Program → Type 0
+IsReadWithoutIo text p = has_io p ≡ false → from_heap p ≡ false → MakesFrom io_said (lines_of text) p

@@ -149,14 +149,15 @@ pub record IsThreadLine (names : ℕ) (line : ThreadLine) : Type 0 where
 abbrev pub line_count : Program → ℕ
 line_count p = length p.names + length p.main + sum_by callback_count p.callbacks + length p.threads
 
--- what every script meets, beside what its names do: each name has its callbacks, lines, slots and workers are within their limits, and each
--- line of a thread sends a declared name
+-- what every script meets, beside what its names do: each name has its callbacks, lines, slots and workers are within their limits, each
+-- line of a thread sends a declared name, and only a script that may have handles of I/O makes one
 pub record IsWhole (p : Program) : Type 0 where
   pub callbacks : length p.callbacks ≡ length p.names
   pub few : line_count p ≤ MOST_LINES
   pub slots : IsSlotCount (arena_size p).slots
   pub workers : IsWorkerCount (worker_count p)
   pub threads : All (IsThreadLine (length p.names)) p.threads
+  pub io : (at : Site) (o : Op) → op_at p at ≡ Some o → makes_io o ≡ true → has_io p ≡ true
 
 -- the script is whole, and this many of its lines count
 pub record IsCounted (lines : ℕ) (p : Program) : Type 0 where

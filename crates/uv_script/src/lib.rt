@@ -16,7 +16,7 @@ mod words;
 pub use lines::{Fields, Lines, is_line, is_skipped, line_count};
 pub use names::Names;
 pub use op::{CallbackLine, MainOp, Op};
-pub use parse::{one_reading, text_read_back};
+pub use parse::{one_reading, read_without_io, text_read_back};
 pub use script::Script;
 pub use size::ArenaSize;
 pub use text::{push_number, push_task_text};

@@ -1,7 +1,7 @@
 //! Reading a script's text.
 ghost use Rattle.std.specs.Prelude.{◌≡◌, ℕ, List};
 ghost use Rattle.uv_script.specs.Grammar.{IsScript, Parses, ParsesFrom, blank, order_said, io_said};
-ghost use Rattle.uv_script.specs.Laws.{HasReading, HasOneScript, HasNoBadLine, HasOneBadLine, IsReadBack};
+ghost use Rattle.uv_script.specs.Laws.{HasReading, HasOneScript, HasNoBadLine, HasOneBadLine, IsReadBack, IsReadWithoutIo};
 ghost use Rattle.uv_script.specs.Program.{Program};
 ghost use Rattle.uv_script.specs.Reading.{ReadsLine};
 
@@ -24,6 +24,11 @@ pub fn one_reading()
 /// The text of a script is read back as this very script, unless memory runs out.
 pub fn text_read_back()
     ensures { (text : List ℕ) (p : Program) → IsScript text p → IsReadBack p }
+{}
+
+/// A text whose script says neither `io` nor `timers heap` has the same script for `Script::parse_without_io`.
+pub fn read_without_io()
+    ensures { (text : List ℕ) (p : Program) → IsScript text p → IsReadWithoutIo text p }
 {}
 
 impl Script {
