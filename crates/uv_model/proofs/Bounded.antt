@@ -1,5 +1,5 @@
 -- A state's numbers are no larger than the number of its steps, and its times no later than the clock's limit.
-use Rattle.uv_model.proofs.Names.{◌≡◌, ℕ, zero, suc, ◌+◌, ◌≤◌, ◌^◌, List, [], ◌∷◌, ◌++◌, length, drop, Bool, true, false, Option, Some, None, if◌then◌else◌, nat_le, nat_lt, ◌==◌, option_and_then, Result, Ok, Err, slice_get, slice_set, refl, arith, subst, replicate, add-zero, zero-add, elements, list_any, cond_both, none-some, same_Some, nat_tests, Id, Var, Due, Order, V144, V145, Kind, Event, Loop, Take, Finish, Cancel, Send, Tick, Op, MainOp, CallbackLine, Task, Program, arena_size, order_of, text_of, Outcome, Finished, Cancelled, Code, Why, IdleWorker, Seen, Callback, HandleRecord, Slot, WatcherKind, inited, is_timer, is_async, activated, referenced_as, repeating, watcher_kind, start_timer_refusal, start_watcher_refusal, stop_refusal, again_refusal, timer_refusal, close_refusal, no_refusal, send_refusal, Slots, taken, taken_from, freed, next_free, Walk, with_first, with_last, all_yet, Content, Calls, Named, Body, Run, Stage, Entry, Pending, Walking, Poll, Done, Closing, Timers, TimersOf, Turn, AtEntry, Behind, BehindClosing, Way, ToTimers, ToPending, ToEnd, Timing, Collecting, Firing, Place, Main, Running, Request, found_or, same_id, without_id, queued, digest_in, handle_in, State, fresh, named, handle, with_handle, request, with_named, with_id, live, live_handle, live_request, front, front_request, watched, with_watched, refreshed, unbound, counted, count_of, taken_off, stopped, started, restarted, do_op, refuses, Next, Moves, Refuses, loop_step, main_step, run_step, body_step, stage_step, tick, sent_to, next_work, finish, work_of, cancels, begin_done, collect_request, timers, collected, first_due, fire, way, time_at, idled_at, idled_then, goes_by, turns, refreshes, ends, calls, may_leave, body_from, goes, begin_walk, after_walk, front_moved, walk, walk_async, close_front, goes_on, state_of, line_of, HoldsBefore, StartsBefore, CanStep}
+use Rattle.uv_model.proofs.Names.{◌≡◌, ℕ, zero, suc, ◌+◌, ◌≤◌, ◌^◌, List, [], ◌∷◌, ◌++◌, length, drop, Bool, true, false, Option, Some, None, if◌then◌else◌, nat_le, nat_lt, ◌==◌, option_and_then, Result, Ok, Err, slice_get, slice_set, refl, arith, subst, replicate, add-zero, zero-add, elements, list_any, cond_both, none-some, same_Some, sym, nat_tests, Id, Var, Due, Order, V144, V145, Kind, Event, Loop, Take, Finish, Cancel, Send, Io, Tick, Op, MainOp, CallbackLine, Task, Program, arena_size, order_of, from_heap, text_of, Outcome, Finished, Cancelled, Code, Why, IdleWorker, Seen, Callback, HandleRecord, Slot, WatcherKind, inited, is_timer, is_async, activated, referenced_as, repeating, watcher_kind, start_timer_refusal, start_watcher_refusal, stop_refusal, again_refusal, timer_refusal, close_refusal, no_refusal, send_refusal, only_if, invalid_if, is_startable, Slots, taken, taken_from, freed, next_free, Walk, with_first, with_last, all_yet, Content, Calls, Named, Body, Run, Stage, Entry, Pending, Walking, Poll, Polled, Done, DoneUnwoken, Closing, Timers, TimersOf, Turn, AtEntry, Behind, BehindClosing, Way, ToTimers, ToPending, ToEnd, Timing, Collecting, Firing, Place, Main, Running, Request, found_or, same_id, without_id, queued, digest_in, handle_in, State, fresh, named, handle, with_handle, request, with_named, with_id, live, live_handle, live_request, front, front_request, watched, with_watched, refreshed, unbound, counted, count_of, taken_off, stopped, started, restarted, do_op, refuses, Next, Moves, Refuses, loop_step, main_step, run_step, body_step, stage_step, tick, sent_to, next_work, finish, work_of, cancels, begin_done, leave_polled, collect_request, timers, call_due, io, io_run, io_handle, call_io, takes_io, stage_polled, time_polled, collected, first_due, fire, way, time_at, idled_at, idled_then, goes_by, turns, refreshes, ends, calls, may_leave, body_from, goes, begin_walk, after_walk, front_moved, walk, walk_async, close_front, goes_on, state_of, line_of, HoldsBefore, StartsBefore, CanStep}
 use Rattle.uv_ids.specs.declared.phase.Kind.TheVariants as kind
 use Rattle.uv_script.specs.declared.op.Op.TheVariants as op
 use Rattle.uv_script.specs.declared.op.MainOp.TheVariants as main
@@ -122,10 +122,17 @@ set_repeat_bounded : (n : ℕ) (s : State) (repeat : ℕ) (id : Id) (x : HandleR
 set_repeat_bounded n s repeat id x h b = more n (with_handle s id (repeating repeat x))
     (kept_in n s id (repeating repeat x) h (record { starts = b.starts; freed = b.freed }))
 
-start_watcher_bounded : (n : ℕ) (s : State) (id : Id) (x : HandleRecord) → IsBounded n s → id.generation ≤ n →
+-- `start v` starts no timer
+no_timer_starts : (kind : Kind) (closing : Bool) → only_if (is_startable kind) (invalid_if closing) ≡ None → is_timer kind ≡ true → ⊥
+no_timer_starts kind.Timer closing e t = cc e
+no_timer_starts each closing e t = cc t
+
+start_watcher_bounded : (n : ℕ) (s : State) (id : Id) (x : HandleRecord) → IsBounded n s → id.generation ≤ n → start_watcher_refusal x ≡ None →
     IsBounded (suc n) (ops.start_watcher s id x).state
-start_watcher_bounded n s id x h few = if_keeps (IsBounded (suc n)) x.active s _ (more n s h)
-    (found_both (watcher_kind x.kind) _ s (IsBounded (suc n)) (λ kind e. started_watcher kind e) (λ e. more n s h))
+start_watcher_bounded n s id x h few may = if_keeps (IsBounded (suc n)) x.active s _ (more n s h)
+    (found_both (watcher_kind x.kind) _ (with_handle s id (activated x)) (IsBounded (suc n)) (λ kind e. started_watcher kind e)
+    (λ e. more n (with_handle s id (activated x))
+    (kept_in n s id (activated x) h (record { starts = λ t a. absurd (no_timer_starts x.kind x.closing may t); freed = few }))))
   where
     started_watcher : (kind : WatcherKind) → watcher_kind x.kind ≡ Some kind → IsBounded (suc n) (ops.watcher_started s kind id x)
     started_watcher kind e =
@@ -168,7 +175,7 @@ op_bounded n s (op.Queue v task) h = make_bounded n s (live s v) (ops.with_queue
 op_bounded n s (op.Cancel v) h = cancel_bounded n s (live_request s v) (asked_before n s v h) h
 op_bounded n s (op.Start v timeout repeat) h = on_handle_bounded n s v start_timer_refusal _ h
     (λ id x b e. start_bounded n s timeout repeat id x h b.freed)
-op_bounded n s (op.StartWatcher v) h = on_handle_bounded n s v start_watcher_refusal _ h (λ id x b e. start_watcher_bounded n s id x h b.freed)
+op_bounded n s (op.StartWatcher v) h = on_handle_bounded n s v start_watcher_refusal _ h (λ id x b e. start_watcher_bounded n s id x h b.freed e)
 op_bounded n s (op.Stop v) h = on_handle_bounded n s v stop_refusal _ h (λ id x b e. more n (stopped s id x) (stopped_bounded n s id x h b.freed))
 op_bounded n s (op.Again v) h = on_handle_bounded n s v again_refusal _ h (λ id x b e. again_bounded n s id x h b.freed)
 op_bounded n s (op.SetRepeat v repeat) h = on_handle_bounded n s v timer_refusal _ h (λ id x b e. set_repeat_bounded n s repeat id x h b)
@@ -264,12 +271,22 @@ first_due_before n s (u ∷ ts) t e h =
     chosen true x y f = f
     chosen false x y f = absurd (none-some y f)
 
+call_due_bounded : (p : Program) (n : ℕ) (s : State) (run : Run) (part : TimersOf) → IsBounded n s → run.line ≤ n →
+    StaysBounded (suc n) (call_due p s run part)
+call_due_bounded p n s run part h l = found_both (first_due s s.timers) _ _ (StaysBounded (suc n))
+    (λ t e. let few = (first_due_before n s s.timers t e h).freed in
+    let u = stopped s t.0 t.1 in
+    calls_bounded p n (restarted u t.0 t.1) (record run { stage = Timers part Collecting }) callback.Handle t.1.name (seen.Call t.1.name t.0)
+    (restarted_bounded n u t.0 t.1 (stopped_bounded n s t.0 t.1 h few) few) (restarted_names n u t.0 t.1 h.counts) l)
+    (λ e. turn_bounded n (order_of p) s run (Behind part) h l)
+
 timers_bounded : (p : Program) (n : ℕ) (s : State) (run : Run) (part : TimersOf) (timing : Timing) → IsBounded n s → run.line ≤ n →
     StaysBounded (suc n) (timers p s run part timing)
-timers_bounded p n s run part Collecting h l = found_both (first_due s s.timers) _ _ (StaysBounded (suc n))
+timers_bounded p n s run part Collecting h l = if_keeps (StaysBounded (suc n)) (from_heap p) _ _ (call_due_bounded p n s run part h l)
+    (found_both (first_due s s.timers) _ _ (StaysBounded (suc n))
     (λ t e. let few = (first_due_before n s s.timers t e h).freed in
     run_at n (collected s t.0 t.1) (record run { stage = Timers part Collecting; body = None }) (collected_bounded n s t.0 t.1 h few) l)
-    (λ e. fire_bounded p n s run part h l)
+    (λ e. fire_bounded p n s run part h l))
 timers_bounded p n s run part Firing h l = fire_bounded p n s run part h l
 
 begin_walk_bounded : (n : ℕ) (s : State) (run : Run) (kind : WatcherKind) → IsBounded n s → run.line ≤ n
@@ -361,9 +378,12 @@ collect_bounded p n s run h l = found_both (front_request s s.done.yet) _ _ (Sta
 
 begin_done_bounded : (n : ℕ) (s : State) (run : Run) → IsBounded n s → run.line ≤ n → StaysBounded (suc n) (begin_done s run)
 begin_done_bounded n s run h l =
-    let t = refreshed s in
-    run_at n (record t { done = all_yet s.done }) (record run { stage = Done; body = None })
-    (pooled n t s.waiting s.running (all_yet s.done) (at_clock n s h)) l
+    run_at n (record s { done = all_yet s.done }) (record run { stage = Done; body = None })
+    (pooled n s s.waiting s.running (all_yet s.done) h) l
+
+leave_polled_bounded : (n : ℕ) (s : State) (run : Run) (woken : Bool) → IsBounded n s → run.line ≤ n → StaysBounded (suc n) (leave_polled s run woken)
+leave_polled_bounded n s run true h l = begin_done_bounded n s run h l
+leave_polled_bounded n s run false h l = run_at n s (record run { stage = DoneUnwoken; body = None }) h l
 
 stage_bounded : (p : Program) (n : ℕ) (s : State) (run : Run) (stage : Stage) → IsBounded n s → run.line ≤ n →
     StaysBounded (suc n) (stage_step p s run stage)
@@ -372,8 +392,10 @@ stage_bounded p n s run Pending h l = begin_walk_bounded n s run watcher.Idle h 
 stage_bounded p n s run (Walking watcher.Async) h l = async_bounded p n s run h l
 stage_bounded p n s run (Walking kind) h l = walk_bounded p n s run kind h l
 stage_bounded p n s run (Poll deadline) h l = if_keeps (StaysBounded (suc n)) (may_leave s deadline) _ _
-    (begin_done_bounded n s run h l) tt
+    (begin_done_bounded n (refreshed s) run (at_clock n s h) l) tt
+stage_bounded p n s run (Polled woken) h l = leave_polled_bounded n s run woken h l
 stage_bounded p n s run Done h l = collect_bounded p n s run h l
+stage_bounded p n s run DoneUnwoken h l = run_at n s (record run { stage = Walking watcher.Async; body = None }) h l
 stage_bounded p n s run Closing h l = close_bounded p n s run h l
 stage_bounded p n s run (Timers part timing) h l = timers_bounded p n s run part timing h l
 
@@ -420,6 +442,31 @@ cancels_bounded : (n : ℕ) (s : State) (v : Var) → IsBounded n s → StaysBou
 cancels_bounded n s v h = if_keeps (StaysBounded (suc n)) (nat_lt v.0 (length s.names)) _ _
     (cancel_bounded n s (live_request s v) (asked_before n s v h) h) tt
 
+-- a callback of I/O in the poll sets the time to the clock
+polled_time : (n : ℕ) (s : State) (stage : Stage) → IsBounded n s → IsBounded n (record s { time = time_polled s stage })
+polled_time n s (Poll deadline) h = at_clock n s h
+polled_time n s each h = h
+
+io_bounded : (p : Program) (n : ℕ) (s : State) (v : Var) → IsBounded n s → StaysBounded (suc n) (io p s v)
+io_bounded p n s v h = if_keeps (StaysBounded (suc n)) (nat_lt v.0 (length s.names)) _ _
+    (at (io_run s s.place) (io_handle (live_handle s v)) (runs s.place refl)) tt
+  where
+    -- the run under way has the place's line
+    runs : (place : Place) → place ≡ s.place → (run : Run) → io_run s place ≡ Some run → run.line ≤ n
+    runs (Main line) e run f = cc f
+    runs (Running r) e run f = taken (takes_io s r.stage r.body) f where
+      taken : (b : Bool) → (if b then Some r else None) ≡ Some run → run.line ≤ n
+      taken true g = let same : r ≡ run = same_Some _ _ g in let l : line_of (Running r) ≤ n = subst (λ (q : Place). line_of q ≤ n) (sym e) h.line in
+          subst (λ (q : Run). q.line ≤ n) same l
+      taken false g = absurd (none-some run g)
+    at : (r : Option Run) (id : Option Id) → ((run : Run) → r ≡ Some run → run.line ≤ n) → StaysBounded (suc n) (call_io p s v r id)
+    at None id l = tt
+    at (Some run) None l = tt
+    at (Some run) (Some id) l =
+        let u = record s { time = time_polled s run.stage } in
+        calls_bounded p n u (record run { stage = stage_polled s run.stage }) callback.Handle v (seen.Io v id)
+        (more n u (polled_time n s run.stage h)) h.counts (l run refl)
+
 take_bounded : (n : ℕ) (s : State) (k : ℕ) (t : Result (Id × Request) Why) → IsBounded n s → StaysBounded (suc n) (take s k t)
 take_bounded n s k (Err why) h = tt
 take_bounded n s k (Ok t) h =
@@ -446,6 +493,7 @@ next_bounded p n s (Take k) h = take_bounded n s k (next_work s (slice_get s.run
 next_bounded p n s (Finish k) h = finish_bounded n s k (slice_get s.running k) h
 next_bounded p n s (Cancel v) h = cancels_bounded n s v h
 next_bounded p n s (Send v) h = sent_to_bounded n s v h
+next_bounded p n s (Io v) h = io_bounded p n s v h
 next_bounded p n s (Tick ms) h = tick_bounded n s ms h
 
 state_bounded : (p : Program) (n : ℕ) (s : State) (e : Event) → IsBounded n s → IsBounded (suc n) (state_of s (next p s e))

@@ -18,7 +18,7 @@ pub use Rattle.uv_ids.specs.Due.{due_cmp}
 pub use Rattle.uv_ids.specs.declared.code.Code.{Code}
 pub use Rattle.uv_ids.specs.declared.due.Due.{Due}
 pub use Rattle.uv_ids.specs.declared.event.Event.{Event}
-pub use Rattle.uv_ids.specs.declared.event.Event.TheVariants.{Cancel, Finish, Loop, Send, Take, Tick}
+pub use Rattle.uv_ids.specs.declared.event.Event.TheVariants.{Cancel, Finish, Io, Loop, Send, Take, Tick}
 pub use Rattle.uv_ids.specs.declared.fault.Fault.{Fault}
 pub use Rattle.uv_ids.specs.declared.fault.Why.{Why}
 pub use Rattle.uv_ids.specs.declared.fault.Why.TheVariants.{Blocked, IdleWorker}
@@ -35,7 +35,7 @@ pub use Rattle.uv_model.specs.Content.{handle_in, request_in}
 pub use Rattle.uv_model.specs.Found.{found_or}
 pub use Rattle.uv_model.specs.Handing.{AnswersResult, RefusesResult}
 pub use Rattle.uv_model.specs.Ids.{same_id, without_id}
-pub use Rattle.uv_model.specs.Next.{Moves, Next, Refuses, after_walk, begin_done, begin_walk, body_from, body_step, calls, cancels, close_front, collect_request, collected, ends, finish, fire, first_due, front_moved, goes, goes_by, idled_at, idled_then, loop_step, main_step, may_leave, next_line, next_work, refreshes, run_step, sent_to, stage_step, tick, time_at, timers, turns, walk, walk_async, way, work_of}
+pub use Rattle.uv_model.specs.Next.{Moves, Next, Refuses, after_walk, begin_done, begin_walk, body_from, body_step, call_due, call_io, calls, io, io_handle, io_run, leave_polled, stage_polled, takes_io, time_polled, cancels, close_front, collect_request, collected, ends, finish, fire, first_due, front_moved, goes, goes_by, idled_at, idled_then, loop_step, main_step, may_leave, next_line, next_work, refreshes, run_step, sent_to, stage_step, tick, time_at, timers, turns, walk, walk_async, way, work_of}
 pub use Rattle.uv_model.specs.Ops.{do_op, refuses}
 pub use Rattle.uv_model.specs.Queries.{runner_from, timer_ids}
 pub use Rattle.uv_model.specs.State.{State, Watchers, as_handle, as_request, fresh, front, front_request, handle, live, live_handle, live_id, live_request, named, refreshed, request, those_of, watched, with_handle, with_id, with_named, with_request, with_those_of, with_watched}
@@ -47,7 +47,7 @@ pub use Rattle.uv_model.specs.declared.place.Place.{Place}
 pub use Rattle.uv_model.specs.declared.place.Place.TheVariants.{Main, Running}
 pub use Rattle.uv_model.specs.declared.place.Run.{Run}
 pub use Rattle.uv_model.specs.declared.place.Stage.{Stage}
-pub use Rattle.uv_model.specs.declared.place.Stage.TheVariants.{Closing, Done, Entry, Pending, Poll, Timers, Walking}
+pub use Rattle.uv_model.specs.declared.place.Stage.TheVariants.{Closing, Done, DoneUnwoken, Entry, Pending, Poll, Polled, Timers, Walking}
 pub use Rattle.uv_model.specs.declared.place.TimersOf.{TimersOf}
 pub use Rattle.uv_model.specs.declared.place.Timing.{Timing}
 pub use Rattle.uv_model.specs.declared.place.Timing.TheVariants.{Collecting, Firing}
@@ -58,7 +58,7 @@ pub use Rattle.uv_model.specs.declared.place.Way.TheVariants.{ToEnd, ToPending, 
 pub use Rattle.uv_records.specs.Handles.{activated, begun_at, inited, is_async, is_timer, referenced_as, repeating}
 pub use Rattle.uv_records.specs.Lists.{watcher_kind}
 pub use Rattle.uv_records.specs.Names.{count_of, counted, unbound}
-pub use Rattle.uv_records.specs.Refusals.{again_refusal, close_refusal, no_refusal, send_refusal, start_timer_refusal, start_watcher_refusal, stop_refusal, timer_refusal}
+pub use Rattle.uv_records.specs.Refusals.{again_refusal, close_refusal, invalid_if, is_startable, no_refusal, only_if, send_refusal, start_timer_refusal, start_watcher_refusal, stop_refusal, timer_refusal}
 pub use Rattle.uv_records.specs.Slots.{Slots, freed, held, held_in, id_of, next_free, next_id, taken, taken_from}
 pub use Rattle.uv_records.specs.Walks.{Walk, all_yet, with_first, with_last}
 pub use Rattle.uv_records.specs.declared.handle.HandleRecord.{HandleRecord}
@@ -66,7 +66,7 @@ pub use Rattle.uv_records.specs.declared.lists.WatcherKind.{WatcherKind}
 pub use Rattle.uv_records.specs.declared.named.Calls.{Calls}
 pub use Rattle.uv_records.specs.declared.named.Named.{Named}
 pub use Rattle.uv_records.specs.declared.slot.Slot.{Slot}
-pub use Rattle.uv_script.specs.Program.{Program, arena_size, is_for, lines_in, order_of}
+pub use Rattle.uv_script.specs.Program.{Program, arena_size, from_heap, is_for, lines_in, order_of}
 pub use Rattle.uv_script.specs.declared.op.CallbackLine.{CallbackLine}
 pub use Rattle.uv_script.specs.declared.op.MainOp.{MainOp}
 pub use Rattle.uv_script.specs.declared.op.Op.{Op}

@@ -1,6 +1,6 @@
 -- Which steps of the loop are refused: those past the main program's end, and those in a poll that can't be left yet. All others
 -- are taken, with a line of the loop's own.
-use Rattle.uv_model.proofs.Names.{◌≡◌, ℕ, Option, Some, None, slice_get, refl, if◌then◌else◌, cond_both, Loop, Why, Blocked, Order, MainOp, CallbackLine, Program, order_of, lines_in, Body, Place, Main, Running, Run, Stage, TimersOf, Turn, AtEntry, Behind, BehindClosing, Way, ToTimers, ToPending, ToEnd, Timing, Collecting, Firing, WatcherKind, State, front, front_request, watched, Next, Moves, Refuses, IsOfLoop, refusal_of}
+use Rattle.uv_model.proofs.Names.{◌≡◌, ℕ, Option, Some, None, slice_get, refl, true, false, if◌then◌else◌, cond_both, Loop, Why, Blocked, Order, MainOp, CallbackLine, Program, order_of, from_heap, lines_in, Body, Place, Main, Running, Run, Stage, TimersOf, Turn, AtEntry, Behind, BehindClosing, Way, ToTimers, ToPending, ToEnd, Timing, Collecting, Firing, WatcherKind, State, front, front_request, watched, Next, Moves, Refuses, IsOfLoop, refusal_of}
 use Rattle.uv_script.specs.declared.op.MainOp.TheVariants as main
 use Rattle.uv_model.specs.declared.place.Stage.TheVariants as stage
 use Rattle.uv_records.specs.declared.lists.WatcherKind.TheVariants as watcher
@@ -46,7 +46,9 @@ fire_moves : (p : Program) (s : State) (run : Run) (part : TimersOf) → IsTaken
 fire_moves p s run part = found_both (front s s.ready) _ _ IsTaken (λ t e. tt) (λ e. turn_moves (order_of p) s run (Behind part))
 
 timers_moves : (p : Program) (s : State) (run : Run) (part : TimersOf) (timing : Timing) → IsTaken (step.timers p s run part timing)
-timers_moves p s run part Collecting = found_both (step.first_due s s.timers) _ _ IsTaken (λ t e. tt) (λ e. fire_moves p s run part)
+timers_moves p s run part Collecting = cond_both (from_heap p) _ _ IsTaken
+    (λ d. found_both (step.first_due s s.timers) _ _ IsTaken (λ t e. tt) (λ e. turn_moves (order_of p) s run (Behind part)))
+    (λ d. found_both (step.first_due s s.timers) _ _ IsTaken (λ t e. tt) (λ e. fire_moves p s run part))
 timers_moves p s run part Firing = fire_moves p s run part
 
 after_moves : (s : State) (run : Run) (kind : WatcherKind) → IsTaken (step.after_walk s run kind)
@@ -71,7 +73,9 @@ stage_refusal s (stage.Poll deadline) = if step.may_leave s deadline then None e
 stage_refusal s stage.Entry = None
 stage_refusal s stage.Pending = None
 stage_refusal s (stage.Walking kind) = None
+stage_refusal s (stage.Polled woken) = None
 stage_refusal s stage.Done = None
+stage_refusal s stage.DoneUnwoken = None
 stage_refusal s stage.Closing = None
 stage_refusal s (stage.Timers part timing) = None
 
@@ -82,7 +86,10 @@ stage_does p s run (stage.Walking watcher.Async) = async_moves p s run
 stage_does p s run (stage.Walking kind) = walk_moves p s run kind
 stage_does p s run (stage.Poll deadline) = cond_both (step.may_leave s deadline) _ _
     (Does (stage_refusal s (stage.Poll deadline))) (λ e. rw e tt) (λ e. rw e refl)
+stage_does p s run (stage.Polled true) = tt
+stage_does p s run (stage.Polled false) = tt
 stage_does p s run stage.Done = done_moves p s run
+stage_does p s run stage.DoneUnwoken = tt
 stage_does p s run stage.Closing = close_moves p s run
 stage_does p s run (stage.Timers part timing) = timers_moves p s run part timing
 

@@ -10,25 +10,26 @@ swapped : (ts : List (Due × Id)) (active : Bool) (old new : Due) (id : Id) → 
 swapped ts true old new id s l = without-with_timer ts old new id s (another old new (l refl))
 swapped ts false old new id s l = refl
 
-both_true : (a b : Bool) → a ≡ true → (a && b) ≡ b
-both_true a b e = rw e refl
+both_true : (a b : Bool) → (a && b) ≡ true → (a ≡ true) × (b ≡ true)
+both_true true b e = (refl, e)
+both_true false b e = cc e
 
 -- a state whose next start number is drawn
 abbrev pub drawn_one : State → State
 drawn_one s = record s { next_start = s.next_start + 1 }
 
 pub started_again : (s : State) (id : Id) (h : HandleRecord) (timeout repeat : ℕ) → IsStrictlySortedBy due_cmp (keys_of s.timers)
-    → is_timer h.kind ≡ true →
-    StartsBefore s.next_start h →
+    → StartsBefore s.next_start h →
     with_handle
     (drawn_one (taken_off (record s { timers = with_timer s.timers (due_after s timeout) id }) id h))
     id
     (begun_at (due_after s timeout) repeat h)
     ≡ started (stopped s id h) id h timeout repeat
-started_again s id h timeout repeat sorted timer before =
+started_again s id h timeout repeat sorted before =
     let u = taken_off s id h in
-    rw (both_true (is_timer h.kind) h.active timer) (
+    let old : (is_timer h.kind && h.active) ≡ true → h.due.start < s.next_start =
+        λ e. let both = both_true (is_timer h.kind) h.active e in before both.0 both.1 in
     ap₂ (λ (ts : List (Due × Id)) (slots : List (Slot Content)). record u
     { timers = ts; next_start = s.next_start + 1; arena = record s.arena { slots = slots } })
-    (swapped s.timers h.active h.due (due_after s timeout) id sorted (before timer))
-    (sym (set-set s.arena.slots id.slot _ _)))
+    (swapped s.timers (is_timer h.kind && h.active) h.due (due_after s timeout) id sorted old)
+    (sym (set-set s.arena.slots id.slot _ _))

@@ -10,24 +10,25 @@ use Rattle.uv_ids.specs.declared.phase.Mode.TheVariants.{Default, Once, Nowait}
 use Rattle.uv_ids.specs.declared.phase.Phase.{Phase}
 use Rattle.uv_ids.specs.declared.phase.Phase.TheVariants as phase
 use Rattle.uv_ids.specs.declared.event.Event.{Event}
-use Rattle.uv_ids.specs.declared.event.Event.TheVariants.{Loop, Take, Finish, Cancel, Send, Tick}
+use Rattle.uv_ids.specs.declared.event.Event.TheVariants.{Loop, Take, Finish, Cancel, Send, Io, Tick}
 use Rattle.uv_ids.specs.declared.seen.Seen.{Seen}
 use Rattle.uv_ids.specs.declared.seen.Seen.TheVariants as seen
 use Rattle.uv_ids.specs.declared.seen.Callback.{Callback}
 use Rattle.uv_ids.specs.declared.seen.Callback.TheVariants as callback
 use Rattle.uv_ids.specs.declared.seen.Site.TheVariants as site
+use Rattle.uv_ids.specs.declared.code.Code.{Code}
 use Rattle.uv_ids.specs.declared.fault.Why.{Why}
 use Rattle.uv_ids.specs.declared.fault.Why.TheVariants.{Blocked, Ended, NoWork, BusyWorker, IdleWorker, NoWorker, Range}
 use Rattle.uv_script.specs.declared.op.MainOp.{MainOp}
 use Rattle.uv_script.specs.declared.op.MainOp.TheVariants as main
 use Rattle.uv_script.specs.declared.op.CallbackLine.{CallbackLine}
-use Rattle.uv_script.specs.Program.{Program, arena_size, order_of, lines_in, is_for}
+use Rattle.uv_script.specs.Program.{Program, arena_size, order_of, from_heap, lines_in, is_for}
 use Rattle.uv_work.specs.Tasks.{text_of}
 use Rattle.uv_model.specs.Limits.{LATEST}
 use Rattle.uv_model.specs.declared.place.Body.{Body}
 use Rattle.uv_model.specs.declared.place.Run.{Run}
 use Rattle.uv_model.specs.declared.place.Stage.{Stage}
-use Rattle.uv_model.specs.declared.place.Stage.TheVariants.{Entry, Pending, Walking, Poll, Done, Closing, Timers}
+use Rattle.uv_model.specs.declared.place.Stage.TheVariants.{Entry, Pending, Walking, Poll, Polled, Done, DoneUnwoken, Closing, Timers}
 use Rattle.uv_model.specs.declared.place.TimersOf.{TimersOf}
 use Rattle.uv_model.specs.declared.place.TimersOf.TheVariants as timers_of
 use Rattle.uv_model.specs.declared.place.Turn.{Turn}
@@ -53,7 +54,7 @@ use Rattle.uv_model.specs.Found.{found_or}
 use Rattle.uv_model.specs.Ids.{has_some}
 use Rattle.uv_model.specs.State.{State, live_handle, live_request, handle, request, with_id, front_request, with_handle, named, with_named, front, watched, with_watched, refreshed}
 use Rattle.uv_records.specs.Names.{count_of, counted}
-use Rattle.uv_model.specs.Timers.{restarted}
+use Rattle.uv_model.specs.Timers.{stopped, restarted}
 use Rattle.uv_model.specs.Timeout.{is_alive, has_pending, poll_timeout, deadline_of, has_passed}
 use Rattle.uv_model.specs.Ops.{do_op, send, cancel, ended}
 
@@ -159,16 +160,27 @@ begin_poll s run =
     let timeout = poll_timeout s run.mode in
     Moves (at s run (Poll (deadline_of s timeout))) (Some (seen.Poll timeout))
 
--- the poll is left when its deadline has passed, a request is done, or an async handle was sent to
+-- a poll is woken by a request that is done, or by an async handle that was sent to (uv_async_send)
+abbrev pub is_woken : State → Bool
+is_woken s = has_some s.done.list || has_pending s
+
+-- it is left when its deadline has passed, or when it is woken
 abbrev pub may_leave : State → Option ℕ → Bool
-may_leave s deadline = has_passed s.clock deadline || (has_some s.done.list || has_pending s)
+may_leave s deadline = has_passed s.clock deadline || is_woken s
 
--- on leaving it the time is refreshed, and the requests that are done are yet to call back
+-- the requests that are done are yet to call back
 abbrev pub begin_done : State → Run → Next
-begin_done s run = begins (record (refreshed s) { done = all_yet s.done }) run Done phase.Done
+begin_done s run = begins (record s { done = all_yet s.done }) run Done phase.Done
 
+-- on leaving the poll the time is refreshed
 abbrev pub poll : State → Run → Option ℕ → Next
-poll s run deadline = if may_leave s deadline then begin_done s run else Refuses Blocked
+poll s run deadline = if may_leave s deadline then begin_done (refreshed s) run else Refuses Blocked
+
+-- behind a poll that a callback of I/O left, which has refreshed the time: where nobody woke that poll, neither a request nor an async
+-- handle is called in this iteration
+abbrev pub leave_polled : State → Run → Bool → Next
+leave_polled s run true = begin_done s run
+leave_polled s run false = begins s run DoneUnwoken phase.Done
 
 -- a callback begins, with this line: one call more of its name
 abbrev pub calls : Program → State → Run → Callback → Var → Seen → Next
@@ -198,6 +210,13 @@ first_due s (t ∷ ts) = if nat_le t.0.at s.time then with_id t.1 (handle s t.1)
 abbrev pub collected : State → Id → HandleRecord → State
 collected s id h = with_handle (record s { timers = drop 1 s.timers; ready = s.ready ++ id ∷ [] }) id (records.stopped h)
 
+-- due timers are called straight from their heap until none is due: each time the first one is stopped, started again where it repeats, and
+-- called (uv__run_timers before libuv 1.48)
+abbrev pub call_due : Program → State → Run → TimersOf → Next
+call_due p s run part = found_or (first_due s s.timers)
+    (λ t. call p (restarted (stopped s t.0 t.1) t.0 t.1) (record run { stage = Timers part Collecting }) t.0 t.1.name)
+    (turns (order_of p) s run (Behind part))
+
 -- all due timers are collected, one a step and without a line, before the first is called
 abbrev pub collect : Program → State → Run → TimersOf → Next
 collect p s run part = found_or (first_due s s.timers)
@@ -205,7 +224,7 @@ collect p s run part = found_or (first_due s s.timers)
     (fire p s run part)
 
 abbrev pub timers : Program → State → Run → TimersOf → Timing → Next
-timers p s run part Collecting = collect p s run part
+timers p s run part Collecting = if from_heap p then call_due p s run part else collect p s run part
 timers p s run part Firing = fire p s run part
 
 -- a section that walks handles of a kind begins: its whole list is yet to run
@@ -270,7 +289,9 @@ stage_step p s run Entry = turns (order_of p) s run AtEntry
 stage_step p s run Pending = begin_walk s run watcher.Idle
 stage_step p s run (Walking kind) = in_walk p s run kind
 stage_step p s run (Poll deadline) = poll s run deadline
+stage_step p s run (Polled woken) = leave_polled s run woken
 stage_step p s run Done = collect_request p s run
+stage_step p s run DoneUnwoken = begins s run (Walking watcher.Async) phase.Async
 stage_step p s run Closing = close_front p s run
 stage_step p s run (Timers part timing) = timers p s run part timing
 
@@ -316,6 +337,49 @@ sent_to s v =
     let done = send s (live_handle s v) in
     if nat_lt v.0 (length s.names) then Moves done.state (Some (seen.Send v done.code)) else Refuses Range
 
+-- ---- I/O
+
+-- whether a callback of I/O may begin where a run stands: no callback is under way, and it is in the pending section, in the poll, or
+-- behind it, in the done section or at the end of the async one
+abbrev pub takes_io : State → Stage → Option Body → Bool
+takes_io s stage (Some body) = false
+takes_io s Pending None = true
+takes_io s (Poll deadline) None = true
+takes_io s (Polled woken) None = true
+takes_io s Done None = true
+takes_io s DoneUnwoken None = true
+takes_io s (Walking watcher.Async) None = not (has_some s.watchers.async.yet)
+takes_io s stage None = false
+
+-- the run under way, where one may begin
+abbrev pub io_run : State → Place → Option Run
+io_run s (Main line) = None
+io_run s (Running run) = if takes_io s run.stage run.body then Some run else None
+
+-- the handle of I/O that is called, by its name: a live one that is active
+abbrev pub io_handle : Result (Id × HandleRecord) Code → Option Id
+io_handle (Err code) = None
+io_handle (Ok t) = if records.is_io t.1.kind && t.1.active then Some t.0 else None
+
+-- the first callback of I/O in a poll leaves it, and it is kept whether the poll was woken before
+abbrev pub stage_polled : State → Stage → Stage
+stage_polled s (Poll deadline) = Polled (is_woken s)
+stage_polled s stage = stage
+
+-- it refreshes the time
+abbrev pub time_polled : State → Stage → ℕ
+time_polled s (Poll deadline) = s.clock
+time_polled s stage = s.time
+
+-- what the handle waits for has come, and its callback begins
+abbrev pub call_io : Program → State → Var → Option Run → Option Id → Next
+call_io p s v (Some run) (Some id) = calls p (record s { time = time_polled s run.stage }) (record run { stage = stage_polled s run.stage })
+    callback.Handle v (seen.Io v id)
+call_io p s v _ _ = Refuses Blocked
+
+abbrev pub io : Program → State → Var → Next
+io p s v = if nat_lt v.0 (length s.names) then call_io p s v (io_run s s.place) (io_handle (live_handle s v)) else Refuses Range
+
 -- ---- the thread pool
 
 -- what a worker may take, by what it runs: there has to be such a worker, which runs nothing, and the request that waits longest
@@ -356,4 +420,5 @@ next p s (Take k) = take s k (next_work s (slice_get s.running k))
 next p s (Finish k) = finish s k (work_of s (slice_get s.running k))
 next p s (Cancel v) = cancels s v
 next p s (Send v) = sent_to s v
+next p s (Io v) = io p s v
 next p s (Tick ms) = tick s ms

@@ -99,9 +99,10 @@ set_referenced s flag id h = succeeds (with_handle s id (referenced_as flag h))
 abbrev pub watcher_started : State → WatcherKind → Id → HandleRecord → State
 watcher_started s kind id h = with_handle (with_watched s kind (with_first (watched s kind) id)) id (activated h)
 
--- `start v`: started, if it isn't active
+-- `start v`: started, if it isn't active; a handle of I/O is on no list
 abbrev pub start_watcher : State → Id → HandleRecord → Done
-start_watcher s id h = succeeds (if h.active then s else found_or (watcher_kind h.kind) (λ kind. watcher_started s kind id h) s)
+start_watcher s id h = succeeds
+    (if h.active then s else found_or (watcher_kind h.kind) (λ kind. watcher_started s kind id h) (with_handle s id (activated h)))
 
 -- ---- async handles
 

@@ -27,5 +27,6 @@ IsOfLoop (Some (seen.Take k v id)) = ⊥
 IsOfLoop (Some (seen.Finish k v id)) = ⊥
 IsOfLoop (Some (seen.Cancel v a)) = ⊥
 IsOfLoop (Some (seen.Send v code)) = ⊥
+IsOfLoop (Some (seen.Io v id)) = ⊥
 IsOfLoop (Some (seen.Tick ms)) = ⊥
 IsOfLoop l = Unit {0}

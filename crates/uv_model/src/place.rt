@@ -33,7 +33,11 @@ pub enum Stage {
     Walking(WatcherKind),
     /// In the poll, with its deadline in ms; none is infinite.
     Poll(Option<u64>),
+    /// Behind the first callback of I/O in a poll, which left it; whether the poll was woken.
+    Polled(bool),
     Done,
+    /// In the done section of an iteration whose poll nobody woke: nobody is called there, nor in its async section.
+    DoneUnwoken,
     Closing,
     /// In a timers section.
     Timers(TimersOf, Timing),

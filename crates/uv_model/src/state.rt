@@ -16,6 +16,7 @@ use uv_records::{HandleRecord, Named};
 use uv_script::Script;
 use uv_work::{Content, Request};
 
+mod io;
 mod ops;
 mod phases;
 mod pool;

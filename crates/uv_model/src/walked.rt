@@ -46,6 +46,13 @@ impl Walked {
         has_some(&self.list)
     }
 
+    /// Whether a handle is yet to run.
+    pub fn any_yet(&self) -> bool
+        ensures { result ≡ has_some self.now.yet }
+    {
+        has_some(&self.yet)
+    }
+
     /// Whether there is a handle, yet to run or not.
     pub fn any(&self) -> bool
         ensures { result ≡ (has_some self.now.list || has_some self.now.yet) }

@@ -22,6 +22,14 @@ is_async kind.Check = false
 is_async kind.Async = true
 is_async kind.Io = false
 
+abbrev pub is_io : Kind → Bool
+is_io kind.Timer = false
+is_io kind.Idle = false
+is_io kind.Prepare = false
+is_io kind.Check = false
+is_io kind.Async = false
+is_io kind.Io = true
+
 -- the due time of a timer that isn't active (own)
 abbrev pub no_due : Due
 no_due = record { at = 0; start = 0 }

@@ -1,7 +1,7 @@
 //! The record of a handle, and what the ops make of it.
 ghost use Rattle.std.specs.Prelude.{◌≡◌};
 ghost use Rattle.uv_records.specs.Dues.{due_in, due_after};
-ghost use Rattle.uv_records.specs.Handles.{
+ghost use Rattle.uv_records.specs.Handles.{is_io, 
   no_due,
   inited,
   stopped,
@@ -196,5 +196,12 @@ impl HandleRecord {
         ensures { result ≡ is_async self.kind }
     {
         matches!(self.kind, Kind::Async)
+    }
+
+    /// Whether it is a handle of I/O.
+    pub fn is_io(self) -> bool
+        ensures { result ≡ is_io self.kind }
+    {
+        matches!(self.kind, Kind::Io)
     }
 }

@@ -104,7 +104,7 @@ impl LoopState {
         Ok(Answer::Code(Code::Ok))
     }
 
-    /// Starts a watcher, if it isn't active (uv_idle_start and the like).
+    /// Starts a watcher or a handle of I/O, if it isn't active (uv_idle_start and the like; uv_read_start).
     fn start_watcher(&mut self, name: Var) -> Result<Answer, AllocError>
         ensures ok { IfOk result (λ answer. do_op self.old (Op.StartWatcher name) ≡ record { state = self.new; answer = answer }) }
         ensures err { OnErr result (self.new ≡ self.old) }
@@ -119,8 +119,9 @@ impl LoopState {
         if handle.active {
             return Ok(Answer::Code(Code::Ok));
         }
-        if let Some(kind) = WatcherKind::from_kind(handle.kind) {
-            self.start_watching(kind, id, handle)?;
+        match WatcherKind::from_kind(handle.kind) {
+            Some(kind) => self.start_watching(kind, id, handle)?,
+            None => self.set_handle(id, handle.activated()),
         }
         Ok(Answer::Code(Code::Ok))
     }

@@ -2,10 +2,11 @@
 ghost use Rattle.std.specs.Prelude.{◌≡◌, ◌<◌, ◌+◌, ◌^◌, IfOk, IfSome, OnErr, length, slice_get, drop, None, Some};
 ghost use Rattle.uv_script.specs.Program.{lines_in, order_of};
 ghost use Rattle.uv_model.specs.State.{named};
+ghost use Rattle.uv_model.specs.declared.place.Timing.TheVariants.{Collecting};
 ghost use Rattle.uv_model.specs.Bounds.{CanStep, AreBelow};
 ghost use Rattle.uv_model.specs.Handing.{job_run};
 ghost use Rattle.uv_ids.specs.declared.event.Event.TheVariants.{Finish};
-ghost use Rattle.uv_model.specs.Next.{Moves, begins, ends, goes, goes_by, turns, begin_poll, poll, calls, call, fire, first_due, collect, timers, stage_step, body_step, main_step, sent_to, tick, next};
+ghost use Rattle.uv_model.specs.Next.{Moves, begins, ends, goes, goes_by, turns, begin_poll, poll, calls, call, fire, first_due, collect, call_due, timers, stage_step, body_step, main_step, sent_to, tick, next};
 ghost use Rattle.uv_model.specs.Steps.{Steps, Falls};
 
 use crate::bodies::body_from;
@@ -125,6 +126,7 @@ impl LoopState {
         if !self.may_leave(deadline) {
             return Err(Why::Blocked);
         }
+        self.refresh();
         Ok(self.begin_done(run))
     }
 
@@ -211,6 +213,37 @@ impl LoopState {
         Ok(Outcome { seen: None })
     }
 
+    /// Calls the first timer if it is due, straight from the heap, or leaves the section. A timer that repeats is started again first.
+    /// Without memory nothing changes.
+    #[tactic(auto, using(crate::proofs::Fires::fires))]
+    fn call_due(&mut self, script: &Script, run: Run, part: TimersOf) -> Result<Outcome, AllocError>
+        requires able { CanStep self.old }
+        requires line { run.line < 2 ^ 63 }
+        ensures ok { IfOk result (λ outcome. call_due script.now self.old run part ≡ Moves self.new outcome.seen) }
+        ensures err { OnErr result (self.new ≡ self.old) }
+    {
+        let Some((id, handle)) = self.first_due() else {
+            return Ok(self.turn(script.order(), run, Turn::Behind(part)));
+        };
+        self.restart_timer(id, handle)?;
+        let stage = Stage::Timers(part, Timing::Collecting);
+        Ok(self.call(script, Run { stage, ..run }, id, handle.name))
+    }
+
+    /// What is done first in a timers section, where due timers are called straight from the heap, or else collected.
+    fn next_due(&mut self, script: &Script, run: Run, part: TimersOf) -> Result<Outcome, AllocError>
+        requires able { CanStep self.old }
+        requires line { run.line < 2 ^ 63 }
+        ensures ok { IfOk result (λ outcome. timers script.now self.old run part Collecting ≡ Moves self.new outcome.seen) }
+        ensures err { OnErr result (self.new ≡ self.old) }
+    {
+        if script.timers_from_heap() {
+            self.call_due(script, run, part)
+        } else {
+            self.collect(script, run, part)
+        }
+    }
+
     /// Goes on in a timers section.
     fn in_timers(
         &mut self,
@@ -224,7 +257,7 @@ impl LoopState {
         ensures { Steps (timers script.now self.old run part timing) self.old result self.new }
     {
         let outcome = match timing {
-            Timing::Collecting => self.collect(script, run, part),
+            Timing::Collecting => self.next_due(script, run, part),
             Timing::Firing => self.fire(script, run, part),
         };
         match outcome {
@@ -244,7 +277,9 @@ impl LoopState {
             Stage::Pending => Ok(self.begin_walk(run, WatcherKind::Idle)),
             Stage::Walking(kind) => self.in_walk(script, run, kind),
             Stage::Poll(deadline) => self.poll(run, deadline).map_err(Fault::Refused),
+            Stage::Polled(woken) => Ok(self.leave_polled(run, woken)),
             Stage::Done => self.in_done(script, run),
+            Stage::DoneUnwoken => Ok(self.begin_async(run)),
             Stage::Closing => self.in_closing(script, run),
             Stage::Timers(part, timing) => self.in_timers(script, run, part, timing),
         }
@@ -352,6 +387,7 @@ impl LoopState {
             Event::Finish(worker) => self.finish(worker),
             Event::Cancel(name) => self.cancels(name),
             Event::Send(name) => self.send_to(name).map_err(Fault::Refused),
+            Event::Io(name) => self.io(script, name).map_err(Fault::Refused),
             Event::Tick(ms) => self.tick(ms).map_err(Fault::Refused),
             Event::Loop => match self.place {
                 Place::Main(line) => self.in_main(script, line),

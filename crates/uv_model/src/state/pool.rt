@@ -214,7 +214,6 @@ impl LoopState {
     pub(super) fn begin_done(&mut self, run: Run) -> Outcome
         ensures { begin_done self.old run ≡ Moves self.new result.seen }
     {
-        self.refresh();
         self.done.begin_walk();
         self.begin(run, Stage::Done, Phase::Done)
     }

@@ -107,6 +107,7 @@ impl LoopState {
             Event::Take(worker) => self.take_refusal(worker),
             Event::Finish(worker) => self.finish_refusal(worker),
             Event::Cancel(name) | Event::Send(name) => self.name_refusal(name),
+            Event::Io(name) => self.io_refusal(script, name),
             Event::Tick(ms) => self.tick_refusal(ms),
             Event::Loop => match self.place {
                 Place::Main(line) => self.main_refusal(script, line),

@@ -1,6 +1,6 @@
 //! Whether the loop is alive, and how long its poll may wait.
 ghost use Rattle.std.specs.Prelude.{◌≡◌, ◌<◌, ◌≤◌, ◌^◌, IfSome};
-ghost use Rattle.uv_model.specs.Next.{may_leave};
+ghost use Rattle.uv_model.specs.Next.{is_woken, may_leave};
 ghost use Rattle.uv_model.specs.Timeout.{is_alive, has_closing, has_pending, has_idle, until_first, backend_timeout, poll_timeout, deadline_of, has_passed};
 
 use crate::limits::LONGEST_POLL;
@@ -37,11 +37,18 @@ impl LoopState {
         self.watchers.of(WatcherKind::Idle).any()
     }
 
+    /// Whether a poll is woken: a request is done, or an async handle was sent to.
+    pub(super) fn is_woken(&self) -> bool
+        ensures { result ≡ is_woken self.now }
+    {
+        self.done.any_listed() || self.has_pending()
+    }
+
     /// Whether the poll may be left.
     pub(super) fn may_leave(&self, deadline: Option<u64>) -> bool
         ensures { result ≡ may_leave self.now deadline }
     {
-        self.has_passed(deadline) || self.done.any_listed() || self.has_pending()
+        self.has_passed(deadline) || self.is_woken()
     }
 
     /// In how many ms the first timer is due; none is infinite.

@@ -1,5 +1,5 @@
 //! The timers: the ordered map of those that are active, and the ready list.
-ghost use Rattle.std.specs.Prelude.{◌≡◌, ◌<◌, ◌+◌, ◌&&◌, ◌^◌, OnOk, OnErr, true, if◌then◌else◌};
+ghost use Rattle.std.specs.Prelude.{◌≡◌, ◌<◌, ◌+◌, ◌&&◌, ◌^◌, OnOk, OnErr, if◌then◌else◌};
 ghost use Rattle.uv_records.specs.Handles.{is_timer};
 ghost use Rattle.uv_model.specs.Timers.{without_timer, taken_off, stopped, started, restarted};
 ghost use Rattle.uv_model.specs.Bounds.{StartsBefore};
@@ -69,7 +69,6 @@ impl LoopState {
         repeat: u64,
     ) -> Result<(), AllocError>
         requires starts { self.old.next_start < 2 ^ 63 }
-        requires kind { is_timer handle.kind ≡ true }
         requires drawn { StartsBefore self.old.next_start handle }
         ensures ok { OnOk result (self.new ≡ started (stopped self.old id handle) id handle timeout repeat) }
         ensures err { OnErr result (self.new ≡ self.old) }
@@ -86,7 +85,6 @@ impl LoopState {
     /// changes.
     pub(super) fn restart_timer(&mut self, id: Id, handle: HandleRecord) -> Result<(), AllocError>
         requires starts { self.old.next_start < 2 ^ 63 }
-        requires kind { is_timer handle.kind ≡ true }
         requires drawn { StartsBefore self.old.next_start handle }
         ensures ok { OnOk result (self.new ≡ restarted (stopped self.old id handle) id handle) }
         ensures err { OnErr result (self.new ≡ self.old) }
