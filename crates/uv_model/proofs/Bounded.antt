@@ -1,5 +1,5 @@
 -- A state's numbers are no larger than the number of its steps, and its times no later than the clock's limit.
-use Rattle.uv_model.proofs.Names.{◌≡◌, ℕ, zero, suc, ◌+◌, ◌≤◌, ◌^◌, List, [], ◌∷◌, ◌++◌, length, drop, Bool, true, false, Option, Some, None, if◌then◌else◌, nat_le, nat_lt, ◌==◌, option_and_then, Result, Ok, Err, slice_get, slice_set, refl, arith, subst, replicate, add-zero, zero-add, elements, list_any, cond_both, none-some, same_Some, sym, nat_tests, Id, Var, Due, Order, V144, V145, Kind, Event, Loop, Take, Finish, Cancel, Send, Io, Tick, Op, MainOp, CallbackLine, Task, Program, arena_size, order_of, from_heap, text_of, Outcome, Finished, Cancelled, Code, Why, IdleWorker, Seen, Callback, HandleRecord, Slot, WatcherKind, inited, is_timer, is_async, activated, referenced_as, repeating, watcher_kind, start_timer_refusal, start_watcher_refusal, stop_refusal, again_refusal, timer_refusal, close_refusal, no_refusal, send_refusal, only_if, invalid_if, is_startable, Slots, taken, taken_from, freed, next_free, Walk, with_first, with_last, all_yet, Content, Calls, Named, Body, Run, Stage, Entry, Pending, Walking, Poll, Polled, Done, DoneUnwoken, Closing, Timers, TimersOf, Turn, AtEntry, Behind, BehindClosing, Way, ToTimers, ToPending, ToEnd, Timing, Collecting, Firing, Place, Main, Running, Request, found_or, same_id, without_id, queued, digest_in, handle_in, State, fresh, named, handle, with_handle, request, with_named, with_id, live, live_handle, live_request, front, front_request, watched, with_watched, refreshed, unbound, counted, count_of, taken_off, stopped, started, restarted, do_op, refuses, Next, Moves, Refuses, loop_step, main_step, run_step, body_step, stage_step, tick, sent_to, next_work, finish, work_of, cancels, begin_done, leave_polled, collect_request, timers, call_due, io, io_run, io_handle, call_io, takes_io, stage_polled, time_polled, collected, first_due, fire, way, time_at, idled_at, idled_then, goes_by, turns, refreshes, ends, calls, may_leave, body_from, goes, begin_walk, after_walk, front_moved, walk, walk_async, close_front, goes_on, state_of, line_of, HoldsBefore, StartsBefore, CanStep}
+use Rattle.uv_model.proofs.Names.{◌≡◌, ℕ, zero, suc, ◌+◌, ◌≤◌, ◌^◌, List, [], ◌∷◌, ◌++◌, length, drop, Bool, true, false, Option, Some, None, if◌then◌else◌, nat_le, nat_lt, ◌==◌, option_and_then, Result, Ok, Err, slice_get, slice_set, refl, arith, subst, replicate, add-zero, zero-add, elements, list_any, cond_both, none-some, same_Some, sym, ◌&&◌, nat_tests, Id, Var, Due, Order, V144, V145, Kind, Event, Loop, Take, Finish, Cancel, Send, Io, Tick, Op, MainOp, CallbackLine, Task, Program, arena_size, order_of, from_heap, has_io, text_of, Outcome, Finished, Cancelled, Code, Why, IdleWorker, Seen, Callback, HandleRecord, Slot, WatcherKind, inited, is_timer, is_async, activated, referenced_as, repeating, watcher_kind, start_timer_refusal, start_watcher_refusal, stop_refusal, again_refusal, timer_refusal, close_refusal, no_refusal, send_refusal, only_if, invalid_if, is_startable, Slots, taken, taken_from, freed, next_free, Walk, with_first, with_last, all_yet, Content, Calls, Named, Body, Run, Stage, Entry, Pending, Walking, Poll, Polled, Done, DoneUnwoken, Closing, Timers, TimersOf, Turn, AtEntry, Behind, BehindClosing, Way, ToTimers, ToPending, ToEnd, Timing, Collecting, Firing, Place, Main, Running, Request, found_or, same_id, without_id, queued, digest_in, handle_in, State, fresh, named, handle, with_handle, request, with_named, with_id, live, live_handle, live_request, front, front_request, watched, with_watched, refreshed, unbound, counted, count_of, taken_off, stopped, started, restarted, do_op, refuses, Next, Moves, Refuses, loop_step, main_step, run_step, body_step, stage_step, tick, sent_to, next_work, finish, work_of, cancels, begin_done, leave_polled, collect_request, timers, call_due, io, io_run, io_handle, call_io, takes_io, stage_polled, time_polled, collected, first_due, fire, way, time_at, idled_at, idled_then, goes_by, turns, refreshes, ends, calls, may_leave, body_from, goes, begin_walk, after_walk, front_moved, walk, walk_async, close_front, goes_on, state_of, line_of, HoldsBefore, StartsBefore, CanStep}
 use Rattle.uv_ids.specs.declared.phase.Kind.TheVariants as kind
 use Rattle.uv_script.specs.declared.op.Op.TheVariants as op
 use Rattle.uv_script.specs.declared.op.MainOp.TheVariants as main
@@ -449,12 +449,12 @@ polled_time n s each h = h
 
 io_bounded : (p : Program) (n : ℕ) (s : State) (v : Var) → IsBounded n s → StaysBounded (suc n) (io p s v)
 io_bounded p n s v h = if_keeps (StaysBounded (suc n)) (nat_lt v.0 (length s.names)) _ _
-    (at (io_run s s.place) (io_handle (live_handle s v)) (runs s.place refl)) tt
+    (at (io_run p s s.place) (io_handle (live_handle s v)) (runs s.place refl)) tt
   where
     -- the run under way has the place's line
-    runs : (place : Place) → place ≡ s.place → (run : Run) → io_run s place ≡ Some run → run.line ≤ n
+    runs : (place : Place) → place ≡ s.place → (run : Run) → io_run p s place ≡ Some run → run.line ≤ n
     runs (Main line) e run f = cc f
-    runs (Running r) e run f = taken (takes_io s r.stage r.body) f where
+    runs (Running r) e run f = taken (has_io p && takes_io s r.stage r.body) f where
       taken : (b : Bool) → (if b then Some r else None) ≡ Some run → run.line ≤ n
       taken true g = let same : r ≡ run = same_Some _ _ g in let l : line_of (Running r) ≤ n = subst (λ (q : Place). line_of q ≤ n) (sym e) h.line in
           subst (λ (q : Run). q.line ≤ n) same l

@@ -66,7 +66,7 @@ pub use Rattle.uv_records.specs.declared.lists.WatcherKind.{WatcherKind}
 pub use Rattle.uv_records.specs.declared.named.Calls.{Calls}
 pub use Rattle.uv_records.specs.declared.named.Named.{Named}
 pub use Rattle.uv_records.specs.declared.slot.Slot.{Slot}
-pub use Rattle.uv_script.specs.Program.{Program, arena_size, from_heap, is_for, lines_in, order_of}
+pub use Rattle.uv_script.specs.Program.{Program, arena_size, from_heap, has_io, is_for, lines_in, order_of}
 pub use Rattle.uv_script.specs.declared.op.CallbackLine.{CallbackLine}
 pub use Rattle.uv_script.specs.declared.op.MainOp.{MainOp}
 pub use Rattle.uv_script.specs.declared.op.Op.{Op}

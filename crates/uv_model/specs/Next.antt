@@ -22,7 +22,7 @@ use Rattle.uv_ids.specs.declared.fault.Why.TheVariants.{Blocked, Ended, NoWork, 
 use Rattle.uv_script.specs.declared.op.MainOp.{MainOp}
 use Rattle.uv_script.specs.declared.op.MainOp.TheVariants as main
 use Rattle.uv_script.specs.declared.op.CallbackLine.{CallbackLine}
-use Rattle.uv_script.specs.Program.{Program, arena_size, order_of, from_heap, lines_in, is_for}
+use Rattle.uv_script.specs.Program.{Program, arena_size, order_of, has_io, from_heap, lines_in, is_for}
 use Rattle.uv_work.specs.Tasks.{text_of}
 use Rattle.uv_model.specs.Limits.{LATEST}
 use Rattle.uv_model.specs.declared.place.Body.{Body}
@@ -351,10 +351,10 @@ takes_io s DoneUnwoken None = true
 takes_io s (Walking watcher.Async) None = not (has_some s.watchers.async.yet)
 takes_io s stage None = false
 
--- the run under way, where one may begin
-abbrev pub io_run : State → Place → Option Run
-io_run s (Main line) = None
-io_run s (Running run) = if takes_io s run.stage run.body then Some run else None
+-- the run under way, where one may begin; none does in a script without a line `io`
+abbrev pub io_run : Program → State → Place → Option Run
+io_run p s (Main line) = None
+io_run p s (Running run) = if has_io p && takes_io s run.stage run.body then Some run else None
 
 -- the handle of I/O that is called, by its name: a live one that is active
 abbrev pub io_handle : Result (Id × HandleRecord) Code → Option Id
@@ -378,7 +378,7 @@ call_io p s v (Some run) (Some id) = calls p (record s { time = time_polled s ru
 call_io p s v _ _ = Refuses Blocked
 
 abbrev pub io : Program → State → Var → Next
-io p s v = if nat_lt v.0 (length s.names) then call_io p s v (io_run s s.place) (io_handle (live_handle s v)) else Refuses Range
+io p s v = if nat_lt v.0 (length s.names) then call_io p s v (io_run p s s.place) (io_handle (live_handle s v)) else Refuses Range
 
 -- ---- the thread pool
 

@@ -1,8 +1,9 @@
 -- The documented order of phases (design overview, in the loop orders of 1.44 and 1.45; what is marked own is this profile's): a grammar
 -- over the lines of a trace, with the states before and after each. A trace is the lines of the main program and its runs; a run
 -- is the timers of its entry, iterations, and its end; an iteration is its sections in their order; a section calls the members
--- of its list, and each callback does the ops of its body. It says nothing of how a step is done.
-use Rattle.std.specs.Prelude.{◌≡◌, ◌==◌, ◌&&◌, ◌||◌, ℕ, zero, suc, ◌+◌, List, [], ◌∷◌, ◌++◌, Bool, true, false, not, Option, Some, None, slice_get, option_map, if◌then◌else◌}
+-- of its list, and each callback does the ops of its body. Callbacks of I/O come in the poll and about it, as the environment says: their
+-- order and number are free (own). It says nothing of how a step is done.
+use Rattle.std.specs.Prelude.{◌≡◌, ◌≤◌, ◌==◌, ◌&&◌, ◌||◌, ℕ, zero, suc, ◌+◌, List, [], ◌∷◌, ◌++◌, Bool, true, false, not, Option, Some, None, slice_get, option_map, if◌then◌else◌}
 use Rattle.uv_ids.specs.declared.order.Order.{Order}
 use Rattle.uv_ids.specs.declared.order.Order.TheVariants.{V144, V145}
 use Rattle.uv_ids.specs.declared.id.Id.{Id}
@@ -27,7 +28,7 @@ use Rattle.uv_script.specs.declared.op.Op.{Op}
 use Rattle.uv_script.specs.declared.op.Op.TheVariants as op
 use Rattle.uv_script.specs.declared.op.MainOp.TheVariants as main
 use Rattle.uv_script.specs.declared.op.CallbackLine.{CallbackLine}
-use Rattle.uv_script.specs.Program.{Program, lines_in, is_for, op_at, order_of}
+use Rattle.uv_script.specs.Program.{Program, lines_in, is_for, op_at, order_of, has_io, from_heap}
 use Rattle.uv_work.specs.declared.request.Request.{Request}
 use Rattle.uv_work.specs.Requests.{digest_in}
 use Rattle.uv_model.specs.Ids.{has_some, without_id}
@@ -36,7 +37,7 @@ use Rattle.uv_model.specs.Timeout.{deadline_of, has_passed, has_pending}
 use Rattle.uv_order.specs.Line.{Line}
 use Rattle.uv_order.specs.Once.{bound, made_as}
 use Rattle.uv_order.specs.Alive.{lives, may_wait}
-use Rattle.uv_order.specs.Active.{has_id, AreActive, AreClosing, AreEnded, AreTimers, AreDue}
+use Rattle.uv_order.specs.Active.{has_id, IsActive, AreActive, AreClosing, AreEnded, AreTimers, AreDue}
 
 -- ---- what lasts from line to line
 
@@ -166,6 +167,7 @@ sent_after (Some o) a names sent = sent_by o a names sent
 -- with one line more: a call is one more of its name, and takes in what was sent
 abbrev pub told_by : Program → Told → Names → Seen → Told
 told_by p told names (seen.Call v id) = record told { called = v ∷ told.called; sent = without_id told.sent id }
+told_by p told names (seen.Io v id) = record told { called = v ∷ told.called }
 told_by p told names (seen.After digest v id) = record told { after = v ∷ told.after }
 told_by p told names (seen.Closed v id) = record told { closed = v ∷ told.closed }
 told_by p told names (seen.Op place a) = record told { sent = sent_after (op_at p place) a names told.sent }
@@ -252,10 +254,10 @@ goes_on s = lives s && not s.stop_flag
 
 -- what the line of a section sets: the timers of the entry in the order of 1.45 nothing; in that of 1.44 they set the time to the clock, and
 -- the loop didn't idle; and each other section what its word says
-abbrev pub after_section : Order → Section → State → Lasting
-after_section o (In word) s = after_line o word s
-after_section V145 Entry s = lasting s
-after_section V144 Entry s = record (at_clock s) { idled = false }
+abbrev pub after_word : Order → Section → State → Lasting
+after_word o (In word) s = after_line o word s
+after_word V145 Entry s = lasting s
+after_word V144 Entry s = record (at_clock s) { idled = false }
 
 -- ---- sections
 
@@ -298,18 +300,33 @@ pub record Walk : Type 0 where
   pub sent : List Id
   -- the ops of the callback under way that are still to be done
   pub body : List Site
+  -- whether the poll before it was woken, which the sections of done and async ask
+  pub woken : Bool
 
 -- who was sent to as a section of this word begins, where that counts
 abbrev pub sent_at : Phase → Told → List Id
 sent_at phase.Async told = told.sent
 sent_at word told = []
 
--- a section as it begins: nobody was called, and nobody taken off
-pub record Opens (word : Phase) (told : Told) (l : Line) (w : Walk) : Type 0 where
-  pub list : HasList word l w.ahead
+-- whether a section has a list at all: done and async have none behind a poll that nobody woke, nor have timers where those that are due are
+-- called straight from their heap
+abbrev pub has_list : Program → Phase → Bool → Bool
+has_list p phase.Done woken = woken
+has_list p phase.Async woken = woken
+has_list p phase.Timers woken = not (from_heap p)
+has_list p word woken = true
+
+abbrev pub ListIf : Bool → Phase → Line → List Id → Type 0
+ListIf true word l ids = HasList word l ids
+ListIf false word l ids = ids ≡ []
+
+-- a section as it begins: nobody was called, and nobody taken off; whether the poll was woken, it has from where the run stands
+pub record Opens (p : Program) (word : Phase) (told : Told) (woken : Bool) (l : Line) (w : Walk) : Type 0 where
+  pub list : ListIf (has_list p word woken) word l w.ahead
   pub off : w.off ≡ []
   pub sent : w.sent ≡ sent_at word told
   pub body : w.body ≡ []
+  pub kept : w.woken ≡ woken
 
 -- each of these was taken off
 abbrev pub AllOff : List Id → List Id → Type 0
@@ -348,6 +365,11 @@ pub record IsOver (word : Phase) (w : Walk) : Type 0 where
   pub done : w.body ≡ []
   pub may_pass : MayPass word w w.ahead
 
+-- and where timers are called straight from their heap, none of them is due
+abbrev pub NoneDue : Bool → Phase → State → Type 0
+NoneDue true phase.Timers s = AreDue s []
+NoneDue heap word s = Unit {0}
+
 -- ---- runs
 
 -- where a run stands
@@ -358,18 +380,60 @@ pub data Standing : Type 0 where
   Within : Section → Walk → Standing
   -- in the poll, with its deadline
   Polling : Option ℕ → Standing
+  -- behind a callback of I/O that left the poll: whether the poll was woken before, and the ops of the callback under way that are still to be done
+  Answering : Bool → List Site → Standing
 
 abbrev pub part_of : Standing → Part
 part_of Begun = Start
 part_of (Within part w) = Of part
 part_of (Polling deadline) = Poll
+part_of (Answering woken body) = Poll
+
+-- whether the poll was woken: one that no callback of I/O left was
+abbrev pub woken_at : Standing → Bool
+woken_at Begun = true
+woken_at (Within part w) = w.woken
+woken_at (Polling deadline) = true
+woken_at (Answering woken body) = woken
 
 -- it may go on to its next part: a section that is over, and a poll whose deadline the clock has reached, or that a request ends which is
--- done, or an async handle
-abbrev pub MayLeave : State → Told → Standing → Type 0
-MayLeave s told Begun = Unit {0}
-MayLeave s told (Within part w) = IsOver (word_of part) w
-MayLeave s told (Polling deadline) = (has_passed s.clock deadline || (has_some s.done.list || (has_some told.sent && has_pending s))) ≡ true
+-- done, or an async handle; or that a callback of I/O left, whose ops are done
+abbrev pub MayLeave : Program → State → Told → Standing → Type 0
+MayLeave p s told Begun = Unit {0}
+MayLeave p s told (Within part w) = IsOver (word_of part) w × NoneDue (from_heap p) (word_of part) s
+MayLeave p s told (Polling deadline) = (has_passed s.clock deadline || (has_some s.done.list || (has_some told.sent && has_pending s))) ≡ true
+MayLeave p s told (Answering woken body) = body ≡ []
+
+-- what the line of the next section sets: behind a callback of I/O that left the poll, and set the time to the clock, nothing
+abbrev pub after_section : Order → Standing → Section → State → Lasting
+after_section o (Answering woken body) part s = lasting s
+after_section o at part s = after_word o part s
+
+-- ---- callbacks of I/O
+
+-- one may begin: no other callback is under way, in the pending section, in the poll or behind it, in done, and in async behind the last of those
+-- that are called there
+abbrev pub MayAnswer : Standing → Type 0
+MayAnswer (Polling deadline) = Unit {0}
+MayAnswer (Answering woken body) = body ≡ []
+MayAnswer (Within (In phase.Pending) w) = w.body ≡ []
+MayAnswer (Within (In phase.Done) w) = w.body ≡ []
+MayAnswer (Within (In phase.Async) w) = IsOver phase.Async w
+MayAnswer at = ⊥
+
+-- where the run stands then, with the ops of its body still to be done: the first one in a poll leaves it, and it is kept whether a request was done
+-- or an async handle sent to before; behind one in async none of that section's list is called any more
+abbrev pub answering : State → Told → List Site → Standing → Standing
+answering s told body (Polling deadline) = Answering (has_some s.done.list || has_some told.sent) body
+answering s told body (Answering woken done) = Answering woken body
+answering s told body (Within (In phase.Async) w) = Within (In phase.Async) (record w { ahead = []; body = body })
+answering s told body (Within part w) = Within part (record w { body = body })
+answering s told body Begun = Begun
+
+-- what it sets: the first one in a poll sets the time to the clock
+abbrev pub after_io : Standing → State → Lasting
+after_io (Polling deadline) s = at_clock s
+after_io at s = lasting s
 
 -- the poll may wait so long, by the active timers as the handles say
 pub record PollsFor (s : State) (m : Mode) (timeout : Option ℕ) : Type 0 where
@@ -412,15 +476,15 @@ pub data Goes (p : Program) (told : Told) (names : Names) : Position → Line �
       → Goes p told names (Between i) l (Running m i Begun)
   -- the next section begins
   section : {l : Line} {m : Mode} {i : ℕ} {at : Standing} {w : Walk} (next : Section)
-      → MayLeave l.before told at
+      → MayLeave p l.before told at
       → part_after (order_of p) m (goes_on l.before) (part_of at) ≡ Of next
       → l.seen ≡ seen.Section (word_of next)
-      → Opens (word_of next) told l w
-      → lasting l.after ≡ after_section (order_of p) next l.before
+      → Opens p (word_of next) told (woken_at at) l w
+      → lasting l.after ≡ after_section (order_of p) at next l.before
       → Goes p told names (Running m i at) l (Running m i (Within next w))
   -- the poll begins, with the timeout that the loop has then
   poll : {l : Line} {m : Mode} {i : ℕ} {at : Standing} (timeout : Option ℕ)
-      → MayLeave l.before told at
+      → MayLeave p l.before told at
       → part_after (order_of p) m (goes_on l.before) (part_of at) ≡ Poll
       → PollsFor l.before m timeout
       → l.seen ≡ seen.Poll timeout
@@ -428,7 +492,7 @@ pub data Goes (p : Program) (told : Told) (names : Names) : Position → Line �
       → Goes p told names (Running m i at) l (Running m i (Polling (deadline_of l.before timeout)))
   -- the run ends, and says whether the loop is alive
   ends : {l : Line} {m : Mode} {i : ℕ} {at : Standing}
-      → MayLeave l.before told at
+      → MayLeave p l.before told at
       → part_after (order_of p) m (goes_on l.before) (part_of at) ≡ End
       → l.seen ≡ seen.End (lives l.before)
       → lasting l.after ≡ after_end l.before
@@ -444,7 +508,35 @@ pub data Goes (p : Program) (told : Told) (names : Names) : Position → Line �
         ahead = behind;
         body = body_of p kind v (next_call told kind v);
       })))
-  -- the next op of its body
+  -- where due timers are called straight from their heap: the callback of the first of all active ones begins, which is due
+  fires : {l : Line} {m : Mode} {i : ℕ} {part : Section} {w : Walk} (v : Var) (id : Id) (due : Due) (others : List (Due × Id))
+      → from_heap p ≡ true
+      → word_of part ≡ phase.Timers
+      → w.body ≡ []
+      → AreTimers l.before ((due, id) ∷ others)
+      → due.at ≤ l.before.time
+      → names.made id ≡ Some v
+      → l.seen ≡ seen.Call v id
+      → lasting l.after ≡ lasting l.before
+      → Goes p told names (Running m i (Within part w)) l
+      (Running m i (Within part (record w { body = body_of p callback.Handle v (next_call told callback.Handle v) })))
+  -- what an active handle of I/O waits for has come, and its callback begins; its script has a line `io`
+  answers : {l : Line} {m : Mode} {i : ℕ} {at : Standing} (v : Var) (id : Id)
+      → has_io p ≡ true
+      → MayAnswer at
+      → IsActive l.before kind.Io id
+      → names.made id ≡ Some v
+      → l.seen ≡ seen.Io v id
+      → lasting l.after ≡ after_io at l.before
+      → Goes p told names (Running m i at) l
+      (Running m i (answering l.before told (body_of p callback.Handle v (next_call told callback.Handle v)) at))
+  -- the next op of the body of one that left the poll
+  answer_op : {l : Line} {m : Mode} {i : ℕ} {woken : Bool} (place : Site) (rest : List Site) (o : Op) (a : Answer)
+      → op_at p place ≡ Some o
+      → l.seen ≡ seen.Op place a
+      → lasting l.after ≡ after_op o l.before
+      → Goes p told names (Running m i (Answering woken (place ∷ rest))) l (Running m i (Answering woken rest))
+  -- the next op of a section's callback
   body_op : {l : Line} {m : Mode} {i : ℕ} {part : Section} {w : Walk} (place : Site) (rest : List Site) (o : Op) (a : Answer)
       → w.body ≡ place ∷ rest
       → op_at p place ≡ Some o

@@ -270,6 +270,7 @@ OpSays p past o a = Unit {0}
 -- a line may follow these: who is called was started and wasn't closed; one worker takes a request once, and finishes it once after that
 abbrev pub MayFollow : Program → List Seen → Seen → Type 0
 MayFollow p past (seen.Call v id) = (was_closed p past id ≡ false) × ((activity p past id).started ≡ true)
+MayFollow p past (seen.Io v id) = (was_closed p past id ≡ false) × ((activity p past id).started ≡ true)
 MayFollow p past (seen.Closed v id) = (was_closed p past id ≡ true) × (has_closed_line past id ≡ false)
 MayFollow p past (seen.Take k v id) =
     (has_take_line past id ≡ false) × (has_after_line past id ≡ false) × (has_cancel_line p past id ≡ false)

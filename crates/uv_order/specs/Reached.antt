@@ -8,7 +8,7 @@ use Rattle.uv_records.specs.declared.lists.WatcherKind.{WatcherKind}
 use Rattle.uv_records.specs.declared.lists.WatcherKind.TheVariants as watcher
 use Rattle.uv_model.specs.declared.place.Body.{Body}
 use Rattle.uv_model.specs.declared.place.Stage.{Stage}
-use Rattle.uv_model.specs.declared.place.Stage.TheVariants.{Pending, Walking, Poll, Done}
+use Rattle.uv_model.specs.declared.place.Stage.TheVariants.{Pending, Walking, Poll, Polled, Done, DoneUnwoken}
 use Rattle.uv_model.specs.declared.place.Place.{Place}
 use Rattle.uv_model.specs.declared.place.Place.TheVariants.{Main, Running}
 use Rattle.uv_model.specs.State.{State, handle, kind_as, watched}
@@ -19,7 +19,9 @@ abbrev pub BeginsBehind : Stage → State → Type 0
 BeginsBehind Pending s = s.watchers.idle.yet ≡ []
 BeginsBehind (Walking watcher.Idle) s = s.watchers.prepare.yet ≡ []
 BeginsBehind (Poll deadline) s = s.done.yet ≡ []
+BeginsBehind (Polled woken) s = s.done.yet ≡ []
 BeginsBehind Done s = s.watchers.async.yet ≡ []
+BeginsBehind DoneUnwoken s = s.watchers.async.yet ≡ []
 BeginsBehind (Walking watcher.Async) s = s.watchers.check.yet ≡ []
 BeginsBehind (Walking watcher.Check) s = s.closing.yet ≡ []
 BeginsBehind stage s = Unit {0}

@@ -60,12 +60,12 @@ impl LoopState {
     }
 
     /// The run under way, where a callback of I/O may begin.
-    fn io_run(&self) -> Option<Run>
-        ensures { result ≡ io_run self.now self.now.place }
+    fn io_run(&self, script: &Script) -> Option<Run>
+        ensures { result ≡ io_run script.now self.now self.now.place }
     {
         match self.place {
             Place::Main(_) => None,
-            Place::Running(run) => self.takes_io(run).then_some(run),
+            Place::Running(run) => (script.has_io() && self.takes_io(run)).then_some(run),
         }
     }
 
@@ -100,7 +100,7 @@ impl LoopState {
         if name.0 as usize >= self.names.len() {
             return Err(Why::Range);
         }
-        let (Some(run), Some(id)) = (self.io_run(), self.io_handle(name)) else {
+        let (Some(run), Some(id)) = (self.io_run(script), self.io_handle(name)) else {
             return Err(Why::Blocked);
         };
         let run = self.polled(run);
@@ -114,7 +114,7 @@ impl LoopState {
         if name.0 as usize >= self.names.len() {
             return Some(Why::Range);
         }
-        match (self.io_run(), self.io_handle(name)) {
+        match (self.io_run(script), self.io_handle(name)) {
             (Some(_), Some(_)) => None,
             _ => Some(Why::Blocked),
         }
