@@ -42,6 +42,7 @@ same_phase a b = false
 -- the line begins a callback of this name
 abbrev pub calls_name : Var → Seen → Bool
 calls_name v (seen.Call u id) = u.0 == v.0
+calls_name v (seen.Io u id) = u.0 == v.0
 calls_name v (seen.After digest u id) = u.0 == v.0
 calls_name v (seen.Closed u id) = u.0 == v.0
 calls_name v l = false

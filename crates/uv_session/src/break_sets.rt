@@ -164,6 +164,7 @@ impl Breaks {
             Seen::Section(begun) => has_section(self.sets.sections.as_slice(), begun),
             Seen::Poll(_) => self.sets.polls,
             Seen::Call(name, _) => self.match_name(name.0),
+            Seen::Io(name, _) => self.match_name(name.0),
             Seen::After(digest, name, _) => self.match_after(digest, name),
             Seen::Closed(name, _) => self.match_name(name.0),
             Seen::End(_) => false,

@@ -35,6 +35,7 @@ impl Break {
     {
         match (self, line) {
             (Break::Call(name), Seen::Call(called, _)) => called.0 == name.0,
+            (Break::Call(name), Seen::Io(called, _)) => called.0 == name.0,
             (Break::Call(name), Seen::After(_, called, _)) => called.0 == name.0,
             (Break::Call(name), Seen::Closed(called, _)) => called.0 == name.0,
             (Break::Code(code), line) => answers_code(line, code),

@@ -1,5 +1,5 @@
 -- The tests of the code decide which commands there are.
-use Rattle.uv_text.proofs.Names.{if◌then◌else◌, Bool, ◌≡◌, ℕ, ◌≤◌, List, [], ◌∷◌, true, false, ◌&&◌, nat_le, Option, Some, None, option_map, refl, ap, sym, ◌∙◌, bytes_eq, bytes_eq-Decides, same_Some, and_parts, cond_both, leb-true, le-leb, both_ways, Var, Code, Event, Take, Finish, Cancel, Send, Tick, Phase, code_word, phase_word, fields_of, IsLine, IsNumber, IsDeclared, is_line, is_skipped, line_begins, is_line_decides, is_skipped_decides, number_of-sound, number_of-complete, place_of-sound, place_of-finds, AreDistinct, declared_contains, place_complete, Break, Command, Step, Back, Forward, AddBreak, Asked, Nothing, Do, Bad, IsBreak, IsStep, IsCommand, IsNoCommand, Asks, nothing, command, bad, MOST, LAST_WORKER, section_of, break_of, command_alone, worker_step, step_by, command_by, clears, command_with, command_with_two, command_of, asked_for, asked_of}
+use Rattle.uv_text.proofs.Names.{if◌then◌else◌, Bool, ◌≡◌, ℕ, ◌≤◌, List, [], ◌∷◌, true, false, ◌&&◌, nat_le, Option, Some, None, option_map, refl, ap, sym, ◌∙◌, bytes_eq, bytes_eq-Decides, same_Some, and_parts, cond_both, leb-true, le-leb, both_ways, Var, Code, Event, Program, has_step, Take, Finish, Cancel, Send, Io, Tick, Phase, code_word, phase_word, fields_of, IsLine, IsNumber, IsDeclared, is_line, is_skipped, line_begins, is_line_decides, is_skipped_decides, number_of-sound, number_of-complete, place_of-sound, place_of-finds, AreDistinct, declared_contains, place_complete, Break, Command, Step, Back, Forward, AddBreak, Asked, Nothing, Do, Bad, IsBreak, IsStep, IsCommand, IsNoCommand, Asks, nothing, command, bad, MOST, LAST_WORKER, section_of, break_of, command_alone, worker_step, step_by, command_by, clears, command_with, command_with_two, command_of, asked_for, asked_of}
 use Rattle.std.proofs.Common.{codes}
 use Rattle.uv_ids.specs.declared.code.Code.TheVariants as code
 use Rattle.uv_ids.specs.declared.phase.Phase.TheVariants as phase
@@ -143,13 +143,19 @@ sends_right : (names : List (List ℕ)) (word argument : List ℕ) (v : Option V
 sends_right names word argument None w z = tt
 sends_right names word argument (Some v) w z = is.step word argument (Send v) refl (is.send v w (place_of-sound names argument v z))
 
+ios_right : (names : List (List ℕ)) (word argument : List ℕ) (v : Option Var) → word ≡ codes "io" → place_of names argument ≡ v →
+    Right names (word ∷ argument ∷ []) (option_map (λ (u : Var). Step (Io u)) v)
+ios_right names word argument None w z = tt
+ios_right names word argument (Some v) w z = is.step word argument (Io v) refl (is.io v w (place_of-sound names argument v z))
+
 with_right : (names : List (List ℕ)) (word argument : List ℕ) → Right names (word ∷ argument ∷ []) (command_with names word argument)
 with_right names word argument =
     let P : Option Command → Type 0 = Right names (word ∷ argument ∷ []) in
     cond_both (bytes_eq word (codes "cancel")) _ _ P (λ a. cancels_right names word argument (place_of names argument) (same _ _ a) refl)
     (λ _. cond_both (bytes_eq word (codes "send")) _ _ P (λ a. sends_right names word argument (place_of names argument) (same _ _ a) refl)
+    (λ _. cond_both (bytes_eq word (codes "io")) _ _ P (λ a. ios_right names word argument (place_of names argument) (same _ _ a) refl)
     (λ _. cond_both (bytes_eq word (codes "break")) _ _ P (λ a. clears_right names word argument (same _ _ a))
-    (λ _. by_right names word argument (number_of argument) refl)))
+    (λ _. by_right names word argument (number_of argument) refl))))
 
 -- ---- a break
 
@@ -246,17 +252,20 @@ record ReadsStep (names : List (List ℕ)) (word argument : List ℕ) (e : Event
   step : Event
   found : command_with names word argument ≡ Some (Step step)
   same : AreDistinct names → step ≡ e
+  alike : (p : Program) → has_step p step ≡ has_step p e
 
 reads_step : (names : List (List ℕ)) (word argument : List ℕ) (e : Event) → IsStep names word argument e → ReadsStep names word argument e
 reads_step names word argument e (is.take worker w h l) = record {
   step = Take worker;
   found = rw w (ap (command_by (codes "take")) (number_of-complete argument worker h) ∙ rw (le-leb worker LAST_WORKER l) refl);
   same = λ d. refl;
+  alike = λ p. refl;
 }
 reads_step names word argument e (is.finish worker w h l) = record {
   step = Finish worker;
   found = rw w (ap (command_by (codes "finish")) (number_of-complete argument worker h) ∙ rw (le-leb worker LAST_WORKER l) refl);
   same = λ d. refl;
+  alike = λ p. refl;
 }
 reads_step names word argument e (is.cancel v w held) =
     let p = place names argument v held in
@@ -264,6 +273,7 @@ reads_step names word argument e (is.cancel v w held) =
       step = Cancel p.number;
       found = rw w (ap (option_map (λ (u : Var). Step (Cancel u))) p.found);
       same = λ d. ap Cancel (p.same d);
+      alike = λ p. refl;
     }
 reads_step names word argument e (is.send v w held) =
     let p = place names argument v held in
@@ -271,11 +281,21 @@ reads_step names word argument e (is.send v w held) =
       step = Send p.number;
       found = rw w (ap (option_map (λ (u : Var). Step (Send u))) p.found);
       same = λ d. ap Send (p.same d);
+      alike = λ p. refl;
+    }
+reads_step names word argument e (is.io v w held) =
+    let p = place names argument v held in
+    record {
+      step = Io p.number;
+      found = rw w (ap (option_map (λ (u : Var). Step (Io u))) p.found);
+      same = λ d. ap Io (p.same d);
+      alike = λ p. refl;
     }
 reads_step names word argument e (is.tick ms w h) = record {
   step = Tick ms;
   found = rw w (ap (command_by (codes "tick")) (number_of-complete argument ms h));
   same = λ d. refl;
+  alike = λ p. refl;
 }
 
 reads_command : (names fields : List (List ℕ)) (c : Command) → IsCommand names fields c → Reads names fields c
@@ -330,6 +350,7 @@ step_says line word argument f (is.take worker w h l) = line_begins line _ _ _ (
 step_says line word argument f (is.finish worker w h l) = line_begins line _ _ _ (f ∙ pair word argument _ w)
 step_says line word argument f (is.cancel v w held) = line_begins line _ _ _ (f ∙ pair word argument _ w)
 step_says line word argument f (is.send v w held) = line_begins line _ _ _ (f ∙ pair word argument _ w)
+step_says line word argument f (is.io v w held) = line_begins line _ _ _ (f ∙ pair word argument _ w)
 step_says line word argument f (is.tick ms w h) = line_begins line _ _ _ (f ∙ pair word argument _ w)
 
 -- a command isn't skipped
@@ -376,10 +397,10 @@ pub asks_read : (names : List (List ℕ)) (line : List ℕ) (asked : Asked) → 
 asks_read names line asked e = rw e (asks names line)
 
 -- a step from outside is found, if not the same one where a name is declared twice
-pub step_found : (names : List (List ℕ)) (line : List ℕ) (e : Event) → IsLine line → IsCommand names (fields_of line) (Step e) →
-    (step : Event) × (asked_of names line ≡ Do (Step step))
-step_found names line e l (is.step word argument _ f h) =
-    let r = reads_step names word argument e h in
-    (r.step, rw ((is_line_decides line).1 l, step_says line word argument f h, f, r.found) refl)
+pub step_found : (p : Program) (line : List ℕ) (e : Event) → IsLine line → IsCommand p.names (fields_of line) (Step e) →
+    (step : Event) × (asked_of p.names line ≡ Do (Step step)) × (has_step p step ≡ has_step p e)
+step_found p line e l (is.step word argument _ f h) =
+    let r = reads_step p.names word argument e h in
+    (r.step, rw ((is_line_decides line).1 l, step_says line word argument f h, f, r.found) refl, r.alike p)
 
 pub ruleset reading = (asks, asks_read, asks_one)

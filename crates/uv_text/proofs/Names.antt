@@ -15,8 +15,9 @@ pub use Rattle.hex.proofs.HexLemmas.{length-encode_with}
 pub use Rattle.hex.specs.Hex.{encode_lower, lower_digits}
 pub use Rattle.uv_ids.specs.Words.{code_word, phase_word}
 pub use Rattle.uv_ids.specs.declared.code.Code.{Code}
+pub use Rattle.uv_ids.specs.declared.due.Due.{Due}
 pub use Rattle.uv_ids.specs.declared.event.Event.{Event}
-pub use Rattle.uv_ids.specs.declared.event.Event.TheVariants.{Cancel, Finish, Loop, Send, Take, Tick}
+pub use Rattle.uv_ids.specs.declared.event.Event.TheVariants.{Cancel, Finish, Io, Loop, Send, Take, Tick}
 pub use Rattle.uv_ids.specs.declared.fault.Why.{Why}
 pub use Rattle.uv_ids.specs.declared.fault.Why.TheVariants.{Range}
 pub use Rattle.uv_ids.specs.declared.id.Id.{Id}
@@ -36,11 +37,11 @@ pub use Rattle.uv_model.specs.Content.{handle_in, request_in}
 pub use Rattle.uv_model.specs.Ids.{same_id}
 pub use Rattle.uv_model.specs.Layout.{LiesFor}
 pub use Rattle.uv_model.specs.Limits.{LATEST}
-pub use Rattle.uv_model.specs.Next.{Moves, Next, Refuses, after_walk, begin_walk, body_step, calls, close_front, collect_request, finish, fire, first_due, front_moved, goes, goes_by, loop_step, main_step, may_leave, next_work, refreshes, run_step, stage_step, timers, turns, walk, walk_async, way, work_of}
+pub use Rattle.uv_model.specs.Next.{Moves, Next, Refuses, after_walk, begin_walk, body_step, call_io, calls, close_front, collect_request, finish, fire, first_due, front_moved, goes, goes_by, io_handle, io_run, loop_step, main_step, may_leave, next_work, refreshes, run_step, stage_step, timers, turns, walk, walk_async, way, work_of, stage_polled, takes_io, time_polled}
 pub use Rattle.uv_model.specs.Ops.{do_op}
 pub use Rattle.uv_model.specs.Queries.{numbers, run_by}
-pub use Rattle.uv_model.specs.State.{State, fresh, front, front_request, live, live_handle, live_request, named, refreshed, watched, with_handle, with_id, with_named, with_watched}
-pub use Rattle.uv_model.specs.Timers.{restarted, started, stopped}
+pub use Rattle.uv_model.specs.State.{State, as_handle, fresh, front, front_request, handle, live, live_handle, live_id, live_request, named, refreshed, watched, with_handle, with_id, with_named, with_watched}
+pub use Rattle.uv_model.specs.Timers.{restarted, started, stopped, taken_off}
 pub use Rattle.uv_model.specs.declared.layout.LaidSlot.{LaidSlot}
 pub use Rattle.uv_model.specs.declared.layout.Layout.{Layout}
 pub use Rattle.uv_model.specs.declared.place.Body.{Body}
@@ -48,7 +49,7 @@ pub use Rattle.uv_model.specs.declared.place.Place.{Place}
 pub use Rattle.uv_model.specs.declared.place.Place.TheVariants.{Main, Running}
 pub use Rattle.uv_model.specs.declared.place.Run.{Run}
 pub use Rattle.uv_model.specs.declared.place.Stage.{Stage}
-pub use Rattle.uv_model.specs.declared.place.Stage.TheVariants.{Closing, Done, Entry, Pending, Poll, Timers, Walking}
+pub use Rattle.uv_model.specs.declared.place.Stage.TheVariants.{Closing, Done, DoneUnwoken, Entry, Pending, Poll, Polled, Timers, Walking}
 pub use Rattle.uv_model.specs.declared.place.TimersOf.{TimersOf}
 pub use Rattle.uv_model.specs.declared.place.Timing.{Timing}
 pub use Rattle.uv_model.specs.declared.place.Timing.TheVariants.{Collecting, Firing}
@@ -56,7 +57,7 @@ pub use Rattle.uv_model.specs.declared.place.Turn.{Turn}
 pub use Rattle.uv_model.specs.declared.place.Turn.TheVariants.{AtEntry, Behind, BehindClosing}
 pub use Rattle.uv_model.specs.declared.place.Way.{Way}
 pub use Rattle.uv_model.specs.declared.place.Way.TheVariants.{ToEnd, ToPending, ToTimers}
-pub use Rattle.uv_records.specs.Handles.{activated, inited, is_async, referenced_as, repeating}
+pub use Rattle.uv_records.specs.Handles.{activated, inited, is_async, is_io, referenced_as, repeating}
 pub use Rattle.uv_records.specs.Lists.{watcher_kind}
 pub use Rattle.uv_records.specs.Names.{counted, unbound}
 pub use Rattle.uv_records.specs.Refusals.{again_refusal, close_refusal, no_refusal, send_refusal, start_timer_refusal, start_watcher_refusal, stop_refusal, timer_refusal}
@@ -76,7 +77,7 @@ pub use Rattle.uv_script.proofs.Texts.{lines_text-append}
 pub use Rattle.uv_script.specs.Checks.{is_line, is_skipped}
 pub use Rattle.uv_script.specs.Limits.{MOST_SLOTS}
 pub use Rattle.uv_script.specs.Lines.{IsLine, fields_of}
-pub use Rattle.uv_script.specs.Program.{IsSlotCount, Program, arena_size, order_of, worker_count}
+pub use Rattle.uv_script.specs.Program.{IsSlotCount, Program, arena_size, from_heap, has_io, order_of, worker_count}
 pub use Rattle.uv_script.specs.Text.{lines_text, name_text, script_lines, text_or_none}
 pub use Rattle.uv_script.specs.Words.{IsDeclared, IsDigit, IsLetter, IsName, IsNumber}
 pub use Rattle.uv_script.specs.declared.op.CallbackLine.{CallbackLine}
@@ -84,12 +85,12 @@ pub use Rattle.uv_script.specs.declared.op.MainOp.{MainOp}
 pub use Rattle.uv_script.specs.declared.op.Op.{Op}
 pub use Rattle.uv_session.specs.Shown.{Shown}
 pub use Rattle.uv_session.specs.declared.breaks.Break.{Break}
-pub use Rattle.uv_text.specs.Commands.{Asks, IsBreak, IsCommand, IsNoCommand, IsStep, LAST_WORKER, MOST, bad, command, nothing}
+pub use Rattle.uv_text.specs.Commands.{Asks, asked_in, IsBreak, IsCommand, IsNoCommand, IsStep, LAST_WORKER, MOST, bad, command, has_step, nothing}
 pub use Rattle.uv_text.specs.Image.{IsImageText, LAYOUT_PARTS, entry_text, image_text, layout_parts, link_part, links_from, named_ends, place_text}
 pub use Rattle.uv_text.specs.Parts.{parts_from}
 pub use Rattle.uv_text.specs.Reading.{asked_for, asked_of, break_of, clears, command_alone, command_by, command_of, command_with, command_with_two, section_of, step_by, worker_step}
 pub use Rattle.uv_text.specs.Recorded.{IsCallbackLine, SaysStep, after, begins, call, closed, is_callback_line, loop, outside, step_asked, step_of}
-pub use Rattle.uv_text.specs.Recording.{callback_lines, called_part, called_text, is_callback, recording_parts, step_line, step_part}
+pub use Rattle.uv_text.specs.Recording.{callback_lines, called_part, called_text, first_line, is_callback, recording_parts, step_line, step_part}
 pub use Rattle.uv_text.specs.State.{LAST_PARTS, member_text, name_part, names_upto, numbered, part_count, run_text, runs_upto, slot_part, slots_upto, state_part, state_parts, state_text, text_after}
 pub use Rattle.uv_text.specs.Trace.{end_text, handle_text, id_text, line_text}
 pub use Rattle.uv_text.specs.declared.command.Asked.{Asked}

@@ -1,12 +1,13 @@
 -- What every list of accepted steps has: each step may be taken, and each line shows a callback as a recording has it.
-use Rattle.uv_text.proofs.Names.{◌≡◌, ℕ, ◌+◌, ◌≤◌, List, [], ◌∷◌, ◌++◌, length, map, Bool, true, false, Contains, Option, Some, None, IfSome, refl, ap, subst, ◌∙◌, arith, length-append, option_to_list, AllByRecursion, filter, flat_map, length-replicate, All-nil, Id, Event, Seen, Program, arena_size, worker_count, IsSlotCount, IsName, Slot, Content, Named, CanStep, State, fresh, unbound, Next, Moves, Refuses, seen_from, state_of, seen_of, AcceptsFrom, STEPS, after_able, after-nil, after-push, line_text, IsCallbackLine, is_callback, callback_lines}
+use Rattle.uv_text.proofs.Names.{◌≡◌, ℕ, ◌+◌, ◌≤◌, List, [], ◌∷◌, ◌++◌, length, map, Bool, true, false, Contains, Option, Some, None, IfSome, refl, ap, subst, ◌∙◌, arith, length-append, option_to_list, AllByRecursion, filter, flat_map, length-replicate, All-nil, Id, Event, Seen, Program, arena_size, worker_count, IsSlotCount, IsName, Slot, Content, Named, CanStep, State, fresh, unbound, Next, Moves, Refuses, seen_from, state_of, seen_of, AcceptsFrom, STEPS, after_able, after-nil, after-push, line_text, IsCallbackLine, is_callback, callback_lines, has_step}
 use Rattle.uv_model.specs.Next.{next}
 use Rattle.uv_model.specs.After.{after, seen_by, Accepts}
 use Rattle.uv_text.proofs.Printed.{callback_said}
-use Rattle.uv_text.proofs.Sizes.{IsContent, Sized, Shows, Stays, CanBe, next_sized, can_be}
+use Rattle.uv_text.proofs.Sizes.{IsContent, Sized, Shows, Stays, CanBe, next_sized, can_be, can_have}
 
-pub record Played (m k : ℕ) (es : List Event) (xs : List (Option Seen)) : Type 0 where
+pub record Played (p : Program) (m k : ℕ) (es : List Event) (xs : List (Option Seen)) : Type 0 where
   pub steps : AllByRecursion (CanBe m k) es
+  pub has : AllByRecursion (λ (e : Event). has_step p e ≡ true) es
   pub lines : AllByRecursion (λ (x : Option Seen). IfSome x Shows) xs
 
 state_sized : (m k : ℕ) (s : State) (n : Next) → Sized m k s → Stays m k n → Sized m k (state_of s n)
@@ -18,15 +19,19 @@ shown m k (Moves t l) j = j.1
 shown m k (Refuses why) j = tt
 
 played_from : (p : Program) (m k : ℕ) (before es : List Event) (s : State) → after p before ≡ s → length before + length es ≤ STEPS → Sized m k s →
-    AcceptsFrom p s es → Played m k es (seen_from p s es)
-played_from p m k before [] s same few h a = record { steps = tt; lines = tt }
+    AcceptsFrom p s es → Played p m k es (seen_from p s es)
+played_from p m k before [] s same few h a = record { steps = tt; has = tt; lines = tt }
 played_from p m k before (e ∷ es) s same few h a =
     let able = subst CanStep same (after_able p before (omega (arith, few))) in
     let stays = next_sized p m k s e able h in
     let rest = played_from p m k (before ++ e ∷ []) es (state_of s (next p s e))
     (after-push p before e ∙ ap (λ (x : State). state_of x (next p x e)) same) (omega (arith, few, length-append before (e ∷ [])))
     (state_sized m k s (next p s e) h stays) a.1 in
-    record { steps = (can_be p m k s e h a.0, rest.steps); lines = (shown m k (next p s e) stays, rest.lines) }
+    record {
+      steps = (can_be p m k s e h a.0, rest.steps);
+      has = (can_have p m k s e a.0, rest.has);
+      lines = (shown m k (next p s e) stays, rest.lines);
+    }
 
 fresh_sized : (p : Program) → IsSlotCount (arena_size p).slots → Sized (length p.callbacks) (worker_count p) (fresh p)
 fresh_sized p slots = record {
@@ -37,7 +42,7 @@ fresh_sized p slots = record {
 }
 
 pub played : (p : Program) (es : List Event) → IsSlotCount (arena_size p).slots → Accepts p es → length es ≤ STEPS →
-    Played (length p.callbacks) (worker_count p) es (seen_by p es)
+    Played p (length p.callbacks) (worker_count p) es (seen_by p es)
 unfolding Accepts seen_by
 played p es slots a few =
     played_from p (length p.callbacks) (worker_count p) [] es (fresh p) (after-nil p) (omega (arith, few)) (fresh_sized p slots) a

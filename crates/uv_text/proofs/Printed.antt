@@ -1,5 +1,5 @@
 -- The lines of a recording are read as what they say: each step that may be taken, and each callback.
-use Rattle.uv_text.proofs.Names.{◌≡◌, ◌⊎◌, inl, inr, ℕ, ◌+◌, ◌/◌, ◌%◌, ◌<◌, ◌≤◌, ◌^◌, ◌&&◌, nat_le, true, false, List, [], ◌∷◌, ◌++◌, length, get_or, All, Contains, Option, Some, None, IfSome, slice_get, refl, ap, sym, subst, ◌∙◌, arith, length-append, codes, decimal, list_all, length-decimal-le, All-append, All-cons, All-head, All-nil, All-tail, slice_get-get_or, encode_lower, lower_digits, length-encode_with, Id, Var, Event, Loop, Take, Finish, Cancel, Send, Tick, Seen, IsLine, Program, text_or_none, name_text, IsLetter, IsDigit, IsName, IsDeclared, declared_contains, fields-last, decimal_printable, decimal_unspaced, printable_front, is_number, name_unspaced, IsDigest, SaysStep, loop, outside, IsCallbackLine, call, after, closed, step_line, is_callback, id_text, handle_text, end_text, line_text}
+use Rattle.uv_text.proofs.Names.{◌≡◌, ◌⊎◌, inl, inr, ℕ, ◌+◌, ◌/◌, ◌%◌, ◌<◌, ◌≤◌, ◌^◌, ◌&&◌, nat_le, true, false, List, [], ◌∷◌, ◌++◌, length, get_or, All, Contains, Option, Some, None, IfSome, slice_get, refl, ap, sym, subst, ◌∙◌, arith, length-append, codes, decimal, list_all, length-decimal-le, All-append, All-cons, All-head, All-nil, All-tail, slice_get-get_or, encode_lower, lower_digits, length-encode_with, Id, Var, Event, Loop, Take, Finish, Cancel, Send, Io, Tick, Seen, IsLine, Program, text_or_none, name_text, IsLetter, IsDigit, IsName, IsDeclared, declared_contains, fields-last, decimal_printable, decimal_unspaced, printable_front, is_number, name_unspaced, IsDigest, has_step, SaysStep, loop, outside, IsCallbackLine, call, after, closed, step_line, is_callback, id_text, handle_text, end_text, line_text}
 use Rattle.hex.specs.Hex.{encode_with}
 use Rattle.uv_ids.specs.declared.seen.Seen.TheVariants as seen
 use Rattle.uv_text.specs.Commands as is
@@ -50,45 +50,52 @@ module _ (names : List (List ℕ)) (each : (name : List ℕ) → Contains names 
     at None e = record { short = omega arith; printable = All-nil (λ b. (32 ≤ b) × (b ≤ 126)) }
     at (Some name) e = name_printed name (each name (declared_contains names name v e))
 
-  -- ---- steps
+-- ---- steps
 
-  declared : (v : Var) → v.0 < length names → IsDeclared names (name_text names v) v
-  declared v inside = let e = slice_get-get_or names v.0 [] inside in e ∙ ap Some (sym (ap text_or_none e))
+module _ (p : Program) (each : (name : List ℕ) → Contains p.names name → IsName name) where
+  declared : (v : Var) → v.0 < length p.names → IsDeclared p.names (name_text p.names v) v
+  declared v inside = let e = slice_get-get_or p.names v.0 [] inside in e ∙ ap Some (sym (ap text_or_none e))
 
   worker : (n k : ℕ) → k ≤ 1024 → n < k → n < 2 ^ 64
   worker n k few less = omega (arith, few, less)
 
   -- the line of a step that may be taken says it
-  pub step_said : (m k : ℕ) (e : Event) → m ≤ length names → k ≤ 1024 → CanBe m k e → SaysStep names (step_line names e) e
-  step_said m k Loop all few h = loop refl
-  step_said m k (Take n) all few h =
+  pub step_said : (m k : ℕ) (e : Event) → m ≤ length p.names → k ≤ 1024 → CanBe m k e → has_step p e ≡ true → SaysStep p (step_line p.names e) e
+  step_said m k Loop all few h has = loop refl
+  step_said m k (Take n) all few h has =
       let small : n < 2 ^ 64 = omega (arith, few, h) in
       outside (Take n) (is_line 25 _ (omega arith) (both 5 20 (codes "take ") (decimal n) (word (codes "take ") refl) (number n small)))
       (is.step (codes "take") (decimal n) (Take n) (ap (λ (r : List (List ℕ)). codes "take" ∷ r) (fields-last (decimal n) (decimal_unspaced n small)))
-      (is.take n refl (is_number n small) (omega (arith, few, h))))
-  step_said m k (Finish n) all few h =
+      (is.take n refl (is_number n small) (omega (arith, few, h)))) has
+  step_said m k (Finish n) all few h has =
       let small : n < 2 ^ 64 = omega (arith, few, h) in
       outside (Finish n) (is_line 27 _ (omega arith) (both 7 20 (codes "finish ") (decimal n) (word (codes "finish ") refl) (number n small)))
       (is.step (codes "finish") (decimal n) (Finish n)
       (ap (λ (r : List (List ℕ)). codes "finish" ∷ r) (fields-last (decimal n) (decimal_unspaced n small)))
-      (is.finish n refl (is_number n small) (omega (arith, few, h))))
-  step_said m k (Cancel v) all few h =
-      let name = name_text names v in
+      (is.finish n refl (is_number n small) (omega (arith, few, h)))) has
+  step_said m k (Cancel v) all few h has =
+      let name = name_text p.names v in
       let there = declared v (omega (arith, all, h)) in
-      let unspaced = name_unspaced name (each name (declared_contains names name v there)) in
-      outside (Cancel v) (is_line 39 _ (omega arith) (both 7 32 (codes "cancel ") name (word (codes "cancel ") refl) (name_there v)))
-      (is.step (codes "cancel") name (Cancel v) (ap (λ (r : List (List ℕ)). codes "cancel" ∷ r) (fields-last name unspaced)) (is.cancel v refl there))
-  step_said m k (Send v) all few h =
-      let name = name_text names v in
+      let unspaced = name_unspaced name (each name (declared_contains p.names name v there)) in
+      outside (Cancel v) (is_line 39 _ (omega arith) (both 7 32 (codes "cancel ") name (word (codes "cancel ") refl) (name_there p.names each v)))
+      (is.step (codes "cancel") name (Cancel v) (ap (λ (r : List (List ℕ)). codes "cancel" ∷ r) (fields-last name unspaced)) (is.cancel v refl there)) has
+  step_said m k (Send v) all few h has =
+      let name = name_text p.names v in
       let there = declared v (omega (arith, all, h)) in
-      let unspaced = name_unspaced name (each name (declared_contains names name v there)) in
-      outside (Send v) (is_line 37 _ (omega arith) (both 5 32 (codes "send ") name (word (codes "send ") refl) (name_there v)))
-      (is.step (codes "send") name (Send v) (ap (λ (r : List (List ℕ)). codes "send" ∷ r) (fields-last name unspaced)) (is.send v refl there))
-  step_said m k (Tick ms) all few h =
+      let unspaced = name_unspaced name (each name (declared_contains p.names name v there)) in
+      outside (Send v) (is_line 37 _ (omega arith) (both 5 32 (codes "send ") name (word (codes "send ") refl) (name_there p.names each v)))
+      (is.step (codes "send") name (Send v) (ap (λ (r : List (List ℕ)). codes "send" ∷ r) (fields-last name unspaced)) (is.send v refl there)) has
+  step_said m k (Io v) all few h has =
+      let name = name_text p.names v in
+      let there = declared v (omega (arith, all, h)) in
+      let unspaced = name_unspaced name (each name (declared_contains p.names name v there)) in
+      outside (Io v) (is_line 35 _ (omega arith) (both 3 32 (codes "io ") name (word (codes "io ") refl) (name_there p.names each v)))
+      (is.step (codes "io") name (Io v) (ap (λ (r : List (List ℕ)). codes "io" ∷ r) (fields-last name unspaced)) (is.io v refl there)) has
+  step_said m k (Tick ms) all few h has =
       let small : ms < 2 ^ 64 = omega (arith, h) in
       outside (Tick ms) (is_line 25 _ (omega arith) (both 5 20 (codes "tick ") (decimal ms) (word (codes "tick ") refl) (number ms small)))
       (is.step (codes "tick") (decimal ms) (Tick ms)
-      (ap (λ (r : List (List ℕ)). codes "tick" ∷ r) (fields-last (decimal ms) (decimal_unspaced ms small))) (is.tick ms refl (is_number ms small)))
+      (ap (λ (r : List (List ℕ)). codes "tick" ∷ r) (fields-last (decimal ms) (decimal_unspaced ms small))) (is.tick ms refl (is_number ms small))) has
 
 -- ---- callbacks
 
@@ -126,6 +133,8 @@ module _ (p : Program) (each : (name : List ℕ) → Contains p.names name → I
   -- the line of a callback is one of a callback
   pub callback_said : (l : Seen) → is_callback l ≡ true → Shows l → IsCallbackLine (line_text p l)
   callback_said (seen.Call v id) e h =
+      call (handle_text p v id) (is_line 79 _ (omega arith) (both 5 74 (codes "call ") _ (word (codes "call ") refl) (handle_printed v id h))) refl
+  callback_said (seen.Io v id) e h =
       call (handle_text p v id) (is_line 79 _ (omega arith) (both 5 74 (codes "call ") _ (word (codes "call ") refl) (handle_printed v id h))) refl
   callback_said (seen.After digest v id) e h =
       let text = handle_text p v id ++ codes " " ++ end_text digest in

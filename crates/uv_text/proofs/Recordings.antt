@@ -1,5 +1,5 @@
 -- The text of a recording, a part at a time.
-use Rattle.uv_text.proofs.Names.{◌≡◌, ℕ, List, [], ◌∷◌, ◌++◌, map, Bool, true, false, Option, Some, None, refl, ap, sym, ◌∙◌, append_assoc, option_to_list, codes, flat_map, filter, Event, Seen, Program, script_lines, lines_text, lines_text-append, line_text, step_line, is_callback, callback_lines, called_text}
+use Rattle.uv_text.proofs.Names.{◌≡◌, ℕ, List, [], ◌∷◌, ◌++◌, map, Bool, true, false, Option, Some, None, refl, ap, sym, ◌∙◌, append_assoc, option_to_list, codes, flat_map, filter, Event, Seen, Program, script_lines, lines_text, lines_text-append, line_text, first_line, step_line, is_callback, callback_lines, called_text}
 use Rattle.uv_script.specs.Text.{script_text}
 use Rattle.uv_text.specs.Recording.{recording_text, script_part}
 
@@ -45,6 +45,9 @@ unfolding script_part recording_text script_text
 whole p es =
     let steps = map (step_line p.names) es in
     let calls = callback_lines p es in
-    regrouped (codes "uvt 2\n" ++ lines_text (script_lines p)) (codes "begin\n")
-    (lines_text steps) (codes "calls\n") (lines_text calls) (codes "end\n")
-    ∙ sym (cut_in_four (codes "uvt 2" ∷ script_lines p) (codes "begin" ∷ steps) (codes "calls" ∷ calls) (codes "end" ∷ []))
+    let first = first_line p in
+    let text = lines_text (script_lines p) in
+    regrouped ((first ++ codes "\n") ++ text) (codes "begin\n") (lines_text steps) (codes "calls\n") (lines_text calls) (codes "end\n")
+    ∙ ap (λ (t : List ℕ). ((t ++ (codes "begin\n" ++ lines_text steps)) ++ (codes "calls\n" ++ lines_text calls)) ++ codes "end\n")
+    (append_assoc first (codes "\n") text)
+    ∙ sym (cut_in_four (first ∷ script_lines p) (codes "begin" ∷ steps) (codes "calls" ∷ calls) (codes "end" ∷ []))

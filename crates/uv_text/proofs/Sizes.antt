@@ -1,6 +1,6 @@
 -- What a state keeps of its lists: as many names and workers as the script has, no more slots than a script may ask for, and a digest of
 -- 32 bytes in each request that was finished. So a step that is taken can be written as a line, and so can each callback.
-use Rattle.uv_text.proofs.Names.{◌≡◌, ℕ, suc, zero, ◌+◌, ◌<◌, ◌≤◌, ◌^◌, List, [], ◌∷◌, ◌++◌, length, drop, Bool, true, false, Option, Some, None, IfSome, Result, Ok, Err, All, slice_get, slice_set, option_and_then, nat_le, nat_lt, ◌==◌, refl, ap, subst, ◌∙◌, arith, length-append, length-set, cond, if◌then◌else◌, list_any, elements, cond_both, leb-true, ltb-true, none-some, same_Some, slice_get_within, Id, Var, Kind, Code, Event, Loop, Take, Finish, Cancel, Send, Tick, Why, Range, Seen, Callback, Op, MainOp, CallbackLine, Task, MOST_SLOTS, Program, arena_size, order_of, text_of, HandleRecord, Slot, WatcherKind, inited, is_async, activated, referenced_as, repeating, watcher_kind, start_timer_refusal, start_watcher_refusal, stop_refusal, again_refusal, timer_refusal, close_refusal, no_refusal, send_refusal, Slots, held, held_in, with_held, next_unused, next_id, next_free, taken, taken_from, freed, with_first, Outcome, Open, Finished, Cancelled, IsDigest, is_digest, LATEST, Content, Named, Body, Run, Stage, Entry, Pending, Walking, Poll, Done, Closing, Timers, TimersOf, Turn, AtEntry, Behind, BehindClosing, Way, ToTimers, ToPending, ToEnd, Timing, Collecting, Firing, Place, Main, Running, Request, CanStep, queued, digest_in, handle_in, request_in, same_id, State, named, with_handle, with_id, with_named, live, live_handle, live_request, front, front_request, watched, with_watched, refreshed, counted, stopped, started, restarted, do_op, Next, Moves, Refuses, loop_step, main_step, run_step, body_step, stage_step, next_work, finish, work_of, collect_request, timers, first_due, fire, way, goes_by, turns, refreshes, calls, may_leave, goes, begin_walk, after_walk, front_moved, walk, walk_async, close_front, IsMove, if_keeps, found_both, front_freed, request_freed}
+use Rattle.uv_text.proofs.Names.{◌≡◌, ℕ, suc, zero, ◌+◌, ◌<◌, ◌≤◌, ◌^◌, List, [], ◌∷◌, ◌++◌, length, drop, Bool, true, false, Option, Some, None, IfSome, Result, Ok, Err, All, slice_get, slice_set, option_and_then, nat_le, nat_lt, ◌==◌, ◌&&◌, refl, ap, subst, ◌∙◌, arith, length-append, length-set, cond, if◌then◌else◌, list_any, elements, cond_both, leb-true, ltb-true, none-some, same_Some, slice_get_within, Id, Var, Due, Kind, Code, Event, Loop, Take, Finish, Cancel, Send, Io, Tick, Why, Range, Seen, Callback, Op, MainOp, CallbackLine, Task, MOST_SLOTS, Program, arena_size, order_of, has_io, from_heap, text_of, HandleRecord, Slot, WatcherKind, inited, is_async, is_io, activated, referenced_as, repeating, watcher_kind, start_timer_refusal, start_watcher_refusal, stop_refusal, again_refusal, timer_refusal, close_refusal, no_refusal, send_refusal, Slots, held, held_in, with_held, next_unused, next_id, next_free, taken, taken_from, freed, with_first, Outcome, Open, Finished, Cancelled, IsDigest, is_digest, LATEST, Content, Named, Body, Run, Stage, Entry, Pending, Walking, Poll, Polled, Done, DoneUnwoken, Closing, Timers, TimersOf, Turn, AtEntry, Behind, BehindClosing, Way, ToTimers, ToPending, ToEnd, Timing, Collecting, Firing, Place, Main, Running, Request, CanStep, queued, digest_in, handle_in, request_in, same_id, State, handle, named, with_handle, with_id, with_named, live, live_id, as_handle, live_handle, live_request, front, front_request, watched, with_watched, refreshed, counted, stopped, taken_off, started, restarted, do_op, Next, Moves, Refuses, loop_step, main_step, run_step, body_step, stage_step, next_work, io_run, io_handle, call_io, takes_io, stage_polled, time_polled, finish, work_of, collect_request, timers, first_due, fire, way, goes_by, turns, refreshes, calls, may_leave, goes, begin_walk, after_walk, front_moved, walk, walk_async, close_front, IsMove, has_step, and_parts, if_keeps, found_both, front_freed, request_freed}
 use Rattle.uv_ids.specs.declared.seen.Seen.TheVariants as seen
 use Rattle.uv_ids.specs.declared.seen.Callback.TheVariants as callback
 use Rattle.uv_script.specs.declared.op.Op.TheVariants as op
@@ -44,6 +44,7 @@ pub record IsShort (id : Id) : Type 0 where
 
 abbrev pub Shows : Seen → Type 0
 Shows (seen.Call v id) = IsShort id
+Shows (seen.Io v id) = IsShort id
 Shows (seen.After digest v id) = IsShort id × IfSome digest IsDigest
 Shows (seen.Closed v id) = IsShort id
 Shows l = Unit {0}
@@ -59,6 +60,7 @@ CanBe m k (Take n) = n < k
 CanBe m k (Finish n) = n < k
 CanBe m k (Cancel v) = v.0 < m
 CanBe m k (Send v) = v.0 < m
+CanBe m k (Io v) = v.0 < m
 CanBe m k (Tick ms) = ms ≤ LATEST
 
 -- ---- the parts
@@ -167,8 +169,8 @@ module _ (m k : ℕ) where
 
   starts_watcher : (s : State) (id : Id) (x : HandleRecord) → Sized m k s → Sized m k (ops.start_watcher s id x).state
   starts_watcher s id x h = if_keeps (Sized m k) x.active s _ h
-      (found_both (watcher_kind x.kind) _ s (Sized m k)
-      (λ kind e. handled (with_watched s kind (with_first (watched s kind) id)) id (activated x) h) (λ e. h))
+      (found_both (watcher_kind x.kind) _ _ (Sized m k)
+      (λ kind e. handled (with_watched s kind (with_first (watched s kind) id)) id (activated x) h) (λ e. handled s id (activated x) h))
 
   sends : (s : State) (t : Result (Id × HandleRecord) Code) → Sized m k s → Sized m k (ops.send s t).state
   sends s (Err code) h = h
@@ -243,6 +245,28 @@ request_shown s (x ∷ ids) t e = at (held s.arena.slots x) refl e where
         ending = held_content s.arena.slots x (slice_get s.arena.slots x.slot) (content.Request r) refl f;
       })
 
+-- the first timer that is due is held
+due_front : (s : State) (ts : List (Due × Id)) (t : Id × HandleRecord) → first_due s ts ≡ Some t → front s (t.0 ∷ []) ≡ Some t
+due_front s [] t e = absurd (none-some t e)
+due_front s (u ∷ ts) t e = at (nat_le u.0.at s.time) e where
+  its_front : (h : Option HandleRecord) → handle s u.1 ≡ h → with_id u.1 h ≡ Some t → front s (t.0 ∷ []) ≡ Some t
+  its_front None f g = absurd (none-some t g)
+  its_front (Some h) f g = subst (λ (x : Id × HandleRecord). front s (x.0 ∷ []) ≡ Some x) (same_Some _ _ g) (rw f refl)
+  at : (b : Bool) → (if b then with_id u.1 (handle s u.1) else None) ≡ Some t → front s (t.0 ∷ []) ≡ Some t
+  at true g = its_front (handle s u.1) refl g
+  at false g = absurd (none-some t g)
+
+-- so is the handle of a live name
+live_front : (s : State) (bound : Option Id) (t : Id × HandleRecord) → as_handle (live_id s bound) ≡ Ok t → front s (t.0 ∷ []) ≡ Some t
+live_front s None t e = cc e
+live_front s (Some id) t e = at (held s.arena.slots id) refl e where
+  at : (c : Option Content) → held s.arena.slots id ≡ c → as_handle (with_id id c) ≡ Ok t → front s (t.0 ∷ []) ≡ Some t
+  at None f g = cc g
+  at (Some (content.Request r)) f g = cc g
+  at (Some (content.Handle h)) f g =
+      let same : ◌≡◌ {A = Id × HandleRecord} (id, h) t = cc g in
+      subst (λ (x : Id × HandleRecord). front s (x.0 ∷ []) ≡ Some x) same (rw f refl)
+
 -- ---- the rows
 
 module _ (p : Program) (m k : ℕ) where
@@ -270,8 +294,14 @@ module _ (p : Program) (m k : ℕ) where
       (λ e. turned s run (Behind part) h)
 
   timed : (s : State) (run : Run) (part : TimersOf) (timing : Timing) → CanStep s → Sized m k s → Stays m k (timers p s run part timing)
-  timed s run part Collecting able h = found_both (first_due s s.timers) _ _ (Stays m k)
-      (λ t e. (handled m k s t.0 (records.stopped t.1) h, tt)) (λ e. fired s run part able h)
+  timed s run part Collecting able h = if_keeps (Stays m k) (from_heap p) _ _
+      (found_both (first_due s s.timers) _ _ (Stays m k)
+      (λ t e. let u = stopped s t.0 t.1 in
+      called (restarted u t.0 t.1) (record run { stage = Timers part Collecting }) callback.Handle t.1.name (seen.Call t.1.name t.0)
+      (restarts m k u t.0 t.1 (handled m k (taken_off s t.0 t.1) t.0 (records.stopped t.1) h)) (short s (t.0 ∷ []) t (due_front s s.timers t e) able h))
+      (λ e. turned s run (Behind part) h))
+      (found_both (first_due s s.timers) _ _ (Stays m k)
+      (λ t e. (handled m k s t.0 (records.stopped t.1) h, tt)) (λ e. fired s run part able h))
   timed s run part Firing able h = fired s run part able h
 
   begun : (s : State) (run : Run) (kind : WatcherKind) → Sized m k s → Stays m k (begin_walk s run kind)
@@ -327,7 +357,10 @@ module _ (p : Program) (m k : ℕ) where
   staged s run (Walking watcher.Async) able h = walks_async s run able h
   staged s run (Walking kind) able h = walks s run kind able h
   staged s run (Poll deadline) able h = if_keeps (Stays m k) (may_leave s deadline) _ _ (h, tt) tt
+  staged s run (Polled true) able h = (h, tt)
+  staged s run (Polled false) able h = (h, tt)
   staged s run Done able h = collects s run able h
+  staged s run DoneUnwoken able h = (h, tt)
   staged s run Closing able h = closes s run able h
   staged s run (Timers part timing) able h = timed s run part timing able h
 
@@ -363,6 +396,15 @@ module _ (p : Program) (m k : ℕ) where
         tt,
       )
 
+  answers : (s : State) (v : Var) (r : Option Run) (t : Result (Id × HandleRecord) Code) → live_handle s v ≡ t → CanStep s → Sized m k s →
+      Stays m k (call_io p s v r (io_handle t))
+  answers s v None t e able h = tt
+  answers s v (Some run) (Err code) e able h = tt
+  answers s v (Some run) (Ok t) e able h = if_keeps (λ (o : Option Id). Stays m k (call_io p s v (Some run) o)) (is_io t.1.kind && t.1.active) _ _
+      (called (record s { time = time_polled s run.stage }) (record run { stage = stage_polled s run.stage }) callback.Handle v (seen.Io v t.0) h
+      (short s (t.0 ∷ []) t (live_front s (named s v).id t e) able h))
+      tt
+
   pub next_sized : (s : State) (e : Event) → CanStep s → Sized m k s → Stays m k (next p s e)
   unfolding next
   next_sized s Loop able h = looped s s.place able h
@@ -370,6 +412,8 @@ module _ (p : Program) (m k : ℕ) where
   next_sized s (Finish n) able h = finishes s n (work_of s (slice_get s.running n)) h
   next_sized s (Cancel v) able h = if_keeps (Stays m k) (nat_lt v.0 (length s.names)) _ _ (cancelled m k s (live_request s v) h, tt) tt
   next_sized s (Send v) able h = if_keeps (Stays m k) (nat_lt v.0 (length s.names)) _ _ (sends m k s (live_handle s v) h, tt) tt
+  next_sized s (Io v) able h = if_keeps (Stays m k) (nat_lt v.0 (length s.names)) _ _
+      (answers s v (io_run p s s.place) (live_handle s v) refl able h) tt
   next_sized s (Tick ms) able h = if_keeps (Stays m k) (nat_le (s.clock + ms) LATEST) _ _ (h, tt) tt
 
   -- ---- what is taken
@@ -394,5 +438,18 @@ module _ (p : Program) (m k : ℕ) where
   can_be s (Finish n) h move = can_finish s n (slice_get s.running n) refl h move
   can_be s (Cancel v) h move = can_name s v _ h move
   can_be s (Send v) h move = can_name s v _ h move
+  can_be s (Io v) h move = can_name s v _ h move
   can_be s (Tick ms) h move = cond_both (nat_le (s.clock + ms) LATEST) _ (Refuses Range) (λ (n : Next). IsMove n → ms ≤ LATEST)
       (λ e _. let within = leb-true (s.clock + ms) LATEST e in omega (arith, within)) (λ _ f. absurd f) move
+
+  called_there : (s : State) (v : Var) (id : Option Id) (place : Place) → IsMove (call_io p s v (io_run p s place) id) → has_io p ≡ true
+  called_there s v id (Main line) = λ move. absurd move
+  called_there s v id (Running run) = cond_both (has_io p && takes_io s run.stage run.body) _ _
+      (λ (r : Option Run). IsMove (call_io p s v r id) → has_io p ≡ true) (λ e move. (and_parts _ _ e).0) (λ e move. absurd move)
+
+  -- the script has it
+  pub can_have : (s : State) (e : Event) → IsMove (next p s e) → has_step p e ≡ true
+  unfolding next
+  can_have s (Io v) move = cond_both (nat_lt v.0 (length s.names)) _ (Refuses Range) (λ (n : Next). IsMove n → has_io p ≡ true)
+      (λ e. called_there s v (io_handle (live_handle s v)) s.place) (λ e f. absurd f) move
+  can_have s each move = refl

@@ -1,36 +1,37 @@
 -- The tests of the code decide which lines of a recording say a step, and which are of callbacks.
-use Rattle.uv_text.proofs.Names.{◌≡◌, ◌↔◌, ◌&&◌, ◌||◌, ℕ, List, ◌++◌, Bool, true, false, drop, length, Option, Some, None, IfSome, IfNone, IsTrue, refl, ap, sym, subst, ◌∙◌, codes, bytes_eq, cond_both, and_parts, Decides-eqb, bytes_eq-Decides, starts_is, Event, Loop, is_line, is_line_decides, Asked, Do, Step, Asks, command, asked_of, SaysStep, loop, outside, IsCallbackLine, call, after, closed, step_asked, step_of, begins, is_callback_line}
+use Rattle.uv_text.proofs.Names.{Bad, Program, has_step, asked_in, ◌≡◌, ◌↔◌, ◌&&◌, ◌||◌, ℕ, List, ◌++◌, Bool, true, false, drop, length, Option, Some, None, IfSome, IfNone, IsTrue, refl, ap, sym, subst, ◌∙◌, codes, bytes_eq, cond_both, and_parts, Decides-eqb, bytes_eq-Decides, starts_is, Event, Loop, is_line, is_line_decides, Asked, Do, Step, Asks, command, asked_of, SaysStep, loop, outside, IsCallbackLine, call, after, closed, step_asked, step_of, begins, is_callback_line}
 use Rattle.uv_text.proofs.Commands.{asks, step_found}
 
 -- ---- steps
 
-asked_says : (names : List (List ℕ)) (line : List ℕ) (a : Asked) → Asks names line a → IfSome (step_asked a) (λ e. SaysStep names line e)
-asked_says names line (Do (Step e)) (command _ l h) = outside e l h
-asked_says names line _ h = tt
+asked_says : (p : Program) (line : List ℕ) (a : Asked) → Asks p.names line a → IfSome (step_asked (asked_in p a)) (λ e. SaysStep p line e)
+asked_says p line (Do (Step e)) (command _ l h) =
+    cond_both (has_step p e) (Do (Step e)) Bad (λ (a : Asked). IfSome (step_asked a) (λ e. SaysStep p line e)) (λ has. outside e l h has) (λ _. tt)
+asked_says p line _ h = tt
 
-says : (names : List (List ℕ)) (line : List ℕ) → IfSome (step_of names line) (λ e. SaysStep names line e)
-says names line =
-    cond_both (bytes_eq line (codes "loop")) (Some Loop) (step_asked (asked_of names line))
-    (λ (o : Option Event). IfSome o (λ e. SaysStep names line e))
-    (λ e. loop ((bytes_eq-Decides line (codes "loop")).0 e)) (λ _. asked_says names line (asked_of names line) (asks names line))
+says : (p : Program) (line : List ℕ) → IfSome (step_of p line) (λ e. SaysStep p line e)
+says p line =
+    cond_both (bytes_eq line (codes "loop")) (Some Loop) (step_asked (asked_in p (asked_of p.names line)))
+    (λ (o : Option Event). IfSome o (λ e. SaysStep p line e))
+    (λ e. loop ((bytes_eq-Decides line (codes "loop")).0 e)) (λ _. asked_says p line (asked_of p.names line) (asks p.names line))
 
-pub step_says : (names : List (List ℕ)) (line : List ℕ) (o : Option Event) → o ≡ step_of names line → IfSome o (λ e. SaysStep names line e)
-step_says names line o is = subst (λ (x : Option Event). IfSome x (λ e. SaysStep names line e)) (sym is) (says names line)
+pub step_says : (p : Program) (line : List ℕ) (o : Option Event) → o ≡ step_of p line → IfSome o (λ e. SaysStep p line e)
+step_says p line o is = subst (λ (x : Option Event). IfSome x (λ e. SaysStep p line e)) (sym is) (says p line)
 
 -- what a line says is read
-finds : (names : List (List ℕ)) (line : List ℕ) (e : Event) → SaysStep names line e → step_of names line ≡ None → ⊥
-finds names line e (loop h) none = at (rw ((bytes_eq-Decides line (codes "loop")).1 h) at none) where
+finds : (p : Program) (line : List ℕ) (e : Event) → SaysStep p line e → step_of p line ≡ None → ⊥
+finds p line e (loop h) none = at (rw ((bytes_eq-Decides line (codes "loop")).1 h) at none) where
   at : ◌≡◌ {A = Option Event} (Some Loop) None → ⊥
   at z = cc z
-finds names line e (outside _ l h) none =
-    let found = step_found names line e l h in
-    cond_both (bytes_eq line (codes "loop")) (Some Loop) (step_asked (asked_of names line)) (λ (o : Option Event). o ≡ None → ⊥)
-    (λ _ z. cc z) (λ _ z. let some = ap step_asked found.1 in cc (z, some)) none
+finds p line e (outside _ l h has) none =
+    let found = step_found p line e l h in
+    let asked : asked_in p (asked_of p.names line) ≡ Do (Step found.0) = ap (asked_in p) found.1 ∙ rw (found.2 ∙ has) refl in
+    cond_both (bytes_eq line (codes "loop")) (Some Loop) (step_asked (asked_in p (asked_of p.names line))) (λ (o : Option Event). o ≡ None → ⊥)
+    (λ _ z. cc z) (λ _ z. let some = ap step_asked asked in cc (z, some)) none
 
-pub step_none : (names : List (List ℕ)) (line : List ℕ) (o : Option Event) → o ≡ step_of names line →
-    IfNone o ((e : Event) → SaysStep names line e → ⊥)
-step_none names line (Some e) is = tt
-step_none names line None is = λ e h. finds names line e h (sym is)
+pub step_none : (p : Program) (line : List ℕ) (o : Option Event) → o ≡ step_of p line → IfNone o ((e : Event) → SaysStep p line e → ⊥)
+step_none p line (Some e) is = tt
+step_none p line None is = λ e h. finds p line e h (sym is)
 
 -- ---- callbacks
 

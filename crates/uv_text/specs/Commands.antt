@@ -1,13 +1,14 @@
 -- The commands of a conversation, and how a line is read.
-use Rattle.std.specs.Prelude.{◌≡◌, ℕ, ◌≤◌, List, [], ◌∷◌, codes}
+use Rattle.std.specs.Prelude.{◌≡◌, ℕ, ◌≤◌, List, [], ◌∷◌, Bool, true, if◌then◌else◌, codes}
 use Rattle.uv_ids.specs.declared.id.Var.{Var}
 use Rattle.uv_ids.specs.declared.code.Code.{Code}
 use Rattle.uv_ids.specs.declared.event.Event.{Event}
-use Rattle.uv_ids.specs.declared.event.Event.TheVariants.{Take, Finish, Cancel, Send, Tick}
+use Rattle.uv_ids.specs.declared.event.Event.TheVariants.{Take, Finish, Cancel, Send, Io, Tick}
 use Rattle.uv_ids.specs.declared.phase.Phase.{Phase}
 use Rattle.uv_ids.specs.Words.{code_word, phase_word}
 use Rattle.uv_script.specs.Lines.{fields_of, IsLine, IsSkipped}
 use Rattle.uv_script.specs.Words.{IsNumber, IsDeclared}
+use Rattle.uv_script.specs.Program.{Program, has_io}
 use Rattle.uv_model.specs.After.{STEPS}
 use Rattle.uv_session.specs.declared.breaks.Break.{Break}
 use Rattle.uv_session.specs.declared.breaks.Break.TheVariants as at
@@ -38,6 +39,7 @@ pub data IsStep (names : List (List ℕ)) (word argument : List ℕ) : Event →
   finish : (worker : ℕ) → word ≡ codes "finish" → IsNumber argument worker → worker ≤ LAST_WORKER → IsStep names word argument (Finish worker)
   cancel : (v : Var) → word ≡ codes "cancel" → IsDeclared names argument v → IsStep names word argument (Cancel v)
   send : (v : Var) → word ≡ codes "send" → IsDeclared names argument v → IsStep names word argument (Send v)
+  io : (v : Var) → word ≡ codes "io" → IsDeclared names argument v → IsStep names word argument (Io v)
   tick : (ms : ℕ) → word ≡ codes "tick" → IsNumber argument ms → IsStep names word argument (Tick ms)
 
 -- the fields of a line, and the command that they are, where these names are declared
@@ -67,3 +69,13 @@ pub data Asks (names : List (List ℕ)) (line : List ℕ) : Asked → Type 0 whe
   nothing : IsLine line → IsSkipped line → Asks names line Nothing
   command : (command : Command) → IsLine line → IsCommand names (fields_of line) command → Asks names line (Do command)
   bad : (IsLine line → IsSkipped line → ⊥) → (IsLine line → IsNoCommand names (fields_of line)) → Asks names line Bad
+
+-- whether a script has such steps: those of I/O it has only with a line `io`
+abbrev pub has_step : Program → Event → Bool
+has_step p (Io v) = has_io p
+has_step p e = true
+
+-- how the line is read in a conversation on a script: a step that it hasn't is a bad command
+abbrev pub asked_in : Program → Asked → Asked
+asked_in p (Do (Step e)) = if has_step p e then Do (Step e) else Bad
+asked_in p asked = asked

@@ -5,7 +5,7 @@ use Rattle.uv_ids.specs.declared.id.Var.{Var}
 use Rattle.uv_ids.specs.declared.code.Code.{Code}
 use Rattle.uv_ids.specs.declared.code.Code.TheVariants as code
 use Rattle.uv_ids.specs.declared.event.Event.{Event}
-use Rattle.uv_ids.specs.declared.event.Event.TheVariants.{Take, Finish, Cancel, Send, Tick}
+use Rattle.uv_ids.specs.declared.event.Event.TheVariants.{Take, Finish, Cancel, Send, Io, Tick}
 use Rattle.uv_ids.specs.declared.phase.Phase.{Phase}
 use Rattle.uv_ids.specs.declared.phase.Phase.TheVariants as phase
 use Rattle.uv_script.specs.Lines.{fields_of}
@@ -104,7 +104,8 @@ abbrev pub command_with : List (List ℕ) → List ℕ → List ℕ → Option C
 command_with names word argument =
     if bytes_eq word (codes "cancel") then option_map (λ (v : Var). Step (Cancel v)) (place_of names argument)
     else (if bytes_eq word (codes "send") then option_map (λ (v : Var). Step (Send v)) (place_of names argument)
-    else (if bytes_eq word (codes "break") then clears argument else command_by word (number_of argument)))
+    else (if bytes_eq word (codes "io") then option_map (λ (v : Var). Step (Io v)) (place_of names argument)
+    else (if bytes_eq word (codes "break") then clears argument else command_by word (number_of argument))))
 
 -- a word with two that follow it
 abbrev pub command_with_two : List (List ℕ) → List ℕ → List ℕ → List ℕ → Option Command

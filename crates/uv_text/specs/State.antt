@@ -29,7 +29,7 @@ use Rattle.uv_model.specs.declared.place.Body.{Body}
 use Rattle.uv_model.specs.declared.place.Place.{Place}
 use Rattle.uv_model.specs.declared.place.Place.TheVariants.{Main, Running}
 use Rattle.uv_model.specs.declared.place.Stage.{Stage}
-use Rattle.uv_model.specs.declared.place.Stage.TheVariants.{Entry, Pending, Walking, Poll, Done, Closing, Timers}
+use Rattle.uv_model.specs.declared.place.Stage.TheVariants.{Entry, Pending, Walking, Poll, Polled, Done, DoneUnwoken, Closing, Timers}
 use Rattle.uv_model.specs.declared.place.TimersOf.{TimersOf}
 use Rattle.uv_model.specs.declared.place.TimersOf.TheVariants as timers_of
 use Rattle.uv_model.specs.declared.place.Timing.{Timing}
@@ -68,7 +68,10 @@ stage_text Entry = codes "entry"
 stage_text Pending = codes "pending"
 stage_text (Walking kind) = phase_word (phase_of kind)
 stage_text (Poll deadline) = codes "poll " ++ timeout_text deadline
+stage_text (Polled true) = codes "polled woken"
+stage_text (Polled false) = codes "polled"
 stage_text Done = codes "done"
+stage_text DoneUnwoken = codes "done unwoken"
 stage_text Closing = codes "closing"
 stage_text (Timers which timing) = timers_text which timing
 
@@ -118,6 +121,7 @@ kind_text kind.Idle h = []
 kind_text kind.Prepare h = []
 kind_text kind.Check h = []
 kind_text kind.Async h = flagged (codes " pending ") h.pending
+kind_text kind.Io h = []
 
 abbrev pub record_text : Program → HandleRecord → List ℕ
 record_text p h =

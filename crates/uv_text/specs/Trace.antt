@@ -67,6 +67,7 @@ line_text p (seen.Run mode) = codes "run " ++ mode_word mode
 line_text p (seen.Section phase) = phase_word phase
 line_text p (seen.Poll timeout) = codes "poll " ++ timeout_text timeout
 line_text p (seen.Call v id) = codes "call " ++ handle_text p v id
+line_text p (seen.Io v id) = codes "call " ++ handle_text p v id
 line_text p (seen.After digest v id) = codes "after " ++ handle_text p v id ++ codes " " ++ end_text digest
 line_text p (seen.Closed v id) = codes "closed " ++ handle_text p v id
 line_text p (seen.End true) = codes "end 1"

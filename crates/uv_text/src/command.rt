@@ -1,13 +1,13 @@
 //! The commands of a conversation.
 ghost use Rattle.std.specs.Prelude.{◌≡◌, ◌≢◌, ℕ, List, AllPairs};
 ghost use Rattle.uv_text.specs.declared.command.Asked.{Asked};
-ghost use Rattle.uv_text.specs.Commands.{Asks, MOST, LAST_WORKER};
+ghost use Rattle.uv_text.specs.Commands.{Asks, MOST, LAST_WORKER, has_step, asked_in};
 ghost use Rattle.uv_text.specs.Reading.{asked_of, command_of, command_alone, command_by, command_with, command_with_two, clears, step_by, loops, goes_back, goes_forward};
 
 use crate::breaks::read_break;
 use uv_ids::{Event, is};
 use uv_model::STEPS;
-use uv_script::{Fields, Names, is_line, is_skipped, number};
+use uv_script::{Fields, Names, Script, is_line, is_skipped, number};
 use uv_session::Break;
 
 /// What a line of a conversation asks for.
@@ -15,7 +15,7 @@ use uv_session::Break;
 pub enum Command {
     /// `loop [n]`: so many steps of the loop, 1 to 2^24.
     Loop(u32),
-    /// One step from outside: `take K`, `finish K`, `cancel NAME`, `send NAME`, `tick MS`.
+    /// One step from outside: `take K`, `finish K`, `cancel NAME`, `send NAME`, `io NAME`, `tick MS`.
     Step(Event),
     /// `back n`: takes so many steps back, 0 to 2^24.
     Back(u32),
@@ -126,6 +126,9 @@ fn with_argument(names: &Names, word: &[u8], argument: &[u8]) -> Option<Command>
     } else if is(word, b"send") {
         let name = names.number(argument)?;
         Some(Command::Step(Event::Send(name)))
+    } else if is(word, b"io") {
+        let name = names.number(argument)?;
+        Some(Command::Step(Event::Io(name)))
     } else if is(word, b"break") {
         clears(argument)
     } else {
@@ -215,6 +218,37 @@ fn goes_forward(n: u64) -> Option<Command>
         Some(Command::Forward(n as u32))
     } else {
         None
+    }
+}
+
+/// Whether a script has such steps: those of I/O it has only with a line `io`.
+pub fn has_step(script: &Script, event: Event) -> bool
+    ensures { result ≡ has_step script.now event }
+{
+    match event {
+        Event::Io(_) => script.has_io(),
+        Event::Loop => true,
+        Event::Take(_) => true,
+        Event::Finish(_) => true,
+        Event::Cancel(_) => true,
+        Event::Send(_) => true,
+        Event::Tick(_) => true,
+    }
+}
+
+/// How a line is read in a conversation on a script: a step that it hasn't is a bad command.
+pub fn asked_in(script: &Script, asked: Asked) -> Asked
+    ensures { result ≡ asked_in script.now asked }
+{
+    match asked {
+        Asked::Do(Command::Step(event)) => {
+            if has_step(script, event) {
+                asked
+            } else {
+                Asked::Bad
+            }
+        }
+        _ => asked,
     }
 }
 

@@ -11,7 +11,7 @@ mod state;
 mod trace;
 mod traced;
 
-pub use command::{Asked, Command, every_line_asks, read_command};
+pub use command::{Asked, Command, asked_in, every_line_asks, has_step, read_command};
 pub use image::{LayoutParts, image_text};
 pub use parts::Parts;
 pub use recorded::{is_callback_line, read_step};

@@ -3,26 +3,26 @@ ghost use Rattle.std.specs.Prelude.{◌≡◌, ◌↔◌, IfSome, IfNone, IsTrue
 ghost use Rattle.uv_ids.specs.declared.event.Event.{Event};
 ghost use Rattle.uv_text.specs.Recorded.{SaysStep, IsCallbackLine, step_of, is_callback_line};
 
-use crate::command::{Asked, Command, read_command};
+use crate::command::{Asked, Command, asked_in, read_command};
 use uv_ids::Event;
-use uv_script::{Names, is_line};
+use uv_script::{Script, is_line};
 
-/// The step that a line of a recording says, where these names are declared.
+/// The step that a line of a recording of this script says.
 #[tactic(auto, using(crate::proofs::StepLines::step_lines))]
-pub fn read_step(names: &Names, line: &[u8]) -> Option<Event>
-    ensures some { IfSome result (λ event. SaysStep names.now line.now event) }
-    ensures none { IfNone result ((event : Event) → SaysStep names.now line.now event → ⊥) }
+pub fn read_step(script: &Script, line: &[u8]) -> Option<Event>
+    ensures some { IfSome result (λ event. SaysStep script.now line.now event) }
+    ensures none { IfNone result ((event : Event) → SaysStep script.now line.now event → ⊥) }
 {
-    step_in(names, line)
+    step_in(script, line)
 }
 
-fn step_in(names: &Names, line: &[u8]) -> Option<Event>
-    ensures { result ≡ step_of names.now line.now }
+fn step_in(script: &Script, line: &[u8]) -> Option<Event>
+    ensures { result ≡ step_of script.now line.now }
 {
     if line == b"loop".as_slice() {
         return Some(Event::Loop);
     }
-    match read_command(names, line) {
+    match asked_in(script, read_command(script.names(), line)) {
         Asked::Do(Command::Step(event)) => Some(event),
         _ => None,
     }

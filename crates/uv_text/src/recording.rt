@@ -1,7 +1,7 @@
 //! The text of a recording.
 ghost use Rattle.std.specs.Prelude.{◌≡◌, ◌<◌, ◌++◌, IfOk, IfErr, OnOk, codes};
 ghost use Rattle.uv_ids.specs.declared.fault.Fault.TheVariants.{Memory};
-ghost use Rattle.uv_text.specs.Recording.{is_callback, called_text, step_line, script_part, recording_part, recording_parts, recording_text};
+ghost use Rattle.uv_text.specs.Recording.{is_callback, called_text, step_line, first_line, script_part, recording_part, recording_parts, recording_text};
 
 use crate::parts::{Parts, push_parts};
 use crate::trace::push_seen;
@@ -76,12 +76,24 @@ fn push_recording_part<M: Machine>(
     }
 }
 
+/// The first line, without its line feed: the version.
+fn push_first_line(text: &mut Vec<u8>, script: &Script) -> Result<(), AllocError>
+    ensures { OnOk result (text.new.items ≡ text.old.items ++ first_line script.now) }
+{
+    if script.has_io() || script.timers_from_heap() {
+        text.extend_from_slice(b"uvt 3")
+    } else {
+        text.extend_from_slice(b"uvt 2")
+    }
+}
+
 /// The first line, the script, and the line `begin`.
 #[tactic(auto, unfolding(crate::specs::Recording::script_part))]
 fn push_script(text: &mut Vec<u8>, script: &Script) -> Result<(), AllocError>
     ensures { OnOk result (text.new.items ≡ text.old.items ++ script_part script.now) }
 {
-    text.extend_from_slice(b"uvt 2\n")?;
+    push_first_line(text, script)?;
+    text.extend_from_slice(b"\n")?;
     script.push_lines(text)?;
     text.extend_from_slice(b"begin\n")
 }
@@ -115,6 +127,10 @@ fn push_step(text: &mut Vec<u8>, names: &Names, step: Event) -> Result<(), Alloc
             text.extend_from_slice(b"send ")?;
             names.push_name(text, name)
         }
+        Event::Io(name) => {
+            text.extend_from_slice(b"io ")?;
+            names.push_name(text, name)
+        }
         Event::Tick(ms) => {
             text.extend_from_slice(b"tick ")?;
             push_number(text, ms)
@@ -136,5 +152,8 @@ fn push_called(text: &mut Vec<u8>, script: &Script, seen: Option<Seen>) -> Resul
 pub fn is_callback(seen: Seen) -> bool
     ensures { result ≡ is_callback seen }
 {
-    matches!(seen, Seen::Call(..) | Seen::After(..) | Seen::Closed(..))
+    matches!(
+        seen,
+        Seen::Call(..) | Seen::Io(..) | Seen::After(..) | Seen::Closed(..)
+    )
 }

@@ -175,7 +175,10 @@ fn push_stage(text: &mut Vec<u8>, stage: Stage) -> Result<(), AllocError>
             text.extend_from_slice(b"poll ")?;
             push_timeout(text, deadline)
         }
+        Stage::Polled(true) => text.extend_from_slice(b"polled woken"),
+        Stage::Polled(false) => text.extend_from_slice(b"polled"),
         Stage::Done => text.extend_from_slice(b"done"),
+        Stage::DoneUnwoken => text.extend_from_slice(b"done unwoken"),
         Stage::Closing => text.extend_from_slice(b"closing"),
         Stage::Timers(which, timing) => push_timers(text, which, timing),
     }
@@ -288,7 +291,7 @@ fn push_kind(text: &mut Vec<u8>, handle: HandleRecord) -> Result<(), AllocError>
             push_numbered(text, " repeat ", handle.repeat)
         }
         Kind::Async => push_flagged(text, " pending ", handle.pending),
-        Kind::Idle | Kind::Prepare | Kind::Check => Ok(()),
+        Kind::Idle | Kind::Prepare | Kind::Check | Kind::Io => Ok(()),
     }
 }
 

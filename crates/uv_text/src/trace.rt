@@ -47,6 +47,7 @@ pub fn push_line(text: &mut Vec<u8>, script: &Script, seen: Seen) -> Result<(), 
             push_timeout(text, timeout)
         }
         Seen::Call(name, id) => push_handle(text, script, b"call ", name, id),
+        Seen::Io(name, id) => push_handle(text, script, b"call ", name, id),
         Seen::After(digest, name, id) => {
             push_handle(text, script, b"after ", name, id)?;
             text.push(b' ')?;
