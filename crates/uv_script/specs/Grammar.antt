@@ -206,11 +206,11 @@ blank = record {
 abbrev pub unread : Draft
 unread = record { program = blank; said = record { slots = false; workers = false; order = false; io = false; timers = false } }
 
--- before the first line of a text that takes no line `io` and no `timers heap`: both count as said
+-- before the first line of a text that takes no line `io` and no `timers heap`: both count as said, but the script has neither
 abbrev pub io_said : Draft
 io_said = record { program = blank; said = record { slots = false; workers = false; order = false; io = true; timers = true } }
 
--- before the first line of a text that takes no line `order` either: the order counts as said, too
+-- before the first line of a text that takes no line `order` either: that counts as said, too
 abbrev pub order_said : Draft
 order_said = record { program = blank; said = record { slots = false; workers = false; order = true; io = true; timers = true } }
 

@@ -11,11 +11,12 @@ use uv_work::Task;
 /// An op, as it stands in the main program or in a callback.
 #[derive(Clone, Copy)]
 pub enum Op {
-    /// `init NAME KIND`: takes a slot for a handle and binds the name to it (uv_timer_init and the like).
+    /// `init NAME KIND`: takes a slot for a handle and binds the name to it (uv_timer_init and the like). The kind `io` stands
+    /// behind the line `io` only (own).
     Init(Var, Kind),
     /// `start NAME TIMEOUT REPEAT`, both in ms: starts a timer (uv_timer_start).
     Start(Var, u64, u64),
-    /// `start NAME`: starts an idle, prepare or check handle (uv_idle_start and the like).
+    /// `start NAME`: starts an idle, prepare or check handle, or one of I/O (uv_idle_start, uv_read_start and the like).
     StartWatcher(Var),
     /// `stop NAME` (uv_timer_stop and the like).
     Stop(Var),

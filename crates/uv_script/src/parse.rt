@@ -48,8 +48,8 @@ impl Script {
         Script::parse_from(alloc, none_said, text)
     }
 
-    /// The script of a text that takes no line `io` and no `timers heap`, since it is of a time when there were none. Else as
-    /// `parse`.
+    /// The script of a text that takes no line `io` and no `timers heap`, since it is of a time when there were none, so that
+    /// it makes no handle of I/O. Else as `parse`.
     pub fn parse_without_io(alloc: Global, text: &[u8]) -> Result<Script, Fault>
         ensures { ParsesFrom io_said text.now result }
     {
