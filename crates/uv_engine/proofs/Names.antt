@@ -16,7 +16,7 @@ pub use Rattle.uv_engine.specs.Alone.{ReadsAlone}
 pub use Rattle.uv_engine.specs.Devices.{Counted, IfOfInput, IsTooLong, OnAnswer, ReaderCounts, TakesWithin}
 pub use Rattle.uv_engine.specs.Gather.{CutOff, Gathered, Gathers, GathersOne, Grown}
 pub use Rattle.uv_engine.specs.Input.{Buffered, EndIsSeen, NoFeed, TakesLine, left, pending, size, turns_left}
-pub use Rattle.uv_engine.specs.Out.{BadScript, Begins, Converses, Ends, HasAnswer, HasOneAnswer, IsAnswer, IsConversationFault, IsDeviceFault, NeverBegins, Out, Talks, asked_after, bad_input, bad_line, fresh_session, goes_on, here, here_at_end, image_in, images_in, input_ends, last_line, later, lies, no_begin, nothing, one_line, quits, talks}
+pub use Rattle.uv_engine.specs.Out.{BadScript, Begins, Converses, Ends, HasAnswer, HasOneAnswer, IsAnswer, IsConversationFault, IsDeviceFault, NeverBegins, Out, PrintsFor, Talks, asked_after, bad_input, bad_line, done_after, fresh_session, goes_on, here, here_at_end, image_in, images_in, input_ends, last_line, later, lies, no_begin, nothing, one_line, quits, talks}
 pub use Rattle.uv_engine.specs.Recordings.{InCalls, InScript, InSteps, IsBadFrom, IsStuck, Part, Reads, ReadsAll, Start, Whole, begins, callback, calls, ends, in_script, none, one, step, unread_in, version, version_line}
 pub use Rattle.uv_engine.specs.Reply.{Full, Reply, Took, add_after, add_text, at_text, back_after, back_text, break_back_after, break_back_text, break_text, forward_after, forward_text, last_break, last_match, may_follow, reply, reply_after, reply_text, reply_to, stop_text}
 pub use Rattle.uv_engine.specs.Rerun.{FailsAt, HasCalls, HasSteps, IsReadingFault, IsTellingFault, Met, MetSo, RanSo, ReadsTo, called_from}
@@ -43,18 +43,20 @@ pub use Rattle.uv_model.specs.declared.machine.Outcome.{Outcome}
 pub use Rattle.uv_script.proofs.AfterLines.{after_complete, distinct_none, distinct_reads, line_number, lines_step}
 pub use Rattle.uv_script.proofs.Agrees.{AreDistinct}
 pub use Rattle.uv_script.proofs.Checks.{is_line_decides, is_skipped_decides}
+pub use Rattle.uv_script.proofs.Older.{reads_without_io}
 pub use Rattle.uv_script.proofs.OneReading.{distinct_names, no_bad_line, one_bad_line, one_script}
-pub use Rattle.uv_script.proofs.ReadBack.{lines_back, lines_read_back, read_lines, settled}
+pub use Rattle.uv_script.proofs.ReadBack.{lines_back, lines_read_back, read_lines, settled, text_makes}
 pub use Rattle.uv_script.proofs.SomeReading.{some_reading}
-pub use Rattle.uv_script.proofs.Written.{script_written}
-pub use Rattle.uv_script.specs.Grammar.{Draft, IsBadLine, IsScript, MakesFrom, Parses, ParsesFrom, unread}
+pub use Rattle.uv_script.proofs.Written.{AreWritten, script_written}
+pub use Rattle.uv_script.specs.Grammar.{Draft, IsBadLine, IsScript, MakesFrom, Parses, ParsesFrom, io_said, unread}
 pub use Rattle.uv_script.specs.Laws.{HasReading}
 pub use Rattle.uv_script.specs.Lines.{IsCut, IsLine, IsSkipped, comment, empty, fields_of, lines_of}
-pub use Rattle.uv_script.specs.Program.{Program, lines_in, worker_count}
-pub use Rattle.uv_script.specs.Text.{callback_line, main_line, name_lines, callback_lines as script_callbacks, script_lines, thread_line, var_line}
+pub use Rattle.uv_script.specs.Program.{Program, arena_size, from_heap, has_io, lines_in, order_of, worker_count}
+pub use Rattle.uv_script.specs.Text.{callback_line, callback_lines as script_callbacks, heap_line, io_line, line_if, main_line, name_lines, order_line, script_lines, script_text, setting_lines, slots_line, thread_line, var_line, workers_line}
 pub use Rattle.uv_script.specs.Words.{IsName}
 pub use Rattle.uv_script.specs.declared.op.CallbackLine.{CallbackLine}
 pub use Rattle.uv_script.specs.declared.op.MainOp.{MainOp}
+pub use Rattle.uv_script.specs.declared.settings.Settings.{Settings}
 pub use Rattle.uv_session.specs.Breaks.{stop_of, stops}
 pub use Rattle.uv_session.specs.Moving.{BREAKS, IsLastBreak, NoneFrom, RunsTo, all, matches, moved_forward, on, stops_at}
 pub use Rattle.uv_session.specs.Shown.{Shown, TakesEvent, moved_back}
@@ -66,12 +68,12 @@ pub use Rattle.uv_text.proofs.Printed.{step_said}
 pub use Rattle.uv_text.proofs.Showing.{is_image}
 pub use Rattle.uv_text.proofs.Sizes.{CanBe}
 pub use Rattle.uv_text.proofs.Wholes.{layout_whole, next_part, trace_whole}
-pub use Rattle.uv_text.specs.Commands.{Asks, IsCommand, command}
+pub use Rattle.uv_text.specs.Commands.{Asks, IsCommand, asked_in, command, has_step}
 pub use Rattle.uv_text.specs.Image.{image_text}
 pub use Rattle.uv_text.specs.Parts.{parts_from}
 pub use Rattle.uv_text.specs.Reading.{asked_of}
 pub use Rattle.uv_text.specs.Recorded.{IsCallbackLine, SaysStep, after as after_callback, after as after_line, call, closed, loop, outside, step_asked}
-pub use Rattle.uv_text.specs.Recording.{callback_lines, is_callback, recording_lines, step_line}
+pub use Rattle.uv_text.specs.Recording.{callback_lines, first_line, is_callback, recording_lines, step_line}
 pub use Rattle.uv_text.specs.State.{state_text}
 pub use Rattle.uv_text.specs.Trace.{appended_text, line_text, seen_text}
 pub use Rattle.uv_text.specs.declared.command.Asked.{Asked}

@@ -11,31 +11,14 @@ use Rattle.uv_engine.proofs.Remade.{is_made, made_read}
 
 -- ---- which lines are no step and no callback
 
-lone_step : (names fields : List (List ℕ)) (e : Event) → length fields ≡ 1 → IsCommand names fields (Step e) → ⊥
-lone_step names fields e n (is.step word argument _ f h) = let two = ap length f in absurd (omega (arith, n, two))
-
-calls_no_step : (names : List (List ℕ)) (e : Event) → SaysStep names (codes "calls") e → ⊥
-calls_no_step names e (loop f) = let long = ap length f in absurd (omega (arith, long))
-calls_no_step names e (outside _ l h) = lone_step names (fields_of (codes "calls")) e refl h
-
-end_no_callback : IsCallbackLine (codes "end") → ⊥
-end_no_callback (call text l e) = let long = ap length e in absurd (omega (arith, long))
-end_no_callback (after_callback text l e) = let long = ap length e in absurd (omega (arith, long))
-end_no_callback (closed text l e) = let long = ap length e in absurd (omega (arith, long))
-
-begin_no_statement : (d e : Draft) → AreDistinct d.program.names → script.Reads d (codes "begin") e → ⊥
-unfolding reading.after_line reading.statement_of reading.setting_of
-begin_no_statement d e distinct h = none-some e (after_complete d e (codes "begin") distinct h)
-
--- where no name is declared twice, a line says one step at most
-one_step : (names : List (List ℕ)) (line : List ℕ) (e f : Event) → AreDistinct names → SaysStep names line e → SaysStep names line f → e ≡ f
-one_step names line _ _ distinct (loop a) (loop b) = refl
-one_step names line _ f distinct (loop a) (outside _ l h) =
-    absurd (lone_step names (fields_of (codes "loop")) f refl (subst (λ (x : List ℕ). IsCommand names (fields_of x) (Step f)) a h))
-one_step names line e _ distinct (outside _ l h) (loop a) =
-    absurd (lone_step names (fields_of (codes "loop")) e refl (subst (λ (x : List ℕ). IsCommand names (fields_of x) (Step e)) a h))
-one_step names line e f distinct (outside _ l h) (outside _ m k) =
-    let both = asks_one names line (Do (Step e)) (Do (Step f)) distinct (command (Step e) l h) (command (Step f) m k) in
+lone_step : (p : Program) (line : List ℕ) (e f : Event) → AreDistinct p.names → SaysStep p line e → SaysStep p line f → e ≡ f
+one_step p line _ _ distinct (loop a) (loop b) = refl
+one_step p line _ f distinct (loop a) (outside _ l h has) =
+    absurd (lone_step p.names (fields_of (codes "loop")) f refl (subst (λ (x : List ℕ). IsCommand p.names (fields_of x) (Step f)) a h))
+one_step p line e _ distinct (outside _ l h has) (loop a) =
+    absurd (lone_step p.names (fields_of (codes "loop")) e refl (subst (λ (x : List ℕ). IsCommand p.names (fields_of x) (Step e)) a h))
+one_step p line e f distinct (outside _ l h has) (outside _ m k had) =
+    let both = asks_one p.names line (Do (Step e)) (Do (Step f)) distinct (command (Step e) l h) (command (Step f) m k) in
     same_Some e f (ap step_asked both)
 
 -- ---- a line goes on to one part at most
@@ -49,9 +32,9 @@ IsDistinct (Whole p es called) = Unit {0}
 
 from_start : (v : Version) (line : List ℕ) (z : Part) → line ≡ version_line v → Reads Start line z → z ≡ InScript (unread_in v)
 from_start versions.V1 _ _ e (version versions.V1) = refl
-from_start versions.V1 _ _ e (version versions.V2) = let last = ap (λ (xs : List ℕ). get_or xs 4 0) e in absurd (omega (arith, last))
-from_start versions.V2 _ _ e (version versions.V1) = let last = ap (λ (xs : List ℕ). get_or xs 4 0) e in absurd (omega (arith, last))
 from_start versions.V2 _ _ e (version versions.V2) = refl
+from_start versions.V3 _ _ e (version versions.V3) = refl
+from_start v _ _ e (version w) = let last = ap (λ (xs : List ℕ). get_or xs 4 0) e in absurd (omega (arith, last))
 
 from_script : (d e : Draft) (line : List ℕ) (z : Part) → AreDistinct d.program.names → script.Reads d line e → Reads (InScript d) line z →
     z ≡ InScript e
@@ -65,13 +48,13 @@ at_begin d line _ distinct is_begin (in_script {e = e} says h) =
     absurd (begin_no_statement d e distinct (subst (λ (l : List ℕ). script.Reads d l e) is_begin h))
 at_begin d _ _ distinct is_begin begins = refl
 
-from_steps : (p : Program) (es : List Event) (e : Event) (line : List ℕ) (z : Part) → AreDistinct p.names → SaysStep p.names line e →
+from_steps : (p : Program) (es : List Event) (e : Event) (line : List ℕ) (z : Part) → AreDistinct p.names → SaysStep p line e →
     Reads (InSteps p es) line z → z ≡ InSteps p (es ++ e ∷ [])
-from_steps p es e line _ distinct h (step {e = f} k) = ap (λ (x : Event). InSteps p (es ++ x ∷ [])) (one_step p.names line f e distinct k h)
-from_steps p es e _ _ distinct h calls = absurd (calls_no_step p.names e h)
+from_steps p es e line _ distinct h (step {e = f} k) = ap (λ (x : Event). InSteps p (es ++ x ∷ [])) (one_step p line f e distinct k h)
+from_steps p es e _ _ distinct h calls = absurd (calls_no_step p e h)
 
 at_calls : (p : Program) (es : List Event) (line : List ℕ) (z : Part) → line ≡ codes "calls" → Reads (InSteps p es) line z → z ≡ InCalls p es []
-at_calls p es line _ is_calls (step {e = e} h) = absurd (calls_no_step p.names e (subst (λ (l : List ℕ). SaysStep p.names l e) is_calls h))
+at_calls p es line _ is_calls (step {e = e} h) = absurd (calls_no_step p e (subst (λ (l : List ℕ). SaysStep p l e) is_calls h))
 at_calls p es _ _ is_calls calls = refl
 
 from_calls : (p : Program) (es : List Event) (called : List (List ℕ)) (line : List ℕ) (z : Part) → IsCallbackLine line →
@@ -96,6 +79,7 @@ one_part _ _ z line distinct (ends {p = p} {es = es} {called = called}) k = at_e
 pub distinct_part : (x y : Part) (line : List ℕ) → IsDistinct x → Reads x line y → IsDistinct y
 distinct_part _ _ line distinct (version versions.V1) = distinct_none
 distinct_part _ _ line distinct (version versions.V2) = distinct_none
+distinct_part _ _ line distinct (version versions.V3) = distinct_none
 distinct_part _ _ line distinct (in_script {d = d} {e = e} says h) = distinct_reads d e line distinct h
 distinct_part _ _ line distinct begins = distinct
 distinct_part _ _ line distinct (step h) = distinct

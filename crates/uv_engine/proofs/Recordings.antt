@@ -304,7 +304,7 @@ front_within s text false n (at_line bad) = omega (arith, bad.counted, ap length
 pub only_version : (line : List ℕ) → ((v : Version) → line ≢ version_line v) → (y : Part) → Reads Start line y → ⊥
 only_version line other _ (version v) = other v refl
 
-pub only_steps : (p : Program) (es : List Event) (line : List ℕ) → line ≢ codes "calls" → ((e : Event) → SaysStep p.names line e → ⊥) → (y : Part) →
+pub only_steps : (p : Program) (es : List Event) (line : List ℕ) → line ≢ codes "calls" → ((e : Event) → SaysStep p line e → ⊥) → (y : Part) →
     Reads (InSteps p es) line y → ⊥
 only_steps p es line other h _ (step {e = e} says) = h e says
 only_steps p es line other h _ calls = other refl

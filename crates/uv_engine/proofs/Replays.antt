@@ -37,7 +37,7 @@ pub steps_none : (p : Program) (a : ℕ) (old : List ℕ) (standing : List Event
 steps_none p a old standing halted h = record { steps = []; reads = reads_none (InSteps p []) a old; ran = h }
 
 pub steps_more : {p : Program} {a b : ℕ} {old mid : List ℕ} {xs ys : List Event} {h k : Option Verdict} (c : ℕ) (line new : List ℕ) (fed : Bool)
-    (e : Event) → StepsSo p a old b mid xs h → c ≡ b + 1 → TakesLine mid line fed new → SaysStep p.names line e →
+    (e : Event) → StepsSo p a old b mid xs h → c ≡ b + 1 → TakesLine mid line fed new → SaysStep p line e →
     ((es : List Event) → RanSo p es xs h → RanSo p (es ++ e ∷ []) ys k) → StepsSo p a old c new ys k
 steps_more {p} {a} {b} {old} {mid} {xs} {ys} {h} {k} c line new fed e so n takes says ran = record {
   steps = so.steps ++ e ∷ [];
@@ -57,7 +57,7 @@ steps_end {p} {a} {b} {old} {mid} {xs} {h} c line new fed so n takes is = record
 }
 
 pub steps_bad : {p : Program} {a b : ℕ} {old mid : List ℕ} {xs : List Event} {h : Option Verdict} (c : ℕ) (line new : List ℕ) (fed : Bool) →
-    StepsSo p a old b mid xs h → c ≡ b + 1 → TakesLine mid line fed new → line ≢ codes "calls" → ((e : Event) → SaysStep p.names line e → ⊥) →
+    StepsSo p a old b mid xs h → c ≡ b + 1 → TakesLine mid line fed new → line ≢ codes "calls" → ((e : Event) → SaysStep p line e → ⊥) →
     IsBadFrom (InSteps p []) a old c
 steps_bad {p} {a} {b} {old} {mid} {xs} {h} c line new fed so n takes other none =
     bad_then (InSteps p []) (InSteps p so.steps) a b c old mid so.reads

@@ -11,7 +11,7 @@ use Rattle.uv_text.specs.declared.command.Command.{Command}
 use Rattle.uv_text.specs.declared.command.Command.TheVariants.{Loop, Step, Back, Forward, AddBreak, ClearBreaks, BackToBreak, Trace, State, Image, Record, Quit}
 use Rattle.uv_text.specs.declared.command.Asked.{Asked}
 use Rattle.uv_text.specs.declared.command.Asked.TheVariants.{Nothing, Do, Bad}
-use Rattle.uv_text.specs.Commands.{Asks}
+use Rattle.uv_text.specs.Commands.{Asks, asked_in}
 use Rattle.uv_text.specs.State.{state_text}
 use Rattle.uv_text.specs.Image.{IsImageText}
 use Rattle.uv_text.specs.Recording.{recording_text}
@@ -57,16 +57,23 @@ command_after Image s = s
 command_after Record s = s
 command_after Quit s = s
 
--- what a line prints, and the session after it
+-- what is printed for what is asked, and the session after it
+abbrev pub PrintsFor : Asked → Shown → List ℕ → Type 0
+PrintsFor Nothing s text = text ≡ []
+PrintsFor (Do command) s text = Prints command s text
+PrintsFor Bad s text = text ≡ codes "bad command\n"
+
+abbrev pub done_after : Asked → Shown → Shown
+done_after Nothing s = s
+done_after (Do command) s = command_after command s
+done_after Bad s = s
+
+-- what a line prints, and the session after it: a step that the script hasn't is a bad command
 abbrev pub IsAnswer : Asked → Shown → List ℕ → Type 0
-IsAnswer Nothing s text = text ≡ []
-IsAnswer (Do command) s text = Prints command s text
-IsAnswer Bad s text = text ≡ codes "bad command\n"
+IsAnswer asked s text = PrintsFor (asked_in s.program asked) s text
 
 abbrev pub asked_after : Asked → Shown → Shown
-asked_after Nothing s = s
-asked_after (Do command) s = command_after command s
-asked_after Bad s = s
+asked_after asked s = done_after (asked_in s.program asked) s
 
 -- what these lines print, one after another, up to `quit` or the last one
 pub data Talks : List (List ℕ) → Shown → List ℕ → Ended → Type 0 where

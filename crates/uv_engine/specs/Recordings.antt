@@ -4,7 +4,7 @@ use Rattle.uv_ids.specs.declared.event.Event.{Event}
 use Rattle.uv_script.specs.Program.{Program}
 use Rattle.uv_script.specs.Lines.{lines_of, IsSkipped}
 use Rattle.uv_script.specs.Grammar as script
-use Rattle.uv_script.specs.Grammar.{Draft, unread, order_said}
+use Rattle.uv_script.specs.Grammar.{Draft, unread, io_said, order_said}
 use Rattle.uv_text.specs.Recorded.{SaysStep, IsCallbackLine}
 use Rattle.uv_engine.specs.declared.version.Version.{Version}
 use Rattle.uv_engine.specs.declared.version.Version.TheVariants as versions
@@ -13,11 +13,14 @@ use Rattle.uv_engine.specs.declared.version.Version.TheVariants as versions
 abbrev pub version_line : Version → List ℕ
 version_line versions.V1 = codes "uvt 1"
 version_line versions.V2 = codes "uvt 2"
+version_line versions.V3 = codes "uvt 3"
 
--- before the first line of its script: in version 1 that says no order, which is that of libuv from 1.45 on
+-- before the first line of its script: in version 1 that says no order, which is that of libuv from 1.45 on; and in neither 1 nor 2 does it have
+-- handles of I/O, or timers that are called from their heap
 abbrev pub unread_in : Version → Draft
 unread_in versions.V1 = order_said
-unread_in versions.V2 = unread
+unread_in versions.V2 = io_said
+unread_in versions.V3 = unread
 
 -- how far a recording was read: the script so far, the steps, and the lines of callbacks
 pub data Part : Type 0 where
@@ -34,7 +37,7 @@ pub data Reads : Part → List ℕ → Part → Type 0 where
   -- a recording takes no empty line and no comment
   in_script : {d e : Draft} {line : List ℕ} → (IsSkipped line → ⊥) → script.Reads d line e → Reads (InScript d) line (InScript e)
   begins : {d : Draft} → Reads (InScript d) (codes "begin") (InSteps d.program [])
-  step : {p : Program} {es : List Event} {e : Event} {line : List ℕ} → SaysStep p.names line e →
+  step : {p : Program} {es : List Event} {e : Event} {line : List ℕ} → SaysStep p line e →
       Reads (InSteps p es) line (InSteps p (es ++ e ∷ []))
   calls : {p : Program} {es : List Event} → Reads (InSteps p es) (codes "calls") (InCalls p es [])
   callback : {p : Program} {es : List Event} {called : List (List ℕ)} {line : List ℕ} → IsCallbackLine line →

@@ -4,14 +4,14 @@ ghost use Rattle.uv_ids.specs.declared.fault.Fault.TheVariants.{Write};
 ghost use Rattle.uv_engine.specs.Devices.{WriterCounts};
 ghost use Rattle.uv_engine.specs.Gather.{Gathers, GathersOne, IsWriteFault};
 ghost use Rattle.uv_engine.specs.Reply.{loop_text, loop_after};
-ghost use Rattle.uv_engine.specs.Out.{Prints, command_after, IsAnswer, asked_after};
+ghost use Rattle.uv_engine.specs.Out.{Prints, command_after, PrintsFor, done_after, IsAnswer, asked_after};
 
 use crate::conversation::Conversation;
 use crate::reply::{add_break, back_to_break, clear_breaks, go_back, go_forward, tell};
 use crate::sink::{Sink, write_out};
 use uv_ids::{Event, Fault};
 use uv_model::Machine;
-use uv_text::{Asked, Command};
+use uv_text::{Asked, Command, asked_in};
 
 /// How much text is gathered before it is written, in bytes.
 const FULL: usize = 8192;
@@ -74,11 +74,23 @@ impl<M: Machine> Conversation<M> {
         }
     }
 
-    /// Does what a line asks for, save `quit`.
+    /// Does what a line asks for, save `quit`. A step that the script hasn't is a bad command.
     pub(crate) fn answer<W: Sink>(&mut self, writer: &mut W, asked: Asked) -> Result<(), Fault>
         ensures text { W.Tells → GathersOne (IsAnswer asked self.old.session) result (W.written writer.old) self.old.text.items
             (W.written writer.new) self.new.text.items }
         ensures session { OnOk result (self.new.session ≡ asked_after asked self.old.session) }
+        ensures err { IfErr result IsWriteFault }
+        ensures writer { WriterCounts result (W.failures writer.old) (W.failures writer.new) }
+    {
+        let asked = asked_in(self.session.machine().script(), asked);
+        self.do_asked(writer, asked)
+    }
+
+    /// Does what is asked, save `quit`.
+    fn do_asked<W: Sink>(&mut self, writer: &mut W, asked: Asked) -> Result<(), Fault>
+        ensures text { W.Tells → GathersOne (PrintsFor asked self.old.session) result (W.written writer.old) self.old.text.items
+            (W.written writer.new) self.new.text.items }
+        ensures session { OnOk result (self.new.session ≡ done_after asked self.old.session) }
         ensures err { IfErr result IsWriteFault }
         ensures writer { WriterCounts result (W.failures writer.old) (W.failures writer.new) }
     {

@@ -54,8 +54,8 @@ fn read_steps<M: Machine, R: Source>(
         if is_calls(line.text.as_slice()) {
             return Ok(());
         }
-        let names = rerun.machine.script().names();
-        let Some(step) = read_step(names, line.text.as_slice()) else {
+        let script = rerun.machine.script();
+        let Some(step) = read_step(script, line.text.as_slice()) else {
             return Err(input.bad());
         };
         rerun.take(step)?;

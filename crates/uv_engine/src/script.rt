@@ -37,7 +37,7 @@ pub fn read_script<R: Source>(
         (R.given reader.new)) (R.failures reader.old) (R.failures reader.new) }
 {
     let front = read_front(alloc, input, reader)?;
-    parse_front(alloc, Version::V2, &front)
+    parse_front(alloc, Version::V3, &front)
 }
 
 /// Reads the text in front of the line `begin`, and that line.

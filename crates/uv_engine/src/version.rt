@@ -13,8 +13,10 @@ use uv_script::Script;
 pub(crate) enum Version {
     /// Its script says no order: it is of a time when there was but that of libuv from 1.45 on.
     V1,
-    /// Its script may say the order.
+    /// Its script may say the order, and has no handle of I/O.
     V2,
+    /// Its script may have handles of I/O, or say that due timers are called from their heap.
+    V3,
 }
 
 impl Version {
@@ -27,6 +29,8 @@ impl Version {
             Some(Version::V1)
         } else if is(line, b"uvt 2") {
             Some(Version::V2)
+        } else if is(line, b"uvt 3") {
+            Some(Version::V3)
         } else {
             None
         }
@@ -38,7 +42,8 @@ impl Version {
     {
         match self {
             Version::V1 => Script::parse_without_order(alloc, text),
-            Version::V2 => Script::parse(alloc, text),
+            Version::V2 => Script::parse_without_io(alloc, text),
+            Version::V3 => Script::parse(alloc, text),
         }
     }
 }

@@ -29,8 +29,8 @@ pub returns-in_default-read_step-clause-steps : goal.returns-in_default-read_ste
 returns-in_default-read_step-clause-steps g c = λ reads.
     let taken = rw c.in-Some.is at (c.in_ok-line.ensures.line reads) in
     let count = rw c.in-Some.is at c.in_ok-line.ensures.taken in
-    let names = c.names-names.ensures.names ∙ ap (λ (p : Program). p.names) (c.script.ensures ∙ c.lines.invariant.program) in
-    let none = rw (c.as_slice-in-lines.ensures.value, names) at c.in_default-read_step.ensures.none in
+    let script = c.script-script.ensures ∙ c.lines.invariant.program in
+    let none = rw (c.as_slice-in-lines.ensures.value, script) at c.in_default-read_step.ensures.none in
     rw c.bad.ensures
     (steps_bad _ c.in-Some.line.text.items _ c.in-Some.line.fed (c.lines.invariant.reads reads) count taken
     (λ e. c.is_calls.ensures.other c.if-is_calls.false (c.as_slice.ensures.value ∙ e)) none)
@@ -41,8 +41,8 @@ lines-preserved g c = rw c.reuse.ensures (record {
   reads = λ reads.
       let taken = rw c.in-Some.is at (c.in_ok-line.ensures.line reads) in
       let count = rw c.in-Some.is at c.in_ok-line.ensures.taken in
-      let names = c.names-names.ensures.names ∙ ap (λ (p : Program). p.names) (c.script.ensures ∙ c.lines.invariant.program) in
-      let says = rw (c.as_slice-in-lines.ensures.value, names) at c.in-Some-read_step.ensures.some in
+      let script = c.script-script.ensures ∙ c.lines.invariant.program in
+      let says = rw (c.as_slice-in-lines.ensures.value, script) at c.in-Some-read_step.ensures.some in
       steps_more _ c.in-Some.line.text.items _ c.in-Some.line.fed c.in-Some-read_step.step (c.lines.invariant.reads reads) count taken says
       (rw c.lines.invariant.program at c.in_ok-take.ensures.ran);
   few_steps = c.in_ok-take.ensures.few;
