@@ -210,6 +210,9 @@ did_op_known p past s o d (which.watching v q t e is off stays) kept k =
       by : (q : WatcherKind) → KnownAt p past (ops.watcher_started s q t.0 t.1)
       by watcher.Idle = changed p past s t (records.activated t.1) (live_held s v t e) refl refl k
       by each = changed p past s t (records.activated t.1) (live_held s v t e) refl refl k
+did_op_known p past s o d (which.io_started v t e is off stays) kept k =
+    known_by p past o d (harmless (op.StartWatcher v) refl _)
+    (changed p past s t (records.activated t.1) (live_held s v t e) refl refl k)
 did_op_known p past s o d (which.watches v t e on) kept k = known_by p past o d (harmless (op.StartWatcher v) refl _) k
 did_op_known p past s o d (which.stopped v t e sync) kept k =
     known_by p past o d (harmless (op.Stop v) refl _)
