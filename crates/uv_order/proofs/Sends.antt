@@ -79,7 +79,12 @@ sent_none sent slots id h e p k = grind (arith, without_absent)
 -- a new handle isn't pending
 pub sent_new : (sent : List Id) (slots more : List (Slot Content)) (id : Id) (x : HandleRecord) → Grown slots more id x → x.pending ≡ false →
     Sent sent slots → Sent (without_id sent id) more
-sent_new sent slots more id x g p k = grind (arith, same, without_itself, has_without, grown_at g)
+sent_new sent slots more id x g p k = record { are = λ i. are i; each = λ i y e on. each i y e on } where
+  are : (i : Id) → has_id (without_id sent id) i ≡ pends more i
+  are i = grind (arith, same, without_itself, has_without, grown_at g)
+
+  each : (i : Id) (y : HandleRecord) → held_at more i ≡ Some y → y.pending ≡ true → (y.kind ≡ kind.Async) × (y.closing ≡ false)
+  each i y e on = grind (arith, grown_at g)
 
 -- no handle changes
 pub sent_same : (sent : List Id) (slots more : List (Slot Content)) → SameHandles more slots → Sent sent slots → Sent sent more
