@@ -284,7 +284,8 @@ module _ (p : Program) where
 
   -- all of one name
   name_read : (done later : List Callbacks) (c : Callbacks) →
-      ((kind : Callback) (line : CallbackLine) → Contains (lines_in_callbacks kind c) line → IsWritten p.names p.io (InCallback kind (place done) line)) →
+      ((kind : Callback) (line : CallbackLine) → Contains (lines_in_callbacks kind c) line →
+      IsWritten p.names p.io (InCallback kind (place done) line)) →
       line_count (with_callbacks p (done ++ c ∷ later)) ≤ MOST_LINES →
       ReadsOn (with_callbacks p (done ++ no_callbacks ∷ later)) (own_lines (place done) c) (with_callbacks p (done ++ c ∷ later))
   unfolding with_lines own_lines

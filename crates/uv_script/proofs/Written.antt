@@ -260,7 +260,8 @@ module _ (p : Program) (is : AreWritten p) where
         threads = is.threads;
       }
 
-  after_thread : (line : ThreadLine) → IsWritten p.names p.io (InThread line) → HasRoom p (InThread line) → AreWritten (with_statement p (InThread line))
+  after_thread : (line : ThreadLine) → IsWritten p.names p.io (InThread line) → HasRoom p (InThread line) →
+      AreWritten (with_statement p (InThread line))
   after_thread line new room = record {
     names = is.names;
     distinct = is.distinct;
@@ -277,7 +278,8 @@ module _ (p : Program) (is : AreWritten p) where
     ];
   }
 
-  after_statement : (s : Statement) → IsSound p s → last_fits s → HasRoom p s → (IsKept s → IsWritten p.names p.io s) → AreWritten (with_statement p s)
+  after_statement : (s : Statement) → IsSound p s → last_fits s → HasRoom p s → (IsKept s → IsWritten p.names p.io s) →
+      AreWritten (with_statement p s)
   unfolding last_fits
   after_statement (Declares name) (is_name, fresh) last room new = after_name name is_name fresh (new tt).line room
   after_statement (InMain o) sound last room new = after_main o (new tt) room
