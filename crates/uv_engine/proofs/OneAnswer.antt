@@ -1,5 +1,5 @@
 -- An input has one answer.
-use Rattle.uv_engine.proofs.Names.{◌≡◌, ℕ, ◌==◌, List, [], ◌∷◌, ◌++◌, false, refl, ap, sym, subst, ◌∙◌, nat_lt, nat_le, cond_both, Event, Next, Moves, Refuses, All-head, All-tail, All-from_recursion, lines_of, IsScript, IsBadLine, Program, some_reading, distinct_names, one_script, no_bad_line, one_bad_line, AreDistinct, Break, Shown, moved_back, moved_forward, BREAKS, Loop, Step, Back, Forward, AddBreak, ClearBreaks, BackToBreak, Trace, State, Image, Record, Quit, Asked, Nothing, Do, Bad, Asks, asks, asks_one, Ended, NoFeed, IsAnswer, image_in, images_in, asked_after, Talks, input_ends, quits, goes_on, Begins, here, here_at_end, later, NeverBegins, nothing, last_line, one_line, fresh_session, Ends, BadScript, talks, bad_line, no_begin, bad_input, HasAnswer, HasOneAnswer, Reply, Full, reply, reply_to, reply_after, may_follow, back_after, forward_after, add_after, last_break, break_back_after}
+use Rattle.uv_engine.proofs.Names.{◌≡◌, ℕ, ◌==◌, List, [], ◌∷◌, ◌++◌, false, refl, ap, sym, subst, ◌∙◌, nat_lt, nat_le, cond_both, Event, Next, Moves, Refuses, All-head, All-tail, All-from_recursion, lines_of, IsScript, IsBadLine, Program, some_reading, distinct_names, one_script, no_bad_line, one_bad_line, AreDistinct, Break, Shown, moved_back, moved_forward, BREAKS, Loop, Step, Back, Forward, AddBreak, ClearBreaks, BackToBreak, Trace, State, Image, Record, Quit, Asked, Nothing, Do, Bad, Asks, asks, asks_one, Ended, NoFeed, IsAnswer, image_in, images_in, asked_after, Talks, input_ends, quits, goes_on, Begins, here, here_at_end, later, NeverBegins, nothing, last_line, one_line, fresh_session, Ends, BadScript, talks, bad_line, no_begin, bad_input, HasAnswer, HasOneAnswer, Reply, Full, reply, reply_to, reply_after, may_follow, back_after, forward_after, add_after, last_break, break_back_after, has_step, PrintsFor, done_after}
 use Rattle.std.specs.Prelude.{zero, suc, length, Option, Some, None, codes}
 use Rattle.uv_ids.specs.declared.event.Event.TheVariants as event
 use Rattle.uv_model.specs.Next.{next}
@@ -19,7 +19,9 @@ prints_one : (asked : Asked) (s : Shown) (a b : List ℕ) (xs ys : List (List �
     image_in asked a ++ xs ≡ image_in asked b ++ ys → Follows a b xs ys
 prints_one Nothing s a b xs ys h k z = record { text = h ∙ sym k; rest = z }
 prints_one (Do (Loop n)) s a b xs ys h k z = record { text = h ∙ sym k; rest = z }
-prints_one (Do (Step e)) s a b xs ys h k z = record { text = h ∙ sym k; rest = z }
+prints_one (Do (Step e)) s a b xs ys h k z =
+    cond_both (has_step s.program e) (Do (Step e)) Bad (λ (x : Asked). PrintsFor x s a → PrintsFor x s b → Follows a b xs ys)
+    (λ _ p q. record { text = p ∙ sym q; rest = z }) (λ _ p q. record { text = p ∙ sym q; rest = z }) h k
 prints_one (Do (Back n)) s a b xs ys h k z = record { text = h ∙ sym k; rest = z }
 prints_one (Do (Forward n)) s a b xs ys h k z = record { text = h ∙ sym k; rest = z }
 prints_one (Do (AddBreak at)) s a b xs ys h k z = record { text = h ∙ sym k; rest = z }
@@ -71,7 +73,8 @@ same_program : (asked : Asked) (s : Shown) → (asked_after asked s).program ≡
 same_program Nothing s = refl
 same_program Bad s = refl
 same_program (Do (Loop n)) s = loop_program n s
-same_program (Do (Step e)) s = reply_program s e
+same_program (Do (Step e)) s = cond_both (has_step s.program e) (Do (Step e)) Bad (λ (x : Asked). (done_after x s).program ≡ s.program)
+    (λ _. reply_program s e) (λ _. refl)
 same_program (Do (Back n)) s = back_program n s
 same_program (Do (Forward n)) s = forward_program n s
 same_program (Do (AddBreak b)) s = add_program b s

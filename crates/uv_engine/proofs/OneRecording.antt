@@ -11,7 +11,24 @@ use Rattle.uv_engine.proofs.Remade.{is_made, made_read}
 
 -- ---- which lines are no step and no callback
 
-lone_step : (p : Program) (line : List ℕ) (e f : Event) → AreDistinct p.names → SaysStep p line e → SaysStep p line f → e ≡ f
+lone_step : (names fields : List (List ℕ)) (e : Event) → length fields ≡ 1 → IsCommand names fields (Step e) → ⊥
+lone_step names fields e n (is.step word argument _ f h) = let two = ap length f in absurd (omega (arith, n, two))
+
+calls_no_step : (p : Program) (e : Event) → SaysStep p (codes "calls") e → ⊥
+calls_no_step p e (loop f) = let long = ap length f in absurd (omega (arith, long))
+calls_no_step p e (outside _ l h has) = lone_step p.names (fields_of (codes "calls")) e refl h
+
+end_no_callback : IsCallbackLine (codes "end") → ⊥
+end_no_callback (call text l e) = let long = ap length e in absurd (omega (arith, long))
+end_no_callback (after_callback text l e) = let long = ap length e in absurd (omega (arith, long))
+end_no_callback (closed text l e) = let long = ap length e in absurd (omega (arith, long))
+
+begin_no_statement : (d e : Draft) → AreDistinct d.program.names → script.Reads d (codes "begin") e → ⊥
+unfolding reading.after_line reading.statement_of reading.setting_of
+begin_no_statement d e distinct h = none-some e (after_complete d e (codes "begin") distinct h)
+
+-- where no name is declared twice, a line says one step at most
+one_step : (p : Program) (line : List ℕ) (e f : Event) → AreDistinct p.names → SaysStep p line e → SaysStep p line f → e ≡ f
 one_step p line _ _ distinct (loop a) (loop b) = refl
 one_step p line _ f distinct (loop a) (outside _ l h has) =
     absurd (lone_step p.names (fields_of (codes "loop")) f refl (subst (λ (x : List ℕ). IsCommand p.names (fields_of x) (Step f)) a h))
@@ -34,7 +51,9 @@ from_start : (v : Version) (line : List ℕ) (z : Part) → line ≡ version_lin
 from_start versions.V1 _ _ e (version versions.V1) = refl
 from_start versions.V2 _ _ e (version versions.V2) = refl
 from_start versions.V3 _ _ e (version versions.V3) = refl
-from_start v _ _ e (version w) = let last = ap (λ (xs : List ℕ). get_or xs 4 0) e in absurd (omega (arith, last))
+from_start versions.V1 _ _ e (version w) = let last = ap (λ (xs : List ℕ). get_or xs 4 0) e in absurd (omega (arith, last))
+from_start versions.V2 _ _ e (version w) = let last = ap (λ (xs : List ℕ). get_or xs 4 0) e in absurd (omega (arith, last))
+from_start versions.V3 _ _ e (version w) = let last = ap (λ (xs : List ℕ). get_or xs 4 0) e in absurd (omega (arith, last))
 
 from_script : (d e : Draft) (line : List ℕ) (z : Part) → AreDistinct d.program.names → script.Reads d line e → Reads (InScript d) line z →
     z ≡ InScript e

@@ -1,5 +1,5 @@
 -- The answers to lines, one line after another.
-use Rattle.uv_engine.proofs.Names.{◌≡◌, ◌≢◌, ℕ, List, [], ◌∷◌, ◌++◌, Result, Ok, Err, suc, ◌==◌, arith, Bool, true, false, refl, ap, sym, ◌∙◌, subst, append_assoc, append-nil, Fault, Shown, Loop, Step, Back, Forward, AddBreak, ClearBreaks, BackToBreak, Trace, State, Image, Record, Quit, Asked, Nothing, Do, Bad, Asks, asked_of, lines_of, TakesLine, NoFeed, Ended, append_cancel_left, Grown, CutOff, Gathers, GathersOne, Talks, input_ends, quits, goes_on, IsAnswer, asked_after, TalksCut, TalksOn, Finishes}
+use Rattle.uv_engine.proofs.Names.{◌≡◌, ◌≢◌, ℕ, List, [], ◌∷◌, ◌++◌, Result, Ok, Err, suc, ◌==◌, arith, Bool, true, false, refl, ap, sym, ◌∙◌, subst, append_assoc, append-nil, Fault, Shown, Loop, Step, Back, Forward, AddBreak, ClearBreaks, BackToBreak, Trace, State, Image, Record, Quit, Asked, Nothing, Do, Bad, Asks, asked_of, lines_of, TakesLine, NoFeed, Ended, append_cancel_left, Grown, CutOff, Gathers, GathersOne, Talks, input_ends, quits, goes_on, IsAnswer, asked_after, TalksCut, TalksOn, Finishes, cond_both, has_step, PrintsFor, Event}
 use Rattle.uv_engine.specs.declared.conversation.Ended.TheVariants as ended
 use Rattle.uv_engine.specs.Out.{refused}
 use Rattle.uv_engine.proofs.Gathers.{grown_none, grown_more}
@@ -28,6 +28,11 @@ on_line : (line : List ℕ) (lines : List (List ℕ)) (s : Shown) (asked : Asked
     → Asks s.program.names line asked → asked ≢ Do Quit → IsAnswer asked s text → SomeTalk lines (asked_after asked s) → SomeTalk (line ∷ lines) s
 on_line line lines s asked text a q h k = record { text = text ++ k.text; end = k.end; is = goes_on asked text k.text a q h k.is }
 
+-- a step prints something, also one that the script hasn't
+some_print : (s : Shown) (e : Event) → (text : List ℕ) × IsAnswer (Do (Step e)) s text
+some_print s e = cond_both (has_step s.program e) (Do (Step e)) Bad (λ (x : Asked). (text : List ℕ) × PrintsFor x s text)
+    (λ _. (_, refl)) (λ _. (_, refl))
+
 pub some_talk : EveryLine → (lines : List (List ℕ)) (s : Shown) → SomeTalk lines s
 some_talk every [] s = record { text = []; end = ended.Input; is = input_ends }
 some_talk every (line ∷ lines) s = at (asked_of s.program.names line) (every s.program.names line) (λ t. some_talk every lines t) where
@@ -35,7 +40,7 @@ some_talk every (line ∷ lines) s = at (asked_of s.program.names line) (every s
   at Nothing a k = on_line line lines s Nothing [] a (λ e. cc e) refl (k s)
   at Bad a k = on_line line lines s Bad _ a (λ e. cc e) refl (k s)
   at (Do (Loop n)) a k = on_line line lines s (Do (Loop n)) _ a (λ e. cc e) refl (k _)
-  at (Do (Step e)) a k = on_line line lines s (Do (Step e)) _ a (λ q. cc q) refl (k _)
+  at (Do (Step e)) a k = let said = some_print s e in on_line line lines s (Do (Step e)) said.0 a (λ q. cc q) said.1 (k _)
   at (Do (Back n)) a k = on_line line lines s (Do (Back n)) _ a (λ e. cc e) refl (k _)
   at (Do (Forward n)) a k = on_line line lines s (Do (Forward n)) _ a (λ e. cc e) refl (k _)
   at (Do (AddBreak b)) a k = on_line line lines s (Do (AddBreak b)) _ a (λ e. cc e) refl (k _)
