@@ -1,5 +1,5 @@
 -- Each handle closes once: every op and every step of the loop appends a line that may follow those before it.
-use Rattle.uv_order.proofs.Names.{◌≡◌, inl, inr, ℕ, zero, suc, ◌+◌, ◌==◌, ◌||◌, List, [], ◌∷◌, ◌++◌, true, false, drop, Option, Some, None, Ok, slice_get, slice_set, unwrap_or, replicate, refl, ap, sym, subst, ◌∙◌, arith, cond_both, eqb-true, none-some, Id, Var, Code, Kind, Phase, Seen, Site, Op, Program, op_at, arena_size, HandleRecord, WatcherKind, Slots, freed, Content, Named, Request, digest_in, request_in, text_of, Finished, Run, Stage, Done, Closing, Walk, all_yet, has_id, AreDistinct, run_ids, State, fresh, handle, live, live_handle, live_request, with_handle, with_request, watched, refreshed, unbound, started, restarted, do_op, Next, Moves, Refuses, call, calls, front_moved, CancelSays, MakesNew, OpSays, MayFollow, activity, kind_as}
+use Rattle.uv_order.proofs.Names.{◌≡◌, inl, inr, ℕ, zero, suc, ◌+◌, ◌==◌, ◌||◌, List, [], ◌∷◌, ◌++◌, true, false, drop, Option, Some, None, Ok, slice_get, slice_set, unwrap_or, replicate, refl, ap, sym, subst, ◌∙◌, arith, cond_both, eqb-true, none-some, Id, Var, Code, Kind, Phase, Seen, Site, Op, Program, op_at, arena_size, HandleRecord, WatcherKind, Slots, freed, Content, Named, Request, digest_in, request_in, text_of, Finished, Run, Stage, Done, Closing, Walk, all_yet, has_id, AreDistinct, run_ids, State, fresh, handle, live, live_handle, live_request, with_handle, with_request, watched, refreshed, unbound, stopped, started, restarted, do_op, Next, Moves, Refuses, call, calls, front_moved, CancelSays, MakesNew, OpSays, MayFollow, activity, kind_as}
 use Rattle.uv_ids.specs.declared.code.Code.TheVariants as code
 use Rattle.uv_ids.specs.declared.code.Answer.TheVariants as answer
 use Rattle.uv_ids.specs.declared.phase.Phase.TheVariants as phase
@@ -13,7 +13,7 @@ use Rattle.uv_work.specs.Digests.{digest_of}
 use Rattle.uv_model.specs.Ops as ops
 use Rattle.uv_model.specs.Next as step
 use Rattle.uv_model.specs.Next.{next}
-use Rattle.uv_order.proofs.OpCases.{IsRefusal, cancel_both, make_both}
+use Rattle.uv_order.proofs.OpCases.{live_held, IsRefusal, cancel_both, make_both}
 use Rattle.uv_order.proofs.IdLists.{on_list, Each, each_back, itself, has_new_middle, distinct_back}
 use Rattle.uv_order.proofs.Holding.{names_turned, same_handles, is_held, put_same, Fits, its_handle, Everyone}
 use Rattle.uv_order.proofs.Asked.{request_turns, freed_turns, FrontRequest, TakesFront, RunsWork}
@@ -21,13 +21,13 @@ use Rattle.uv_order.proofs.Works.{HasEnded, its_fit, once_middle, worker, none_r
 use Rattle.uv_order.proofs.Working.{Working}
 use Rattle.uv_order.proofs.Keeping.{has_number, Watches, Closes, Rests, Kept, members, not_free}
 use Rattle.uv_order.proofs.Did as row
-use Rattle.uv_order.proofs.Did.{Did, did, FrontOf, IsStill, timed}
-use Rattle.uv_order.proofs.KeptSteps.{opened}
+use Rattle.uv_order.proofs.Did.{Did, did, FrontOf, FirstOf, IsStill, timed}
+use Rattle.uv_order.proofs.KeptSteps.{opened, first_is}
 use Rattle.uv_order.proofs.Gone.{IsGone, gone_turned}
-use Rattle.uv_order.proofs.Started.{StartedAt, gone_freed, freed_gone, new_id, ready_started, watcher_is_started}
+use Rattle.uv_order.proofs.Started.{StartedAt, gone_freed, freed_gone, new_id, active_started, ready_started, watcher_is_started}
 use Rattle.uv_order.proofs.Worked.{Worked, IsIdle, worked_ended, worked_taken, worked_finished, worked_collected, not_called, says_true}
 use Rattle.uv_order.proofs.Known.{id_in, counted_ids, Known, not_closed, not_over, known_names, IsQuiet, known_told, known_quiet, known_gone}
-use Rattle.uv_order.proofs.OpsOnce.{KnownAt, changed, cancel_told, send_known, op_known}
+use Rattle.uv_order.proofs.OpsOnce.{KnownAt, changed, twice, cancel_told, send_known, op_known}
 
 -- ---- steps
 
@@ -92,6 +92,34 @@ fired_known p past s run t f kept begun k =
 
 begin_known : (p : Program) (past : List Seen) (s : State) (run : Run) (q : WatcherKind) → KnownAt p past s → Follows p past (step.begin_walk s run q)
 begin_known p past s run q k = grind (arith, begins_known)
+
+-- a timer that is due is called straight from the order of timers, and started again where it repeats
+due_known : (p : Program) (past : List Seen) (s : State) (run : Run) (t : Id × HandleRecord) → FirstOf s s.timers t → Kept s → StartedAt p past s →
+    KnownAt p past s → Follows p past (call p (restarted (stopped s t.0 t.1) t.0 t.1) run t.0 t.1.name)
+due_known p past s run t f kept begun k =
+    let first = first_is s t f kept in
+    let is_started = active_started p past s t.0 t.1 f.holds first.set.active begun in
+    cond_both (t.1.repeat == 0) (stopped s t.0 t.1) (started (stopped s t.0 t.1) t.0 t.1 t.1.repeat t.1.repeat)
+    (λ (u : State). Follows p past (call p u run t.0 t.1.name))
+    (λ z. call_known p past (stopped s t.0 t.1) run t.0 t.1.name (records.stopped t.1)
+    (put_same s.arena.slots t.0 t.1 (records.stopped t.1) f.holds) first.stays is_started
+    (changed p past s t (records.stopped t.1) f.holds refl refl k))
+    (λ z. call_known p past (started (stopped s t.0 t.1) t.0 t.1 t.1.repeat t.1.repeat) run t.0 t.1.name _
+    (put_same _ t.0 (records.stopped t.1) _ (put_same s.arena.slots t.0 t.1 (records.stopped t.1) f.holds)) first.stays is_started
+    (twice p past s t (records.stopped t.1) _ f.holds refl refl refl refl k))
+
+-- an active handle of I/O is called
+answered_known : (p : Program) (past : List Seen) (s : State) (run : Run) (time : ℕ) (v : Var) (t : Id × HandleRecord) → live_handle s v ≡ Ok t →
+    t.1.active ≡ true → Kept s → StartedAt p past s → KnownAt p past s →
+    Follows p past (calls p (record s { time = time }) run callback.Handle v (seen.Io v t.0))
+answered_known p past s run time v t e on kept begun k =
+    let held = live_held s v t e in (
+      (
+        not_closed p past s.arena s.names t.0 t.1 held (opened t.1 on (kept.sound t.0 t.1 held)) k,
+        active_started p past s t.0 t.1 held on begun,
+      ),
+      known_quiet p past (seen.Io v t.0) s.arena _ (assumption) (assumption) (called_known p past s v _ refl k),
+    )
 
 -- who is yet to run doesn't close
 front_stays : (s : State) (q : Kind) (w : Walk Id) (t : Id × HandleRecord) → Everyone s.arena.slots (Watches q) (members w) → FrontOf s w.yet t →
@@ -269,14 +297,16 @@ pub did_known : (p : Program) (past : List Seen) (s : State) (n : Next) → Did 
     Follows p past n
 did_known p past s n (row.refused why) kept work begun k = tt
 did_known p past s n (row.still x time clock stop idled l q) kept work begun k = still_known p past (timed s x time clock stop idled) l q k
-did_known p past s n (row.op x at o e) kept work begun k = (op_line p past s at o e kept begun k, op_known p past s o kept k at e)
+did_known p past s n (row.op x at o e) kept work begun k = (op_line p past s at o e kept begun k, op_known p past s o kept (λ id f. new_id p past s id f kept begun) k at e)
 did_known p past s n (row.begun run q e) kept work begun k = begin_known p past s run q k
 did_known p past s n (row.begun_closing run e) kept work begun k = begins_known p past (record s { closing = all_yet s.closing }) run Closing
     phase.Closing k
-did_known p past s n (row.begun_done run e) kept work begun k = begins_known p past (record (refreshed s) { done = all_yet s.done }) run Done
-    phase.Done k
+did_known p past s n (row.begun_done run time e) kept work begun k =
+    begins_known p past (record s { time = time; done = all_yet s.done }) run Done phase.Done k
 did_known p past s n (row.collected run part t f) kept work begun k = changed p past s t (records.stopped t.1) f.holds refl refl k
 did_known p past s n (row.fired run t f) kept work begun k = fired_known p past s run t f kept begun k
+did_known p past s n (row.called_due run t f) kept work begun k = due_known p past s run t f kept begun k
+did_known p past s n (row.answered run time v t e is on) kept work begun k = answered_known p past s run time v t e on kept begun k
 did_known p past s n (row.walked run q t sync f) kept work begun k = walked_known p past s run q t f kept begun k
 did_known p past s n (row.passed run t f off) kept work begun k = k
 did_known p past s n (row.woken run t f on) kept work begun k = woken_known p past s run t f kept begun k

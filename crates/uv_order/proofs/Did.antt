@@ -1,5 +1,7 @@
 -- What a step does, in a row for each way: the tree of the steps is walked here, once, and whatever steps keep is shown by rows.
-use Rattle.uv_order.proofs.Names.{arith, ◌≡◌, ℕ, ◌+◌, List, [], ◌∷◌, Bool, true, false, Option, Some, None, Result, Ok, Err, drop, length, nat_le, nat_lt, slice_get, option_map, refl, ap, cond_both, same_Some, Id, Var, Due, Event, Loop, Take, Finish, Cancel, Send, Tick, Why, Blocked, Ended, Range, Mode, Phase, Seen, Site, HandleRecord, WatcherKind, CallbackLine, MainOp, Op, Program, arena_size, lines_in, main_op, op_at, order_of, Request, digest_in, Body, Place, Run, Stage, Pending, Poll, Done, Closing, Timers, Collecting, Firing, TimersOf, Turn, AtEntry, Behind, BehindClosing, Way, ToTimers, ToPending, ToEnd, State, handle, with_handle, live_handle, live_request, front, front_request, watched, refreshed, restarted, do_op, Next, Moves, Refuses, call, calls, first_due, front_moved, goes, may_leave, next_work, work_of, found_both, BeginsBehind, BeginsIn, BeginsAt, Walking}
+use Rattle.uv_order.proofs.Names.{arith, ◌≡◌, ℕ, ◌+◌, ◌&&◌, List, [], ◌∷◌, Bool, true, false, Option, Some, None, Result, Ok, Err, drop, length, nat_le, nat_lt, slice_get, option_map, refl, ap, cond_both, and_parts, same_Some, Id, Var, Due, Event, Loop, Take, Finish, Cancel, Send, Io, Tick, Why, Blocked, Ended, Range, Mode, Phase, Seen, Site, HandleRecord, WatcherKind, is_io, CallbackLine, MainOp, Op, Program, arena_size, from_heap, lines_in, main_op, op_at, order_of, Request, digest_in, Body, Place, Run, Stage, Pending, Poll, Polled, Done, DoneUnwoken, Closing, Timers, Collecting, Firing, TimersOf, Turn, AtEntry, Behind, BehindClosing, Way, ToTimers, ToPending, ToEnd, State, handle, with_handle, live_handle, live_request, front, front_request, watched, refreshed, stopped, restarted, do_op, Next, Moves, Refuses, call, calls, first_due, front_moved, goes, io_handle, io_run, may_leave, next_work, stage_polled, time_polled, work_of, found_both, BeginsBehind, BeginsIn, BeginsAt, Walking}
+use Rattle.uv_ids.specs.declared.code.Code.{Code}
+use Rattle.uv_ids.specs.declared.phase.Kind.TheVariants as kind
 use Rattle.uv_ids.specs.declared.seen.Callback.TheVariants as callback
 use Rattle.uv_ids.specs.declared.seen.Seen.TheVariants as seen
 use Rattle.uv_ids.specs.declared.seen.Site.TheVariants as site
@@ -13,6 +15,7 @@ use Rattle.uv_model.specs.Ops as ops
 use Rattle.uv_model.specs.Next as step
 use Rattle.uv_model.specs.Next.{next}
 use Rattle.uv_order.proofs.Contents.{holds}
+use Rattle.uv_order.proofs.OpCases.{io_kind}
 use Rattle.uv_order.proofs.Asked.{FrontRequest, request_front, TakesFront, takes_front, RunsWork, runs_work}
 
 -- ---- fronts of lists
@@ -68,12 +71,15 @@ pub data Did (p : Program) (s : State) : Next → Type 0 where
   -- a section begins
   begun : (run : Run) (q : WatcherKind) → (watched s q).yet ≡ [] → Did p s (step.begin_walk s run q)
   begun_closing : (run : Run) → s.closing.yet ≡ [] → Did p s (step.begin_closing s run)
-  begun_done : (run : Run) → s.done.yet ≡ [] → Did p s (step.begin_done s run)
-  -- a timer is collected, one is called
+  -- that of the requests that are done, with the time at which the poll is left
+  begun_done : (run : Run) (time : ℕ) → s.done.yet ≡ [] → Did p s (step.begin_done (record s { time = time }) run)
+  -- a timer is collected, one is called, from the ready list or straight from the order of timers
   collected : (run : Run) (part : TimersOf) (t : Id × HandleRecord) → FirstOf s s.timers t
       → Did p s (Moves (step.at (step.collected s t.0 t.1) run (Timers part Collecting)) None)
   fired : (run : Run) (t : Id × HandleRecord) → FrontOf s s.ready t
       → Did p s (call p (restarted (record s { ready = drop 1 s.ready }) t.0 t.1) run t.0 t.1.name)
+  called_due : (run : Run) (t : Id × HandleRecord) → FirstOf s s.timers t
+      → Did p s (call p (restarted (stopped s t.0 t.1) t.0 t.1) run t.0 t.1.name)
   -- a watcher is called; an async handle is passed by, one is called
   walked : (run : Run) (q : WatcherKind) (t : Id × HandleRecord) → IsSync q → FrontOf s (watched s q).yet t
       → Did p s (call p (front_moved s q t.0) run t.0 t.1.name)
@@ -81,6 +87,9 @@ pub data Did (p : Program) (s : State) : Next → Type 0 where
       → Did p s (Moves (step.at (front_moved s watcher.Async t.0) run (Walking watcher.Async)) None)
   woken : (run : Run) (t : Id × HandleRecord) → FrontOf s s.watchers.async.yet t → t.1.pending ≡ true
       → Did p s (call p (with_handle (front_moved s watcher.Async t.0) t.0 (records.woken t.1)) run t.0 t.1.name)
+  -- an active handle of I/O is called, in the poll with the time that it is left at
+  answered : (run : Run) (time : ℕ) (v : Var) (t : Id × HandleRecord) → live_handle s v ≡ Ok t → t.1.kind ≡ kind.Io → t.1.active ≡ true
+      → Did p s (calls p (record s { time = time }) run callback.Handle v (seen.Io v t.0))
   -- a slot is freed, and its close or after callback begins
   closed : (run : Run) (t : Id × HandleRecord) → FrontOf s s.closing.yet t
       → Did p s (calls p (record s {
@@ -113,6 +122,11 @@ fire_did p s run part = found_both (front s s.ready) _ _ (Did p s)
     (λ t e. fired (record run { stage = Timers part Firing }) t (front_of s s.ready t e))
     (λ e. turn_did p s run (Behind part))
 
+call_due_did : (p : Program) (s : State) (run : Run) (part : TimersOf) → Did p s (step.call_due p s run part)
+call_due_did p s run part = found_both (first_due s s.timers) _ _ (Did p s)
+    (λ t e. called_due (record run { stage = Timers part Collecting }) t (first_of s s.timers t e))
+    (λ e. turn_did p s run (Behind part))
+
 walk_did : (p : Program) (s : State) (run : Run) (q : WatcherKind) → IsSync q → Did p s (step.after_walk s run q) → Did p s (step.walk p s run q)
 walk_did p s run q sync over = found_both (front s (watched s q).yet) _ _ (Did p s)
     (λ t e. walked run q t sync (front_of s (watched s q).yet t e)) (λ e. over)
@@ -123,17 +137,21 @@ stage_did p s run Pending r = begun run watcher.Idle r
 stage_did p s run (Walking watcher.Idle) r = walk_did p s run watcher.Idle tt (begun run watcher.Prepare r)
 stage_did p s run (Walking watcher.Prepare) r =
     walk_did p s run watcher.Prepare tt (still _ s.time s.clock s.stop_flag s.idled _ (poll _))
-stage_did p s run (Poll deadline) r = cond_both (may_leave s deadline) _ _ (Did p s) (λ h. begun_done run r) (λ h. refused Blocked)
+stage_did p s run (Poll deadline) r = cond_both (may_leave s deadline) _ _ (Did p s) (λ h. begun_done run s.clock r) (λ h. refused Blocked)
+stage_did p s run (Polled true) r = begun_done run s.time r
+stage_did p s run (Polled false) r = still _ s.time s.clock s.stop_flag s.idled _ (section _)
 stage_did p s run Done r = found_both (front_request s s.done.yet) _ _ (Did p s)
     (λ t e. ended run t (request_front s s.done.yet t e)) (λ e. begun run watcher.Async r)
+stage_did p s run DoneUnwoken r = still _ s.time s.clock s.stop_flag s.idled _ (section _)
 stage_did p s run (Walking watcher.Async) r = found_both (front s s.watchers.async.yet) _ _ (Did p s)
     (λ t e. let f = front_of s s.watchers.async.yet t e in cond_both t.1.pending _ _ (Did p s) (λ on. woken run t f on) (λ off. passed run t f off))
     (λ e. begun run watcher.Check r)
 stage_did p s run (Walking watcher.Check) r = walk_did p s run watcher.Check tt (begun_closing run r)
 stage_did p s run Closing r = found_both (front s s.closing.yet) _ _ (Did p s)
     (λ t e. closed run t (front_of s s.closing.yet t e)) (λ e. turn_did p s run BehindClosing)
-stage_did p s run (Timers part Collecting) r = found_both (first_due s s.timers) _ _ (Did p s)
-    (λ t e. collected run part t (first_of s s.timers t e)) (λ e. fire_did p s run part)
+stage_did p s run (Timers part Collecting) r = cond_both (from_heap p) _ _ (Did p s) (λ heap. call_due_did p s run part)
+    (λ ready. found_both (first_due s s.timers) _ _ (Did p s)
+    (λ t e. collected run part t (first_of s s.timers t e)) (λ e. fire_did p s run part))
 stage_did p s run (Timers part Firing) r = fire_did p s run part
 
 body_did : (p : Program) (s : State) (run : Run) (body : Body) (x : Option CallbackLine) →
@@ -165,6 +183,15 @@ finish_did : (p : Program) (s : State) (n : ℕ) (t : Result (Id × Request) Why
 finish_did p s n (Err why) e = refused why
 finish_did p s n (Ok t) e = finished n t (runs_work s n t e)
 
+io_did : (p : Program) (s : State) (v : Var) → Did p s (step.call_io p s v (io_run p s s.place) (io_handle (live_handle s v)))
+io_did p s v = by (io_run p s s.place) (live_handle s v) refl where
+  by : (run : Option Run) (t : Result (Id × HandleRecord) Code) → live_handle s v ≡ t → Did p s (step.call_io p s v run (io_handle t))
+  by None t e = refused Blocked
+  by (Some run) (Err code) e = refused Blocked
+  by (Some run) (Ok t) e = cond_both (is_io t.1.kind && t.1.active) _ _ (λ (id : Option Id). Did p s (step.call_io p s v (Some run) id))
+      (λ on. let parts = and_parts (is_io t.1.kind) t.1.active on in answered (record run { stage = stage_polled s run.stage }) (time_polled s run.stage)
+      v t e (io_kind t.1.kind parts.0) parts.1) (λ off. refused Blocked)
+
 pub did : (p : Program) (s : State) (e : Event) → BeginsAt s.place s → Did p s (next p s e)
 unfolding next
 did p s Loop r = place_did p s s.place r
@@ -172,5 +199,6 @@ did p s (Take n) r = take_did p s n _ refl
 did p s (Finish n) r = finish_did p s n _ refl
 did p s (Cancel v) r = cond_both (nat_lt v.0 (length s.names)) _ _ (Did p s) (λ h. cancelled v) (λ h. refused Range)
 did p s (Send v) r = cond_both (nat_lt v.0 (length s.names)) _ _ (Did p s) (λ h. sent v) (λ h. refused Range)
+did p s (Io v) r = cond_both (nat_lt v.0 (length s.names)) _ _ (Did p s) (λ h. io_did p s v) (λ h. refused Range)
 did p s (Tick ms) r = cond_both (nat_le (s.clock + ms) 4611686018427387904) _ _ (Did p s)
     (λ h. still s.place s.time (s.clock + ms) s.stop_flag s.idled _ (tick ms)) (λ h. refused Range)

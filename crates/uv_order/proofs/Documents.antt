@@ -25,7 +25,7 @@ use Rattle.uv_order.proofs.OpEffects.{takes, harmless, one_taken, refusal_takes_
 use Rattle.uv_order.proofs.Sends.{SentAt, SentFollows, did_sent, sent_fresh}
 use Rattle.uv_order.proofs.Standing.{Stands, Follows}
 use Rattle.uv_order.proofs.Follows.{follows, begins_at, stands_fresh}
-use Rattle.uv_order.proofs.OpsOnce.{KnownAt}
+use Rattle.uv_order.proofs.OpsOnce.{KnownAt, its_name}
 use Rattle.uv_order.proofs.Started.{StartedAt, StartedFollows, did_started, started_fresh}
 use Rattle.uv_order.proofs.ClosesOnce as known
 use Rattle.uv_order.proofs.ClosesOnce.{did_known, known_fresh}
@@ -137,6 +137,9 @@ goes_same p told names l at to k h (doc.section x a b c d e) = doc.section x a b
 goes_same p told names l at to k h (doc.poll timeout a b c d e) = doc.poll timeout a b c d e
 goes_same p told names l at to k h (doc.ends a b c d) = doc.ends a b c d
 goes_same p told names l at to k h (doc.call kind v id behind a b c d e) = doc.call kind v id behind a b (k.made id v c) d e
+goes_same p told names l at to k h (doc.fires v id due others a b c d e f g i) = doc.fires v id due others a b c d e (k.made id v f) g i
+goes_same p told names l at to k h (doc.answers v id a b c d e f) = doc.answers v id a b c (k.made id v d) e f
+goes_same p told names l at to k h (doc.answer_op place rest o a b c d) = doc.answer_op place rest o a b c d
 goes_same p told names l at to k h (doc.body_op {m = m} {i = i} {part = part} {w = w} place rest o a b c d e) =
     subst (λ (ids : List Id). Goes p told names (Running m i (Within part w)) l
     (Running m i (Within part (record w { off = ids ++ w.off; body = rest }))))
@@ -187,7 +190,7 @@ holds_next p told past s at e k =
     let n = next p s e in
     let d = did p s e (begins_at p s s.place at k.stands.stands) in
     by n (did_kept p s n d k.kept) (did_sent p told s n d k.kept k.sent) (did_working p s n d k.kept k.working)
-    (follows p told s at e k.kept k.sent k.working k.stands) (did_known p past s n d k.kept k.working k.started k.known)
+    (follows p told s at e k.kept k.sent k.working (λ v t live. its_name p past s v t live k.known) k.stands) (did_known p past s n d k.kept k.working k.started k.known)
     (did_started p past s n d k.kept k.known k.started) (says p s n d) (did_pools p s n d k.kept k.working)
   where
     by : (n : Next) → StaysKept n → SentFollows p told s n → StaysWorking n → Follows p told at s n → known.Follows p past n → StartedFollows p

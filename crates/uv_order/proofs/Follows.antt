@@ -1,5 +1,5 @@
 -- A whole step goes on from where the state stands, and so does every list of them.
-use Rattle.uv_order.proofs.Names.{arith, ◌≡◌, ℕ, suc, ◌+◌, ◌||◌, ◌&&◌, List, [], ◌∷◌, ◌++◌, Bool, true, false, Option, Some, None, Result, Ok, Err, drop, length, slice_get, slice_set, nat_le, nat_lt, refl, ap, sym, ◌∙◌, if◌then◌else◌, list_any, cond_both, eq-eqb, Order, V144, V145, Id, Var, Event, Loop, Take, Finish, Cancel, Send, Tick, Answer, Mode, Default, Once, Nowait, Phase, Site, Op, MainOp, CallbackLine, Program, lines_in, main_op, order_of, HandleRecord, Slot, held, Why, Content, content_pends, handle_in, Request, has_some, without_id, has_pending, has_passed, Body, Run, Stage, AtEntry, Collecting, Firing, Place, State, fresh, handle, with_handle, with_request, refreshed, do_op, may_leave, body_from, next_work, work_of, Names, Told, nothing_told, lasting, Section, In, word_of, Standing, Begun, Within, Polling, Position, Between, Running, taken_off, BeginsIn, BeginsAt, phase_of}
+use Rattle.uv_order.proofs.Names.{arith, ◌≡◌, ℕ, suc, ◌+◌, ◌||◌, ◌&&◌, List, [], ◌∷◌, ◌++◌, Bool, true, false, Option, Some, None, Result, Ok, Err, drop, length, slice_get, slice_set, nat_le, nat_lt, refl, ap, sym, subst, ◌∙◌, if◌then◌else◌, list_any, cond_both, eq-eqb, Order, V144, V145, Id, Var, Event, Loop, Take, Finish, Cancel, Send, Io, Tick, Answer, Mode, Default, Once, Nowait, Phase, Site, Op, MainOp, CallbackLine, Program, lines_in, main_op, order_of, from_heap, HandleRecord, Slot, held, Why, Content, content_pends, handle_in, Request, has_some, without_id, has_pending, has_passed, Body, Run, Stage, TimersOf, AtEntry, Collecting, Firing, Place, State, fresh, handle, live_handle, with_handle, with_request, refreshed, do_op, may_leave, body_from, next_work, work_of, Names, Told, nothing_told, lasting, Section, In, word_of, Standing, Answering, Begun, Within, Polling, Position, Between, Running, sites_from, taken_off, BeginsIn, BeginsAt, phase_of}
 use Rattle.std.specs.Prelude.{option_map}
 use Rattle.uv_ids.specs.declared.code.Code.TheVariants as code
 use Rattle.uv_ids.specs.declared.code.Answer.TheVariants as answer
@@ -22,15 +22,17 @@ use Rattle.uv_order.proofs.Holding.{name_in, SameHandles, same_handles}
 use Rattle.uv_order.proofs.OpCases.{names_at, live_held, send_both, cancel_both}
 use Rattle.uv_order.proofs.Keeping.{Kept}
 use Rattle.uv_order.proofs.Working.{Working}
-use Rattle.uv_order.proofs.Lives.{lives_is, some_of}
+use Rattle.uv_order.proofs.Lives.{lives_is}
+use Rattle.uv_order.proofs.Woken.{pending_is}
 use Rattle.uv_order.proofs.Asked.{takes_front, runs_work, request_turns}
 use Rattle.uv_order.proofs.Bodies.{IsBody, is_body}
 use Rattle.uv_order.proofs.OpEffects.{op_effect}
 use Rattle.uv_order.proofs.Counted.{Counted, counted_kept, counted_sent, counted_fresh}
 use Rattle.uv_order.proofs.Sends.{pends_in, pends, SentAt, still_sent, pass_more, pends_more}
-use Rattle.uv_order.proofs.Standing.{left_all, bare, begun_with, are_ended, section_of, StandsIn, waiting, rest_in, AsyncIn, rest, Leaves, NobodyLeft, due_now, StandsAt, Stands, FollowsLine, Follows, idle_next, done_next, bare_over, async_moved, begun, pending, walking, polls, done, closing, collects, fires, between, running}
-use Rattle.uv_order.proofs.TimersFollow.{turn_follows, fire_follows, collect_follows}
-use Rattle.uv_order.proofs.WatchersFollow.{begin_follows, walk_follows, async_follows, done_follows, closing_follows}
+use Rattle.uv_order.proofs.Standing.{left_all, begun_with, are_ended, section_of, StandsIn, waiting, rest_in, AsyncIn, rest, Leaves, NobodyLeft, due_now, StandsAt, Stands, FollowsLine, Follows, idle_next, done_next, empty_over, opens_done, opens_unwoken, async_moved, begun, pending, walking, polls, polled, done, unwoken, closing, collects, fires, calls_due, between, running}
+use Rattle.uv_order.proofs.TimersFollow.{turn_follows, fire_follows, collect_follows, call_due_follows}
+use Rattle.uv_order.proofs.IoFollows.{io_follows}
+use Rattle.uv_order.proofs.WatchersFollow.{begin_follows, unwoken_follows, walk_follows, async_follows, done_follows, closing_follows}
 
 -- ---- a stage
 
@@ -40,55 +42,81 @@ more_or true b x y f h = refl
 more_or false true x y f h = refl
 more_or false false x y f h = f h
 
-pends_content : (c : Option Content) → content_pends c ≡ true → pends_in (handle_in c) ≡ true
-pends_content None e = cc e
-pends_content (Some (content.Handle h)) e = e
-pends_content (Some (content.Request r)) e = cc e
-
-found_pending : (slots : List (Slot Content)) → list_any (λ (slot : Slot Content). content_pends slot.content) slots ≡ true →
-    (id : Id) × (pends slots id ≡ true)
-found_pending [] e = cc e
-found_pending (x ∷ xs) e = at (content_pends x.content) refl (found_pending xs) e where
-  at : (b : Bool) → content_pends x.content ≡ b →
-      (list_any (λ (slot : Slot Content). content_pends slot.content) xs ≡ true → (id : Id) × (pends xs id ≡ true)) →
-      (b || list_any (λ (slot : Slot Content). content_pends slot.content) xs) ≡ true → (id : Id) × (pends (x ∷ xs) id ≡ true)
-  at true f more h = (record { slot = 0; generation = x.generation }, rw (eq-eqb x.generation x.generation refl) (pends_content x.content f))
-  at false f more h = let r = more h in (record { slot = suc r.0.slot; generation = r.0.generation }, r.1)
-
 -- the poll is left where it may be
 pub left_poll : (p : Program) (told : Told) (s : State) (run : Run) (deadline : Option ℕ) → SentAt told.sent s → Working s → Counted p s.names told →
     NobodyLeft (rest s.ready s) → Follows p told (Running run.mode run.line (Polling deadline)) s (step.poll s run deadline)
 left_poll p told s run deadline sent g c e = cond_both (may_leave s deadline) _ _ (Follows p told (Running run.mode run.line (Polling deadline)) s)
     (λ h. record {
-      to = Running run.mode run.line (Within (In phase.Done) (begun_with s.done.list));
+      to = Running run.mode run.line (Within (In phase.Done) (begun_with true s.done.list));
       goes = doc.section (In phase.Done) (more_or (has_passed s.clock deadline) (has_some s.done.list) (has_pending s)
           (has_some told.sent && has_pending s)
-          (λ on. let r = found_pending s.arena.slots on in rw (some_of told.sent r.0 (sent.are r.0 ∙ r.1), on) refl) h)
-          (done_next (order_of p) run.mode (doc.goes_on s)) refl
-          (record { list = (refl, are_ended s e.done g); off = refl; sent = refl; body = refl }) refl;
+          (λ on. rw (sym (pending_is told s sent) ∙ on, on) refl) h)
+          (done_next (order_of p) run.mode (doc.goes_on s)) refl (opens_done p told _ (are_ended s e.done g)) refl;
       stands = record {
-        stands = running (done refl) (left_all e.timers e.idle e.prepare e.check e.async e.closing (sym (none_off s.done.list)));
+        stands = running (done refl refl) (left_all e.timers e.idle e.prepare e.check e.async e.closing (sym (none_off s.done.list)));
         counted = c;
       };
     })
     (λ h. tt)
 
+-- nor is anything asked where a callback of I/O left it
+left_polled : (p : Program) (told : Told) (s : State) (run : Run) (woken : Bool) (sites : List Site) → sites ≡ [] → Working s →
+    Counted p s.names told → NobodyLeft (rest s.ready s) →
+    Follows p told (Running run.mode run.line (Answering woken sites)) s (step.leave_polled s run woken)
+left_polled p told s run true sites b g c e = record {
+  to = Running run.mode run.line (Within (In phase.Done) (begun_with true s.done.list));
+  goes = doc.section (In phase.Done) b (done_next (order_of p) run.mode (doc.goes_on s)) refl (opens_done p told _ (are_ended s e.done g)) refl;
+  stands = record {
+    stands = running (done refl refl) (left_all e.timers e.idle e.prepare e.check e.async e.closing (sym (none_off s.done.list)));
+    counted = c;
+  };
+}
+left_polled p told s run false sites b g c e = record {
+  to = Running run.mode run.line (Within (In phase.Done) (begun_with false []));
+  goes = doc.section (In phase.Done) b (done_next (order_of p) run.mode (doc.goes_on s)) refl (opens_unwoken p told _) refl;
+  stands = record {
+    stands = running (unwoken refl refl refl) (left_all e.timers e.idle e.prepare e.check e.async e.closing e.done);
+    counted = c;
+  };
+}
+
+-- the timers of a section are collected, or called straight from their heap
+timers_follow : (p : Program) (told : Told) (s : State) (run : Run) (part : TimersOf) (at : Standing) → Kept s → Working s → Counted p s.names told →
+    StandsIn p None (stage.Timers part Collecting) at → Leaves (rest (waiting (stage.Timers part Collecting) (from_heap p) s.ready (due_now s)) s) at →
+    Follows p told (Running run.mode run.line at) s (step.timers p s run part Collecting)
+timers_follow p told s run part at k g c stands l = by at stands l where
+  left : Bool → Standing → Type 0
+  left heap at = Leaves (rest (waiting (stage.Timers part Collecting) heap s.ready (due_now s)) s) at
+
+  step_by : Bool → Standing → Type 0
+  step_by heap at = Follows p told (Running run.mode run.line at) s (if heap then step.call_due p s run part else step.collect p s run part)
+
+  by : (at : Standing) → StandsIn p None (stage.Timers part Collecting) at → left (from_heap p) at → step_by (from_heap p) at
+  by at (collects {w = w} heap b) l = subst (λ (h : Bool). step_by h at) (sym heap)
+      (collect_follows p told s run part w (lives_is s g) k c (subst (λ (h : Bool). left h at) heap l) b heap)
+  by at (calls_due {w = w} heap none b) l = subst (λ (h : Bool). step_by h at) (sym heap)
+      (call_due_follows p told s run part w (lives_is s g) k c (subst (λ (h : Bool). left h at) heap l) none b heap)
+
 pub stage_follows : (p : Program) (told : Told) (s : State) (run : Run) (x : Stage) (at : Standing) → run.stage ≡ x → Kept s →
-    SentAt told.sent s → Working s → Counted p s.names told → StandsIn p None x at → Leaves (rest (waiting x s.ready (due_now s)) s) at →
-    Follows p told (Running run.mode run.line at) s (step.stage_step p s
-    run x)
+    SentAt told.sent s → Working s → Counted p s.names told → StandsIn p None x at →
+    Leaves (rest (waiting x (from_heap p) s.ready (due_now s)) s) at → Follows p told (Running run.mode run.line at) s (step.stage_step p s run x)
 stage_follows p told s run stage.Entry at st k h g c begun l = turn_follows p told s run AtEntry Begun (lives_is s g) refl tt k c l
-stage_follows p told s run stage.Pending at st k h g c pending l =
-    begin_follows p told s run watcher.Idle (Within (In phase.Pending) bare) (bare_over phase.Pending) idle_next k h c (left_all l.timers l.idle
-    l.prepare l.check l.async l.closing l.done)
+stage_follows p told s run stage.Pending at st k h g c (pending {w = w} none b) l =
+    begin_follows p told s run watcher.Idle (Within (In phase.Pending) w) (empty_over phase.Pending w none b, tt) idle_next refl k h c
+    (left_all l.timers l.idle l.prepare l.check l.async l.closing l.done)
 stage_follows p told s run (stage.Walking watcher.Async) at st k h g c (walking b) l = async_follows p told s run _ (lives_is s g) st k h c l b
 stage_follows p told s run (stage.Walking q) at st k h g c (walking b) l = walk_follows p told s run q _ (lives_is s g) tt st k h c l b
 stage_follows p told s run (stage.Poll deadline) at st k h g c polls l = left_poll p told s run deadline h g c (left_all l.timers l.idle l.prepare
     l.check l.async l.closing l.done)
-stage_follows p told s run stage.Done at st k h g c (done b) l = done_follows p told s run _ st k h g c l b
+stage_follows p told s run (stage.Polled woken) at st k h g c (polled b) l =
+    left_polled p told s run woken _ b g c (left_all l.timers l.idle l.prepare l.check l.async l.closing l.done)
+stage_follows p told s run stage.Done at st k h g c (done woken b) l = done_follows p told s run _ st k h g c l woken b
+stage_follows p told s run stage.DoneUnwoken at st k h g c (unwoken {w = w} asleep none b) l =
+    unwoken_follows p told s run w asleep none b c (left_all l.timers l.idle l.prepare l.check l.async l.closing
+    (l.done ∙ ap (λ (ids : List Id). left_of ids w.off) none))
 stage_follows p told s run stage.Closing at st k h g c (closing b) l = closing_follows p told s run _ (lives_is s g) st k c l b
-stage_follows p told s run (stage.Timers part Collecting) at st k h g c (collects b) l = collect_follows p told s run part _ (lives_is s g) k c l b
-stage_follows p told s run (stage.Timers part Firing) at st k h g c (fires b) l = fire_follows p told s run part _ (lives_is s g) k c l b
+stage_follows p told s run (stage.Timers part Collecting) at st k h g c stands l = timers_follow p told s run part at k g c stands l
+stage_follows p told s run (stage.Timers part Firing) at st k h g c (fires heap b) l = fire_follows p told s run part _ (lives_is s g) k c l b heap
 
 -- ---- a body
 
@@ -195,28 +223,64 @@ op_follows p told s run body part w x e k c b stands = record {
   };
 }
 
+-- that of a callback of I/O that left the poll
+answer_op_follows : (p : Program) (told : Told) (s : State) (run : Run) (body : Body) (woken : Bool) (sites : List Site) (x : CallbackLine) →
+    run.stage ≡ stage.Polled woken → slice_get (lines_in p body.callback body.name) body.next ≡ Some x → Kept s → Counted p s.names told →
+    (b : IsBody p (Some body) sites) → NobodyLeft (rest s.ready s) →
+    Follows p told (Running run.mode run.line (Answering woken sites)) s (step.body_step p s run body (Some x))
+answer_op_follows p told s run body woken sites x st e k c b l =
+    let left = none_left s x.op k l in
+    let more = sites_from body.callback body.name body.call (body.next + 1) (drop (body.next + 1) (lines_in p body.callback body.name)) in
+    record {
+      to = Running run.mode run.line (Answering woken more);
+      goes = rw b.are (doc.answer_op (site.In body.callback body.name body.next) _ x.op _ (ap (option_map (λ (l : CallbackLine). l.op)) e) refl
+          (op_effect s x.op k).lasts);
+      stands = record {
+        stands = rw st (running (polled (is_body p body.callback body.name body.call (body.next + 1))) (left_all left.timers left.idle left.prepare
+            left.check left.async left.closing left.done));
+        counted = counted_sent p _ told _ (counted_kept p _ s.names told (op_effect s x.op k).calls c);
+      };
+    }
+
 pub body_follows : (p : Program) (told : Told) (s : State) (run : Run) (body : Body) (x : Stage) (at : Standing) (l : Option CallbackLine) →
     run.stage ≡
     x →
     slice_get (lines_in p body.callback body.name) body.next ≡ l → Kept s → SentAt told.sent s →
-    Counted p s.names told → StandsIn p (Some body) x at → Leaves (rest (waiting x s.ready (due_now s)) s) at →
+    Counted p s.names told → StandsIn p (Some body) x at → Leaves (rest (waiting x (from_heap p) s.ready (due_now s)) s) at →
     Follows p told (Running run.mode run.line at) s
     (step.body_step p s run body l)
 body_follows p told s run body x at None st e k h c (walking b) l = absurd (nothing_there e b.there)
 body_follows p told s run body x at None st e k h c (closing b) l = absurd (nothing_there e b.there)
-body_follows p told s run body x at None st e k h c (done b) l = absurd (nothing_there e b.there)
-body_follows p told s run body x at None st e k h c (fires b) l = absurd (nothing_there e b.there)
+body_follows p told s run body x at None st e k h c (pending none b) l = absurd (nothing_there e b.there)
+body_follows p told s run body x at None st e k h c (polled b) l = absurd (nothing_there e b.there)
+body_follows p told s run body x at None st e k h c (done woken b) l = absurd (nothing_there e b.there)
+body_follows p told s run body x at None st e k h c (unwoken asleep none b) l = absurd (nothing_there e b.there)
+body_follows p told s run body x at None st e k h c (fires heap b) l = absurd (nothing_there e b.there)
+body_follows p told s run body x at None st e k h c (calls_due heap none b) l = absurd (nothing_there e b.there)
 body_follows p told s run body x at (Some y) st e k h c (walking {q = q} {w = w} b) l =
     op_follows p told s run body (In (phase_of q)) w y e k c b
     (λ more is. rw st (running (walking is) (op_left s told y.op (In (phase_of q)) w more k h l)))
 body_follows p told s run body x at (Some y) st e k h c (closing {w = w} b) l =
     op_follows p told s run body (In phase.Closing) w y e k c b
     (λ more is. rw st (running (closing is) (op_left s told y.op (In phase.Closing) w more k h l)))
-body_follows p told s run body x at (Some y) st e k h c (done {w = w} b) l =
-    op_follows p told s run body (In phase.Done) w y e k c b (λ more is. rw st (running (done is) (op_left s told y.op (In phase.Done) w more k h l)))
-body_follows p told s run body x at (Some y) st e k h c (fires {part = part} {w = w} b) l =
+body_follows p told s run body x at (Some y) st e k h c (pending {w = w} none b) l =
+    op_follows p told s run body (In phase.Pending) w y e k c b
+    (λ more is. rw st (running (pending none is) (op_left s told y.op (In phase.Pending) w more k h l)))
+body_follows p told s run body x at (Some y) st e k h c (polled {woken = woken} b) l =
+    answer_op_follows p told s run body woken _ y st e k c b (left_all l.timers l.idle l.prepare l.check l.async l.closing l.done)
+body_follows p told s run body x at (Some y) st e k h c (done {w = w} woken b) l =
+    op_follows p told s run body (In phase.Done) w y e k c b
+    (λ more is. rw st (running (done woken is) (op_left s told y.op (In phase.Done) w more k h l)))
+body_follows p told s run body x at (Some y) st e k h c (unwoken {w = w} asleep none b) l =
+    op_follows p told s run body (In phase.Done) w y e k c b
+    (λ more is. rw st (running (unwoken asleep none is) (op_left s told y.op (In phase.Done) w more k h l)))
+body_follows p told s run body x at (Some y) st e k h c (fires {part = part} {w = w} heap b) l =
     op_follows p told s run body (section_of part) w y e k c b
-    (λ more is. rw st (running (fires is) (op_left s told y.op (section_of part) w more k h l)))
+    (λ more is. rw st (running (fires heap is) (op_left s told y.op (section_of part) w more k h l)))
+body_follows p told s run body x at (Some y) st e k h c (calls_due {part = part} {w = w} heap none b) l =
+    op_follows p told s run body (section_of part) w y e k c b
+    (λ more is. rw st (running (calls_due {part = part} {w = done_one s y.op (section_of part) w more} heap none is)
+    (rw heap (op_left s told y.op (section_of part) w more k h (rw heap at l)))))
 
 -- ---- the main program, and a whole step
 
@@ -256,7 +320,7 @@ main_follows p told s i (Some (main.Op o)) e k c l = record {
 
 pub run_follows : (p : Program) (told : Told) (s : State) (run : Run) (body : Option Body) (at : Standing) → Kept s → SentAt told.sent s →
     Working s → Counted p s.names told →
-    StandsIn p body run.stage at → Leaves (rest (waiting run.stage s.ready (due_now s)) s) at → Follows p told (Running run.mode run.line at) s
+    StandsIn p body run.stage at → Leaves (rest (waiting run.stage (from_heap p) s.ready (due_now s)) s) at → Follows p told (Running run.mode run.line at) s
     (step.run_step p s run body)
 run_follows p told s run None at k sent g c h l = stage_follows p told s run run.stage at refl k sent g c h l
 run_follows p told s run (Some body) at k sent g c h l =
@@ -356,26 +420,33 @@ cancel_follows p told s at v h = cond_both (nat_lt v.0 (length s.names)) _ _ (Fo
     }))
     (λ e. tt)
 
-pub follows : (p : Program) (told : Told) (s : State) (at : Position) (e : Event) → Kept s → SentAt told.sent s → Working s → Stands p told s at →
-    Follows p told at s (next p s e)
+-- what a live name stands for is called so
+abbrev pub AreCalled : State → Type 0
+AreCalled s = (v : Var) (t : Id × HandleRecord) → live_handle s v ≡ Ok t → t.1.name ≡ v
+
+pub follows : (p : Program) (told : Told) (s : State) (at : Position) (e : Event) → Kept s → SentAt told.sent s → Working s → AreCalled s →
+    Stands p told s at → Follows p told at s (next p s e)
 unfolding next
-follows p told s at Loop k sent g h = place_follows p told s s.place at k sent g h.counted h.stands
-follows p told s at (Take n) k sent g h = take_follows p told s at n (next_work s (slice_get s.running n)) refl h
-follows p told s at (Finish n) k sent g h = finish_follows p told s at n h
-follows p told s at (Cancel v) k sent g h = cancel_follows p told s at v h
-follows p told s at (Send v) k sent g h = send_follows p told s at v h
-follows p told s at (Tick ms) k sent g h = tick_follows p told s at ms h
+follows p told s at Loop k sent g called h = place_follows p told s s.place at k sent g h.counted h.stands
+follows p told s at (Take n) k sent g called h = take_follows p told s at n (next_work s (slice_get s.running n)) refl h
+follows p told s at (Finish n) k sent g called h = finish_follows p told s at n h
+follows p told s at (Cancel v) k sent g called h = cancel_follows p told s at v h
+follows p told s at (Send v) k sent g called h = send_follows p told s at v h
+follows p told s at (Io v) k sent g called h = io_follows p told s at v sent h.counted h.stands (called v)
+follows p told s at (Tick ms) k sent g called h = tick_follows p told s at ms h
 
 -- ---- all steps
 
 -- a section begins only where none of its list is yet to run
 pub begins_in : (p : Program) (s : State) (body : Option Body) (x : Stage) (at : Standing) → StandsIn p body x at →
-    Leaves (rest (waiting x s.ready (due_now s)) s) at → BeginsIn body x s
+    Leaves (rest (waiting x (from_heap p) s.ready (due_now s)) s) at → BeginsIn body x s
 begins_in p s (Some body) x at h l = tt
-begins_in p s None stage.Pending at pending l = l.idle
+begins_in p s None stage.Pending at (pending none b) l = l.idle
 begins_in p s None (stage.Walking watcher.Idle) at (walking b) l = l.prepare
 begins_in p s None (stage.Poll deadline) at polls l = l.done
-begins_in p s None stage.Done at (done b) l = l.async
+begins_in p s None (stage.Polled woken) at (polled b) l = l.done
+begins_in p s None stage.Done at (done woken b) l = l.async
+begins_in p s None stage.DoneUnwoken at (unwoken asleep none b) l = l.async
 begins_in p s None (stage.Walking watcher.Async) at (walking b) l = l.check
 begins_in p s None (stage.Walking watcher.Check) at (walking b) l = l.closing
 begins_in p s None each at h l = tt

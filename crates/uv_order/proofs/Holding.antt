@@ -293,7 +293,11 @@ times_same slots more drawn ts f k = grind arith
 -- a handle is changed that is no active timer, before or after
 pub times_put : (slots : List (Slot Content)) (drawn : ℕ) (ts : List (Due × Id)) (id : Id) (h x : HandleRecord) → held_at slots id ≡ Some h →
     ((key : Due) → IsSet key h → IsSet key x) → ((key : Due) → IsSet key x → IsSet key h) → Times slots drawn ts → Times (put slots id x) drawn ts
-times_put slots drawn ts id h x e f g k = grind (arith, fits_back, fits_put)
+times_put slots drawn ts id h x e f g k = record {
+  each = λ key i l. let n = k.each key i l in (fits_put slots (IsSet key) id h x e (f key) i n.0, n.1);
+  all = λ key i l. k.all key i (fits_back slots (IsSet key) id h x e (g key) i l);
+  sorted = k.sorted;
+}
 
 never_set : (x : HandleRecord) (key : Due) → x.active ≡ false → IsSet key x → ⊥
 never_set x key off a = let on = a.active in cc (on, off)

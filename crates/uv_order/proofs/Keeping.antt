@@ -322,6 +322,20 @@ watcher_started_kept s q id h e t off stays k =
     (λ r. started_lists s q r id x (in_front s id h x (kind_as q) (members (watched s q)) e off t refl (k.watchers q))
     (λ apart. others s.arena.slots (kind_as q) (kind_as r) id h x (members (watched s r)) e t t apart (k.watchers r))) still.2
 
+-- a handle of I/O is started, which is on no list
+no_watcher : (q : WatcherKind) → Apart kind.Io (kind_as q)
+no_watcher watcher.Idle = λ e. cc e
+no_watcher each = λ e. cc e
+
+pub io_started_kept : (s : State) (id : Id) (h : HandleRecord) → handle s id ≡ Some h → h.kind ≡ kind.Io → h.closing ≡ false → Kept s →
+    Kept (with_handle s id (activated h))
+io_started_kept s id h e t stays k =
+    let x = activated h in
+    let still = activated_sound s id h e stays k in
+    let untimed : Apart kind.Io kind.Timer = λ f. cc f in
+    kept_all still.0 still.1 (others_times s id h x kind.Io e t t untimed k) (others_ready s id h x kind.Io e t untimed k)
+    (λ q. others s.arena.slots kind.Io (kind_as q) id h x (members (watched s q)) e t t (no_watcher q) (k.watchers q)) still.2
+
 -- ---- a new handle
 
 -- where the next taking puts something

@@ -1,5 +1,5 @@
 -- Each op and each step of the loop keeps what is kept.
-use Rattle.uv_order.proofs.Names.{arith, ◌≡◌, inl, ℕ, ◌+◌, ◌==◌, List, [], ◌∷◌, ◌++◌, true, false, Some, None, drop, refl, ap, sym, subst, ◌∙◌, append_assoc, append-nil, cond_both, false_from_ne_true, Id, Var, HandleRecord, Slot, WatcherKind, referenced_as, repeating, Slots, held, freed, taken, next_free, Walk, all_yet, moved_on, Op, Task, Program, arena_size, Content, Request, queued, Run, State, fresh, handle, with_handle, with_request, with_id, live, front, watched, with_watched, started, restarted, do_op, Next, Moves, Refuses, collected, front_moved, begin_walk, has_id, kind_as}
+use Rattle.uv_order.proofs.Names.{arith, ◌≡◌, inl, ℕ, ◌+◌, ◌==◌, List, [], ◌∷◌, ◌++◌, true, false, Some, None, drop, refl, ap, sym, subst, ◌∙◌, append_assoc, append-nil, cond_both, false_from_ne_true, Id, Var, Due, HandleRecord, Slot, WatcherKind, referenced_as, repeating, Slots, held, freed, taken, next_free, Walk, all_yet, moved_on, Op, Task, Program, arena_size, Content, Request, queued, Run, State, fresh, handle, with_handle, with_request, with_id, live, front, watched, with_watched, stopped, started, restarted, do_op, Next, Moves, Refuses, collected, front_moved, begin_walk, has_id, kind_as}
 use Rattle.uv_ids.specs.declared.phase.Kind.TheVariants as kind
 use Rattle.uv_records.specs.declared.lists.WatcherKind.TheVariants as watcher
 use Rattle.uv_records.specs.Handles as records
@@ -14,7 +14,7 @@ use Rattle.uv_order.proofs.OpCases.{DidOp, op_did, as_watcher, live_held, refuse
 use Rattle.uv_order.proofs.Asked.{request_turns, freed_turns, FrontRequest}
 use Rattle.uv_order.proofs.Did as row
 use Rattle.uv_order.proofs.Did.{Did, FrontOf, FirstOf}
-use Rattle.uv_order.proofs.Keeping.{kept_all, fills, agree_same, free_held, Rests, Watches, Closes, IsSound, AreFree, members, Agree, Kept, on_off, open_shut, others, off_list, sound_put, free_put, free_set, not_free, put_kept, stopped_kept, closed_kept, started_kept, started_again_kept, restarted_again_kept, watcher_started_kept, new_kept, not_timer}
+use Rattle.uv_order.proofs.Keeping.{kept_all, fills, agree_same, free_held, Rests, Watches, Closes, IsSound, AreFree, members, Agree, Kept, on_off, open_shut, others, off_list, sound_put, free_put, free_set, not_free, put_kept, stopped_kept, closed_kept, started_kept, started_again_kept, restarted_again_kept, watcher_started_kept, io_started_kept, new_kept, not_timer}
 
 -- ---- the ops
 
@@ -40,6 +40,7 @@ did_op_kept s o d (which.cancelled v t live on) k = request_kept s t.0 t.1 _ liv
 did_op_kept s o d (which.started v timeout repeat t e is stays) k = started_again_kept s t.0 t.1 timeout repeat (live_held s v t e) is stays k
 did_op_kept s o d (which.again v t e is stays) k = restarted_again_kept s t.0 t.1 (live_held s v t e) is stays k
 did_op_kept s o d (which.watching v q t e is off stays) k = watcher_started_kept s q t.0 t.1 (live_held s v t e) is off stays k
+did_op_kept s o d (which.io_started v t e is off stays) k = io_started_kept s t.0 t.1 (live_held s v t e) is stays k
 did_op_kept s o d (which.stopped v t e sync) k = stopped_kept s t.0 t.1 (live_held s v t e) sync k
 did_op_kept s o d (which.closed v t e stays) k = closed_kept s t.0 t.1 (live_held s v t e) stays k
 did_op_kept s o d (which.repeated v n t e) k = put_kept s t.0 t.1 (repeating n t.1) (live_held s v t e) refl refl refl refl k
@@ -81,19 +82,33 @@ fired_kept s t f k = subst (λ (rest : List Id). Kept (restarted (record s { rea
 pub opened : (h : HandleRecord) → h.active ≡ true → IsSound h → h.closing ≡ false
 opened h on sound = false_from_ne_true h.closing (λ shut. on_off h on (sound.shut shut))
 
-pub collected_kept : (s : State) (t : Id × HandleRecord) → FirstOf s s.timers t → Kept s → Kept (collected s t.0 t.1)
-collected_kept s t f k =
+-- the first of the order of timers is an active timer, which doesn't close
+pub record IsFirst (key : Due) (h : HandleRecord) : Type 0 where
+  pub set : IsSet key h
+  pub stays : h.closing ≡ false
+
+pub first_is : (s : State) (t : Id × HandleRecord) (f : FirstOf s s.timers t) → Kept s → IsFirst f.key t.1
+first_is s t f k =
     let times : Times s.arena.slots s.next_start ((f.key, t.0) ∷ f.rest) = subst (Times s.arena.slots s.next_start) f.are k.timers in
     let set : IsSet f.key t.1 = its_handle s.arena.slots (IsSet f.key) t.0 t.1 f.holds (times.each f.key t.0 (inl (refl, refl))).0 in
+    record { set = set; stays = opened t.1 set.active (k.sound t.0 t.1 f.holds) }
+
+called_due_kept : (s : State) (t : Id × HandleRecord) → FirstOf s s.timers t → Kept s → Kept (restarted (stopped s t.0 t.1) t.0 t.1)
+called_due_kept s t f k = let first = first_is s t f k in restarted_again_kept s t.0 t.1 f.holds first.set.kind first.stays k
+
+pub collected_kept : (s : State) (t : Id × HandleRecord) → FirstOf s s.timers t → Kept s → Kept (collected s t.0 t.1)
+collected_kept s t f k =
+    let first = first_is s t f k in
+    let set = first.set in
     let x = records.stopped t.1 in
-    let stays : t.1.closing ≡ false = opened t.1 set.active (k.sound t.0 t.1 f.holds) in
     let away : has_id s.ready t.0 ≡ false = not_listed s.arena.slots Rests t.0 t.1 s.ready f.holds (λ r. on_off t.1 set.active r.inactive) k.ready in
     let ready : Lists (put s.arena.slots t.0 x) Rests s.ready = off_list s.arena.slots Rests t.0 t.1 x s.ready f.holds away k.ready in
     let last : Fits (put s.arena.slots t.0 x) Rests t.0 = record {
       handle = x;
       holds = put_same s.arena.slots t.0 t.1 x f.holds;
-      fits = record { kind = set.kind; inactive = refl; stays = stays };
+      fits = record { kind = set.kind; inactive = refl; stays = first.stays };
     } in
+    let times : Times s.arena.slots s.next_start ((f.key, t.0) ∷ f.rest) = subst (Times s.arena.slots s.next_start) f.are k.timers in
     record {
       sound = sound_put s.arena.slots t.0 t.1 x f.holds (record { shut = λ shut. refl; awake = λ q stays. cc (set.kind, q) }) k.sound;
       free = free_put s.arena.slots t.0 t.1 x s.arena.free f.holds k.free;
@@ -239,12 +254,14 @@ did_kept p s n (row.still x time clock stop idled l q) k = k
 did_kept p s n (row.op x at o e) k = op_kept s o k
 did_kept p s n (row.begun run q e) k = begin_kept s run q e k
 did_kept p s n (row.begun_closing run e) k = begin_closing_kept s e k
-did_kept p s n (row.begun_done run e) k = k
+did_kept p s n (row.begun_done run time e) k = k
 did_kept p s n (row.collected run part t f) k = collected_kept s t f k
 did_kept p s n (row.fired run t f) k = fired_kept s t f k
+did_kept p s n (row.called_due run t f) k = called_due_kept s t f k
 did_kept p s n (row.walked run q t sync f) k = front_moved_kept s q t f k
 did_kept p s n (row.passed run t f off) k = front_moved_kept s watcher.Async t f k
 did_kept p s n (row.woken run t f on) k = woken_kept s t f k
+did_kept p s n (row.answered run time v t e is on) k = k
 did_kept p s n (row.closed run t f) k = gone_closed p s t f k
 did_kept p s n (row.ended run t f) k = gone_ended p s t f k
 did_kept p s n (row.taken n' t f) k = k

@@ -1,5 +1,5 @@
 -- What the lines of a trace tell of the names and of the handles that close, and how each change of the slots keeps it.
-use Rattle.uv_order.proofs.Names.{arith, ◌≡◌, ◌⊎◌, inl, inr, ℕ, zero, suc, ◌<◌, ◌≤◌, ◌==◌, ◌||◌, List, [], ◌∷◌, Bool, true, false, Option, Some, None, slice_get, slice_set, unwrap_or, option_map, refl, ap, sym, subst, ◌∙◌, if◌then◌else◌, eqb-true, eq-eqb, or_left, or_right, or_cases, Id, Var, Answer, Seen, Site, Op, Program, op_at, HandleRecord, Slots, Content, Named, same_id, unbound, answered, queues, binds, bound_by, bound, closes, closes_by, is_some_id, is_bound, was_closed, is_closed_line, has_closed_line, makes, made_by, made_as, cancels}
+use Rattle.uv_order.proofs.Names.{arith, ◌≡◌, ◌⊎◌, inl, inr, ℕ, zero, suc, ◌<◌, ◌≤◌, ◌==◌, ◌||◌, List, [], ◌∷◌, Bool, true, false, Option, Some, None, slice_get, slice_set, unwrap_or, option_map, refl, ap, sym, subst, ◌∙◌, if◌then◌else◌, eqb-true, eq-eqb, or_left, or_right, or_cases, none-some, Id, Var, Answer, Seen, Site, Op, Program, op_at, HandleRecord, Slots, Content, Named, same_id, unbound, answered, queues, binds, bound_by, bound, closes, closes_by, is_some_id, is_bound, was_closed, is_closed_line, has_closed_line, makes, made_by, made_as, cancels}
 use Rattle.uv_ids.specs.declared.code.Code.TheVariants as code
 use Rattle.uv_ids.specs.declared.code.Answer.TheVariants as answer
 use Rattle.uv_ids.specs.declared.seen.Seen.TheVariants as seen
@@ -48,11 +48,12 @@ own_id (n ∷ names) (suc i) x id e = own_id names i x id e
 abbrev pub IsShut : Slots Content → Id → Type 0
 IsShut arena id = Fits arena.slots Closes id ⊎ IsGone arena.slots arena.free id
 
--- what is held is called as the lines tell; names are bound as they tell, and just the ids of which they tell a `close` close, or are gone;
+-- what is held is called as the lines tell; names are bound as they tell, each to what was made under it, and just the ids of which they tell a `close` close, or are gone;
 -- those with a `closed` line are gone
 pub record Known (p : Program) (past : List Seen) (arena : Slots Content) (names : List Named) (waiting runs : List Id) : Type 0 where
   pub binding : (v : Var) (id : Id) → id_in names v ≡ Some id → bound p past v ≡ Some id
   pub made : (id : Id) (v : Var) → name_at arena.slots id ≡ Some v → made_as p past id ≡ Some v
+  pub under : (v : Var) (id : Id) → id_in names v ≡ Some id → made_as p past id ≡ Some v
   pub closing : (id : Id) → Fits arena.slots Closes id → was_closed p past id ≡ true
   pub closed : (id : Id) → was_closed p past id ≡ true → IsShut arena id
   pub over : (id : Id) → has_closed_line past id ≡ true → IsGone arena.slots arena.free id
@@ -138,6 +139,7 @@ pub known_close : {waiting runs : List Id} (p : Program) (past : List Seen) (pla
 known_close p past place v arena names id h x e is holds shut called k = record {
   binding = λ u i f. rw said (k.binding u i f);
   made = λ i u f. rw said (k.made i u (put_names arena.slots id h x holds called i u f));
+  under = λ u i f. rw said (k.under u i f);
   closing = λ i f. rw closed_now (closing i f (same_id i id) refl);
   closed = λ i c. closed i (or_cases (is_some_id i (bound p past v)) (was_closed p past i) (sym (ap
       (λ (o : Option Var). is_bound p past i o || was_closed p past i) closed_now) ∙ c));
@@ -173,17 +175,17 @@ known_close p past place v arena names id h x e is holds shut called k = record 
     | inr g ↦ inr (gone_put arena.slots arena.free id h x i holds g)
   ]
 
--- the line of an op binds a name
+-- the line of an op binds a name, to an id that was made under none before
 pub known_bound : {waiting runs few : List Id} (p : Program) (past : List Seen) (place : Site) (v : Var) (o : Op) (arena now : Slots Content)
     (names : List Named) (id : Id) (n : Named) → op_at p place ≡ Some o →
     ((u : Var) (before : Option Id) → binds o (answer.Id id) u before ≡ (if v.0 == u.0 then Some id else before)) →
-    ((i : Id) → makes o (answer.Id id) i ≡ (if same_id id i then Some v else None)) →
+    ((i : Id) → makes o (answer.Id id) i ≡ (if same_id id i then Some v else None)) → made_as p past id ≡ None →
     ((i : Id) (u : Var) → name_at now.slots i ≡ Some u → (if same_id id i then Some v else name_at arena.slots i) ≡ Some u) →
     closes o (answer.Id id) ≡ None → n.id ≡ Some id → SameHandles now.slots arena.slots →
     ((i : Id) → IsGone arena.slots arena.free i → IsGone now.slots now.free i) → Worked p (seen.Op place (answer.Id id) ∷ past) now few runs →
     Known p past arena names waiting runs → Known p (seen.Op place (answer.Id id) ∷ past) now (slice_set names v.0 n) few runs
-known_bound p past place v o arena now names id n e bind make called quiet is handles gone w k =
-    grind (arith, is_answered, fits_same, own_id, set_there, eqb-true, eq-eqb)
+known_bound p past place v o arena now names id n e bind make fresh called quiet is handles gone w k =
+    grind (arith, is_answered, fits_same, own_id, set_there, eqb-true, eq-eqb, same, none-some)
 
 -- a slot is taken for a handle that doesn't close
 pub known_grown : {waiting runs : List Id} (p : Program) (past : List Seen) (arena more : Slots Content) (names : List Named) (id : Id)

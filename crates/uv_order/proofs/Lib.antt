@@ -10,6 +10,7 @@ mod Gone
 pub mod Histories
 mod Holding
 pub mod IdLists
+mod IoFollows
 mod Keeping
 mod KeptSteps
 mod Known
@@ -31,5 +32,6 @@ mod TimerKeys
 mod TimersFollow
 mod WatchersFollow
 mod Worked
+mod Woken
 mod Working
 mod Works

@@ -7,7 +7,7 @@ use Rattle.uv_order.proofs.Working.{Working}
 
 -- ---- words
 
-either_way : (a b : Bool) → (a ≡ true → b ≡ true) → (b ≡ true → a ≡ true) → a ≡ b
+pub either_way : (a b : Bool) → (a ≡ true → b ≡ true) → (b ≡ true → a ≡ true) → a ≡ b
 either_way a b f g = grind arith
 
 -- ---- what a slot holds is a handle or a request
@@ -67,11 +67,11 @@ is_any (x ∷ xs) (suc n) g r e = rw (is_any xs n g r e) (or-true (is_asked x.co
 pub some_of : (ids : List Id) (id : Id) → has_id ids id ≡ true → has_some ids ≡ true
 some_of ids id e = grind arith
 
-record First (ids : List Id) : Type 0 where
-  id : Id
-  on : has_id ids id ≡ true
+pub record First (ids : List Id) : Type 0 where
+  pub id : Id
+  pub on : has_id ids id ≡ true
 
-first : (ids : List Id) → has_some ids ≡ true → First ids
+pub first : (ids : List Id) → has_some ids ≡ true → First ids
 first [] e = cc e
 first (x ∷ xs) e = record { id = x; on = rw (itself x x refl) refl }
 

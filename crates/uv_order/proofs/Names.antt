@@ -20,7 +20,7 @@ pub use Rattle.uv_ids.specs.declared.code.Code.{Code}
 pub use Rattle.uv_ids.specs.declared.code.Code.TheVariants.{Ebound, Ebusy, Efull, Ok as Success}
 pub use Rattle.uv_ids.specs.declared.due.Due.{Due}
 pub use Rattle.uv_ids.specs.declared.event.Event.{Event}
-pub use Rattle.uv_ids.specs.declared.event.Event.TheVariants.{Cancel, Finish, Loop, Send, Take, Tick}
+pub use Rattle.uv_ids.specs.declared.event.Event.TheVariants.{Cancel, Finish, Io, Loop, Send, Take, Tick}
 pub use Rattle.uv_ids.specs.declared.fault.Why.{Why}
 pub use Rattle.uv_ids.specs.declared.fault.Why.TheVariants.{Blocked, Ended, IdleWorker, NoWork, Range}
 pub use Rattle.uv_ids.specs.declared.id.Id.{Id}
@@ -40,7 +40,7 @@ pub use Rattle.uv_model.specs.After.{lines, seen_from, seen_of, state_of}
 pub use Rattle.uv_model.specs.Content.{content_keeps, content_pends, handle_in, request_in}
 pub use Rattle.uv_model.specs.Found.{found_or}
 pub use Rattle.uv_model.specs.Ids.{has_some, same_id, walk_without_id, without_id}
-pub use Rattle.uv_model.specs.Next.{Moves, Next, Refuses, begin_walk, body_at, body_from, call, calls, collected, first_due, front_moved, goes, idled_at, idled_then, is_default, loop_step, may_leave, next_line, next_work, time_at, way, work_of}
+pub use Rattle.uv_model.specs.Next.{Moves, Next, Refuses, begin_walk, body_at, body_from, call, calls, collected, first_due, front_moved, goes, idled_at, idled_then, io_handle, io_run, is_default, is_woken, loop_step, may_leave, next_line, next_work, stage_polled, takes_io, time_at, time_polled, way, work_of}
 pub use Rattle.uv_model.specs.Ops.{do_op}
 pub use Rattle.uv_model.specs.State.{State, Watchers, as_handle, as_request, fresh, front, front_request, handle, kind_as, live, live_handle, live_request, named, refreshed, request, those_of, watched, with_handle, with_id, with_named, with_request, with_those_of, with_watched}
 pub use Rattle.uv_model.specs.Timeout.{deadline_of, has_passed, has_pending, is_alive, poll_timeout, poll_timeout_by}
@@ -50,16 +50,16 @@ pub use Rattle.uv_model.specs.declared.place.Place.{Place}
 pub use Rattle.uv_model.specs.declared.place.Place.TheVariants.{Main}
 pub use Rattle.uv_model.specs.declared.place.Run.{Run}
 pub use Rattle.uv_model.specs.declared.place.Stage.{Stage}
-pub use Rattle.uv_model.specs.declared.place.Stage.TheVariants.{Closing, Done, Pending, Poll, Timers, Walking}
+pub use Rattle.uv_model.specs.declared.place.Stage.TheVariants.{Closing, Done, DoneUnwoken, Pending, Poll, Polled, Timers, Walking}
 pub use Rattle.uv_model.specs.declared.place.TimersOf.{TimersOf}
 pub use Rattle.uv_model.specs.declared.place.Timing.TheVariants.{Collecting, Firing}
 pub use Rattle.uv_model.specs.declared.place.Turn.{Turn}
 pub use Rattle.uv_model.specs.declared.place.Turn.TheVariants.{AtEntry, Behind, BehindClosing}
 pub use Rattle.uv_model.specs.declared.place.Way.{Way}
 pub use Rattle.uv_model.specs.declared.place.Way.TheVariants.{ToEnd, ToPending, ToTimers}
-pub use Rattle.uv_order.specs.Active.{AreActive, AreClosing, AreDistinct, AreEnded, AreOpened, AreTimers, Before, Has, InOrder, IsEnded, IsOpened, IsTimer, has_id, run_ids}
+pub use Rattle.uv_order.specs.Active.{AreActive, AreClosing, AreDistinct, AreDue, AreEnded, AreOpened, AreTimers, Before, Has, InOrder, IsActive, IsEnded, IsOpened, IsTimer, has_id, run_ids}
 pub use Rattle.uv_order.specs.Alive.{closes_some, has_handle, has_request, has_run, is_kept_by, lives, may_wait, until_due, waits}
-pub use Rattle.uv_order.specs.Documented.{AllOff, AllOffOrUnsent, Begun, Between, CallsNext, Documented, Entry, Goes, GoesOn, In, IsCallLine, IsOver, Lasting, MayCall, MayLeave, Names, Opens, Polling, PollsFor, Position, Running, Section, Standing, Told, Within, after_op, at_first, body_of, callback_in, cut, ids_of, is_called, lasting, line, names_by, next_call, nothing_told, off_by, part_after, part_of, sent_after, sent_by, sites_from, taken_off, times, told_by, told_of, without_ids, word_of}
+pub use Rattle.uv_order.specs.Documented.{AllOff, AllOffOrUnsent, Answering, Begun, Between, CallsNext, Documented, Entry, Goes, GoesOn, In, IsCallLine, IsOver, Lasting, MayAnswer, MayCall, MayLeave, Names, NoneDue, Opens, Polling, PollsFor, Position, Running, Section, Standing, Told, Within, after_op, at_first, body_of, callback_in, cut, ids_of, is_called, lasting, line, names_by, next_call, nothing_told, off_by, part_after, part_of, sent_after, sent_by, sites_from, taken_off, times, told_by, told_of, without_ids, word_of}
 pub use Rattle.uv_order.specs.History.{history_from, line_of_step}
 pub use Rattle.uv_order.specs.Line.{Line}
 pub use Rattle.uv_order.specs.Once.{Activity, Answered, CancelSays, MakesNew, MayFollow, OnceFrom, OpSays, SaysTrue, activity, activity_answered, activity_by, activity_called, activity_done, answered, binds, bound, bound_by, cancelled_by, cancels, closes, closes_by, first_of, has_after_line, has_cancel_line, has_closed_line, has_finish_line, has_take_line, is_after_line, is_bound, is_cancel_line, is_closed_line, is_finish_line, is_some_id, is_take_line, made_as, made_by, makes, new_activity, queued_by, queued_task, queues, was_closed}
@@ -67,7 +67,7 @@ pub use Rattle.uv_order.specs.PoolEvents.{answered_events, done_as, line_events,
 pub use Rattle.uv_order.specs.Reached.{AreSetAside, BeginsAt, BeginsBehind, BeginsIn, IsReached, IsSetAside}
 pub use Rattle.uv_order.specs.Refused.{AllSilent, AllWithin, RefusedOnce, RefusedOrder, is_send, is_send_op, is_within, past_after}
 pub use Rattle.uv_order.specs.Taking.{IsTakenAs}
-pub use Rattle.uv_records.specs.Handles.{activated, begun_at, inited, is_async, is_timer, keeps_alive, referenced_as, repeating, sent}
+pub use Rattle.uv_records.specs.Handles.{activated, begun_at, inited, is_async, is_io, is_timer, keeps_alive, referenced_as, repeating, sent}
 pub use Rattle.uv_records.specs.Lists.{phase_of, watcher_kind}
 pub use Rattle.uv_records.specs.Names.{count_of, counted, unbound}
 pub use Rattle.uv_records.specs.Refusals.{again_refusal, close_refusal, invalid_if, is_startable, no_refusal, only_if, send_refusal, start_timer_refusal, start_watcher_refusal, stop_refusal, timer_refusal}
@@ -78,7 +78,7 @@ pub use Rattle.uv_records.specs.declared.lists.WatcherKind.{WatcherKind}
 pub use Rattle.uv_records.specs.declared.named.Calls.{Calls}
 pub use Rattle.uv_records.specs.declared.named.Named.{Named}
 pub use Rattle.uv_records.specs.declared.slot.Slot.{Slot}
-pub use Rattle.uv_script.specs.Program.{Callbacks, Program, arena_size, is_for, lines_in, lines_of, main_op, no_callbacks, op_at, order_of, worker_count}
+pub use Rattle.uv_script.specs.Program.{Callbacks, Program, arena_size, from_heap, has_io, is_for, lines_in, lines_of, main_op, no_callbacks, op_at, order_of, worker_count}
 pub use Rattle.uv_script.specs.declared.op.CallbackLine.{CallbackLine}
 pub use Rattle.uv_script.specs.declared.op.MainOp.{MainOp}
 pub use Rattle.uv_script.specs.declared.op.Op.{Op}

@@ -1,5 +1,5 @@
 -- An op by its cases: it is refused, or done with the handle of a live name.
-use Rattle.uv_order.proofs.Names.{arith, ℕ, ◌≡◌, Bool, true, false, Option, Some, None, Result, Ok, Err, refl, ap, not, list_any, cond_both, same_Some, Id, Var, Code, Success, Ebusy, Answer, Kind, HandleRecord, WatcherKind, is_timer, is_async, sent, watcher_kind, only_if, invalid_if, is_startable, timer_refusal, start_timer_refusal, start_watcher_refusal, stop_refusal, again_refusal, close_refusal, send_refusal, no_refusal, held, next_free, Op, Task, Content, Request, handle_in, same_id, State, handle, named, live, live_handle, live_request, as_handle, as_request, with_id, with_handle, refreshed, do_op, found_both, Names, kind_as}
+use Rattle.uv_order.proofs.Names.{arith, ℕ, ◌≡◌, Bool, true, false, Option, Some, None, Result, Ok, Err, refl, ap, not, list_any, cond_both, same_Some, Id, Var, Code, Success, Ebusy, Answer, Kind, HandleRecord, WatcherKind, is_timer, is_async, is_io, activated, sent, watcher_kind, only_if, invalid_if, is_startable, timer_refusal, start_timer_refusal, start_watcher_refusal, stop_refusal, again_refusal, close_refusal, send_refusal, no_refusal, held, next_free, Op, Task, Content, Request, handle_in, same_id, State, handle, named, live, live_handle, live_request, as_handle, as_request, with_id, with_handle, refreshed, do_op, found_both, Names, kind_as}
 use Rattle.std.specs.Prelude.{◌||◌}
 use Rattle.uv_ids.specs.declared.code.Answer.TheVariants as answer
 use Rattle.uv_ids.specs.declared.phase.Kind.TheVariants as kind
@@ -12,6 +12,9 @@ use Rattle.uv_order.proofs.Holding.{name_at}
 
 pub timer_kind : (k : Kind) → is_timer k ≡ true → k ≡ kind.Timer
 timer_kind each e = grind arith
+
+pub io_kind : (k : Kind) → is_io k ≡ true → k ≡ kind.Io
+io_kind each e = grind arith
 
 pub as_watcher : (q : Kind) (k : WatcherKind) → watcher_kind q ≡ Some k → q ≡ kind_as k
 as_watcher each k e = grind (arith, same_Some)
@@ -105,9 +108,9 @@ again_passes h e = grind arith
 pub start_watcher_passes : (h : HandleRecord) → start_watcher_refusal h ≡ None → (is_startable h.kind ≡ true) × (h.closing ≡ false)
 start_watcher_passes h e = let parts = only_passes (is_startable h.kind) (invalid_if h.closing) e in (parts.0, invalid_passes h.closing parts.1)
 
--- a handle that may be started so is of a kind of watchers
-is_of_watchers : (q : Kind) → is_startable q ≡ true → watcher_kind q ≡ None → ⊥
-is_of_watchers each e f = grind arith
+-- a handle that may be started so, and is of no kind of watchers, is one of I/O
+is_of_io : (q : Kind) → is_startable q ≡ true → watcher_kind q ≡ None → q ≡ kind.Io
+is_of_io each e f = grind arith
 
 pub close_passes : (h : HandleRecord) → close_refusal h ≡ None → h.closing ≡ false
 close_passes h e = invalid_passes h.closing e
@@ -199,6 +202,9 @@ pub data DidOp (s : State) : Op → ops.Done → Type 0 where
       → DidOp s (op.Again v) (ops.again s t.0 t.1)
   watching : (v : Var) (q : WatcherKind) (t : Id × HandleRecord) → live_handle s v ≡ Ok t → t.1.kind ≡ kind_as q → t.1.active ≡ false
       → t.1.closing ≡ false → DidOp s (op.StartWatcher v) (ops.succeeds (ops.watcher_started s q t.0 t.1))
+  -- a handle of I/O is on no list
+  io_started : (v : Var) (t : Id × HandleRecord) → live_handle s v ≡ Ok t → t.1.kind ≡ kind.Io → t.1.active ≡ false → t.1.closing ≡ false
+      → DidOp s (op.StartWatcher v) (ops.succeeds (with_handle s t.0 (activated t.1)))
   -- a watcher that is active isn't started again
   watches : (v : Var) (t : Id × HandleRecord) → live_handle s v ≡ Ok t → t.1.active ≡ true → DidOp s (op.StartWatcher v) (ops.succeeds s)
   stopped : (v : Var) (t : Id × HandleRecord) → live_handle s v ≡ Ok t → (t.1.kind ≡ kind.Async → ⊥) → DidOp s (op.Stop v) (ops.stop s t.0 t.1)
@@ -214,8 +220,8 @@ watcher_did : (s : State) (v : Var) (t : Id × HandleRecord) → live_handle s v
 watcher_did s v t e may =
     let by : State → Type 0 = λ u. DidOp s (op.StartWatcher v) (ops.succeeds u) in
     cond_both t.1.active s _ by (λ on. watches v t e on)
-    (λ off. found_both (watcher_kind t.1.kind) _ s by (λ q is. watching v q t e (as_watcher t.1.kind q is) off may.1)
-    (λ none. absurd (is_of_watchers t.1.kind may.0 none)))
+    (λ off. found_both (watcher_kind t.1.kind) _ _ by (λ q is. watching v q t e (as_watcher t.1.kind q is) off may.1)
+    (λ none. io_started v t e (is_of_io t.1.kind may.0 none) off may.1))
 
 -- an op on a handle
 held_did : (s : State) (o : Op) (v : Var) (why : HandleRecord → Option Code) (f : Id → HandleRecord → ops.Done) → MayRefuse o → Refuses why →

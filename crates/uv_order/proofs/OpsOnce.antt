@@ -1,5 +1,5 @@
 -- What happens once, by the ops: what the line of each tells, and that the handles and the requests are as it tells.
-use Rattle.uv_order.proofs.Names.{◌≡◌, ◌⊎◌, ℕ, ◌==◌, List, [], ◌∷◌, ◌++◌, Bool, true, false, Option, Some, None, slice_set, if◌then◌else◌, refl, ap, sym, ◌∙◌, arith, list_any, cond_both, or_left, same_Some, Id, Var, Code, Answer, Kind, Seen, Site, Op, Task, Program, op_at, HandleRecord, WatcherKind, Slot, inited, referenced_as, repeating, Slots, held, taken, taken_from, next_free, next_id, Content, Request, queued, request_in, Cancelled, same_id, without_id, has_id, run_ids, State, named, handle, live, live_handle, with_request, stopped, restarted, do_op, makes, made_as, has_take_line, has_cancel_line, queued_task}
+use Rattle.uv_order.proofs.Names.{◌≡◌, ◌⊎◌, ℕ, ◌==◌, List, [], ◌∷◌, ◌++◌, Bool, true, false, Option, Some, None, Ok, option_map, slice_set, if◌then◌else◌, refl, ap, sym, ◌∙◌, arith, list_any, cond_both, or_left, same_Some, Id, Var, Code, Answer, Kind, Seen, Site, Op, Task, Program, op_at, HandleRecord, WatcherKind, Slot, inited, referenced_as, repeating, Slots, held, taken, taken_from, next_free, next_id, Content, Request, queued, request_in, Cancelled, same_id, without_id, has_id, run_ids, State, named, handle, live, live_handle, with_request, stopped, restarted, do_op, makes, made_as, has_take_line, has_cancel_line, queued_task}
 use Rattle.uv_ids.specs.declared.code.Answer.TheVariants as answer
 use Rattle.uv_ids.specs.declared.phase.Kind.TheVariants as kind
 use Rattle.uv_ids.specs.declared.seen.Seen.TheVariants as seen
@@ -12,7 +12,7 @@ use Rattle.uv_order.proofs.IdLists.{has_both, has_but_one, on_list, same, itself
 use Rattle.uv_order.proofs.Contents.{Turns}
 use Rattle.uv_order.proofs.Holding.{name_in, name_at, names_turned, same_handles, put, put_same}
 use Rattle.uv_order.proofs.OpCases as which
-use Rattle.uv_order.proofs.OpCases.{DidOp, IsAsked, IsLive, op_did, live_held, live_bound, IsRefusal, refuses_none, refuses_timer, refuses_start, refuses_start_watcher, refuses_stop, refuses_again, refuses_close, on_handle_both, send_both, cancel_both, make_both}
+use Rattle.uv_order.proofs.OpCases.{DidOp, IsAsked, IsLive, op_did, live_as_handle, live_held, live_bound, IsRefusal, refuses_none, refuses_timer, refuses_start, refuses_start_watcher, refuses_stop, refuses_again, refuses_close, on_handle_both, send_both, cancel_both, make_both}
 use Rattle.uv_order.proofs.Asked.{request_turns}
 use Rattle.uv_order.proofs.Works.{same_requests}
 use Rattle.uv_order.proofs.Keeping.{AreFree, Kept, fills, takes as taken_handle}
@@ -28,6 +28,10 @@ KnownAt p past s = Known p past s.arena s.names s.waiting (run_ids s.running)
 -- what is known with the line of an op
 abbrev pub KnownBy : Program → List Seen → Op → ops.Done → Type 0
 KnownBy p past o d = (place : Site) → op_at p place ≡ Some o → KnownAt p (seen.Op place d.answer ∷ past) d.state
+
+-- nobody has made the id that comes next
+abbrev pub IsUnmade : Program → List Seen → State → Type 0
+IsUnmade p past s = (id : Id) → next_free s.arena ≡ Some id → made_as p past id ≡ None
 
 -- an op that neither binds nor closes, whatever it answers
 abbrev pub Harmless : Op → Type 0
@@ -84,8 +88,8 @@ made_now : (p : Program) (past : List Seen) (place : Site) (o : Op) (slots more 
 made_now p past place o slots more id c v i u e m is t k h = grind arith
 
 pub new_known : (p : Program) (past : List Seen) (s : State) (v : Var) (q : Kind) (id : Id) → next_free s.arena ≡ Some id → Kept s →
-    KnownAt p past s → KnownBy p past (op.Init v q) (record { state = ops.with_new s v q id; answer = answer.Id id })
-new_known p past s v q id e kept k place at = by q known where
+    IsUnmade p past s → KnownAt p past s → KnownBy p past (op.Init v q) (record { state = ops.with_new s v q id; answer = answer.Id id })
+new_known p past s v q id e kept unmade k place at = by q known where
   now : Slots Content
   now = taken id (content.Handle (inited v q)) s.arena
 
@@ -96,7 +100,7 @@ new_known p past s v q id e kept k place at = by q known where
   told : Known p (seen.Op place (answer.Id id) ∷ past) s.arena (slice_set s.names v.0 (record (named s v) { id = Some id })) s.waiting
       (run_ids s.running)
   told = known_bound p past place v (op.Init v q) s.arena s.arena s.names id (record (named s v) { id = Some id }) at (λ u b. refl) (λ i. refl)
-      (λ j u g. new_name s.arena.slots _ id (Some (content.Handle (inited v q))) v j u turns g) refl refl (λ j. refl) (λ j h. h)
+      (unmade id e) (λ j u g. new_name s.arena.slots _ id (Some (content.Handle (inited v q))) v j u turns g) refl refl (λ j. refl) (λ j h. h)
       (worked_idle p past (seen.Op place (answer.Id id)) _ _ _ (idle_op p place (op.Init v q) (answer.Id id) at (λ i. (refl, refl))) k.worked) k
 
   known : Known p (seen.Op place (answer.Id id) ∷ past) now (slice_set s.names v.0 (record (named s v) { id = Some id })) s.waiting
@@ -117,8 +121,8 @@ listed ids i j h = grind (arith, has_both, same)
 
 -- a slot is taken for a request
 pub queued_known : (p : Program) (past : List Seen) (s : State) (v : Var) (task : Task) (id : Id) → next_free s.arena ≡ Some id → Kept s →
-    KnownAt p past s → KnownBy p past (op.Queue v task) (record { state = ops.with_queued s v task id; answer = answer.Id id })
-queued_known p past s v task id e kept k place at =
+    IsUnmade p past s → KnownAt p past s → KnownBy p past (op.Queue v task) (record { state = ops.with_queued s v task id; answer = answer.Id id })
+queued_known p past s v task id e kept unmade k place at =
     let c = content.Request (queued v task) in
     let now = taken id c s.arena in
     let t = (fills s.arena s.arena.free id c refl kept.free e).0 in
@@ -128,7 +132,7 @@ queued_known p past s v task id e kept k place at =
     worked_queued p past place v task s.arena now s.waiting (run_ids s.running) (s.waiting ++ id ∷ []) id at t fresh (listed s.waiting id) gone
     k.worked in
     known_bound p past place v (op.Queue v task) s.arena now s.names id (record (named s v) { id = Some id }) at (λ u b. refl) (λ i. refl)
-    (λ i u h. new_or_old s.arena.slots now.slots id c v i u refl t h) refl refl
+    (unmade id e) (λ i u h. new_or_old s.arena.slots now.slots id c v i u refl t h) refl refl
     (same_handles s.arena.slots now.slots id None (Some c) t refl refl) gone w k
 
 pub fewer : (ids : List Id) (id i : Id) → has_id (without_id ids id) i ≡ true → has_id ids i ≡ true
@@ -192,46 +196,57 @@ cancel_op_known p past s v t live on k place at = cancel_told p past (seen.Op pl
   cancelled = λ i. rw (is_answered p place (op.Cancel v) (answer.Cancelled t.0) at) refl;
 }) (quiet_op p place (op.Cancel v) (answer.Cancelled t.0) at (assumption)) live.holds on k
 
-did_op_known : (p : Program) (past : List Seen) (s : State) (o : Op) (d : ops.Done) → DidOp s o d → Kept s → KnownAt p past s → KnownBy p past o d
-did_op_known p past s o d (which.refused o' c r may) kept k = known_by p past o d (refused_harmless o' c r) k
-did_op_known p past s o d (which.asked o' a is) kept k = known_by p past o d (harmless o' (asked_harmless o' is) a) k
-did_op_known p past s o d which.loop_stopped kept k = known_by p past o d (harmless op.StopLoop refl _) k
-did_op_known p past s o d which.time_updated kept k = known_by p past o d (harmless op.UpdateTime refl _) k
-did_op_known p past s o d (which.made v q id e) kept k = new_known p past s v q id e kept k
-did_op_known p past s o d (which.queued v task id e) kept k = queued_known p past s v task id e kept k
-did_op_known p past s o d (which.cancelled v t live on) kept k = cancel_op_known p past s v t live on k
-did_op_known p past s o d (which.started v timeout repeat t e is stays) kept k =
+did_op_known : (p : Program) (past : List Seen) (s : State) (o : Op) (d : ops.Done) → DidOp s o d → Kept s →
+    IsUnmade p past s → KnownAt p past s → KnownBy p past o d
+did_op_known p past s o d (which.refused o' c r may) kept unmade k = known_by p past o d (refused_harmless o' c r) k
+did_op_known p past s o d (which.asked o' a is) kept unmade k = known_by p past o d (harmless o' (asked_harmless o' is) a) k
+did_op_known p past s o d which.loop_stopped kept unmade k = known_by p past o d (harmless op.StopLoop refl _) k
+did_op_known p past s o d which.time_updated kept unmade k = known_by p past o d (harmless op.UpdateTime refl _) k
+did_op_known p past s o d (which.made v q id e) kept unmade k = new_known p past s v q id e kept unmade k
+did_op_known p past s o d (which.queued v task id e) kept unmade k = queued_known p past s v task id e kept unmade k
+did_op_known p past s o d (which.cancelled v t live on) kept unmade k = cancel_op_known p past s v t live on k
+did_op_known p past s o d (which.started v timeout repeat t e is stays) kept unmade k =
     known_by p past o d (harmless (op.Start v timeout repeat) refl _)
     (twice p past s t (records.stopped t.1) _ (live_held s v t e) refl refl refl refl k)
-did_op_known p past s o d (which.again v t e is stays) kept k =
+did_op_known p past s o d (which.again v t e is stays) kept unmade k =
     known_by p past o d (harmless (op.Again v) refl _) (again_known p past s t (live_held s v t e) k)
-did_op_known p past s o d (which.watching v q t e is off stays) kept k =
+did_op_known p past s o d (which.watching v q t e is off stays) kept unmade k =
     known_by p past o d (harmless (op.StartWatcher v) refl _) (by q) where
       by : (q : WatcherKind) → KnownAt p past (ops.watcher_started s q t.0 t.1)
       by watcher.Idle = changed p past s t (records.activated t.1) (live_held s v t e) refl refl k
       by each = changed p past s t (records.activated t.1) (live_held s v t e) refl refl k
-did_op_known p past s o d (which.watches v t e on) kept k = known_by p past o d (harmless (op.StartWatcher v) refl _) k
-did_op_known p past s o d (which.stopped v t e sync) kept k =
+did_op_known p past s o d (which.io_started v t e is off stays) kept unmade k =
+    known_by p past o d (harmless (op.StartWatcher v) refl _)
+    (changed p past s t (records.activated t.1) (live_held s v t e) refl refl k)
+did_op_known p past s o d (which.watches v t e on) kept unmade k = known_by p past o d (harmless (op.StartWatcher v) refl _) k
+did_op_known p past s o d (which.stopped v t e sync) kept unmade k =
     known_by p past o d (harmless (op.Stop v) refl _)
     (changed p past s t (records.stopped t.1) (live_held s v t e) refl refl k)
-did_op_known p past s o d (which.closed v t e stays) kept k = λ place at.
+did_op_known p past s o d (which.closed v t e stays) kept unmade k = λ place at.
     known_close p past place v s.arena s.names t.0 t.1 (records.closed t.1) at (live_bound s v t e) (live_held s v t e) refl refl k
-did_op_known p past s o d (which.repeated v n t e) kept k =
+did_op_known p past s o d (which.repeated v n t e) kept unmade k =
     known_by p past o d (harmless (op.SetRepeat v n) refl _)
     (changed p past s t (repeating n t.1) (live_held s v t e) refl refl k)
-did_op_known p past s o d (which.referenced o' u flag t e (which.ref v)) kept k =
+did_op_known p past s o d (which.referenced o' u flag t e (which.ref v)) kept unmade k =
     known_by p past o d (harmless (op.Ref v) refl _)
     (changed p past s t (referenced_as flag t.1) (live_held s u t e) refl refl k)
-did_op_known p past s o d (which.referenced o' u flag t e (which.unref v)) kept k =
+did_op_known p past s o d (which.referenced o' u flag t e (which.unref v)) kept unmade k =
     known_by p past o d (harmless (op.Unref v) refl _)
     (changed p past s t (referenced_as flag t.1) (live_held s u t e) refl refl k)
-did_op_known p past s o d (which.sent_to v t e is stays) kept k =
+did_op_known p past s o d (which.sent_to v t e is stays) kept unmade k =
     known_by p past o d (harmless (op.Send v) refl _)
     (changed p past s t (records.sent t.1) (live_held s v t e) refl refl k)
 
-pub op_known : (p : Program) (past : List Seen) (s : State) (o : Op) → Kept s → KnownAt p past s → KnownBy p past o (do_op s o)
-op_known p past s o kept k = did_op_known p past s o (do_op s o) (op_did s o) kept k
+pub op_known : (p : Program) (past : List Seen) (s : State) (o : Op) → Kept s → IsUnmade p past s → KnownAt p past s →
+    KnownBy p past o (do_op s o)
+op_known p past s o kept unmade k = did_op_known p past s o (do_op s o) (op_did s o) kept unmade k
 
 pub send_known : (p : Program) (past : List Seen) (s : State) (v : Var) → KnownAt p past s → KnownAt p past (ops.send s (live_handle s v)).state
 send_known p past s v k = send_both s v (λ (c : ops.Coded). KnownAt p past c.state) (λ c no_success. k)
     (λ t e stays. changed p past s t (records.sent t.1) (live_held s v t e) refl refl k)
+
+-- a live name's handle was made under it
+pub its_name : (p : Program) (past : List Seen) (s : State) (v : Var) (t : Id × HandleRecord) → live_handle s v ≡ Ok t → KnownAt p past s →
+    t.1.name ≡ v
+its_name p past s v t e k = let live = live_as_handle s v t e in
+    same_Some _ _ (sym (k.made t.0 t.1.name (ap (option_map name_in) live.holds)) ∙ k.under v t.0 live.bound)

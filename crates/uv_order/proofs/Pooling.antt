@@ -212,6 +212,8 @@ did_quiet p s n (row.begun run q e) h = refl
 did_quiet p s n (row.begun_closing run e) h = refl
 did_quiet p s n (row.collected run part t f) h = tt
 did_quiet p s n (row.fired run t f) h = refl
+did_quiet p s n (row.called_due run t f) h = refl
+did_quiet p s n (row.answered run time v t e is on) h = refl
 did_quiet p s n (row.walked run q t sync f) h = refl
 did_quiet p s n (row.passed run t f off) h = tt
 did_quiet p s n (row.woken run t f on) h = refl
@@ -219,8 +221,8 @@ did_quiet p s n (row.closed run t f) h = refl
 did_quiet p s n (row.sent v) h = refl
 did_quiet p s n each h = absurd h
 
--- the section of those that are done begins, with the poll behind it
-begun_pool : (s : State) → s.done.yet ≡ [] → pool_of (record (refreshed s) { done = all_yet s.done }) ≡ pool_of s
+-- the section of those that are done begins
+begun_pool : (s : State) → s.done.yet ≡ [] → pool_of (record s { done = all_yet s.done }) ≡ pool_of s
 begun_pool s e = equal_pools _ _ _ _ _ _ refl refl
     (ap (map (done_as s)) (append-nil s.done.list) ∙ ap (λ (ids : List Id). map (done_as s) (ids ++ s.done.list)) (sym e))
 
@@ -234,7 +236,7 @@ taken_pools p s n t f = grind arith
 
 pub did_pools : (p : Program) (s : State) (n : Next) → Did p s n → Kept s → Working s → Pools p s n
 did_pools p s n (row.op x at o e) kept k = op_line p s at o e kept k
-did_pools p s n (row.begun_done run e) kept k = ap Some (sym (begun_pool s e))
+did_pools p s n (row.begun_done run time e) kept k = ap Some (sym (begun_pool s e))
 did_pools p s n (row.ended run t f) kept k = collected_pool s (arena_size p).last_generation t f k
 did_pools p s n (row.taken n' t f) kept k = taken_pools p s n' t f
 did_pools p s n (row.finished n' t f) kept k = finished_pool s n' t f k

@@ -80,6 +80,7 @@ did_op_same s o d (which.started v timeout repeat t e is stays) h kept = twice s
 did_op_same s o d (which.again v t e is stays) h kept = again_same s t (live_held s v t e)
 did_op_same s o d (which.watching v watcher.Idle t e is off stays) h kept = changed s t (activated t.1) (live_held s v t e)
 did_op_same s o d (which.watching v each t e is off stays) h kept = changed s t (activated t.1) (live_held s v t e)
+did_op_same s o d (which.io_started v t e is off stays) h kept = changed s t (activated t.1) (live_held s v t e)
 did_op_same s o d (which.stopped v t e sync) h kept = changed s t (records.stopped t.1) (live_held s v t e)
 did_op_same s o d (which.closed v t e stays) h kept = changed s t (records.closed t.1) (live_held s v t e)
 did_op_same s o d (which.repeated v n t e) h kept = changed s t (repeating n t.1) (live_held s v t e)
@@ -102,7 +103,7 @@ fired_same s t f = cond_both (t.1.repeat == 0) _ _ (SameWork s) (λ z. same s) (
 -- the step is none of requests, nor of a script
 abbrev pub IsOfLoop : {p : Program} {s : State} {n : Next} → Did p s n → Type 0
 IsOfLoop (row.op x at o e) = ⊥
-IsOfLoop (row.begun_done run e) = ⊥
+IsOfLoop (row.begun_done run time e) = ⊥
 IsOfLoop (row.ended run t f) = ⊥
 IsOfLoop (row.taken n t f) = ⊥
 IsOfLoop (row.finished n t f) = ⊥
@@ -117,6 +118,8 @@ did_same p s n (row.begun run each e) h kept = same s
 did_same p s n (row.begun_closing run e) h kept = same s
 did_same p s n (row.collected run part t f) h kept = changed s t (records.stopped t.1) f.holds
 did_same p s n (row.fired run t f) h kept = fired_same s t f
+did_same p s n (row.called_due run t f) h kept = again_same s t f.holds
+did_same p s n (row.answered run time v t e is on) h kept = same s
 did_same p s n (row.walked run watcher.Idle t sync f) h kept = same s
 did_same p s n (row.walked run each t sync f) h kept = same s
 did_same p s n (row.passed run t f off) h kept = same s

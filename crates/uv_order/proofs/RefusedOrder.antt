@@ -1,7 +1,8 @@
 -- What the documented order refuses.
-use Rattle.uv_order.proofs.Names.{arith, ◌≡◌, ℕ, List, [], ◌∷◌, ◌++◌, Bool, true, false, Option, Some, refl, ap, sym, subst, ◌∙◌, if◌then◌else◌, not, both_ways, Id, Var, Due, Success, Answer, Mode, Phase, Seen, Site, Op, Program, op_at, State, Line, has_id, closes_some, may_wait, bound, Names, names_by, taken_off, Told, nothing_told, told_by, Lasting, lasting, Section, word_of, is_called, Within, Position, Between, Running, Goes, GoesOn, line, at_first, past_after, is_within, AllWithin, is_send_op, is_send, AllSilent, RefusedOrder}
+use Rattle.uv_order.proofs.Names.{arith, ◌≡◌, ℕ, List, [], ◌∷◌, ◌++◌, Bool, true, false, Option, Some, refl, ap, sym, subst, ◌∙◌, if◌then◌else◌, not, both_ways, same_Some, Id, Var, Due, Success, Answer, Mode, Phase, Callback, Seen, Site, Op, Program, from_heap, op_at, State, Line, has_id, closes_some, may_wait, bound, Names, names_by, taken_off, Told, nothing_told, told_by, Lasting, lasting, Section, word_of, In, is_called, Standing, IsCallLine, CallsNext, Within, Position, Between, Running, Goes, GoesOn, line, at_first, past_after, is_within, AllWithin, is_send_op, is_send, AllSilent, RefusedOrder}
 use Rattle.uv_ids.specs.declared.code.Answer.TheVariants as answer
 use Rattle.uv_ids.specs.declared.phase.Phase.TheVariants as phase
+use Rattle.uv_ids.specs.declared.seen.Callback.TheVariants as callback
 use Rattle.uv_ids.specs.declared.seen.Seen.TheVariants as seen
 use Rattle.uv_script.specs.declared.op.Op.TheVariants as op
 use Rattle.uv_order.specs.Documented as doc
@@ -69,7 +70,7 @@ section_on p at told past was l word ls e (line {to = to} f g h) =
 
 -- what the line of a call or of an op says where the walk then is this
 abbrev Tells : Program → Told → Names → Section → Walk → Walk → Seen → Type 0
-Tells p told names part w walk (seen.Call v id) = (has_id w.off id ≡ false) × (is_called (word_of part) told id ≡ true)
+Tells p told names part w walk (seen.Call v id) = (from_heap p ≡ false → has_id w.off id ≡ false) × (is_called (word_of part) told id ≡ true)
 Tells p told names part w walk (seen.Op place a) =
     (o : Op) → op_at p place ≡ Some o → (id : Id) → has_id (taken_off (word_of part) names o a) id ≡ true → has_id walk.off id ≡ true
 Tells p told names part w walk each = Unit {0}
@@ -87,9 +88,53 @@ still_off taken off id e = grind (arith, has_both)
 also_off : (taken off : List Id) (id : Id) → has_id taken id ≡ true → has_id (taken ++ off) id ≡ true
 also_off taken off id e = grind (arith, has_both)
 
+-- a callback of I/O begins in it, and nobody is taken off
+record Answered (part : Section) (w : Walk) (to : Standing) : Type 0 where
+  walk : Walk
+  is : to ≡ Within part walk
+  off : walk.off ≡ w.off
+
+answered : (s : State) (told : Told) (body : List Site) (part : Section) (w : Walk) → Answered part w (doc.answering s told body (Within part w))
+answered s told body (In phase.Async) w = record { walk = record w { ahead = []; body = body }; is = refl; off = refl }
+answered s told body part w = record { walk = record w { body = body }; is = refl; off = refl }
+
+-- who is called in a section wasn't taken off
+call_tells : (p : Program) (told : Told) (names : Names) (part : Section) (w walk : Walk) (s : State) (kind : Callback) (v : Var) (id : Id)
+    (behind : List Id) (what : Seen) → CallsNext (word_of part) told w id behind → IsCallLine s kind v id what → Tells p told names part w walk what
+call_tells p told names part w walk s kind v id behind what next is = grind arith
+
 stays : (p : Program) (told : Told) (names : Names) (m : Mode) (i : ℕ) (part : Section) (w : Walk) (l : Line) (to : Position) →
     is_within l.seen ≡ true → Goes p told names (Running m i (Within part w)) l to → Stays p told names m i part w to l.seen
-stays p told names m i part w l to e g = grind (arith, still_off, also_off)
+stays p told names m i part w l to e g = at to e g where
+  body : Callback → Var → List Site
+  body kind v = doc.body_of p kind v (doc.next_call told kind v)
+
+  so : (walk : Walk) → ((id : Id) → has_id w.off id ≡ true → has_id walk.off id ≡ true) → (what : Seen) → l.seen ≡ what →
+      Tells p told names part w walk what → Stays p told names m i part w (Running m i (Within part walk)) l.seen
+  so walk grown what is t = record { walk = walk; is = refl; grown = grown; tells = subst (Tells p told names part w walk) (sym is) t }
+
+  at : (to : Position) → is_within l.seen ≡ true → Goes p told names (Running m i (Within part w)) l to → Stays p told names m i part w to l.seen
+  at to e (doc.section next a b c d f) = cc (ap is_within c, e)
+  at to e (doc.poll timeout a b c d f) = cc (ap is_within d, e)
+  at to e (doc.ends a b c d) = cc (ap is_within c, e)
+  at to e (doc.call kind v id behind a b c d f) =
+      let walk : Walk = record w { ahead = behind; body = body kind v } in
+      so walk (λ x on. on) l.seen refl (call_tells p told names part w walk l.before kind v id behind l.seen b d)
+  at to e (doc.fires v id due others a b c d f g h i) = so (record w { body = body callback.Handle v }) (λ x on. on) (seen.Call v id) h ((λ heap. cc (a, heap)), rw b refl)
+  at to e (doc.answers v id a b c d f g) =
+      let s = answered l.before told (body callback.Handle v) part w in
+      subst (λ (y : Standing). Stays p told names m i part w (Running m i y) l.seen) (sym s.is)
+      (so s.walk (λ x on. ap (λ (ids : List Id). has_id ids x) s.off ∙ on) (seen.Io v id) f tt)
+  at to e (doc.body_op place rest o a b c d f) =
+      let off : List Id = taken_off (word_of part) names o a in
+      so (record w { off = off ++ w.off; body = rest }) (λ x on. still_off off w.off x on) (seen.Op place a) d
+      (λ y is x on. also_off off w.off x
+      (subst (λ (z : Op). has_id (taken_off (word_of part) names z a) x ≡ true) (same_Some _ _ (sym is ∙ c)) on))
+  at to e (doc.sent v code a b) = so w (λ x on. on) _ a tt
+  at to e (doc.taken n v id a b c) = so w (λ x on. on) _ a tt
+  at to e (doc.finished n v id a b c) = so w (λ x on. on) _ a tt
+  at to e (doc.cancelled v a b c) = so w (λ x on. on) _ b tt
+  at to e (doc.outside ms a b) = so w (λ x on. on) _ a tt
 
 -- a run stands in this section, and whom this says was taken off
 record WalkOn (p : Program) (m : Mode) (i : ℕ) (part : Section) (off : Id → Type 0) (told : Told) (past : List Seen) (ls : List Line) : Type 0 where
@@ -116,10 +161,10 @@ op_on p m i part w told past was l place o a ls e is (line {to = to} f g h) =
     let t : Tells p told (names_by p past) part w s.walk (seen.Op place a) = subst (Tells p told (names_by p past) part w s.walk) e s.tells in
     record { walk = s.walk; was = lasting l.after; grown = λ id on. t o is id on; rest = moved s.is h }
 
--- who is called wasn't taken off, and in async was sent to
+-- who is called wasn't taken off, where due timers are collected first, and in async was sent to
 call_on : (p : Program) (m : Mode) (i : ℕ) (part : Section) (w : Walk) (told : Told) (past : List Seen) (was : Lasting) (l : Line) (v : Var)
     (id : Id) (ls : List Line) → l.seen ≡ seen.Call v id → GoesOn p (Running m i (Within part w)) told past was (l ∷ ls) →
-    (has_id w.off id ≡ false) × (is_called (word_of part) told id ≡ true)
+    (from_heap p ≡ false → has_id w.off id ≡ false) × (is_called (word_of part) told id ≡ true)
 call_on p m i part w told past was l v id ls e (line {to = to} f g h) =
     let s = stays p told (names_by p past) m i part w l to (ap is_within e) g in
     subst (Tells p told (names_by p past) part w s.walk) e s.tells
@@ -184,13 +229,13 @@ refused p before more = record {
   closing_waits = λ l timeout shut d e h.
       let k = behind p before (l ∷ more) (Between 0) nothing_told [] at_first h in
       d (zero_on p k.at _ _ k.was l more timeout shut e k.goes);
-  early_timer = λ s l y front mid v x id place timeout repeat es fs el o names ms ek h.
+  early_timer = λ s l y front mid v x id place timeout repeat heap es fs el o names ms ek h.
       let k = behind p before (s ∷ (front ++ l ∷ (mid ++ y ∷ more))) (Between 0) nothing_told [] at_first h in
       let b = section_on p k.at _ _ k.was s phase.Timers (front ++ l ∷ (mid ++ y ∷ more)) es k.goes in
       let one = within_on p b.mode b.number b.part front (l ∷ (mid ++ y ∷ more)) b.walk _ _ b.was fs b.rest in
       let two = op_on p b.mode b.number b.part one.walk _ _ one.was l place (op.Start v timeout repeat) _ (mid ++ y ∷ more) el o one.rest in
       let three = within_on p b.mode b.number b.part mid (y ∷ more) two.walk _ _ two.was ms two.rest in
-      both_ways (has_id three.walk.off id) (call_on p b.mode b.number b.part three.walk _ _ three.was y x id more ek three.rest).0
+      both_ways (has_id three.walk.off id) ((call_on p b.mode b.number b.part three.walk _ _ three.was y x id more ek three.rest).0 heap)
       (three.grown id (two.grown id (off_started (names_by p (past_after (s.seen ∷ past_after [] before) front)) v id timeout repeat
       (word_of b.part) b.its (ap (λ (zs : List Seen). bound p zs v) (sym (past_both [] before front s)) ∙ names))));
   second_call = λ a s b mid front v x id ea ms es fs fq eb h.

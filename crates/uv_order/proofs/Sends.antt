@@ -16,8 +16,9 @@ use Rattle.uv_order.proofs.OpCases.{DidOp, IsAsked, IsRef, op_did, names_at, liv
 use Rattle.uv_order.proofs.Asked.{FrontRequest, request_turns, freed_turns}
 use Rattle.uv_order.proofs.OpEffects.{one_taken}
 use Rattle.uv_order.proofs.Keeping.{Watches, Rests, Kept, members, fills, takes, open_shut}
+use Rattle.uv_order.proofs.KeptSteps.{first_is}
 use Rattle.uv_order.proofs.Did as row
-use Rattle.uv_order.proofs.Did.{Did, FrontOf, IsStill, timed}
+use Rattle.uv_order.proofs.Did.{Did, FrontOf, FirstOf, IsStill, timed}
 
 -- ---- what agrees
 
@@ -78,7 +79,12 @@ sent_none sent slots id h e p k = grind (arith, without_absent)
 -- a new handle isn't pending
 pub sent_new : (sent : List Id) (slots more : List (Slot Content)) (id : Id) (x : HandleRecord) → Grown slots more id x → x.pending ≡ false →
     Sent sent slots → Sent (without_id sent id) more
-sent_new sent slots more id x g p k = grind (arith, same, without_itself, has_without, grown_at g)
+sent_new sent slots more id x g p k = record { are = λ i. are i; each = λ i y e on. each i y e on } where
+  are : (i : Id) → has_id (without_id sent id) i ≡ pends more i
+  are i = grind (arith, same, without_itself, has_without, grown_at g)
+
+  each : (i : Id) (y : HandleRecord) → held_at more i ≡ Some y → y.pending ≡ true → (y.kind ≡ kind.Async) × (y.closing ≡ false)
+  each i y e on = grind (arith, grown_at g)
 
 -- no handle changes
 pub sent_same : (sent : List Id) (slots more : List (Slot Content)) → SameHandles more slots → Sent sent slots → Sent sent more
@@ -161,6 +167,8 @@ did_op_sent s sent o d (which.again v t e is stays) kept k = again_sent s sent t
 did_op_sent s sent o d (which.watching v watcher.Idle t e is off stays) kept k =
     changed s sent t (records.activated t.1) (live_held s v t e) refl refl refl k
 did_op_sent s sent o d (which.watching v each t e is off stays) kept k = changed s sent t (records.activated t.1) (live_held s v t e) refl refl refl k
+did_op_sent s sent o d (which.io_started v t e is off stays) kept k =
+    changed s sent t (records.activated t.1) (live_held s v t e) refl refl refl k
 did_op_sent s sent o d (which.watches v t e on) kept k = k
 did_op_sent s sent o d (which.stopped v t e sync) kept k = changed s sent t (records.stopped t.1) (live_held s v t e) refl refl refl k
 did_op_sent s sent o d (which.closed v t e stays) kept k = close_sent s sent v t e k
@@ -199,6 +207,13 @@ fired_sent s sent t f kept k =
     cond_both (t.1.repeat == 0) u (started u t.0 t.1 t.1.repeat t.1.repeat) (SentAt (without_id sent t.0)) (λ z. called)
     (λ z. changed u (without_id sent t.0) t _ f.holds refl refl refl called)
 
+-- a timer that is due is called straight from the order of timers
+due_sent : (s : State) (sent : List Id) (t : Id × HandleRecord) → FirstOf s s.timers t → Kept s → SentAt sent s →
+    SentAt (without_id sent t.0) (restarted (stopped s t.0 t.1) t.0 t.1)
+due_sent s sent t f kept k =
+    let off = not_pending sent s.arena.slots t.0 t.1 kind.Timer f.holds (first_is s t f kept).set.kind (λ c. cc c) k in
+    again_sent s (without_id sent t.0) t f.holds (sent_none sent s.arena.slots t.0 t.1 f.holds off k)
+
 -- who is yet to run is of this kind
 of_kind : (s : State) (q : Kind) (w : Walk Id) (t : Id × HandleRecord) → Everyone s.arena.slots (Watches q) (members w) → FrontOf s w.yet t →
     t.1.kind ≡ q
@@ -231,6 +246,7 @@ did_sent p told s n (row.op x at o e) kept k = placed_sent p s told.sent o _ e k
 did_sent p told s n (row.begun run watcher.Idle e) kept k = k
 did_sent p told s n (row.collected run part t f) kept k = changed s told.sent t (records.stopped t.1) f.holds refl refl refl k
 did_sent p told s n (row.fired run t f) kept k = fired_sent s told.sent t f kept k
+did_sent p told s n (row.called_due run t f) kept k = due_sent s told.sent t f kept k
 did_sent p told s n (row.walked run watcher.Async t sync f) kept k = absurd sync
 did_sent p told s n (row.walked run q t sync f) kept k = unsent_called s told.sent (kind_as q) (watched s q) t (λ c. cc c) (kept.watchers q) f k
 did_sent p told s n (row.woken run t f on) kept k = sent_clear told.sent s.arena.slots t.0 t.1 (records.woken t.1) f.holds refl k

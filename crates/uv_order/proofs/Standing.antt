@@ -1,5 +1,5 @@
 -- Where a state stands in the documented order, and the lists of the sections there.
-use Rattle.uv_order.proofs.Names.{arith, ◌≡◌, ℕ, List, [], ◌++◌, Bool, true, false, Option, Some, None, refl, ap, sym, subst, ◌∙◌, append-nil, Order, V144, V145, Id, Due, Kind, Mode, Default, Once, Nowait, Phase, Seen, Program, Body, Run, Stage, TimersOf, Turn, AtEntry, Behind, BehindClosing, Way, ToTimers, ToPending, ToEnd, Collecting, Firing, Place, Listed, Slot, Content, State, Next, Moves, Refuses, way, time_at, idled_at, idled_then, Line, has_id, IsTimer, AreTimers, AreDistinct, AreActive, AreClosing, IsEnded, AreEnded, IsOpened, AreOpened, run_ids, Told, told_by, AllOffOrUnsent, lasting, Section, Entry, In, word_of, part_after, Opens, IsOver, Standing, Begun, Within, Polling, Position, Between, Running, Goes, WatcherKind, phase_of}
+use Rattle.uv_order.proofs.Names.{arith, ◌≡◌, ℕ, List, [], ◌++◌, Bool, true, false, Option, Some, None, refl, ap, sym, subst, ◌∙◌, append-nil, Order, V144, V145, Id, Due, Kind, Mode, Default, Once, Nowait, Phase, Seen, Site, Program, Body, Run, Stage, TimersOf, Turn, AtEntry, Behind, BehindClosing, Way, ToTimers, ToPending, ToEnd, Collecting, Firing, Place, Listed, Slot, Content, State, Next, Moves, Refuses, way, time_at, idled_at, idled_then, from_heap, Line, has_id, IsTimer, AreTimers, AreDistinct, AreActive, AreClosing, IsEnded, AreEnded, IsOpened, AreOpened, run_ids, Told, told_by, AllOffOrUnsent, lasting, Section, Entry, In, word_of, part_after, part_of, Opens, IsOver, Standing, Answering, Begun, Within, Polling, Position, Between, Running, Goes, WatcherKind, phase_of}
 use Rattle.uv_ids.specs.declared.phase.Phase.TheVariants as phase
 use Rattle.uv_model.specs.declared.place.Stage.TheVariants as stage
 use Rattle.uv_model.specs.declared.place.TimersOf.TheVariants as timers_of
@@ -19,13 +19,9 @@ use Rattle.uv_order.proofs.Sends.{pends}
 
 -- ---- where a state stands
 
--- a section in which nothing is called
-abbrev pub bare : Walk
-bare = record { ahead = []; off = []; sent = []; body = [] }
-
--- a section that begins with this list
-abbrev pub begun_with : List Id → Walk
-begun_with ids = record { ahead = ids; off = []; sent = []; body = [] }
+-- a section that begins with this list, behind a poll that was woken or wasn't
+abbrev pub begun_with : Bool → List Id → Walk
+begun_with woken ids = record { ahead = ids; off = []; sent = []; body = []; woken = woken }
 
 abbrev pub section_of : TimersOf → Section
 section_of timers_of.Entry = Entry
@@ -34,19 +30,27 @@ section_of timers_of.Iteration = In phase.Timers
 -- by the body and the stage of a run
 pub data StandsIn (p : Program) : Option Body → Stage → Standing → Type 0 where
   begun : StandsIn p None stage.Entry Begun
-  pending : StandsIn p None stage.Pending (Within (In phase.Pending) bare)
+  pending : {w : Walk} {body : Option Body} → w.ahead ≡ [] → IsBody p body w.body → StandsIn p body stage.Pending (Within (In phase.Pending) w)
   walking : {q : WatcherKind} {w : Walk} {body : Option Body} → IsBody p body w.body → StandsIn p body (stage.Walking q) (Within (In (phase_of q)) w)
   polls : {deadline : Option ℕ} → StandsIn p None (stage.Poll deadline) (Polling deadline)
-  done : {w : Walk} {body : Option Body} → IsBody p body w.body → StandsIn p body stage.Done (Within (In phase.Done) w)
+  polled : {woken : Bool} {sites : List Site} {body : Option Body} → IsBody p body sites →
+      StandsIn p body (stage.Polled woken) (Answering woken sites)
+  done : {w : Walk} {body : Option Body} → w.woken ≡ true → IsBody p body w.body → StandsIn p body stage.Done (Within (In phase.Done) w)
+  unwoken : {w : Walk} {body : Option Body} → w.woken ≡ false → w.ahead ≡ [] → IsBody p body w.body →
+      StandsIn p body stage.DoneUnwoken (Within (In phase.Done) w)
   closing : {w : Walk} {body : Option Body} → IsBody p body w.body → StandsIn p body stage.Closing (Within (In phase.Closing) w)
-  collects : {part : TimersOf} {w : Walk} → w.body ≡ [] → StandsIn p None (stage.Timers part Collecting) (Within (section_of part) w)
-  fires : {part : TimersOf} {w : Walk} {body : Option Body} → IsBody p body w.body →
+  collects : {part : TimersOf} {w : Walk} → from_heap p ≡ false → w.body ≡ [] →
+      StandsIn p None (stage.Timers part Collecting) (Within (section_of part) w)
+  fires : {part : TimersOf} {w : Walk} {body : Option Body} → from_heap p ≡ false → IsBody p body w.body →
       StandsIn p body (stage.Timers part Firing) (Within (section_of part) w)
+  -- where due timers are called straight from their heap, none is set aside
+  calls_due : {part : TimersOf} {w : Walk} {body : Option Body} → from_heap p ≡ true → w.ahead ≡ [] → IsBody p body w.body →
+      StandsIn p body (stage.Timers part Collecting) (Within (section_of part) w)
 
 -- the timers that a section has yet to call: while it collects, those that are due too
-abbrev pub waiting : Stage → List Id → List Id → List Id
-waiting (stage.Timers part Collecting) ready due = ready ++ due
-waiting x ready due = ready
+abbrev pub waiting : Stage → Bool → List Id → List Id → List Id
+waiting (stage.Timers part Collecting) false ready due = ready ++ due
+waiting x heap ready due = ready
 
 -- who is left of the list of a section with this word, in a section with that word
 abbrev pub rest_in : Phase → Phase → Walk → List Id
@@ -62,6 +66,7 @@ abbrev pub rest_of : Phase → Standing → List Id
 rest_of x Begun = []
 rest_of x (Within part w) = rest_in x (word_of part) w
 rest_of x (Polling deadline) = []
+rest_of x (Answering woken body) = []
 
 -- those who are left of the async list, of which the first ones may have been passed by without a line
 pub record IsBehind (slots : List (Slot Content)) (w : Walk) (ids : List Id) : Type 0 where
@@ -82,6 +87,7 @@ abbrev pub AsyncLeft : List (Slot Content) → Standing → List Id → Type 0
 AsyncLeft slots Begun ids = ids ≡ []
 AsyncLeft slots (Within part w) ids = AsyncIn (word_of part) slots w ids
 AsyncLeft slots (Polling deadline) ids = ids ≡ []
+AsyncLeft slots (Answering woken body) ids = ids ≡ []
 
 -- handles change, and who was pending still is
 pub async_moved : (slots more : List (Slot Content)) → ((id : Id) → pends slots id ≡ true → pends more id ≡ true) → (at : Standing) (ids : List Id) →
@@ -89,6 +95,7 @@ pub async_moved : (slots more : List (Slot Content)) → ((id : Id) → pends sl
 async_moved slots more f Begun ids k = k
 async_moved slots more f (Within part w) ids k = grind arith
 async_moved slots more f (Polling deadline) ids k = k
+async_moved slots more f (Answering woken body) ids k = k
 
 -- the members of the lists that sections walk, but for those that were called
 pub record Rest : Type 0 where
@@ -138,7 +145,7 @@ due_now s = due_ids s.time s.timers
 
 pub data StandsAt (p : Program) (s : State) : Place → Position → Type 0 where
   between : {i : ℕ} → NobodyLeft (rest s.ready s) → StandsAt p s (place.Main i) (Between i)
-  running : {run : Run} {at : Standing} → StandsIn p run.body run.stage at → Leaves (rest (waiting run.stage s.ready (due_now s)) s) at →
+  running : {run : Run} {at : Standing} → StandsIn p run.body run.stage at → Leaves (rest (waiting run.stage (from_heap p) s.ready (due_now s)) s) at →
       StandsAt p s (place.Running run) (Running run.mode run.line at)
 
 pub record Stands (p : Program) (told : Told) (s : State) (at : Position) : Type 0 where
@@ -188,15 +195,25 @@ ways_agree o m go turn = refl
 
 -- so is what the lines of the sections set
 pub timers_last : (o : Order) (part : TimersOf) (s : State) →
-    record (lasting s) { time = time_at o part s; idled = idled_at o part s } ≡ doc.after_section o (section_of part) s
+    record (lasting s) { time = time_at o part s; idled = idled_at o part s } ≡ doc.after_word o (section_of part) s
 timers_last V144 timers_of.Entry s = refl
 timers_last V144 timers_of.Iteration s = refl
 timers_last V145 timers_of.Entry s = refl
 timers_last V145 timers_of.Iteration s = refl
 
-pub pending_lasts : (o : Order) (s : State) → record (lasting s) { idled = idled_then o s } ≡ doc.after_section o (In phase.Pending) s
+pub pending_lasts : (o : Order) (s : State) → record (lasting s) { idled = idled_then o s } ≡ doc.after_word o (In phase.Pending) s
 pending_lasts V144 s = refl
 pending_lasts V145 s = refl
+
+-- behind no turn of a run stands a callback of I/O that left the poll
+pub no_answer : (o : Order) (at : Standing) (turn : Turn) (part : Section) (s : State) → part_of at ≡ left turn →
+    doc.after_word o part s ≡ doc.after_section o at part s
+no_answer o (Answering woken body) AtEntry part s e = cc e
+no_answer o (Answering woken body) (Behind x) part s e = cc e
+no_answer o (Answering woken body) BehindClosing part s e = cc e
+no_answer o Begun turn part s e = refl
+no_answer o (Within x w) turn part s e = refl
+no_answer o (Polling deadline) turn part s e = refl
 
 -- a part that one part follows, whether the loop goes on or not
 abbrev pub IsNext : doc.Part → doc.Part → Type 0
@@ -253,11 +270,18 @@ list_alone w e = ap (λ (ids : List Id). w.list ++ ids) e ∙ append-nil w.list
 pub are_active : (s : State) (q : Kind) (w : Listed Id) → w.yet ≡ [] → Everyone s.arena.slots (Watches q) (members w) → AreActive s q w.list
 are_active s q w e k = subst (AreActive s q) (list_alone w e) (all_active s q (members w) k)
 
-pub bare_over : (word : Phase) → IsOver word bare
-bare_over word = grind arith
+-- a section whose list is empty is over once the ops of the last callback are done
+pub empty_over : (word : Phase) (w : Walk) → w.ahead ≡ [] → w.body ≡ [] → IsOver word w
+empty_over word w e b = grind arith
 
-pub opens_bare : (word : Phase) (told : Told) (l : Line) → doc.sent_at word told ≡ [] → doc.HasList word l [] → Opens word told l bare
-opens_bare word told l e h = record { list = h; off = refl; sent = sym e; body = refl }
+-- the section of the requests that are done begins behind a poll that was woken, and has them all
+pub opens_done : (p : Program) (told : Told) (l : Line) → AreEnded l.before l.before.done.list →
+    Opens p phase.Done told true l (begun_with true l.before.done.list)
+opens_done p told l are = record { list = (refl, are); off = refl; sent = refl; body = refl; kept = refl }
+
+-- and behind one that nobody woke it has none, nor has that of async handles
+pub opens_unwoken : (p : Program) (told : Told) (l : Line) → Opens p phase.Done told false l (begun_with false [])
+opens_unwoken p told l = record { list = refl; off = refl; sent = refl; body = refl; kept = refl }
 
 pub all_ended : (s : State) (ids : List Id) → AllAsk s.arena.slots HasEnded ids → AreEnded s ids
 all_ended s ids all = record {

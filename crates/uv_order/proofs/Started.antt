@@ -1,5 +1,5 @@
 -- Who was started, as the lines tell it and as the handles say it, and which ids were made: each step keeps that they agree.
-use Rattle.uv_order.proofs.Names.{arith, ◌≡◌, ◌⊎◌, inl, inr, ℕ, ◌==◌, ◌||◌, ◌&&◌, List, [], ◌∷◌, ◌++◌, Bool, true, false, drop, if◌then◌else◌, Option, Some, None, Ok, refl, ap, sym, subst, ◌∙◌, cond_both, or_right, same_Some, none-some, Id, Var, Code, Answer, Kind, Seen, Site, Op, Program, op_at, arena_size, Task, Request, queued, Content, HandleRecord, WatcherKind, Slot, inited, is_timer, referenced_as, repeating, Slots, held, freed, taken, next_free, handle_in, same_id, without_id, State, fresh, handle, live_handle, live_request, with_request, watched, stopped, started, restarted, do_op, Next, Moves, Refuses, has_id, Activity, Answered, activity, activity_answered, activity_done, activity_by, activity_called, new_activity, is_some_id, bound, makes, made_by, made_as, first_of, kind_as}
+use Rattle.uv_order.proofs.Names.{arith, ◌≡◌, ◌⊎◌, inl, inr, ℕ, ◌==◌, ◌||◌, ◌&&◌, List, [], ◌∷◌, ◌++◌, Bool, true, false, drop, if◌then◌else◌, Option, Some, None, Ok, refl, ap, sym, subst, ◌∙◌, cond_both, or-true, or_right, same_Some, none-some, Id, Var, Code, Answer, Kind, Seen, Site, Op, Program, op_at, arena_size, Task, Request, queued, Content, HandleRecord, WatcherKind, Slot, inited, is_timer, referenced_as, repeating, Slots, held, freed, taken, next_free, handle_in, same_id, without_id, State, fresh, handle, live_handle, live_request, with_handle, with_request, watched, stopped, started, restarted, do_op, Next, Moves, Refuses, has_id, Activity, Answered, activity, activity_answered, activity_done, activity_by, activity_called, new_activity, is_some_id, bound, makes, made_by, made_as, first_of, kind_as}
 use Rattle.uv_ids.specs.declared.code.Code.TheVariants as code
 use Rattle.uv_ids.specs.declared.code.Answer.TheVariants as answer
 use Rattle.uv_ids.specs.declared.phase.Kind.TheVariants as kind
@@ -19,6 +19,7 @@ use Rattle.uv_order.proofs.Gone.{IsGone, gone_put, gone_turned, gone_emptied, go
 use Rattle.uv_order.proofs.Keeping.{Rests, Watches, Kept, fills, not_free}
 use Rattle.uv_order.proofs.Did as row
 use Rattle.uv_order.proofs.Did.{Did, FrontOf, FirstOf, IsStill, IsSync, timed}
+use Rattle.uv_order.proofs.KeptSteps.{first_is}
 use Rattle.uv_order.proofs.Known.{is_answered}
 use Rattle.uv_order.proofs.OpsOnce.{KnownAt, asked_harmless, harmless, refused_harmless, gone_taken, next_not_gone}
 
@@ -224,20 +225,26 @@ handle_stopped p past s o v t x e is on stops off k place at =
     (λ i g. gone_put s.arena.slots s.arena.free t.0 t.1 x i h g) (λ i d. has_without s.ready t.0 i d)
     (stops (shown t.1 (has_id s.ready t.0)) ∙ rw (without_itself s.ready t.0) (sym off)) k
 
--- a watcher is started
+-- a handle of I/O is started
+io_started : (p : Program) (past : List Seen) (s : State) (v : Var) (t : Id × HandleRecord) → live_handle s v ≡ Ok t →
+    bound p past v ≡ Some t.0 → StartedAt p past s → StartedBy p past (op.StartWatcher v)
+    (ops.succeeds (with_handle s t.0 (records.activated t.1)))
+io_started p past s v t e is k place at =
+    let h = live_held s v t e in
+    op_started p past s place (op.StartWatcher v) v t (records.activated t.1) _ s.ready at (record { makes = λ i. refl; does = λ i x. refl }) is
+    (put_turns s.arena.slots t.0 t.1 _ h) (λ i g. gone_put s.arena.slots s.arena.free t.0 t.1 _ i h g) (λ i d. refl)
+    (on (has_id s.ready t.0)) k
+  where
+    on : (b : Bool) → activity_by (op.StartWatcher v) (shown t.1 b) ≡ shown (records.activated t.1) b
+    on true = refl
+    on false = refl
+
+-- a watcher is started, with its list
 watcher_started : (p : Program) (past : List Seen) (s : State) (v : Var) (q : WatcherKind) (t : Id × HandleRecord) → live_handle s v ≡ Ok t →
     bound p past v ≡ Some t.0 → StartedAt p past s → StartedBy p past (op.StartWatcher v) (ops.succeeds (ops.watcher_started s q t.0 t.1))
 watcher_started p past s v q t e is k place at = by q where
-  begun : Started p (seen.Op place (answer.Code code.Ok) ∷ past) (record s.arena { slots = put s.arena.slots t.0 (records.activated t.1) }) s.ready
-  begun =
-      let h = live_held s v t e in
-      op_started p past s place (op.StartWatcher v) v t (records.activated t.1) _ s.ready at (record { makes = λ i. refl; does = λ i x. refl }) is
-      (put_turns s.arena.slots t.0 t.1 _ h) (λ i g. gone_put s.arena.slots s.arena.free t.0 t.1 _ i h g) (λ i d. refl)
-      (on (has_id s.ready t.0)) k
-    where
-      on : (b : Bool) → activity_by (op.StartWatcher v) (shown t.1 b) ≡ shown (records.activated t.1) b
-      on true = refl
-      on false = refl
+  begun : StartedAt p (seen.Op place (answer.Code code.Ok) ∷ past) (with_handle s t.0 (records.activated t.1))
+  begun = io_started p past s v t e is k place at
 
   by : (x : WatcherKind) → StartedAt p (seen.Op place (answer.Code code.Ok) ∷ past) (ops.watcher_started s x t.0 t.1)
   by watcher.Idle = begun
@@ -375,6 +382,8 @@ did_op_started p past s o d (which.started v timeout repeat t e is stays) kept w
 did_op_started p past s o d (which.again v t e is stays) kept w k = timer_again p past s v t e (w.binding v t.0 (live_bound s v t e)) k
 did_op_started p past s o d (which.watching v q t e is off stays) kept w k =
     watcher_started p past s v q t e (w.binding v t.0 (live_bound s v t e)) k
+did_op_started p past s o d (which.io_started v t e is off stays) kept w k =
+    io_started p past s v t e (w.binding v t.0 (live_bound s v t e)) k
 did_op_started p past s o d (which.watches v t e on) kept w k = still_watches p past s v t e on (w.binding v t.0 (live_bound s v t e)) k
 did_op_started p past s o d (which.stopped v t e sync) kept w k = handle_stopped p past s (op.Stop v) v t (records.stopped t.1) e
     (w.binding v t.0 (live_bound s v t e)) (record { makes = λ i. refl; does = λ i x. refl }) (λ y. refl) refl k
@@ -454,6 +463,27 @@ collected_started p past s t f kept k =
         (has_id (s.ready ++ t.0 ∷ []) t.0)
     or_end true g = rw g refl
     or_end false g = rw g refl
+
+-- one that is due is called straight from the order of timers: it is over, or it is started again
+due_started : (p : Program) (past : List Seen) (s : State) (t : Id × HandleRecord) → FirstOf s s.timers t → Kept s → StartedAt p past s →
+    StartedAt p (seen.Call t.1.name t.0 ∷ past) (restarted (stopped s t.0 t.1) t.0 t.1)
+due_started p past s t f kept k =
+    let set = (first_is s t f kept).set in
+    let timer : is_timer t.1.kind ≡ true = ap is_timer set.kind in
+    cond_both (t.1.repeat == 0) (stopped s t.0 t.1) (started (stopped s t.0 t.1) t.0 t.1 t.1.repeat t.1.repeat) (StartedAt p more)
+    (λ z. started_turned p past more s.arena _ s.ready (without_id s.ready t.0) t.0 t.1 (records.stopped t.1)
+    (put_turns s.arena.slots t.0 t.1 _ f.holds) (λ i g. gone_put s.arena.slots s.arena.free t.0 t.1 _ i f.holds g) (call_adds p past t.1.name t.0)
+    (λ i d. has_without s.ready t.0 i d)
+    (λ e. call_tells p past t.1.name t.0 ∙ ap activity_called e ∙ rw (timer, z) (rw (without_itself s.ready t.0) refl)) k)
+    (λ z. started_turned p past more s.arena _ s.ready (without_id s.ready t.0) t.0 t.1 _
+    (twice_turns s.arena.slots t.0 t.1 (records.stopped t.1) _ f.holds)
+    (λ i g. twice_gone s.arena.slots s.arena.free t.0 t.1 (records.stopped t.1) _ i f.holds g) (call_adds p past t.1.name t.0)
+    (λ i d. has_without s.ready t.0 i d)
+    (λ e. call_tells p past t.1.name t.0 ∙ ap activity_called e ∙ rw (timer, z)
+    (rw (without_itself s.ready t.0, set.active, or-true (has_id s.ready t.0)) refl)) k)
+  where
+    more : List Seen
+    more = seen.Call t.1.name t.0 ∷ past
 
 -- one of a list of watchers is active, and no timer
 front_watches : (s : State) (q : WatcherKind) (t : Id × HandleRecord) → FrontOf s (watched s q).yet t → Kept s → Watches (kind_as q) t.1
@@ -542,9 +572,11 @@ did_started p past s n (row.op x at o e) kept w k = did_op_started p past s o (d
 did_started p past s n (row.begun run watcher.Idle e) kept w k = unchanged p past _ s (record { made = λ i v m. m; same = λ i. refl }) k
 did_started p past s n (row.begun run each e) kept w k = unchanged p past _ s (record { made = λ i v m. m; same = λ i. refl }) k
 did_started p past s n (row.begun_closing run e) kept w k = unchanged p past _ s (record { made = λ i v m. m; same = λ i. refl }) k
-did_started p past s n (row.begun_done run e) kept w k = unchanged p past _ s (record { made = λ i v m. m; same = λ i. refl }) k
+did_started p past s n (row.begun_done run time e) kept w k = unchanged p past _ s (record { made = λ i v m. m; same = λ i. refl }) k
 did_started p past s n (row.collected run part t f) kept w k = collected_started p past s t f kept k
 did_started p past s n (row.fired run t f) kept w k = fired_started p past s t f kept k
+did_started p past s n (row.called_due run t f) kept w k = due_started p past s t f kept k
+did_started p past s n (row.answered run time v t e is on) kept w k = unchanged p past _ s (record { made = λ i u m. m; same = λ i. refl }) k
 did_started p past s n (row.walked run watcher.Idle t sync f) kept w k = same_started p past s watcher.Idle t f kept k
 did_started p past s n (row.walked run each t sync f) kept w k = same_started p past s each t f kept k
 did_started p past s n (row.passed run t f off) kept w k = k
@@ -565,6 +597,11 @@ started_fresh p = record { active = λ id h e. cc e; old = λ id v e. cc e }
 
 -- ---- who is called
 
+-- who is active
+pub active_started : (p : Program) (past : List Seen) (s : State) (id : Id) (h : HandleRecord) → handle s id ≡ Some h → h.active ≡ true →
+    StartedAt p past s → (activity p past id).started ≡ true
+active_started p past s id h e on k = ap (λ (x : Activity). x.started) (k.active id h e) ∙ or_right (has_id s.ready id) h.active on
+
 -- the front of the ready list, and that of a list of watchers
 pub ready_started : (p : Program) (past : List Seen) (s : State) (t : Id × HandleRecord) → FrontOf s s.ready t → StartedAt p past s →
     (activity p past t.0).started ≡ true
@@ -575,5 +612,4 @@ ready_started p past s t f k =
 
 pub watcher_is_started : (p : Program) (past : List Seen) (s : State) (q : WatcherKind) (t : Id × HandleRecord) → FrontOf s (watched s q).yet t →
     Kept s → StartedAt p past s → (activity p past t.0).started ≡ true
-watcher_is_started p past s q t f kept k = ap (λ (x : Activity). x.started) (k.active t.0 t.1 f.holds)
-    ∙ or_right (has_id s.ready t.0) t.1.active (front_watches s q t f kept).active
+watcher_is_started p past s q t f kept k = active_started p past s t.0 t.1 f.holds (front_watches s q t f kept).active k

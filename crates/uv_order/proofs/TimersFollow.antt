@@ -1,5 +1,5 @@
 -- The timers of the entry and of an iteration, and callbacks: each step goes on from where the state stands.
-use Rattle.uv_order.proofs.Names.{arith, ◌≡◌, inl, ℕ, ◌+◌, ◌==◌, List, [], ◌∷◌, ◌++◌, Bool, true, false, drop, Option, Some, None, nat_le, refl, ap, sym, ◌∙◌, append_assoc, append-nil, if◌then◌else◌, cond_both, Id, Var, Due, Callback, Program, order_of, HandleRecord, Named, Run, TimersOf, Turn, Behind, Way, ToTimers, ToPending, ToEnd, Collecting, Firing, State, handle, with_id, front, named, with_named, counted, count_of, started, restarted, is_alive, Moves, goes, call, first_due, collected, body_from, lives, Told, lasting, Section, Entry, In, word_of, part_after, part_of, Opens, IsOver, CallsNext, callback_in, Standing, Within, MayLeave, Between, Running, body_of, next_call, found_both}
+use Rattle.uv_order.proofs.Names.{arith, ◌≡◌, inl, ℕ, ◌+◌, ◌==◌, List, [], ◌∷◌, ◌++◌, Bool, true, false, drop, subst, without_id, nat_tests, Option, Some, None, nat_le, refl, ap, sym, ◌∙◌, append_assoc, append-nil, if◌then◌else◌, cond_both, not, Id, Var, Due, Callback, Program, order_of, from_heap, HandleRecord, Named, Run, TimersOf, Turn, Behind, Way, ToTimers, ToPending, ToEnd, Collecting, Firing, State, handle, with_id, front, named, with_named, counted, count_of, stopped, started, restarted, is_alive, Moves, goes, call, first_due, collected, body_from, lives, Told, AreDue, AreTimers, NoneDue, lasting, Section, Entry, In, word_of, part_after, part_of, Opens, IsOver, CallsNext, callback_in, Standing, Within, MayLeave, Between, Running, body_of, next_call, found_both}
 use Rattle.std.specs.Prelude.{option_map}
 use Rattle.uv_ids.specs.declared.phase.Phase.TheVariants as phase
 use Rattle.uv_ids.specs.declared.seen.Seen.TheVariants as seen
@@ -20,7 +20,7 @@ use Rattle.uv_order.proofs.KeptSteps.{no_front}
 use Rattle.uv_order.proofs.Bodies.{IsBody}
 use Rattle.uv_order.proofs.Lives.{goes_is}
 use Rattle.uv_order.proofs.Counted.{Counted, counted_call, told_call, next_body}
-use Rattle.uv_order.proofs.Standing.{StandsAt, left_all, bare, begun_with, section_of, Rest, rest, Leaves, NobodyLeft, due_now, Stands, Follows, left, reached_by, ways_agree, timers_last, pending_lasts, are_timers, due_distinct, opens_bare, pending, collects, fires, between, running}
+use Rattle.uv_order.proofs.Standing.{StandsAt, left_all, begun_with, section_of, Rest, rest, Leaves, NobodyLeft, due_now, Stands, Follows, left, reached_by, ways_agree, timers_last, pending_lasts, no_answer, are_timers, due_distinct, pending, collects, fires, calls_due, between, running}
 
 -- ---- callbacks
 
@@ -95,7 +95,7 @@ left_timers part r w l = grind arith
 
 -- a run goes on from a turn
 pub turn_follows : (p : Program) (told : Told) (s : State) (run : Run) (turn : Turn) (at : Standing) → lives s ≡ is_alive s → part_of at ≡ left turn →
-    MayLeave s told at → Kept s → Counted p s.names told → NobodyLeft (rest s.ready s) →
+    MayLeave p s told at → Kept s → Counted p s.names told → NobodyLeft (rest s.ready s) →
     Follows p told (Running run.mode run.line at) s (step.turns (order_of p) s run turn)
 turn_follows p told s run turn at alive is over k c e =
     by (step.way (order_of p) run.mode (goes s) turn)
@@ -112,43 +112,62 @@ turn_follows p told s run turn at alive is over k c e =
     begun part = step.at (record s { time = step.time_at (order_of p) part s; idled = step.idled_at (order_of p) part s }) run
         (stage.Timers part Collecting)
 
-    opens : (part : TimersOf) → Opens phase.Timers told (record { before = s; seen = seen.Section phase.Timers; after = begun part })
-        (begun_with (due part))
-    opens part = record {
-      list = record {
-        timers = s.timers;
-        are = are_timers _ s.timers s.next_start k.timers;
-        due = refl;
-        distinct = due_distinct s (step.time_at (order_of p) part s) k;
-      };
-      off = refl;
-      sent = refl;
-      body = refl;
+    woken : Bool
+    woken = doc.woken_at at
+
+    -- those that are due, unless they are called straight from their heap
+    ahead : Bool → TimersOf → List Id
+    ahead true part = []
+    ahead false part = due part
+
+    walk : TimersOf → Walk
+    walk part = begun_with woken (ahead (from_heap p) part)
+
+    list : (part : TimersOf) (heap : Bool) → doc.ListIf (not heap) phase.Timers (record {
+      before = s;
+      seen = seen.Section phase.Timers;
+      after = begun part;
+    }) (ahead heap part)
+    list part true = refl
+    list part false = record {
+      timers = s.timers;
+      are = are_timers _ s.timers s.next_start k.timers;
+      due = refl;
+      distinct = due_distinct s (step.time_at (order_of p) part s) k;
     }
 
-    stands : (part : TimersOf) → Stands p told (begun part) (Running run.mode run.line (Within (section_of part) (begun_with (due part))))
-    stands part = record {
-      stands = running (collects refl) (timers_left part _ _
-          (assumption (ap (λ (ids : List Id). ids ++ due part) e.timers ∙ sym (none_off (due part)), e)));
-      counted = c;
-    }
+    opens : (part : TimersOf) →
+        Opens p phase.Timers told woken (record { before = s; seen = seen.Section phase.Timers; after = begun part }) (walk part)
+    opens part = record { list = list part (from_heap p); off = refl; sent = refl; body = refl; kept = refl }
+
+    stands_by : (part : TimersOf) (heap : Bool) → from_heap p ≡ heap →
+        StandsAt p (begun part) (begun part).place (Running run.mode run.line (Within (section_of part) (begun_with woken (ahead heap part))))
+    stands_by part true heap = running (calls_due heap refl refl) (rw heap (timers_left part _ _ (assumption (e.timers, e))))
+    stands_by part false heap = running (collects heap refl) (rw heap (timers_left part _ _
+        (assumption (ap (λ (ids : List Id). ids ++ due part) e.timers ∙ sym (none_off (due part)), e))))
+
+    stands : (part : TimersOf) → Stands p told (begun part) (Running run.mode run.line (Within (section_of part) (walk part)))
+    stands part = record { stands = stands_by part (from_heap p) refl; counted = c }
 
     by : (w : Way) → part_after (order_of p) run.mode (doc.goes_on s) (part_of at) ≡ reached_by w →
         Follows p told (Running run.mode run.line at) s (step.goes_by (order_of p) s run w)
     by (ToTimers timers_of.Entry) g = record {
-      to = Running run.mode run.line (Within Entry (begun_with (due timers_of.Entry)));
-      goes = doc.section Entry over g refl (opens timers_of.Entry) (timers_last (order_of p) timers_of.Entry s);
+      to = Running run.mode run.line (Within Entry (walk timers_of.Entry));
+      goes = doc.section Entry over g refl (opens timers_of.Entry)
+          (timers_last (order_of p) timers_of.Entry s ∙ no_answer (order_of p) at turn Entry s is);
       stands = stands timers_of.Entry;
     }
     by (ToTimers timers_of.Iteration) g = record {
-      to = Running run.mode run.line (Within (In phase.Timers) (begun_with (due timers_of.Iteration)));
-      goes = doc.section (In phase.Timers) over g refl (opens timers_of.Iteration) (timers_last (order_of p) timers_of.Iteration s);
+      to = Running run.mode run.line (Within (In phase.Timers) (walk timers_of.Iteration));
+      goes = doc.section (In phase.Timers) over g refl (opens timers_of.Iteration)
+          (timers_last (order_of p) timers_of.Iteration s ∙ no_answer (order_of p) at turn (In phase.Timers) s is);
       stands = stands timers_of.Iteration;
     }
     by ToPending g = record {
-      to = Running run.mode run.line (Within (In phase.Pending) bare);
-      goes = doc.section (In phase.Pending) over g refl (opens_bare phase.Pending told _ refl refl) (pending_lasts (order_of p) s);
-      stands = record { stands = running pending (left_all e.timers e.idle e.prepare e.check e.async e.closing e.done); counted = c };
+      to = Running run.mode run.line (Within (In phase.Pending) (begun_with woken []));
+      goes = doc.section (In phase.Pending) over g refl (record { list = refl; off = refl; sent = refl; body = refl; kept = refl })
+          (pending_lasts (order_of p) s ∙ no_answer (order_of p) at turn (In phase.Pending) s is);
+      stands = record { stands = running (pending refl refl) (left_all e.timers e.idle e.prepare e.check e.async e.closing e.done); counted = c };
     }
     by ToEnd g = record {
       to = Between (run.line + 1);
@@ -164,31 +183,41 @@ timers_word part = grind arith
 pub timers_over : (part : TimersOf) (w : Walk) → w.body ≡ [] → doc.AllOff w.off w.ahead → IsOver (word_of (section_of part)) w
 timers_over part w b o = grind arith
 
+-- none is due, where they are called straight from their heap
+pub none_due_now : (part : TimersOf) (p : Program) (s : State) → (from_heap p ≡ true → AreDue s []) →
+    NoneDue (word_of (section_of part)) (from_heap p) s
+none_due_now part p s none = by part (from_heap p) refl where
+  by : (part : TimersOf) (heap : Bool) → from_heap p ≡ heap → NoneDue (word_of (section_of part)) heap s
+  by timers_of.Entry true heap = none heap
+  by timers_of.Entry false heap = tt
+  by timers_of.Iteration true heap = none heap
+  by timers_of.Iteration false heap = tt
+
 pub timers_call : (part : TimersOf) (told : Told) (w : Walk) (id : Id) (more : List Id) (n : NextCall w id more) → w.body ≡ [] → CallsNext (word_of
     (section_of part)) told w id n.behind
 timers_call part told w id more n b = grind arith
 
 -- a timer is called from the ready list, in a state that may have started it again
 pub call_timer : (p : Program) (told : Told) (s u : State) (run : Run) (part : TimersOf) (w : Walk) (t : Id × HandleRecord) (more : List Id) →
-    handle s t.0 ≡ Some t.1 → u.names ≡ s.names → lasting u ≡ lasting s → OnlyReady (rest (t.0 ∷ more) u) w → u.ready ≡ more → w.body ≡ [] →
+    handle s t.0 ≡ Some t.1 → u.names ≡ s.names → lasting u ≡ lasting s → OnlyReady (rest (t.0 ∷ more) u) w → u.ready ≡ more → w.body ≡ [] → from_heap p ≡ false →
     Counted p s.names told → Follows p told (Running run.mode run.line (Within (section_of part) w)) s
     (call p u (record run { stage = stage.Timers part Firing }) t.0 t.1.name)
-call_timer p told s u run part w t more h names lasts o ready b c =
+call_timer p told s u run part w t more h names lasts o ready b heap c =
     let next = next_of w t.0 more (sym o.ready) in
     call_follows p told s u run (record run { stage = stage.Timers part Firing }) (section_of part) w t next.behind (timers_word part)
     (timers_call part told w t.0 more next b) h names lasts c
-    (λ is. running (fires is) (timers_left part (rest u.ready u) (called p told callback.Handle w next.behind t.1.name)
+    (λ is. running (fires heap is) (timers_left part (rest u.ready u) (called p told callback.Handle w next.behind t.1.name)
     (assumption (ready ∙ next.left, o))))
 
 pub fire_follows : (p : Program) (told : Told) (s : State) (run : Run) (part : TimersOf) (w : Walk) → lives s ≡ is_alive s → Kept s →
-    Counted p s.names told → Leaves (rest s.ready s) (Within (section_of part) w) → w.body ≡ [] →
+    Counted p s.names told → Leaves (rest s.ready s) (Within (section_of part) w) → w.body ≡ [] → from_heap p ≡ false →
     Follows p told (Running run.mode run.line (Within (section_of part) w)) s (step.fire p s run part)
-fire_follows p told s run part w alive k c l b =
+fire_follows p told s run part w alive k c l b heap =
     let o = left_timers part (rest s.ready s) w l in
     found_both (front s s.ready) _ _ (Follows p told (Running run.mode run.line (Within (section_of part) w)) s)
     (λ t e. fired o t (front_of s s.ready t e)) (λ e. let none : s.ready ≡ [] = no_front s Rests s.ready k.ready.each e in
     turn_follows p told s run (Behind part) (Within (section_of part) w) alive refl
-    (timers_over part w b (all_off w.ahead w.off (sym o.ready ∙ none))) k c (left_all none o.idle o.prepare o.check o.async o.closing o.done))
+    (timers_over part w b (all_off w.ahead w.off (sym o.ready ∙ none)), none_due_now part p s (λ on. cc (heap, on))) k c (left_all none o.idle o.prepare o.check o.async o.closing o.done))
   where
     fired : OnlyReady (rest s.ready s) w → (t : Id × HandleRecord) → FrontOf s s.ready t →
         Follows p told (Running run.mode run.line (Within (section_of part) w)) s
@@ -199,8 +228,8 @@ fire_follows p told s run part w alive k c l b =
         let only : OnlyReady (rest (t.0 ∷ f.rest) u) w = assumption (sym f.are ∙ o.ready, o) in
         cond_both (t.1.repeat == 0) u (started u t.0 t.1 t.1.repeat t.1.repeat)
         (λ (x : State). Follows p told (Running run.mode run.line (Within (section_of part) w)) s (call p x firing t.0 t.1.name))
-        (λ z. call_timer p told s u run part w t f.rest f.holds refl refl only f.behind b c)
-        (λ z. call_timer p told s (started u t.0 t.1 t.1.repeat t.1.repeat) run part w t f.rest f.holds refl refl (assumption only) f.behind b c)
+        (λ z. call_timer p told s u run part w t f.rest f.holds refl refl only f.behind b heap c)
+        (λ z. call_timer p told s (started u t.0 t.1 t.1.repeat t.1.repeat) run part w t f.rest f.holds refl refl (assumption only) f.behind b heap c)
 
 pub one_more : (time : ℕ) (t : Due × Id) (ts : List (Due × Id)) → nat_le t.0.at time ≡ true → due_ids time (t ∷ ts) ≡ t.1 ∷ due_ids time ts
 one_more time t ts e = rw e refl
@@ -218,13 +247,13 @@ late_due s (t ∷ ts) drawn k e = at (nat_le t.0.at s.time) refl e where
   at false late f = none_due s.time t ts k.sorted late
 
 pub collect_follows : (p : Program) (told : Told) (s : State) (run : Run) (part : TimersOf) (w : Walk) → lives s ≡ is_alive s → Kept s →
-    Counted p s.names told → Leaves (rest (s.ready ++ due_now s) s) (Within (section_of part) w) → w.body ≡ [] →
+    Counted p s.names told → Leaves (rest (s.ready ++ due_now s) s) (Within (section_of part) w) → w.body ≡ [] → from_heap p ≡ false →
     Follows p told (Running run.mode run.line (Within (section_of part) w)) s (step.collect p s run part)
-collect_follows p told s run part w alive k c l b =
+collect_follows p told s run part w alive k c l b heap =
     let o = left_timers part (rest (s.ready ++ due_now s) s) w l in
     found_both (first_due s s.timers) _ _ (Follows p told (Running run.mode run.line (Within (section_of part) w)) s)
     (λ t e. moved o t (first_of s s.timers t e)) (λ e. fire_follows p told s run part w alive k c (timers_left part (rest s.ready s) w (assumption
-    (sym (append-nil s.ready) ∙ ap (λ (ids : List Id). s.ready ++ ids) (sym (late_due s s.timers s.next_start k.timers e)) ∙ o.ready, o))) b)
+    (sym (append-nil s.ready) ∙ ap (λ (ids : List Id). s.ready ++ ids) (sym (late_due s s.timers s.next_start k.timers e)) ∙ o.ready, o))) b heap)
   where
     moved : OnlyReady (rest (s.ready ++ due_now s) s) w → (t : Id × HandleRecord) → FirstOf s s.timers t →
         Follows p told (Running run.mode run.line (Within (section_of part) w)) s (Moves (step.at (collected s t.0 t.1) run (stage.Timers part
@@ -238,4 +267,75 @@ collect_follows p told s run part w alive k c l b =
         append_assoc s.ready (t.0 ∷ []) (due_ids s.time later) ∙ ap (λ (ids : List Id). s.ready ++ ids) (sym all) ∙ o.ready in
         let only : OnlyReady (rest ((s.ready ++ t.0 ∷ []) ++ due_ids s.time later) (collected s t.0 t.1)) w =
         assumption (same, o) in
-        (record { stands = running (collects b) (timers_left part _ w only); counted = c }, refl)
+        (record { stands = running (collects heap b) (rw heap (timers_left part _ w only)); counted = c }, refl)
+
+-- ---- timers called straight from their heap
+
+-- none is due, where the first one isn't
+none_is_due : (s : State) → Kept s → first_due s s.timers ≡ None → AreDue s []
+none_is_due s k e = record {
+  timers = s.timers;
+  are = are_timers s s.timers s.next_start k.timers;
+  due = sym (late_due s s.timers s.next_start k.timers e);
+  distinct = tt;
+}
+
+-- nobody is left of no list
+none_ready : (part : TimersOf) (s : State) (w : Walk) → w.ahead ≡ [] → Leaves (rest s.ready s) (Within (section_of part) w) →
+    NobodyLeft (rest s.ready s)
+none_ready part s w none l =
+    let o = left_timers part (rest s.ready s) w l in
+    left_all (o.ready ∙ ap (λ (ids : List Id). left_of ids w.off) none) o.idle o.prepare o.check o.async o.closing o.done
+
+-- nor is anybody once a timer is taken off
+none_stopped : (s : State) (id : Id) (h : HandleRecord) → NobodyLeft (rest s.ready s) → NobodyLeft (rest (stopped s id h).ready (stopped s id h))
+none_stopped s id h e = left_all (none e.timers) (none e.idle) (none e.prepare) (none e.check) (none e.async) e.closing e.done where
+  none : {ids : List Id} → ids ≡ [] → without_id ids id ≡ []
+  none n = ap (λ (is : List Id). without_id is id) n
+
+-- the first timer is called where it is due, in a state in which it was started again or not
+call_due_timer : (p : Program) (told : Told) (s u : State) (run : Run) (part : TimersOf) (w : Walk) (t : Id × HandleRecord) →
+    FirstOf s s.timers t → u.names ≡ s.names → lasting u ≡ lasting s → NobodyLeft (rest u.ready u) → w.ahead ≡ [] → w.body ≡ [] →
+    from_heap p ≡ true → Kept s → Counted p s.names told →
+    Follows p told (Running run.mode run.line (Within (section_of part) w)) s
+    (call p u (record run { stage = stage.Timers part Collecting }) t.0 t.1.name)
+call_due_timer p told s u run part w t f names lasts e none b heap k c =
+    let v = t.1.name in
+    let cu : Counted p u.names told = rw names c in
+    record {
+      to = Running run.mode run.line (Within (section_of part) (record w { body = body_of p callback.Handle v (next_call told callback.Handle v) }));
+      goes = doc.fires v t.0 f.key f.rest heap (timers_are part) b
+          (subst (AreTimers s) f.are (are_timers s s.timers s.next_start k.timers)) (grind (arith, nat_tests, f.due)) (named_of s t f.holds) refl lasts;
+      stands = record {
+        stands = running (calls_due heap none (its_body p told u callback.Handle v cu)) (rw heap (timers_left part (rest u.ready u) _
+            (assumption (e.timers ∙ sym (ap (λ (ids : List Id). left_of ids w.off) none), e))));
+        counted = call_counted p told u callback.Handle v t.0 cu;
+      };
+    }
+  where
+    timers_are : (part : TimersOf) → word_of (section_of part) ≡ phase.Timers
+    timers_are timers_of.Entry = refl
+    timers_are timers_of.Iteration = refl
+
+pub call_due_follows : (p : Program) (told : Told) (s : State) (run : Run) (part : TimersOf) (w : Walk) → lives s ≡ is_alive s → Kept s →
+    Counted p s.names told → Leaves (rest s.ready s) (Within (section_of part) w) → w.ahead ≡ [] → w.body ≡ [] → from_heap p ≡ true →
+    Follows p told (Running run.mode run.line (Within (section_of part) w)) s (step.call_due p s run part)
+call_due_follows p told s run part w alive k c l none b heap =
+    let e = none_ready part s w none l in
+    found_both (first_due s s.timers) _ _ (Follows p told (Running run.mode run.line (Within (section_of part) w)) s)
+    (λ t due. called e t (first_of s s.timers t due))
+    (λ late. turn_follows p told s run (Behind part) (Within (section_of part) w) alive refl
+    (timers_over part w b (rw none tt), none_due_now part p s (λ on. none_is_due s k late)) k c e)
+  where
+    called : NobodyLeft (rest s.ready s) → (t : Id × HandleRecord) → FirstOf s s.timers t →
+        Follows p told (Running run.mode run.line (Within (section_of part) w)) s
+        (call p (restarted (stopped s t.0 t.1) t.0 t.1) (record run { stage = stage.Timers part Collecting }) t.0 t.1.name)
+    called e t f =
+        let u : State = stopped s t.0 t.1 in
+        let off = none_stopped s t.0 t.1 e in
+        cond_both (t.1.repeat == 0) u (started u t.0 t.1 t.1.repeat t.1.repeat)
+        (λ (x : State). Follows p told (Running run.mode run.line (Within (section_of part) w)) s
+        (call p x (record run { stage = stage.Timers part Collecting }) t.0 t.1.name))
+        (λ z. call_due_timer p told s u run part w t f refl refl off none b heap k c)
+        (λ z. call_due_timer p told s (started u t.0 t.1 t.1.repeat t.1.repeat) run part w t f refl refl
+        (left_all off.timers off.idle off.prepare off.check off.async off.closing off.done) none b heap k c)

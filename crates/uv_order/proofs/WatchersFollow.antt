@@ -1,5 +1,5 @@
 -- The sections of watchers, of async handles and of closing ones: each step goes on from where the state stands.
-use Rattle.uv_order.proofs.Names.{arith, ◌≡◌, ◌||◌, true, false, subst, List, [], ◌∷◌, ◌++◌, drop, Option, None, refl, ap, sym, ◌∙◌, append_assoc, if◌then◌else◌, cond_both, not, Id, Program, arena_size, order_of, HandleRecord, Run, BehindClosing, WatcherKind, phase_of, freed, Slot, Content, Request, digest_in, request_in, same_id, State, with_handle, front, front_request, watched, is_alive, poll_timeout, deadline_of, Moves, call, calls, front_moved, has_id, AreDistinct, lives, Told, AllOff, AllOffOrUnsent, lasting, In, part_of, Opens, IsOver, CallsNext, Standing, Within, Polling, MayLeave, Running, found_both, kind_as, with_watched, all_yet, Order, AreActive}
+use Rattle.uv_order.proofs.Names.{arith, ◌≡◌, ◌||◌, Bool, true, false, subst, List, [], ◌∷◌, ◌++◌, drop, Option, None, refl, ap, sym, ◌∙◌, append_assoc, if◌then◌else◌, cond_both, not, Id, Program, arena_size, order_of, HandleRecord, Run, BehindClosing, WatcherKind, phase_of, freed, Slot, Content, Request, digest_in, request_in, same_id, State, with_handle, front, front_request, watched, is_alive, poll_timeout, deadline_of, Moves, call, calls, front_moved, has_id, AreDistinct, lives, Told, AllOff, AllOffOrUnsent, lasting, In, part_of, Opens, IsOver, CallsNext, Standing, Answering, Begun, Within, Polling, MayLeave, Running, found_both, kind_as, with_watched, all_yet, Order, AreActive}
 use Rattle.std.specs.Prelude.{option_map}
 use Rattle.uv_ids.specs.declared.phase.Kind.TheVariants as kind
 use Rattle.uv_ids.specs.declared.phase.Phase.TheVariants as phase
@@ -25,19 +25,26 @@ use Rattle.uv_order.proofs.KeptSteps.{no_front}
 use Rattle.uv_order.proofs.Lives.{may_wait_is}
 use Rattle.uv_order.proofs.Counted.{Counted}
 use Rattle.uv_order.proofs.Sends.{pends, pends_in, pends_there, SentAt, pass_both, pass_off}
-use Rattle.uv_order.proofs.Standing.{left_all, begun_with, rest, Leaves, NobodyLeft, Follows, IsNext, async_next, async_moved, prepare_next, poll_next, check_next, closing_next, are_timers, are_active, are_closing, walking, polls, done, closing, running}
+use Rattle.uv_order.proofs.Standing.{left_all, begun_with, rest, Leaves, NobodyLeft, IsBehind, Follows, empty_over, IsNext, async_next, async_moved, prepare_next, poll_next, check_next, closing_next, are_timers, are_active, are_closing, walking, polls, done, closing, running}
 use Rattle.uv_order.proofs.TimersFollow.{call_follows, NextCall, turn_follows, named_of, next_of, call_counted, its_body, called}
 
 -- ---- sections of watchers, and of async handles
 
 -- a section of this kind that begins with this list
-abbrev pub walk_with : Told → WatcherKind → List Id → Walk
-walk_with told q ids = record { ahead = ids; off = []; sent = doc.sent_at (phase_of q) told; body = [] }
+abbrev pub walk_with : Told → WatcherKind → Bool → List Id → Walk
+walk_with told q woken ids = record { ahead = ids; off = []; sent = doc.sent_at (phase_of q) told; body = []; woken = woken }
 
-pub opens_watched : (told : Told) (s t : State) (q : WatcherKind) → Kept s → (watched s q).yet ≡ [] →
-    Opens (phase_of q) told (record { before = s; seen = seen.Section (phase_of q); after = t }) (walk_with told q (watched s q).list)
-opens_watched told s t q k e = record { list = at q (are_active s (kind_as q) (watched s q) e (k.watchers q)); off = refl; sent = refl; body = refl }
-  where
+-- it has its list, that of async handles behind a poll that was woken
+pub opens_watched : (p : Program) (told : Told) (s t : State) (q : WatcherKind) (woken : Bool) → doc.has_list p (phase_of q) woken ≡ true → Kept s →
+    (watched s q).yet ≡ [] →
+    Opens p (phase_of q) told woken (record { before = s; seen = seen.Section (phase_of q); after = t }) (walk_with told q woken (watched s q).list)
+opens_watched p told s t q woken has k e = record {
+  list = rw has (at q (are_active s (kind_as q) (watched s q) e (k.watchers q)));
+  off = refl;
+  sent = refl;
+  body = refl;
+  kept = refl;
+} where
     at : (q : WatcherKind) → AreActive s (kind_as q) (watched s q).list →
         doc.HasList (phase_of q) (record { before = s; seen = seen.Section (phase_of q); after = t }) (watched s q).list
     at watcher.Idle are = (refl, are)
@@ -51,12 +58,12 @@ none_yet s watcher.Check e = e.check
 none_yet s watcher.Async e = e.async
 
 -- then as its section begins all of its list are left, and of the others nobody
-begun_left : (told : Told) (s : State) (q : WatcherKind) → SentAt told.sent s → NobodyLeft (rest s.ready s) →
-    Leaves (rest s.ready (with_watched s q (all_yet (watched s q)))) (Within (In (phase_of q)) (walk_with told q (watched s q).list))
-begun_left told s watcher.Idle h e = left_all e.timers (sym (none_off s.watchers.idle.list)) e.prepare e.check e.async e.closing e.done
-begun_left told s watcher.Prepare h e = left_all e.timers e.idle (sym (none_off s.watchers.prepare.list)) e.check e.async e.closing e.done
-begun_left told s watcher.Check h e = left_all e.timers e.idle e.prepare (sym (none_off s.watchers.check.list)) e.async e.closing e.done
-begun_left told s watcher.Async h e = left_all e.timers e.idle e.prepare e.check (record {
+begun_left : (told : Told) (s : State) (q : WatcherKind) (woken : Bool) → SentAt told.sent s → NobodyLeft (rest s.ready s) →
+    Leaves (rest s.ready (with_watched s q (all_yet (watched s q)))) (Within (In (phase_of q)) (walk_with told q woken (watched s q).list))
+begun_left told s watcher.Idle woken h e = left_all e.timers (sym (none_off s.watchers.idle.list)) e.prepare e.check e.async e.closing e.done
+begun_left told s watcher.Prepare woken h e = left_all e.timers e.idle (sym (none_off s.watchers.prepare.list)) e.check e.async e.closing e.done
+begun_left told s watcher.Check woken h e = left_all e.timers e.idle e.prepare (sym (none_off s.watchers.check.list)) e.async e.closing e.done
+begun_left told s watcher.Async woken h e = left_all e.timers e.idle e.prepare e.check (record {
   gone = [];
   behind = s.watchers.async.list;
   all = refl;
@@ -66,21 +73,51 @@ begun_left told s watcher.Async h e = left_all e.timers e.idle e.prepare e.check
 }) e.closing e.done
 
 -- the line of such a section sets nothing
-section_lasts : (o : Order) (q : WatcherKind) (s : State) → lasting s ≡ doc.after_section o (In (phase_of q)) s
-section_lasts o watcher.Idle s = refl
-section_lasts o each s = refl
+sets_nothing : (o : Order) (q : WatcherKind) (s : State) → lasting s ≡ doc.after_word o (In (phase_of q)) s
+sets_nothing o watcher.Idle s = refl
+sets_nothing o each s = refl
+
+section_lasts : (o : Order) (at : Standing) (q : WatcherKind) (s : State) → lasting s ≡ doc.after_section o at (In (phase_of q)) s
+section_lasts o (Answering woken body) q s = refl
+section_lasts o Begun q s = sets_nothing o q s
+section_lasts o (Within part w) q s = sets_nothing o q s
+section_lasts o (Polling deadline) q s = sets_nothing o q s
+
+-- nobody is left of no list of async handles
+pub none_behind : (slots : List (Slot Content)) (w : Walk) (yet : List Id) → w.ahead ≡ [] → yet ≡ [] → IsBehind slots w yet
+none_behind slots w yet none e = record {
+  gone = [];
+  behind = [];
+  all = none;
+  left = e;
+  passed = tt;
+  still = λ id on was. cc (sym (ap (λ (ids : List Id). has_id ids id) e) ∙ on);
+}
 
 -- such a section begins behind a part that may be left
-pub begin_follows : (p : Program) (told : Told) (s : State) (run : Run) (q : WatcherKind) (at : Standing) → MayLeave s told at →
-    IsNext (part_of at) (doc.Of
-    (In (phase_of q))) →
-    Kept s → SentAt told.sent s → Counted p s.names told → NobodyLeft (rest s.ready s) →
+pub begin_follows : (p : Program) (told : Told) (s : State) (run : Run) (q : WatcherKind) (at : Standing) → MayLeave p s told at →
+    IsNext (part_of at) (doc.Of (In (phase_of q))) → doc.has_list p (phase_of q) (doc.woken_at at) ≡ true → Kept s → SentAt told.sent s → Counted p s.names told → NobodyLeft (rest s.ready s) →
     Follows p told (Running run.mode run.line at) s (step.begin_walk s run q)
-begin_follows p told s run q at over next k h c e = record {
-  to = Running run.mode run.line (Within (In (phase_of q)) (walk_with told q (watched s q).list));
-  goes = doc.section (In (phase_of q)) over (next (order_of p) run.mode (doc.goes_on s)) refl (opens_watched told s _ q k (none_yet s q e))
-      (section_lasts (order_of p) q s);
-  stands = record { stands = running (walking refl) (begun_left told s q h e); counted = c };
+begin_follows p told s run q at over follows has k h c e = record {
+  to = Running run.mode run.line (Within (In (phase_of q)) (walk_with told q (doc.woken_at at) (watched s q).list));
+  goes = doc.section (In (phase_of q)) over (follows (order_of p) run.mode (doc.goes_on s)) refl
+      (opens_watched p told s _ q (doc.woken_at at) has k (none_yet s q e)) (section_lasts (order_of p) at q s);
+  stands = record { stands = running (walking refl) (begun_left told s q (doc.woken_at at) h e); counted = c };
+}
+
+-- that of async handles behind a poll that nobody woke, where it has no list
+pub unwoken_follows : (p : Program) (told : Told) (s : State) (run : Run) (w : Walk) → w.woken ≡ false → w.ahead ≡ [] → w.body ≡ [] →
+    Counted p s.names told → NobodyLeft (rest s.ready s) →
+    Follows p told (Running run.mode run.line (Within (In phase.Done) w)) s (step.begins s run (stage.Walking watcher.Async) phase.Async)
+unwoken_follows p told s run w unwoken none b c e = record {
+  to = Running run.mode run.line (Within (In phase.Async) (walk_with told watcher.Async w.woken []));
+  goes = doc.section (In phase.Async) (empty_over phase.Done w none b, tt) (async_next (order_of p) run.mode (doc.goes_on s)) refl
+      (record { list = rw unwoken refl; off = refl; sent = refl; body = refl; kept = refl }) refl;
+  stands = record {
+    stands = running (walking {q = watcher.Async} refl) (left_all e.timers e.idle e.prepare e.check
+        (none_behind s.arena.slots (walk_with told watcher.Async w.woken []) s.watchers.async.yet refl e.async) e.closing e.done);
+    counted = c;
+  };
 }
 
 -- the poll begins
@@ -90,7 +127,7 @@ pub poll_follows : (p : Program) (told : Told) (s : State) (run : Run) (w : Walk
     Follows p told (Running run.mode run.line (Within (In phase.Prepare) w)) s (step.begin_poll s run)
 poll_follows p told s run w alive over k c e = record {
   to = Running run.mode run.line (Polling (deadline_of s (poll_timeout s run.mode)));
-  goes = doc.poll (poll_timeout s run.mode) over (poll_next (order_of p) run.mode (doc.goes_on s))
+  goes = doc.poll (poll_timeout s run.mode) (over, tt) (poll_next (order_of p) run.mode (doc.goes_on s))
       (record { timers = s.timers; are = are_timers s s.timers s.next_start k.timers; is = may_wait_is s s.timers run.mode alive }) refl refl;
   stands = record {
     stands = running polls (left_all e.timers e.idle e.prepare e.check e.async e.closing e.done);
@@ -103,9 +140,9 @@ pub closing_begins : (p : Program) (told : Told) (s : State) (run : Run) (w : Wa
     NobodyLeft (rest s.ready s) →
     Follows p told (Running run.mode run.line (Within (In phase.Check) w)) s (step.begin_closing s run)
 closing_begins p told s run w over k c e = record {
-  to = Running run.mode run.line (Within (In phase.Closing) (begun_with s.closing.list));
-  goes = doc.section (In phase.Closing) over (closing_next (order_of p) run.mode (doc.goes_on s)) refl
-      (record { list = (refl, are_closing s e.closing k); off = refl; sent = refl; body = refl }) refl;
+  to = Running run.mode run.line (Within (In phase.Closing) (begun_with w.woken s.closing.list));
+  goes = doc.section (In phase.Closing) (over, tt) (closing_next (order_of p) run.mode (doc.goes_on s)) refl
+      (record { list = (refl, are_closing s e.closing k); off = refl; sent = refl; body = refl; kept = refl }) refl;
   stands = record {
     stands = running (closing refl) (left_all e.timers e.idle e.prepare e.check e.async (sym (none_off s.closing.list)) e.done);
     counted = c;
@@ -117,11 +154,11 @@ pub after_follows : (p : Program) (told : Told) (s : State) (run : Run) (q : Wat
     SentAt told.sent s → Counted p s.names told →
     NobodyLeft (rest s.ready s) → Follows p told (Running run.mode run.line (Within (In (phase_of q)) w)) s (step.after_walk s run q)
 after_follows p told s run watcher.Idle w alive over k h c e =
-    begin_follows p told s run watcher.Prepare (Within (In phase.Idle) w) over prepare_next k h c e
+    begin_follows p told s run watcher.Prepare (Within (In phase.Idle) w) (over, tt) prepare_next refl k h c e
 after_follows p told s run watcher.Prepare w alive over k h c e = poll_follows p told s run w alive over k c e
 after_follows p told s run watcher.Check w alive over k h c e = closing_begins p told s run w over k c e
 after_follows p told s run watcher.Async w alive over k h c e = begin_follows p told s run watcher.Check
-    (Within (In phase.Async) w) over check_next k h c e
+    (Within (In phase.Async) w) (over, tt) check_next refl k h c e
 
 plain_calls : (q : WatcherKind) (told : Told) (w : Walk) (id : Id) (more : List Id) (n : NextCall w id more) → IsSync q → w.body ≡ [] →
     CallsNext (phase_of q) told w id n.behind
@@ -202,6 +239,13 @@ not_sent : (slots : List (Slot Content)) (w : Walk) (t : Id × HandleRecord) →
     (has_id w.sent t.0 ≡ true → pends slots t.0 ≡ true) → has_id w.off t.0 ≡ false → (has_id w.off t.0 || not (has_id w.sent t.0)) ≡ true
 not_sent slots w t off is still on = grind arith
 
+-- with none of the async list yet to run, its section is over
+pub async_over : (slots : List (Slot Content)) (w : Walk) (yet : List Id) → IsBehind slots w yet → yet ≡ [] → w.body ≡ [] → IsOver phase.Async w
+async_over slots w yet a none b =
+    let off : AllOff w.off a.behind = all_off a.behind w.off (sym a.left ∙ none) in
+    let passes = pass_both w.off w.sent a.gone a.behind a.passed (pass_off w.off w.sent a.behind off) in
+    record { done = b; may_pass = subst (AllOffOrUnsent w.off w.sent) (sym a.all) passes }
+
 -- an async handle is called, or passed by without a line
 pub async_follows : (p : Program) (told : Told) (s : State) (run : Run) (w : Walk) → lives s ≡ is_alive s → run.stage ≡ stage.Walking watcher.Async →
     Kept s →
@@ -216,13 +260,7 @@ async_follows p told s run w alive st k h c l b = found_both (front s s.watchers
     (λ e. let all = s.watchers.async in
     let each = each_back (Fits s.arena.slots (Watches kind.Async)) all.list all.yet (k.watchers watcher.Async).lists.each in
     let none : s.watchers.async.yet ≡ [] = no_front s (Watches kind.Async) s.watchers.async.yet each e in
-    let a = l.async in
-    let off : AllOff w.off a.behind = all_off a.behind w.off (sym a.left ∙ none) in
-    let passes = pass_both w.off w.sent a.gone a.behind a.passed (pass_off w.off w.sent a.behind off) in
-    after_follows p told s run watcher.Async w alive (record {
-      done = b;
-      may_pass = subst (AllOffOrUnsent w.off w.sent) (sym a.all) passes;
-    }) k h c (left_all l.timers l.idle l.prepare l.check none l.closing l.done))
+    after_follows p told s run watcher.Async w alive (async_over s.arena.slots w s.watchers.async.yet l.async none b) k h c (left_all l.timers l.idle l.prepare l.check none l.closing l.done))
   where
     at : (t : Id × HandleRecord) → FrontOf s s.watchers.async.yet t → Follows p told (Running run.mode run.line (Within (In phase.Async) w)) s
         (if t.1.pending then call p (with_handle (front_moved s watcher.Async t.0) t.0 (records.woken t.1)) run t.0 t.1.name
@@ -275,14 +313,14 @@ async_follows p told s run w alive st k h c l b = found_both (front s s.watchers
 -- ---- the section of the requests that are done
 
 pub done_follows : (p : Program) (told : Told) (s : State) (run : Run) (w : Walk) → run.stage ≡ stage.Done → Kept s → SentAt told.sent s → Working s →
-    Counted p s.names told → Leaves (rest s.ready s) (Within (In phase.Done) w) → w.body ≡ [] →
+    Counted p s.names told → Leaves (rest s.ready s) (Within (In phase.Done) w) → w.woken ≡ true → w.body ≡ [] →
     Follows p told (Running run.mode run.line (Within (In phase.Done) w)) s (step.collect_request p s run)
-done_follows p told s run w st k h g c l b = found_both (front_request s s.done.yet) _ _ (Follows p told (Running run.mode run.line (Within (In
+done_follows p told s run w st k h g c l woken b = found_both (front_request s s.done.yet) _ _ (Follows p told (Running run.mode run.line (Within (In
     phase.Done) w)) s)
     (λ t e. at t (request_front s s.done.yet t e))
     (λ e. let none : s.done.yet ≡ [] = no_request s HasEnded s.done.list s.done.yet g.ended e in
     begin_follows p told s run watcher.Async (Within (In phase.Done) w)
-    (record { done = b; may_pass = all_off w.ahead w.off (sym l.done ∙ none) }) async_next k h c (left_all l.timers l.idle l.prepare l.check l.async
+    (record { done = b; may_pass = all_off w.ahead w.off (sym l.done ∙ none) }, tt) async_next woken k h c (left_all l.timers l.idle l.prepare l.check l.async
     l.closing none))
   where
     at : (t : Id × Request) → FrontRequest s s.done.yet t → Follows p told (Running run.mode run.line (Within (In phase.Done) w)) s
@@ -308,7 +346,7 @@ done_follows p told s run w st k h g c l b = found_both (front_request s s.done.
               }) (ap (option_map name_in) f.holds)
               (ap (λ (o : Option Content). option_map (λ (r : Request). seen.After (digest_in r.outcome) v t.0) (request_in o)) f.holds) refl;
           stands = record {
-            stands = rw st (running (done (its_body p told s callback.After v c)) (left_all l.timers l.idle l.prepare l.check
+            stands = rw st (running (done woken (its_body p told s callback.After v c)) (left_all l.timers l.idle l.prepare l.check
                 (async_moved s.arena.slots _ (λ i on. ap pends_in (same t f i) ∙ on) (Within (In phase.Done) w) s.watchers.async.yet l.async)
                 l.closing (f.behind ∙ next.left)));
             counted = call_counted p told s callback.After v t.0 c;
@@ -331,7 +369,7 @@ closing_follows p told s run w alive st k c l b = found_both (front s s.closing.
     (λ e. let each = each_back (Fits s.arena.slots Closes) s.closing.list s.closing.yet k.closing.lists.each in
     let none : s.closing.yet ≡ [] = no_front s Closes s.closing.yet each e in
     turn_follows p told s run BehindClosing (Within (In phase.Closing) w) alive refl
-    (record { done = b; may_pass = all_off w.ahead w.off (sym l.closing ∙ none) }) k c
+    (record { done = b; may_pass = all_off w.ahead w.off (sym l.closing ∙ none) }, tt) k c
     (left_all l.timers l.idle l.prepare l.check l.async none l.done))
   where
     at : (t : Id × HandleRecord) → FrontOf s s.closing.yet t → Follows p told (Running run.mode run.line (Within (In phase.Closing) w)) s

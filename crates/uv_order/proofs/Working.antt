@@ -89,7 +89,7 @@ finished_working s n t f k =
 
 pub did_working : (p : Program) (s : State) (n : Next) → Did p s n → Kept s → Working s → StaysWorking n
 did_working p s n (row.op x at o e) kept k = op_working s o kept k
-did_working p s n (row.begun_done run e) kept k = works_begun s.arena.slots s.waiting s.running s.done e k
+did_working p s n (row.begun_done run time e) kept k = works_begun s.arena.slots s.waiting s.running s.done e k
 did_working p s n (row.ended run t f) kept k = collected_working p s t f k
 did_working p s n (row.taken n' t f) kept k = taken_working s n' t f k
 did_working p s n (row.finished n' t f) kept k = finished_working s n' t f k

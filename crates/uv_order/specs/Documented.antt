@@ -366,9 +366,9 @@ pub record IsOver (word : Phase) (w : Walk) : Type 0 where
   pub may_pass : MayPass word w w.ahead
 
 -- and where timers are called straight from their heap, none of them is due
-abbrev pub NoneDue : Bool → Phase → State → Type 0
-NoneDue true phase.Timers s = AreDue s []
-NoneDue heap word s = Unit {0}
+abbrev pub NoneDue : Phase → Bool → State → Type 0
+NoneDue phase.Timers true s = AreDue s []
+NoneDue word heap s = Unit {0}
 
 -- ---- runs
 
@@ -400,7 +400,7 @@ woken_at (Answering woken body) = woken
 -- done, or an async handle; or that a callback of I/O left, whose ops are done
 abbrev pub MayLeave : Program → State → Told → Standing → Type 0
 MayLeave p s told Begun = Unit {0}
-MayLeave p s told (Within part w) = IsOver (word_of part) w × NoneDue (from_heap p) (word_of part) s
+MayLeave p s told (Within part w) = IsOver (word_of part) w × NoneDue (word_of part) (from_heap p) s
 MayLeave p s told (Polling deadline) = (has_passed s.clock deadline || (has_some s.done.list || (has_some told.sent && has_pending s))) ≡ true
 MayLeave p s told (Answering woken body) = body ≡ []
 

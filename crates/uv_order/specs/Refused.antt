@@ -11,7 +11,7 @@ use Rattle.uv_ids.specs.declared.seen.Seen.TheVariants as seen
 use Rattle.uv_ids.specs.declared.seen.Site.{Site}
 use Rattle.uv_script.specs.declared.op.Op.{Op}
 use Rattle.uv_script.specs.declared.op.Op.TheVariants as op
-use Rattle.uv_script.specs.Program.{Program, op_at}
+use Rattle.uv_script.specs.Program.{Program, op_at, from_heap}
 use Rattle.uv_order.specs.Line.{Line}
 use Rattle.uv_order.specs.Alive.{closes_some}
 use Rattle.uv_order.specs.Once.{bound, has_take_line, Once}
@@ -62,8 +62,9 @@ pub record RefusedOrder (p : Program) (before more : List Line) : Type 0 where
   -- a poll waits although a handle closes
   pub closing_waits : (l : Line) (timeout : Option ℕ) → closes_some l.before ≡ true → (timeout ≡ Some 0 → ⊥) → l.seen ≡ seen.Poll timeout →
       Documented p (before ++ l ∷ more) → ⊥
-  -- a timer that an op of a section of timers starts is called in that section, be its timeout zero
-  pub early_timer : (s l k : Line) (front mid : List Line) (v x : Var) (id : Id) (place : Site) (timeout repeat : ℕ) →
+  -- where due timers are collected before the first is called, a timer that an op of a section of timers starts is called in that section, be
+  -- its timeout zero
+  pub early_timer : (s l k : Line) (front mid : List Line) (v x : Var) (id : Id) (place : Site) (timeout repeat : ℕ) → from_heap p ≡ false →
       s.seen ≡ seen.Section phase.Timers → AllWithin front → l.seen ≡ seen.Op place (answer.Code Success) →
       op_at p place ≡ Some (op.Start v timeout repeat) → bound p (past_after [] (before ++ s ∷ front)) v ≡ Some id → AllWithin mid →
       k.seen ≡ seen.Call x id → Documented p (before ++ s ∷ (front ++ l ∷ (mid ++ k ∷ more))) → ⊥
