@@ -7,7 +7,7 @@ use Rattle.uv_model.specs.declared.place.Body.{Body}
 use Rattle.uv_model.specs.declared.place.Place.{Place}
 use Rattle.uv_model.specs.declared.place.Place.TheVariants.{Main, Running}
 use Rattle.uv_model.specs.declared.place.Stage.{Stage}
-use Rattle.uv_model.specs.declared.place.Stage.TheVariants.{Pending, Walking, Poll, Done}
+use Rattle.uv_model.specs.declared.place.Stage.TheVariants.{Pending, Walking, Poll, Polled, Done}
 use Rattle.uv_work.specs.declared.content.Content.{Content}
 use Rattle.uv_step.specs.Image.{Image}
 use Rattle.uv_sections.specs.Behind.{IsClearAfter}
@@ -17,6 +17,7 @@ abbrev pub IsClearBehind : Stage → arena.Image Content → Type 0
 IsClearBehind Pending i = members i name.IdleYet ≡ []
 IsClearBehind (Walking kind) i = IsClearAfter kind i
 IsClearBehind (Poll deadline) i = members i name.DoneYet ≡ []
+IsClearBehind (Polled woken) i = members i name.DoneYet ≡ []
 IsClearBehind Done i = members i name.AsyncYet ≡ []
 IsClearBehind stage i = Unit {0}
 

@@ -1,7 +1,7 @@
 -- The row of the steps that stand.
 use Rattle.std.specs.Prelude.{◌≡◌, ◌<◌, ◌++◌, List, [], ◌∷◌, map, Option, Some}
 use Rattle.uv_ids.specs.declared.event.Event.{Event}
-use Rattle.uv_ids.specs.declared.event.Event.TheVariants.{Loop, Take, Finish, Cancel, Send, Tick}
+use Rattle.uv_ids.specs.declared.event.Event.TheVariants.{Loop, Take, Finish, Cancel, Send, Io, Tick}
 use Rattle.uv_ids.specs.declared.seen.Seen.{Seen}
 use Rattle.uv_ids.specs.declared.seen.Seen.TheVariants as seen
 use Rattle.uv_step.specs.Record.{Record}
@@ -13,6 +13,7 @@ event_of (Some (seen.Take worker name id)) = Take worker
 event_of (Some (seen.Finish worker name id)) = Finish worker
 event_of (Some (seen.Cancel name answer)) = Cancel name
 event_of (Some (seen.Send name code)) = Send name
+event_of (Some (seen.Io name id)) = Io name
 event_of (Some (seen.Tick ms)) = Tick ms
 event_of other = Loop
 

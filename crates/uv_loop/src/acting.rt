@@ -14,6 +14,7 @@ ghost use Rattle.uv_loop.specs.Begins.{IsClear};
 ghost use Rattle.uv_loop.specs.Course.{Leads};
 ghost use Rattle.uv_loop.specs.Pooling.{MayTake, MayFinish};
 
+use crate::io::call_named;
 use crate::looping::turn;
 use crate::pooling::{cancel_named, finish_work, take_work};
 use crate::sending::send_to;
@@ -51,6 +52,7 @@ pub(crate) fn act(
             let code = send_to(memory, name);
             Ok(Some(Seen::Send(name, code)))
         }
+        Event::Io(name) => Ok(Some(call_named(memory, script, name))),
         Event::Tick(ms) => Ok(Some(go_on(memory, ms))),
     }
 }

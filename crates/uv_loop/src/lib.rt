@@ -4,6 +4,7 @@
 mod acting;
 mod arena_loop;
 mod bodies;
+mod io;
 mod line_row;
 mod looping;
 mod machine;

@@ -9,6 +9,7 @@ ghost use Rattle.uv_step.specs.Image.{held};
 ghost use Rattle.uv_stands.specs.Doing.{OfEach};
 ghost use Rattle.uv_loop.specs.Acting.{MayBehind, MayIn, MayAt, Refusal};
 
+use crate::io::io_refusal;
 use uv_ids::{Event, Var, Why};
 use uv_model::{LATEST, Place, Run, Stage};
 use uv_script::Script;
@@ -34,6 +35,7 @@ pub(crate) fn refusal(memory: &Memory<Place>, script: &Script, event: Event) -> 
         Event::Finish(worker) => finish_refusal(memory, worker),
         Event::Cancel(name) => name_refusal(memory, name),
         Event::Send(name) => name_refusal(memory, name),
+        Event::Io(name) => io_refusal(memory, script, name),
         Event::Tick(ms) => tick_refusal(memory, ms),
     }
 }
@@ -128,7 +130,9 @@ fn stage_refusal(memory: &Memory<Place>, run: Run) -> Option<Why>
         Stage::Entry => None,
         Stage::Pending => None,
         Stage::Walking(_) => None,
+        Stage::Polled(_) => None,
         Stage::Done => None,
+        Stage::DoneUnwoken => None,
         Stage::Closing => None,
         Stage::Timers(_, _) => None,
     }

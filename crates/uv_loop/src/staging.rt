@@ -12,7 +12,10 @@ use uv_ids::Seen;
 use uv_model::{Place, Run, Stage, Turn};
 use uv_records::WatcherKind;
 use uv_script::Script;
-use uv_sections::{begin_done, begin_walk, in_closing, in_done, in_timers, in_walk, turn};
+use uv_sections::{
+    begin_unwoken_async, begin_walk, in_closing, in_done, in_timers, in_walk, leave_poll,
+    leave_polled, turn,
+};
 use uv_step::Memory;
 
 /// What the run does next where no body is under way.
@@ -29,8 +32,10 @@ pub(crate) fn in_stage(memory: &mut Memory<Place>, script: &Script, run: Run) ->
         Stage::Entry => Some(turn(memory, script, run, Turn::AtEntry)),
         Stage::Pending => Some(begin_walk(memory, run, WatcherKind::Idle)),
         Stage::Walking(kind) => in_walk(memory, script, run, kind),
-        Stage::Poll(_) => Some(begin_done(memory, run)),
+        Stage::Poll(_) => Some(leave_poll(memory, run)),
+        Stage::Polled(woken) => Some(leave_polled(memory, run, woken)),
         Stage::Done => Some(in_done(memory, script, run)),
+        Stage::DoneUnwoken => Some(begin_unwoken_async(memory, run)),
         Stage::Closing => Some(in_closing(memory, script, run)),
         Stage::Timers(part, timing) => in_timers(memory, script, run, part, timing),
     }

@@ -1,14 +1,12 @@
 -- A watcher is started.
-use Rattle.uv_ops.proofs.Names.{◌≡◌, ◌≢◌, ℕ, ◌∷◌, map, if◌then◌else◌, refl, sym, ap, ◌∙◌, subst, Id, Var, HandleRecord, ListName, WatcherKind, activated, list_of, watcher_kind, ListUndo, counted, IsEnlisted, IsStarted, id_in, id_is, Place, found_or, State, succeeds, start_watcher, watcher_started, members, Content, Handle, Record, handle_of, By, Image, Held, counted_of, OnlyHandles, Allows, Performs, StandsFor, map_same, Listed, all_but_one}
+use Rattle.uv_ops.proofs.Names.{◌≡◌, ◌≢◌, ℕ, None, Some, false, ◌∷◌, map, if◌then◌else◌, refl, sym, ap, ◌∙◌, subst, Id, HandleRecord, ListName, WatcherKind, activated, list_of, watcher_kind, ListUndo, counted, record_at, IsEnlisted, IsStarted, id_in, id_is, Place, found_or, State, with_handle, succeeds, start_watcher, watcher_started, members, Content, Handle, Record, handle_of, By, Image, Held, counted_of, OnlyHandles, Does, StandsFor, map_same, Listed, all_but_one}
 use Rattle.uv_ids.specs.declared.code.Code.TheVariants as code
 use Rattle.uv_ids.specs.declared.code.Answer.TheVariants as answer
-use Rattle.uv_script.specs.declared.op.Op.TheVariants as op
 use Rattle.uv_records.specs.declared.lists.ListName.TheVariants as name
 use Rattle.uv_records.specs.declared.lists.WatcherKind.TheVariants as watcher
 use Rattle.uv_arena.specs.Image as arena
 use Rattle.uv_handle.proofs.Counts as handles
 use Rattle.uv_step.specs.Change as change
-use Rattle.uv_stands.specs.declared.ask.Ask.TheVariants as ask
 use Rattle.uv_ops.proofs.Relisted.{same_ids, relisted_stands}
 
 -- ---- the watcher was inactive
@@ -50,20 +48,32 @@ module _ (i : Image Place) (s : State) (h : StandsFor i s) (k : arena.Image Cont
       relisted_stands i s h k m d from (activated from) c.there c.plain s.ready (watcher_started s kind d from).watchers s.closing
       (relisted (list_of kind) u c (watcher_started s kind d from) (started_others kind) (started_list kind))
 
--- ---- what the op does
+-- ---- what the call does
 
-pub starts : (r : Record Place) (h w : Held Place) → OnlyHandles h.image w.image → (v : Var) (d : Id) (from : HandleRecord)
-    → Allows h.image v ask.StartWatcher d from
+pub starts : (r : Record Place) (h w : Held Place) → OnlyHandles h.image w.image → (d : Id) (from : HandleRecord)
+    → record_at handle_of h.image.arena d ≡ Some from
     → By change.Enlisted (λ u. IsStarted handle_of Handle (counted_of h.image) (counted_of w.image) d u) r.change
-    → Performs (op.StartWatcher v) h.image w.image (answer.Code code.Ok)
-starts r h w frame v d from allows by s stands reached =
+    → Does (λ s. start_watcher s d from) h.image w.image (answer.Code code.Ok)
+starts r h w frame d from there by s stands reached =
     let a = by.does in
-    let one : a.from ≡ from = cc (a.enlisted.there, allows.found) in (
+    let one : a.from ≡ from = cc (a.enlisted.there, there) in
+    let alone : State = with_handle s d (activated a.from) in (
       watcher_started s a.kind d a.from,
-      allows.done s stands (start_watcher s)
-          ∙ ap (start_watcher s d) (sym one)
-          ∙ ap (λ b. succeeds (if b then s else found_or (watcher_kind a.from.kind) (λ kind. watcher_started s kind d a.from) s)) a.inactive
-          ∙ ap (λ o. succeeds (found_or o (λ kind. watcher_started s kind d a.from) s)) a.is_kind,
+      ap (start_watcher s d) (sym one)
+          ∙ ap (λ b. succeeds (if b then s else found_or (watcher_kind a.from.kind) (λ kind. watcher_started s kind d a.from) alone)) a.inactive
+          ∙ ap (λ o. succeeds (found_or o (λ kind. watcher_started s kind d a.from) alone)) a.is_kind,
       subst (λ q. StandsFor q (watcher_started s a.kind d a.from)) (sym frame)
           (started_stands h.image s stands w.image.arena w.image.active d a.from a.kind by.undo a.enlisted),
+    )
+
+-- a handle of I/O is on no list
+pub activates : (i j : Image Place) (d : Id) (from : HandleRecord) → from.active ≡ false → watcher_kind from.kind ≡ None
+    → ((s : State) → StandsFor i s → StandsFor j (with_handle s d (activated from)))
+    → Does (λ s. start_watcher s d from) i j (answer.Code code.Ok)
+activates i j d from inactive none stands s h reached =
+    let alone : State = with_handle s d (activated from) in (
+      alone,
+      ap (λ b. succeeds (if b then s else found_or (watcher_kind from.kind) (λ kind. watcher_started s kind d from) alone)) inactive
+          ∙ ap (λ o. succeeds (found_or o (λ kind. watcher_started s kind d from) alone)) none,
+      stands s h,
     )

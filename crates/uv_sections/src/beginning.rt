@@ -7,7 +7,7 @@ ghost use Rattle.uv_arena.specs.Image.{members};
 ghost use Rattle.uv_script.specs.Program.{order_of};
 ghost use Rattle.uv_script.specs.declared.op.MainOp.TheVariants.{Run as run_line};
 ghost use Rattle.uv_model.specs.State.{State, watched, with_watched, refreshed};
-ghost use Rattle.uv_model.specs.Next.{begin_walk, begin_closing, begin_done, main_step, refreshes};
+ghost use Rattle.uv_model.specs.Next.{begins, begin_walk, begin_closing, begin_done, main_step, refreshes};
 ghost use Rattle.uv_step.specs.Image.{held};
 ghost use Rattle.uv_step.specs.Undo.{Recorded};
 ghost use Rattle.uv_stands.specs.Doing.{Returns, Goes};
@@ -66,8 +66,31 @@ pub fn begin_closing(memory: &mut Memory<Place>, run: Run) -> Seen
     Seen::Section(Phase::Closing)
 }
 
-/// The time is refreshed, and the requests that are done are yet to call back.
+/// The requests that are done are yet to call back.
 fn end_all_yet(memory: &mut Memory<Place>)
+    requires empty { members (held memory.old).image.arena DoneYet ≡ [] }
+    ensures recorded { Recorded memory.new.step_record (held memory.old) (held memory.new) }
+    ensures stands { (s : State) → StandsFor (held memory.old).image s
+        → StandsFor (held memory.new).image (record s { done = all_yet s.done }) }
+    ensures pieces { memory.new.slots.room ≡ memory.old.slots.room }
+{
+    memory.begin_done();
+}
+
+/// Begins the done section.
+pub(crate) fn begin_done(memory: &mut Memory<Place>, run: Run) -> Seen
+    requires empty { members (held memory.old).image.arena DoneYet ≡ [] }
+    ensures returns { Returns memory.new.step_record (held memory.old) (held memory.new) }
+    ensures goes { Goes (λ s. begin_done s run) (held memory.old).image (held memory.new).image (Some result) }
+    ensures pieces { memory.new.slots.room ≡ memory.old.slots.room }
+{
+    end_all_yet(memory);
+    stand_in(memory, run, Stage::Done);
+    Seen::Section(Phase::Done)
+}
+
+/// The time is refreshed, and the requests that are done are yet to call back.
+fn refresh_and_end(memory: &mut Memory<Place>)
     requires empty { members (held memory.old).image.arena DoneYet ≡ [] }
     ensures recorded { Recorded memory.new.step_record (held memory.old) (held memory.new) }
     ensures stands { (s : State) → StandsFor (held memory.old).image s
@@ -77,16 +100,27 @@ fn end_all_yet(memory: &mut Memory<Place>)
     memory.leave_poll();
 }
 
-/// Leaves the poll.
-pub fn begin_done(memory: &mut Memory<Place>, run: Run) -> Seen
+/// Leaves the poll: the time is refreshed, and the done section begins.
+pub fn leave_poll(memory: &mut Memory<Place>, run: Run) -> Seen
     requires empty { members (held memory.old).image.arena DoneYet ≡ [] }
     ensures returns { Returns memory.new.step_record (held memory.old) (held memory.new) }
-    ensures goes { Goes (λ s. begin_done s run) (held memory.old).image (held memory.new).image (Some result) }
+    ensures goes { Goes (λ s. begin_done (refreshed s) run) (held memory.old).image (held memory.new).image (Some result) }
     ensures pieces { memory.new.slots.room ≡ memory.old.slots.room }
 {
-    end_all_yet(memory);
+    refresh_and_end(memory);
     stand_in(memory, run, Stage::Done);
     Seen::Section(Phase::Done)
+}
+
+/// Begins a section in which nobody is called.
+pub(crate) fn begin_empty(memory: &mut Memory<Place>, run: Run, stage: Stage, phase: Phase) -> Seen
+    ensures returns { Returns memory.new.step_record (held memory.old) (held memory.new) }
+    ensures goes { Goes (λ s. begins s run stage phase) (held memory.old).image (held memory.new).image (Some result) }
+    ensures pieces { memory.new.slots.room ≡ memory.old.slots.room }
+{
+    memory.pass();
+    stand_in(memory, run, stage);
+    Seen::Section(phase)
 }
 
 /// The loop's time is that of the clock.

@@ -12,10 +12,10 @@ mod standing;
 mod timers;
 mod walking;
 
-pub use beginning::{begin_closing, begin_done, begin_run, begin_walk};
-pub use calling::begin_body;
+pub use beginning::{begin_closing, begin_run, begin_walk, leave_poll};
+pub use calling::{begin_body, call_io};
 pub use iterating::{end_run, turn};
-pub use polling::begin_poll;
+pub use polling::{begin_poll, begin_unwoken_async, leave_polled};
 pub use sections::{in_closing, in_done, in_walk};
 pub use standing::stand_at;
 pub use timers::in_timers;

@@ -1,7 +1,8 @@
-//! The section of timers: those that are due are set aside, and then called.
+//! The section of timers: those that are due are set aside, and then called; or each is called straight from the heap.
 ghost use Rattle.std.specs.Prelude.{◌≡◌, ◌<◌, ◌^◌, Some, None, IfSome, IfNone};
 ghost use Rattle.uv_script.specs.Program.{Program};
-ghost use Rattle.uv_model.specs.Next.{fire, collect, timers};
+ghost use Rattle.uv_model.specs.declared.place.Timing.TheVariants.{Collecting};
+ghost use Rattle.uv_model.specs.Next.{call_due, fire, collect, timers};
 ghost use Rattle.uv_step.specs.Image.{held};
 ghost use Rattle.uv_stands.specs.Doing.{Returns, Goes};
 ghost use Rattle.uv_stands.specs.Ready.{IsReady};
@@ -14,7 +15,7 @@ use uv_ids::{Callback, Id, Seen};
 use uv_model::{Place, Run, Stage, TimersOf, Timing, Turn};
 use uv_script::Script;
 use uv_step::Memory;
-use uv_timing::{collect_timer, fire_timer};
+use uv_timing::{call_first, collect_timer, fire_timer};
 
 /// Calls the front of the timers that are set aside. None, and nothing changed, where there is none.
 fn call_timer(memory: &mut Memory<Place>, script: &Script, run: Run, part: TimersOf) -> Option<Seen>
@@ -89,6 +90,65 @@ fn collect(memory: &mut Memory<Place>, script: &Script, run: Run, part: TimersOf
     }
 }
 
+/// Calls the first timer, if it is due, straight from the heap. None, and nothing changed, where none is due.
+fn call_from_heap(
+    memory: &mut Memory<Place>,
+    script: &Script,
+    run: Run,
+    part: TimersOf,
+) -> Option<Seen>
+    requires ready { IsReady (held memory.old) }
+    ensures returns { IfSome result (λ _. Returns memory.new.step_record (held memory.old) (held memory.new)) }
+    ensures goes { IfSome result (λ line. Goes (λ s. call_due script.now s run part)
+        (held memory.old).image (held memory.new).image (Some line)) }
+    ensures same { IfNone result (held memory.new ≡ held memory.old) }
+    ensures none { IfNone result (CollectsNone (held memory.old).image) }
+    ensures pieces { memory.new.slots.room ≡ memory.old.slots.room }
+{
+    match call_first(memory) {
+        None => None,
+        Some((id, name)) => {
+            let calling = Run {
+                stage: Stage::Timers(part, Timing::Collecting),
+                ..run
+            };
+            begin_body(memory, script, calling, Callback::Handle, name);
+            Some(Seen::Call(name, id))
+        }
+    }
+}
+
+/// Calls the first timer, if it is due, straight from the heap, or leaves the section.
+fn call_due(memory: &mut Memory<Place>, script: &Script, run: Run, part: TimersOf) -> Seen
+    requires ready { IsReady (held memory.old) }
+    requires line { run.line < 2 ^ 63 }
+    ensures returns { Returns memory.new.step_record (held memory.old) (held memory.new) }
+    ensures goes { Goes (λ s. call_due script.now s run part)
+        (held memory.old).image (held memory.new).image (Some result) }
+    ensures pieces { memory.new.slots.room ≡ memory.old.slots.room }
+{
+    match call_from_heap(memory, script, run, part) {
+        Some(called) => called,
+        None => turn(memory, script, run, Turn::Behind(part)),
+    }
+}
+
+/// What is done first in a timers section, where due timers are called straight from the heap, or else set aside.
+fn next_due(memory: &mut Memory<Place>, script: &Script, run: Run, part: TimersOf) -> Option<Seen>
+    requires ready { IsReady (held memory.old) }
+    requires line { run.line < 2 ^ 63 }
+    ensures returns { Returns memory.new.step_record (held memory.old) (held memory.new) }
+    ensures goes { Goes (λ s. timers script.now s run part Collecting)
+        (held memory.old).image (held memory.new).image result }
+    ensures pieces { memory.new.slots.room ≡ memory.old.slots.room }
+{
+    if script.timers_from_heap() {
+        Some(call_due(memory, script, run, part))
+    } else {
+        collect(memory, script, run, part)
+    }
+}
+
 /// Goes on in a section of timers.
 pub fn in_timers(
     memory: &mut Memory<Place>,
@@ -105,7 +165,7 @@ pub fn in_timers(
     ensures pieces { memory.new.slots.room ≡ memory.old.slots.room }
 {
     match timing {
-        Timing::Collecting => collect(memory, script, run, part),
+        Timing::Collecting => next_due(memory, script, run, part),
         Timing::Firing => Some(fire(memory, script, run, part)),
     }
 }

@@ -112,6 +112,13 @@ module _ (i : Image Place) (d : Id) (h : HandleRecord) (there : record_at handle
           let same : a.its ≡ h = cc (a.holds, holds_it) in
           both_ways h.closing (ap (λ (z : HandleRecord). z.closing) (sym same) ∙ a.stays) e
 
+      -- an active handle doesn't close
+      pub active_open : h.active ≡ true → h.closing ≡ false
+      active_open active = at h.closing refl where
+        at : (b : Bool) → h.closing ≡ b → b ≡ false
+        at true e = absurd (both_ways h.active (reached.shut d h holds_it e) active)
+        at false e = refl
+
       kind_of : (k : Kind) → IsActive s k d → h.kind ≡ k
       kind_of k a = let same : a.its ≡ h = cc (a.holds, holds_it) in ap (λ (z : HandleRecord). z.kind) (sym same) ∙ a.kind
 
@@ -149,11 +156,6 @@ module _ (i : Image Place) (d : Id) (h : HandleRecord) (there : record_at handle
 pub absent_active : (i : Image Place) (d : Id) (h : HandleRecord) (there : record_at handle_of i.arena d ≡ Some h) → IsFit i → (s : State)
     → StandsFor i s → IsReached s → h.kind ≡ kind.Timer → h.active ≡ true → (l : ListName) → IsOn i l d → ⊥
 absent_active i d h there fit s stands reached timer active l =
+    let unclosed = active_open i d h there s stands reached active in
     not_watched i d h there s stands reached timer l (ready_inactive i d h there s stands reached active)
-    (not_closing i d h there s stands reached unclosed) (not_closing_yet i d h there s stands reached unclosed) fit where
-      closes : (b : Bool) → h.closing ≡ b → h.closing ≡ false
-      closes true e = absurd (both_ways h.active (reached.shut d h (holds_it i d h there s stands) e) active)
-      closes false e = e
-
-      unclosed : h.closing ≡ false
-      unclosed = closes h.closing refl
+    (not_closing i d h there s stands reached unclosed) (not_closing_yet i d h there s stands reached unclosed) fit

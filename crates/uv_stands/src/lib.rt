@@ -8,7 +8,8 @@ mod queries;
 mod used;
 
 pub use ask::Ask;
-pub use names::{allowed, bind_name, bound_id, call_name, is_live};
+pub use names::{allowed, bind_name, bound_id, call_name, is_live, live_handle};
 pub use queries::{
-    backend_timeout, has_members, has_pending, is_alive, is_in_use, may_leave, poll_timeout,
+    backend_timeout, has_members, has_pending, is_alive, is_in_use, is_woken, may_leave,
+    poll_timeout,
 };

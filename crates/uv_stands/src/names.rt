@@ -25,7 +25,7 @@ pub fn bound_id(memory: &Memory<Place>, name: Var) -> Option<Id>
 }
 
 /// The handle of a name, for an op on handles: ESTALE if the name isn't live, EKIND if it is a request's.
-fn live_handle(memory: &Memory<Place>, name: Var) -> Result<(Id, HandleRecord), Code>
+pub fn live_handle(memory: &Memory<Place>, name: Var) -> Result<(Id, HandleRecord), Code>
     ensures found { IfOk result (λ t. record_at handle_of (held memory.now).image.arena t.0 ≡ Some t.1) }
     ensures is { (s : State) → StandsFor (held memory.now).image s → live_handle s name ≡ result }
 {

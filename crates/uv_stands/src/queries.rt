@@ -4,7 +4,7 @@ ghost use Rattle.uv_model.specs.Ids.{has_some};
 ghost use Rattle.uv_model.specs.Ops.{is_in_use};
 ghost use Rattle.uv_model.specs.Queries.{members};
 ghost use Rattle.uv_model.specs.Timeout.{is_alive, has_closing, has_pending, has_idle, has_passed, until_first, backend_timeout, poll_timeout};
-ghost use Rattle.uv_model.specs.Next.{may_leave};
+ghost use Rattle.uv_model.specs.Next.{is_woken, may_leave};
 ghost use Rattle.uv_step.specs.Image.{held};
 ghost use Rattle.uv_stands.specs.Doing.{OfEach};
 
@@ -57,13 +57,18 @@ pub fn has_pending(memory: &Memory<Place>) -> bool
     any_pending(memory, ListName::Async) || any_pending(memory, ListName::AsyncYet)
 }
 
-/// Whether the poll may be left: its deadline has passed, a request is done, or an async handle was sent to.
+/// Whether a poll is woken: a request is done, or an async handle was sent to.
+pub fn is_woken(memory: &Memory<Place>) -> bool
+    ensures { OfEach (held memory.now).image (λ s. is_woken s ≡ result) }
+{
+    has_members(memory, ListName::Done) || has_pending(memory)
+}
+
+/// Whether the poll may be left: its deadline has passed, or it is woken.
 pub fn may_leave(memory: &Memory<Place>, deadline: Option<u64>) -> bool
     ensures { OfEach (held memory.now).image (λ s. may_leave s deadline ≡ result) }
 {
-    has_passed(memory.clock(), deadline)
-        || has_members(memory, ListName::Done)
-        || has_pending(memory)
+    has_passed(memory.clock(), deadline) || is_woken(memory)
 }
 
 /// Whether the clock has reached a deadline.

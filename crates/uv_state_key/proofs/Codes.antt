@@ -70,7 +70,8 @@ callback_tells = part_tells _ callback_number (settled_back callback_number call
 
 kind_of : ℕ → Kind
 kind_of n =
-    if n == 0 then kind.Timer else if n == 1 then kind.Idle else if n == 2 then kind.Prepare else if n == 3 then kind.Check else kind.Async
+    if n == 0 then kind.Timer else if n == 1 then kind.Idle else if n == 2 then kind.Prepare else if n == 3 then kind.Check
+    else if n == 4 then kind.Async else kind.Io
 
 kind_back : (k : Kind) → kind_of (kind_number k) ≡ k
 unfolding kind_of
@@ -99,13 +100,15 @@ stage_of p =
     else if n == 3 then stage.Walking watcher.Prepare else if n == 4 then stage.Poll p.1 else if n == 5 then stage.Done
     else if n == 6 then stage.Walking watcher.Async else if n == 7 then stage.Walking watcher.Check
     else if n == 8 then stage.Closing else if n == 9 then stage.Timers Entry Collecting else if n == 10 then stage.Timers Entry Firing
-    else if n == 11 then stage.Timers Iteration Collecting else stage.Timers Iteration Firing
+    else if n == 11 then stage.Timers Iteration Collecting else if n == 12 then stage.Timers Iteration Firing
+    else if n == 13 then stage.Polled false else if n == 14 then stage.Polled true else stage.DoneUnwoken
 
 stage_back : (s : Stage) → stage_of (stage_part s) ≡ s
 unfolding stage_of
 stage_back (stage.Walking watcher.Idle) = refl
 stage_back (stage.Timers Entry Collecting) = refl
 stage_back (stage.Timers Iteration Collecting) = refl
+stage_back (stage.Polled false) = refl
 stage_back each = refl
 
 stage_tells : Tells stage_code

@@ -71,6 +71,9 @@ stage_part (stage.Timers Entry Collecting) = (9, None)
 stage_part (stage.Timers Entry Firing) = (10, None)
 stage_part (stage.Timers Iteration Collecting) = (11, None)
 stage_part (stage.Timers Iteration Firing) = (12, None)
+stage_part (stage.Polled false) = (13, None)
+stage_part (stage.Polled true) = (14, None)
+stage_part stage.DoneUnwoken = (15, None)
 
 abbrev pub stage_code : Stage → List ℕ
 stage_code s = byte_code (stage_part s).0 ++ option_code number_code (stage_part s).1
@@ -101,6 +104,7 @@ kind_number kind.Idle = 1
 kind_number kind.Prepare = 2
 kind_number kind.Check = 3
 kind_number kind.Async = 4
+kind_number kind.Io = 5
 
 -- the flags of a handle, a bit each
 abbrev pub flags_of : HandleRecord → ℕ

@@ -36,6 +36,7 @@ fn kind_number(kind: Kind) -> u8
         Kind::Prepare => 2,
         Kind::Check => 3,
         Kind::Async => 4,
+        Kind::Io => 5,
     }
 }
 

@@ -82,6 +82,9 @@ fn stage_number(stage: Stage) -> u8
         Stage::Timers(TimersOf::Entry, Timing::Firing) => 10,
         Stage::Timers(TimersOf::Iteration, Timing::Collecting) => 11,
         Stage::Timers(TimersOf::Iteration, Timing::Firing) => 12,
+        Stage::Polled(false) => 13,
+        Stage::Polled(true) => 14,
+        Stage::DoneUnwoken => 15,
     }
 }
 
@@ -103,6 +106,8 @@ fn stage_deadline(stage: Stage) -> Option<u64>
         Stage::Timers(TimersOf::Entry, Timing::Firing) => None,
         Stage::Timers(TimersOf::Iteration, Timing::Collecting) => None,
         Stage::Timers(TimersOf::Iteration, Timing::Firing) => None,
+        Stage::Polled(_) => None,
+        Stage::DoneUnwoken => None,
     }
 }
 

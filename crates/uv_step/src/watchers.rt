@@ -1,8 +1,8 @@
-//! Watchers are started and stopped, and called in their sections.
+//! Watchers are started, handles stopped, and watchers called in their sections.
 ghost use Rattle.std.specs.Prelude.{◌≡◌, Some, None, IfSome, IfNone, false, []};
 ghost use Rattle.uv_records.specs.declared.handle.HandleRecord.{HandleRecord};
 ghost use Rattle.uv_records.specs.declared.lists.ListName.TheVariants.{Closing, ClosingYet};
-ghost use Rattle.uv_records.specs.Lists.{yet_of};
+ghost use Rattle.uv_records.specs.Lists.{watcher_kind, yet_of};
 ghost use Rattle.uv_records.specs.Refusals.{start_watcher_refusal};
 ghost use Rattle.uv_arena.specs.Image.{members, on_list};
 ghost use Rattle.uv_arena.specs.Calls.{IsSpliced};
@@ -27,8 +27,9 @@ use uv_records::{ListName, WatcherKind};
 impl<P: Copy> Memory<P> {
     /// Starts an idle, prepare or check handle that is inactive and on no list: it goes to the front of its list (uv_idle_start and the
     /// like).
-    pub fn start_watcher(&mut self, id: Id, from: HandleRecord)
+    pub fn start_watcher(&mut self, id: Id, from: HandleRecord, kind: WatcherKind)
         requires found { record_at handle_of (held self.old).image.arena id ≡ Some from }
+        requires kind { watcher_kind from.kind ≡ Some kind }
         requires allowed { start_watcher_refusal from ≡ None }
         requires inactive { from.active ≡ false }
         requires loose { on_list (held self.old).image.arena id ≡ false }
@@ -38,12 +39,12 @@ impl<P: Copy> Memory<P> {
             (counted_of (held self.old).image) (counted_of (held self.new).image) id u) self.new.step_record.change }
         ensures pieces { self.new.slots.room ≡ self.old.slots.room }
     {
-        let undo = uv_watch::enlist(&mut self.handles, &mut self.slots, id, from);
+        let undo = uv_watch::enlist(&mut self.handles, &mut self.slots, id, from, kind);
         self.step_record
             .note_medium(self.place, Medium::Enlisted(undo));
     }
 
-    /// Stops an idle, prepare or check handle (uv_idle_stop and the like). One that closes stays on the closing list.
+    /// Stops a handle that isn't a timer (uv_idle_stop and the like; uv_read_stop). One that closes stays on the closing list.
     pub fn stop_watcher(&mut self, id: Id, from: HandleRecord)
         requires found { record_at handle_of (held self.old).image.arena id ≡ Some from }
         ensures recorded { Recorded self.new.step_record (held self.old) (held self.new) }

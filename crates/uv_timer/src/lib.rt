@@ -14,5 +14,5 @@ pub use change::{TimerChange, Times};
 pub use ops::{again, due_in, set_repeat, start, stop, undo_set_repeat};
 pub use parts::TimerParts;
 pub use rescheduling::{reschedule, undo_reschedule};
-pub use section::{collect_one, fire_one, undo_collect_one};
+pub use section::{collect_one, fire_one, first_due, undo_collect_one};
 pub use undo::{CollectUndo, SetUndo, TimerUndo};

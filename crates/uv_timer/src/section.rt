@@ -49,7 +49,7 @@ pub fn collect_one<T: HoldsHandle>(parts: TimerParts<'_, T>) -> Option<(Id, Coll
 }
 
 /// The first timer and its record, if it is due.
-fn first_due<T: HoldsHandle>(
+pub fn first_due<T: HoldsHandle>(
     slots: &Slots<T>,
     heap: &TimerHeap,
     time: u64,

@@ -1,7 +1,9 @@
 pub mod Closes
 pub mod Collects
+pub mod DueFirst
 pub mod Entries
 pub mod Fires
+pub mod FromHeap
 pub mod Keys
 mod Names
 pub mod Ordered

@@ -45,7 +45,7 @@ pub use Rattle.uv_records.specs.declared.lists.ListName.{ListName}
 pub use Rattle.uv_records.specs.declared.slot.Slot.{Slot}
 pub use Rattle.uv_requests.proofs.Rules.{set_back}
 pub use Rattle.uv_requests.specs.Working.{id_in}
-pub use Rattle.uv_stands.proofs.Absent.{IsOn, absent_active, has_it, held_handle, holds_it, not_closing, not_closing_yet, not_done, not_done_yet, not_of, not_waiting, own_id, ready_stays, stays, timer_kind}
+pub use Rattle.uv_stands.proofs.Absent.{IsOn, absent_active, active_open, has_it, held_handle, holds_it, not_closing, not_closing_yet, not_done, not_done_yet, not_of, not_waiting, own_id, ready_stays, stays, timer_kind}
 pub use Rattle.uv_stands.proofs.Holding.{ids_kept, map_same, slots_set, state_handle}
 pub use Rattle.uv_stands.proofs.Lists.{Listed, all_but_one, beside_lists, list_is, list_stays}
 pub use Rattle.uv_stands.proofs.Naming.{record_there}
@@ -60,12 +60,12 @@ pub use Rattle.uv_step.specs.Image.{Held, Image, OnlyTimed, image_of, timed_of, 
 pub use Rattle.uv_step.specs.Record.{Record}
 pub use Rattle.uv_timer.specs.Changes.{becoming, firing, set_at, starting, starting_again, stopping}
 pub use Rattle.uv_timer.specs.Timed.{Timed, with_arena}
-pub use Rattle.uv_timer.specs.Timers.{IsCollected, IsFired, IsRescheduled, NoneIsDue, NoneIsReady, cleared}
+pub use Rattle.uv_timer.specs.Timers.{IsCollected, IsDue, IsFired, IsRescheduled, NoneIsDue, NoneIsReady, cleared}
 pub use Rattle.uv_timer.specs.declared.change.TimerChange.{TimerChange}
 pub use Rattle.uv_timer.specs.declared.change.Times.{Times}
 pub use Rattle.uv_timer.specs.declared.undo.CollectUndo.{CollectUndo}
 pub use Rattle.uv_timer.specs.declared.undo.TimerUndo.{TimerUndo}
-pub use Rattle.uv_timing.specs.Section.{Collects, CollectsNone, Fires, FiresNone, ids_of}
+pub use Rattle.uv_timing.specs.Section.{Calls, Collects, CollectsNone, Fires, FiresNone, ids_of}
 pub use Rattle.uv_work.specs.Content.{handle_of}
 pub use Rattle.uv_work.specs.declared.content.Content.{Content}
 pub use Rattle.uv_work.specs.declared.content.Content.TheVariants.{Handle}

@@ -1,7 +1,7 @@
 -- Two lists of the same entries in order are one list, where no two are due alike.
 use Rattle.uv_timing.proofs.Names.{◌≡◌, ◌⊎◌, inl, inr, ℕ, suc, ◌+◌, ◌<◌, Bool, true, false, cond, count_by, List, [], ◌∷◌, map, refl, sym, ap, ◌∙◌, subst, arith, slice_index_or, Result, Ok, Err, IfOk, IsPermutation, IsSortedBy, cases_Bool, false≢true, sum_by-IsPermutation, sum_by-cons, Id, Due, Entry, no_entry, is_before, is_same, NoneBefore, IsBeforeAll, IsOrdered, IsInOrder, counts_itself, ranks, same_is, State, timer_ids, InOrder, IsReached, Place, Content, Image, OfEach, StandsFor, timer_in, ids_of}
 use Rattle.uv_arena.specs.Image as arena
-use Rattle.uv_timing.proofs.Collects.{before_all}
+use Rattle.uv_timing.proofs.DueFirst.{before_all}
 
 abbrev one : (Entry → Bool) → Entry → ℕ
 one p x = cond (p x) 1 0

@@ -81,7 +81,7 @@ again_timer h e = (only_so (is_timer h.kind) (invalid_if (h.closing || not h.beg
 -- ---- a start of a timer that is stopped
 
 module _ (i : Image Place) (n : Timed Content) (room : ℕ) (d : Id) (h : HandleRecord) (u : TimerUndo) (s : State) (stands : StandsFor i s)
-    (reached : IsReached s) (fit : IsFit i) (allowed : again_refusal h ≡ None) where
+    (reached : IsReached s) (fit : IsFit i) (timer : is_timer h.kind ≡ true) (unclosed : h.closing ≡ false) where
   restarted_by : (b : Bool)
       → IsRescheduled handle_of Handle room (timed_of i) n d
       (if b then becoming h (records.stopped h) None else starting i.times h h.repeat h.repeat) u
@@ -89,10 +89,9 @@ module _ (i : Image Place) (n : Timed Content) (room : ℕ) (d : Id) (h : Handle
   restarted_by true x =
       let leaves : becoming h (records.stopped h) None ≡ stopping h =
       ap (λ (b : Bool). (let c : TimerChange = record { from = h; to = records.stopped h; leaves = not b; due = None } in c))
-      (sym (again_unclosed h allowed)) in
-      stopped_retimed i n room d h u (subst (λ c. IsRescheduled handle_of Handle room (timed_of i) n d c u) leaves x) s stands reached fit
-      (again_timer h allowed)
-  restarted_by false x = started_retimed i n room d h h.repeat h.repeat u x s stands reached fit (again_unclosed h allowed)
+      (sym unclosed) in
+      stopped_retimed i n room d h u (subst (λ c. IsRescheduled handle_of Handle room (timed_of i) n d c u) leaves x) s stands reached fit timer
+  restarted_by false x = started_retimed i n room d h h.repeat h.repeat u x s stands reached fit unclosed
 
   pub restarted_retimed : IsRescheduled handle_of Handle room (timed_of i) n d (starting_again i.times h) u
       → AreRetimed (retimed i n) s (restarted (stopped s d h) d h)
@@ -122,11 +121,15 @@ module _ (r : Record Place) (h w : Held Place) (d : Id) (from : HandleRecord) (c
         (start_unclosed from allowed)),
   )
 
+  pub restart_does : c ≡ starting_again h.image.times from → (s : State) → StandsFor h.image s → IsReached s → is_timer from.kind ≡ true
+      → from.closing ≡ false → StandsFor w.image (restarted (stopped s d from) d from)
+  restart_does is s stands reached timer unclosed = stands_then h.image w.image s _ frame stands (only_restarted s d from)
+      (restarted_retimed h.image (timed_of w.image) w.room d from by.undo s stands reached fit timer unclosed (changed _ is))
+
   pub again_does : again_refusal from ≡ None → c ≡ starting_again h.image.times from
       → Does (λ s. again s d from) h.image w.image (answer.Code success)
   again_does allowed is s stands reached = (
     restarted (stopped s d from) d from,
     refl,
-    stands_then h.image w.image s _ frame stands (only_restarted s d from)
-        (restarted_retimed h.image (timed_of w.image) w.room d from by.undo s stands reached fit allowed (changed _ is)),
+    restart_does is s stands reached (again_timer from allowed) (again_unclosed from allowed),
   )

@@ -9,7 +9,7 @@ use Rattle.uv_requests.specs.Working.{id_in}
 use Rattle.uv_model.specs.declared.place.Place.{Place}
 use Rattle.uv_model.specs.Next.{first_due, collected}
 use Rattle.uv_model.specs.State.{front}
-use Rattle.uv_model.specs.Timers.{restarted}
+use Rattle.uv_model.specs.Timers.{stopped, restarted}
 use Rattle.uv_work.specs.declared.content.Content.{Content}
 use Rattle.uv_step.specs.Image.{Image}
 use Rattle.uv_stands.specs.Doing.{OfEach}
@@ -27,6 +27,11 @@ CollectsNone i = OfEach i (λ s. first_due s s.timers ≡ None)
 abbrev pub Fires : Image Place → Image Place → Id → Var → Type 0
 Fires i j d v = OfEach i (λ s. (h : HandleRecord) × (front s s.ready ≡ Some (d, h)) × (h.name ≡ v)
     × StandsFor j (restarted (record s { ready = drop 1 s.ready }) d h))
+
+-- the first timer, of this name, is due, and is called straight from the heap: it is stopped, and set again if it repeats
+abbrev pub Calls : Image Place → Image Place → Id → Var → Type 0
+Calls i j d v = OfEach i (λ s. (h : HandleRecord) × (first_due s s.timers ≡ Some (d, h)) × (h.name ≡ v)
+    × StandsFor j (restarted (stopped s d h) d h))
 
 -- none is set aside
 abbrev pub FiresNone : Image Place → Type 0

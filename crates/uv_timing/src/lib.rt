@@ -8,5 +8,5 @@ mod timers;
 
 pub use closing::close_handle;
 pub use order::timer_ids;
-pub use section::{collect_timer, fire_timer};
+pub use section::{call_first, collect_timer, fire_timer};
 pub use timers::{start_again, start_timer, stop_timer};

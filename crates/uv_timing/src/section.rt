@@ -1,14 +1,15 @@
-//! The section of timers: those that are due are collected, and then the ready ones are called.
+//! The section of timers: those that are due are collected, and then the ready ones are called; or each is called straight from the heap.
 ghost use Rattle.std.specs.Prelude.{◌≡◌, IfSome, IfNone};
 ghost use Rattle.uv_step.specs.Image.{held};
 ghost use Rattle.uv_step.specs.Undo.{Recorded};
 ghost use Rattle.uv_stands.specs.Ready.{IsReady};
-ghost use Rattle.uv_timing.specs.Section.{Collects, CollectsNone, Fires, FiresNone};
+ghost use Rattle.uv_timing.specs.Section.{Collects, CollectsNone, Fires, FiresNone, Calls};
 
 use uv_handle::handle_at;
 use uv_ids::{Id, Var};
 use uv_model::Place;
 use uv_step::Memory;
+use uv_timer::{TimerChange, first_due};
 
 /// Sets the first timer aside to be called, if it is due. None, and nothing changed, where none is due.
 pub fn collect_timer(memory: &mut Memory<Place>) -> Option<Id>
@@ -44,5 +45,27 @@ pub fn fire_timer(memory: &mut Memory<Place>) -> Option<(Id, Var)>
             Err(_) => unreachable!(),
             Ok(handle) => Some((id, handle.name)),
         },
+    }
+}
+
+/// Takes the first timer off the heap, if it is due, and sets it again if it repeats: its id and its name, which is to be called now.
+/// None, and nothing changed, where none is due.
+pub fn call_first(memory: &mut Memory<Place>) -> Option<(Id, Var)>
+    requires ready { IsReady (held memory.old) }
+    ensures recorded { IfSome result (λ _. Recorded memory.new.step_record (held memory.old) (held memory.new)) }
+    ensures calls { IfSome result (λ r. Calls (held memory.old).image (held memory.new).image r.0 r.1) }
+    ensures none { IfNone result (CollectsNone (held memory.old).image) }
+    ensures unchanged { IfNone result (held memory.new ≡ held memory.old) }
+    ensures pieces { memory.new.slots.room ≡ memory.old.slots.room }
+{
+    memory.is_fit();
+    memory.is_sound();
+    match first_due(memory.slots(), memory.heap(), memory.times().time) {
+        None => None,
+        Some((id, handle)) => {
+            let change = TimerChange::again(memory.times(), handle);
+            memory.reschedule(id, change);
+            Some((id, handle.name))
+        }
     }
 }

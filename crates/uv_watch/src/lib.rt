@@ -6,6 +6,6 @@ mod undo;
 mod walk;
 mod watchers;
 
-pub use undo::WalkUndo;
+pub use undo::{StartUndo, WalkUndo};
 pub use walk::{begin, move_on, take, undo_begin, undo_take};
 pub use watchers::{enlist, halt, send, start, stop, undo_send, undo_start, undo_stop};

@@ -1,5 +1,6 @@
 use Rattle.uv_step.specs.Image.{held, image_of}
-use Rattle.uv_timing.proofs.Collects.{timer_collects, none_collects}
+use Rattle.uv_timing.proofs.Collects.{timer_collects}
+use Rattle.uv_timing.proofs.DueFirst.{none_collects}
 use Rattle.uv_timing.proofs.section.collect_timer.Goals as goal
 
 pub returns-in-None-clause-none : goal.returns-in-None-clause-none
