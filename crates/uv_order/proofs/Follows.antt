@@ -1,5 +1,5 @@
 -- A whole step goes on from where the state stands, and so does every list of them.
-use Rattle.uv_order.proofs.Names.{arith, ◌≡◌, ℕ, suc, ◌+◌, ◌||◌, ◌&&◌, List, [], ◌∷◌, ◌++◌, Bool, true, false, Option, Some, None, Result, Ok, Err, drop, length, slice_get, slice_set, nat_le, nat_lt, refl, ap, sym, subst, ◌∙◌, if◌then◌else◌, list_any, cond_both, eq-eqb, Order, V144, V145, Id, Var, Event, Loop, Take, Finish, Cancel, Send, Io, Tick, Answer, Mode, Default, Once, Nowait, Phase, Site, Op, MainOp, CallbackLine, Program, lines_in, main_op, order_of, from_heap, HandleRecord, Slot, held, Why, Content, content_pends, handle_in, Request, has_some, without_id, has_pending, has_passed, Body, Run, Stage, TimersOf, AtEntry, Collecting, Firing, Place, State, fresh, handle, live_handle, with_handle, with_request, refreshed, do_op, may_leave, body_from, next_work, work_of, Names, Told, nothing_told, lasting, Section, In, word_of, Standing, Answering, Begun, Within, Polling, Position, Between, Running, sites_from, taken_off, BeginsIn, BeginsAt, phase_of}
+use Rattle.uv_order.proofs.Names.{arith, ◌≡◌, ℕ, ◌+◌, ◌||◌, ◌&&◌, List, [], ◌∷◌, ◌++◌, Bool, true, false, Option, Some, None, Result, Ok, Err, drop, length, slice_get, slice_set, nat_le, nat_lt, refl, ap, sym, subst, ◌∙◌, if◌then◌else◌, cond_both, Order, V144, V145, Id, Var, Event, Loop, Take, Finish, Cancel, Send, Io, Tick, Answer, Mode, Default, Once, Nowait, Phase, Site, Op, MainOp, CallbackLine, Program, lines_in, main_op, order_of, from_heap, HandleRecord, held, Why, Request, has_some, without_id, has_pending, has_passed, Body, Run, Stage, TimersOf, AtEntry, Collecting, Firing, Place, State, fresh, handle, live_handle, with_handle, with_request, refreshed, do_op, may_leave, body_from, next_work, work_of, Names, Told, nothing_told, lasting, Section, In, word_of, Standing, Answering, Begun, Within, Polling, Position, Between, Running, sites_from, taken_off, BeginsIn, BeginsAt, phase_of}
 use Rattle.std.specs.Prelude.{option_map}
 use Rattle.uv_ids.specs.declared.code.Code.TheVariants as code
 use Rattle.uv_ids.specs.declared.code.Answer.TheVariants as answer
@@ -28,7 +28,7 @@ use Rattle.uv_order.proofs.Asked.{takes_front, runs_work, request_turns}
 use Rattle.uv_order.proofs.Bodies.{IsBody, is_body}
 use Rattle.uv_order.proofs.OpEffects.{op_effect}
 use Rattle.uv_order.proofs.Counted.{Counted, counted_kept, counted_sent, counted_fresh}
-use Rattle.uv_order.proofs.Sends.{pends_in, pends, SentAt, still_sent, pass_more, pends_more}
+use Rattle.uv_order.proofs.Sends.{pends_in, SentAt, still_sent, pass_more, pends_more}
 use Rattle.uv_order.proofs.Standing.{left_all, begun_with, are_ended, section_of, StandsIn, waiting, rest_in, AsyncIn, rest, Leaves, NobodyLeft, due_now, StandsAt, Stands, FollowsLine, Follows, idle_next, done_next, empty_over, opens_done, opens_unwoken, async_moved, begun, pending, walking, polls, polled, done, unwoken, closing, collects, fires, calls_due, between, running}
 use Rattle.uv_order.proofs.TimersFollow.{turn_follows, fire_follows, collect_follows, call_due_follows}
 use Rattle.uv_order.proofs.IoFollows.{io_follows}

@@ -1,9 +1,6 @@
 -- Callbacks of I/O: the step that begins one goes on from where the state stands.
-use Rattle.uv_order.proofs.Names.{arith, ◌≡◌, ℕ, ◌&&◌, ◌||◌, List, [], ◌∷◌, Bool, true, false, not, Option, Some, None, Result, Ok, Err, length, nat_lt, refl, ap, sym, subst, ◌∙◌, cond_both, and_parts, Id, Var, Mode, Code, Site, Program, from_heap, has_io, HandleRecord, is_io, Body, Run, Stage, Place, State, live_handle, has_some, io_run, io_handle, is_woken, stage_polled, takes_io, time_polled, Told, IsActive, MayAnswer, lasting, In, Standing, Polling, Answering, Within, Position, Running, body_of, next_call}
-use Rattle.uv_ids.specs.declared.phase.Kind.TheVariants as kind
-use Rattle.uv_ids.specs.declared.phase.Phase.TheVariants as phase
+use Rattle.uv_order.proofs.Names.{arith, ◌≡◌, ℕ, ◌&&◌, ◌||◌, List, [], Bool, true, not, Option, Some, None, Result, Ok, Err, length, nat_lt, refl, ap, subst, ◌∙◌, cond_both, and_parts, Id, Var, Mode, Code, Site, Program, from_heap, has_io, HandleRecord, is_io, Body, Run, Stage, Place, State, live_handle, has_some, io_run, io_handle, stage_polled, takes_io, time_polled, Told, MayAnswer, lasting, Standing, Answering, Position, Running, body_of, next_call}
 use Rattle.uv_ids.specs.declared.seen.Callback.TheVariants as callback
-use Rattle.uv_ids.specs.declared.seen.Seen.TheVariants as seen
 use Rattle.uv_records.specs.declared.lists.WatcherKind.TheVariants as watcher
 use Rattle.uv_model.specs.declared.place.Place.TheVariants as place
 use Rattle.uv_model.specs.declared.place.Stage.TheVariants as stage
@@ -11,7 +8,6 @@ use Rattle.uv_model.specs.Next as step
 use Rattle.uv_order.specs.Documented as doc
 use Rattle.uv_order.specs.Documented.{Walk}
 use Rattle.uv_order.proofs.OpCases.{io_kind, live_held}
-use Rattle.uv_order.proofs.Bodies.{IsBody}
 use Rattle.uv_order.proofs.Counted.{Counted, counted_sent, told_call}
 use Rattle.uv_order.proofs.Sends.{SentAt}
 use Rattle.uv_order.proofs.Woken.{pending_is}

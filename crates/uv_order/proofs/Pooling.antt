@@ -1,5 +1,5 @@
 -- Each line is the event of the thread pool that it says, by the rules of the pool.
-use Rattle.uv_order.proofs.Names.{arith, ◌≡◌, ℕ, ◌||◌, List, [], ◌∷◌, ◌++◌, map, Bool, true, false, Option, Some, None, Ok, drop, slice_set, refl, ap, sym, subst, ◌∙◌, append_assoc, append-nil, map-append, or_comm, list_any, both_ways, or_right, false_from_ne_true, same_Some, none-some, Id, Var, Code, Answer, Site, Slot, all_yet, held, freed, next_free, Op, Task, Program, arena_size, op_at, text_of, Pool, runs, is_done, has, without, collected_from, after_event, after_events, is_open, Finished, Cancelled, Content, Request, request_in, same_id, without_id, State, request, live_request, refreshed, do_op, Next, Moves, Refuses, has_id, AreDistinct, run_ids, op_events, outside_events, line_events, was_finished, done_as, pool_of}
+use Rattle.uv_order.proofs.Names.{arith, ◌≡◌, ℕ, ◌||◌, List, [], ◌∷◌, ◌++◌, map, Bool, true, false, Option, Some, None, Ok, drop, slice_set, refl, ap, sym, subst, ◌∙◌, append_assoc, append-nil, map-append, or_comm, list_any, both_ways, or_right, false_from_ne_true, same_Some, none-some, Id, Var, Code, Answer, Site, Slot, all_yet, held, freed, next_free, Op, Task, Program, arena_size, op_at, text_of, Pool, runs, is_done, has, without, collected_from, after_event, after_events, is_open, Finished, Cancelled, Content, Request, request_in, same_id, without_id, State, request, live_request, do_op, Next, Moves, Refuses, has_id, AreDistinct, run_ids, op_events, outside_events, line_events, was_finished, done_as, pool_of}
 use Rattle.uv_ids.specs.declared.code.Answer.TheVariants as answer
 use Rattle.uv_ids.specs.declared.seen.Seen.TheVariants as seen
 use Rattle.uv_script.specs.declared.op.Op.TheVariants as op

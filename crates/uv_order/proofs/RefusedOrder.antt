@@ -1,5 +1,5 @@
 -- What the documented order refuses.
-use Rattle.uv_order.proofs.Names.{arith, ◌≡◌, ℕ, List, [], ◌∷◌, ◌++◌, Bool, true, false, Option, Some, refl, ap, sym, subst, ◌∙◌, if◌then◌else◌, not, both_ways, same_Some, Id, Var, Due, Success, Answer, Mode, Phase, Callback, Seen, Site, Op, Program, from_heap, op_at, State, Line, has_id, closes_some, may_wait, bound, Names, names_by, taken_off, Told, nothing_told, told_by, Lasting, lasting, Section, word_of, In, is_called, Standing, IsCallLine, CallsNext, Within, Position, Between, Running, Goes, GoesOn, line, at_first, past_after, is_within, AllWithin, is_send_op, is_send, AllSilent, RefusedOrder}
+use Rattle.uv_order.proofs.Names.{arith, ◌≡◌, ℕ, List, [], ◌∷◌, ◌++◌, Bool, true, false, Option, Some, refl, ap, sym, subst, ◌∙◌, if◌then◌else◌, not, both_ways, same_Some, Id, Var, Due, Success, Answer, Mode, Phase, Callback, Seen, Site, Op, Program, from_heap, op_at, State, Line, has_id, closes_some, may_wait, bound, Names, names_by, taken_off, Told, nothing_told, told_by, Lasting, lasting, Section, word_of, In, is_called, Standing, IsCallLine, CallsNext, MayAnswer, Within, Position, Between, Running, Goes, GoesOn, line, at_first, past_after, is_within, AllWithin, is_send_op, is_send, AllSilent, RefusedOrder, holds_io}
 use Rattle.uv_ids.specs.declared.code.Answer.TheVariants as answer
 use Rattle.uv_ids.specs.declared.phase.Phase.TheVariants as phase
 use Rattle.uv_ids.specs.declared.seen.Callback.TheVariants as callback
@@ -68,11 +68,12 @@ section_on p at told past was l word ls e (line {to = to} f g h) =
 
 -- ---- the lines of a section
 
--- what the line of a call or of an op says where the walk then is this
+-- what the line of a call, of an op or of a callback of I/O says where the walk then is this
 abbrev Tells : Program → Told → Names → Section → Walk → Walk → Seen → Type 0
 Tells p told names part w walk (seen.Call v id) = (from_heap p ≡ false → has_id w.off id ≡ false) × (is_called (word_of part) told id ≡ true)
 Tells p told names part w walk (seen.Op place a) =
     (o : Op) → op_at p place ≡ Some o → (id : Id) → has_id (taken_off (word_of part) names o a) id ≡ true → has_id walk.off id ≡ true
+Tells p told names part w walk (seen.Io v id) = holds_io (word_of part) ≡ true
 Tells p told names part w walk each = Unit {0}
 
 -- a walk goes on, and who was taken off stays so
@@ -97,6 +98,12 @@ record Answered (part : Section) (w : Walk) (to : Standing) : Type 0 where
 answered : (s : State) (told : Told) (body : List Site) (part : Section) (w : Walk) → Answered part w (doc.answering s told body (Within part w))
 answered s told body (In phase.Async) w = record { walk = record w { ahead = []; body = body }; is = refl; off = refl }
 answered s told body part w = record { walk = record w { body = body }; is = refl; off = refl }
+
+answers_in : (part : Section) (w : Walk) → MayAnswer (Within part w) → holds_io (word_of part) ≡ true
+answers_in (In phase.Pending) w a = refl
+answers_in (In phase.Done) w a = refl
+answers_in (In phase.Async) w a = refl
+answers_in part w a = absurd a
 
 -- who is called in a section wasn't taken off
 call_tells : (p : Program) (told : Told) (names : Names) (part : Section) (w walk : Walk) (s : State) (kind : Callback) (v : Var) (id : Id)
@@ -124,7 +131,7 @@ stays p told names m i part w l to e g = at to e g where
   at to e (doc.answers v id a b c d f g) =
       let s = answered l.before told (body callback.Handle v) part w in
       subst (λ (y : Standing). Stays p told names m i part w (Running m i y) l.seen) (sym s.is)
-      (so s.walk (λ x on. ap (λ (ids : List Id). has_id ids x) s.off ∙ on) (seen.Io v id) f tt)
+      (so s.walk (λ x on. ap (λ (ids : List Id). has_id ids x) s.off ∙ on) (seen.Io v id) f (answers_in part w b))
   at to e (doc.body_op place rest o a b c d f) =
       let off : List Id = taken_off (word_of part) names o a in
       so (record w { off = off ++ w.off; body = rest }) (λ x on. still_off off w.off x on) (seen.Op place a) d
@@ -224,6 +231,14 @@ off_started : (names : Names) (v : Var) (id : Id) (timeout repeat : ℕ) (word :
     has_id (taken_off word names (op.Start v timeout repeat) (answer.Code Success)) id ≡ true
 off_started names v id timeout repeat word e f = grind (arith, itself)
 
+-- a callback of I/O stands in such a section
+io_on : (p : Program) (m : Mode) (i : ℕ) (part : Section) (w : Walk) (told : Told) (past : List Seen) (was : Lasting) (l : Line) (v : Var)
+    (id : Id) (ls : List Line) → l.seen ≡ seen.Io v id → GoesOn p (Running m i (Within part w)) told past was (l ∷ ls) →
+    holds_io (word_of part) ≡ true
+io_on p m i part w told past was l v id ls e (line {to = to} f g h) =
+    let s = stays p told (names_by p past) m i part w l to (ap is_within e) g in
+    subst (Tells p told (names_by p past) part w s.walk) e s.tells
+
 pub refused : (p : Program) (before more : List Line) → RefusedOrder p before more
 refused p before more = record {
   closing_waits = λ l timeout shut d e h.
@@ -261,4 +276,9 @@ refused p before more = record {
       both_ways (has_id (told_after p told gone (a ∷ mid)).sent id)
       (absent_on p mid _ (a.seen ∷ gone) id mq (absent_called p told (names_by p gone) a.seen v id ea))
       (sent_on p one.mode one.number one.part two.walk told gone two.was (a ∷ mid) b x id more one.its (ap is_within ea, ms) eb two.rest);
+  io_elsewhere = λ s l front word v id apart es fs el h.
+      let k = behind p before (s ∷ (front ++ l ∷ more)) (Between 0) nothing_told [] at_first h in
+      let b = section_on p k.at _ _ k.was s word (front ++ l ∷ more) es k.goes in
+      let one = within_on p b.mode b.number b.part front (l ∷ more) b.walk _ _ b.was fs b.rest in
+      both_ways (holds_io word) apart (ap holds_io (sym b.its) ∙ io_on p b.mode b.number b.part one.walk _ _ one.was l v id more el one.rest);
 }

@@ -1,5 +1,5 @@
 -- Where a state stands in the documented order, and the lists of the sections there.
-use Rattle.uv_order.proofs.Names.{arith, ◌≡◌, ℕ, List, [], ◌++◌, Bool, true, false, Option, Some, None, refl, ap, sym, subst, ◌∙◌, append-nil, Order, V144, V145, Id, Due, Kind, Mode, Default, Once, Nowait, Phase, Seen, Site, Program, Body, Run, Stage, TimersOf, Turn, AtEntry, Behind, BehindClosing, Way, ToTimers, ToPending, ToEnd, Collecting, Firing, Place, Listed, Slot, Content, State, Next, Moves, Refuses, way, time_at, idled_at, idled_then, from_heap, Line, has_id, IsTimer, AreTimers, AreDistinct, AreActive, AreClosing, IsEnded, AreEnded, IsOpened, AreOpened, run_ids, Told, told_by, AllOffOrUnsent, lasting, Section, Entry, In, word_of, part_after, part_of, Opens, IsOver, Standing, Answering, Begun, Within, Polling, Position, Between, Running, Goes, WatcherKind, phase_of}
+use Rattle.uv_order.proofs.Names.{arith, ◌≡◌, ℕ, List, [], ◌++◌, Bool, true, false, Option, Some, None, refl, ap, subst, ◌∙◌, append-nil, Order, V144, V145, Id, Due, Kind, Mode, Default, Once, Nowait, Phase, Seen, Site, Program, Body, Run, Stage, TimersOf, Turn, AtEntry, Behind, BehindClosing, Way, ToTimers, ToPending, ToEnd, Collecting, Firing, Place, Listed, Slot, Content, State, Next, Moves, Refuses, way, time_at, idled_at, idled_then, from_heap, Line, has_id, IsTimer, AreTimers, AreDistinct, AreActive, AreClosing, IsEnded, AreEnded, IsOpened, AreOpened, run_ids, Told, told_by, AllOffOrUnsent, lasting, Section, Entry, In, word_of, part_after, part_of, Opens, IsOver, Standing, Answering, Begun, Within, Polling, Position, Between, Running, Goes, WatcherKind, phase_of}
 use Rattle.uv_ids.specs.declared.phase.Phase.TheVariants as phase
 use Rattle.uv_model.specs.declared.place.Stage.TheVariants as stage
 use Rattle.uv_model.specs.declared.place.TimersOf.TheVariants as timers_of

@@ -1,5 +1,5 @@
 -- The timers in their order: one is put in, one is taken out, and those that are due stand in front.
-use Rattle.uv_order.proofs.Names.{cond_both, ◌≡◌, ◌⊎◌, inl, inr, ℕ, ◌<◌, ◌≤◌, List, [], ◌∷◌, Bool, true, false, cond, nat_le, refl, ap, sym, ◌∙◌, arith, filter, ordering_then, nat_cmp, is_eq, ordering_reverse, MatchOrdering, is_at, Ordering, Less, Equal, Greater, nat_tests, ranked, tied_itself, due_cmp, Id, Due, with_timer, without_timer, Has, Before, InOrder, has_id, AreDistinct, due_cmp_total}
+use Rattle.uv_order.proofs.Names.{cond_both, ◌≡◌, ◌⊎◌, inl, inr, ℕ, ◌<◌, ◌≤◌, List, [], ◌∷◌, true, false, nat_le, refl, ap, sym, ◌∙◌, arith, filter, ordering_then, nat_cmp, is_eq, ordering_reverse, MatchOrdering, is_at, Ordering, Less, Equal, Greater, nat_tests, ranked, tied_itself, due_cmp, Id, Due, with_timer, without_timer, Has, Before, InOrder, has_id, AreDistinct, due_cmp_total}
 use Rattle.std.specs.Prelude.{map}
 use Rattle.uv_order.proofs.IdLists.{same}
 

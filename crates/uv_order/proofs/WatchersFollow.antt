@@ -45,10 +45,10 @@ opens_watched p told s t q woken has k e = record {
   body = refl;
   kept = refl;
 } where
-    at : (q : WatcherKind) → AreActive s (kind_as q) (watched s q).list →
-        doc.HasList (phase_of q) (record { before = s; seen = seen.Section (phase_of q); after = t }) (watched s q).list
-    at watcher.Idle are = (refl, are)
-    at each are = (refl, are)
+  at : (q : WatcherKind) → AreActive s (kind_as q) (watched s q).list →
+      doc.HasList (phase_of q) (record { before = s; seen = seen.Section (phase_of q); after = t }) (watched s q).list
+  at watcher.Idle are = (refl, are)
+  at each are = (refl, are)
 
 -- where nobody is left, none of a kind is yet to run
 none_yet : (s : State) (q : WatcherKind) → NobodyLeft (rest s.ready s) → (watched s q).yet ≡ []

@@ -5,6 +5,7 @@ use Rattle.uv_ids.specs.declared.id.Id.{Id}
 use Rattle.uv_ids.specs.declared.id.Var.{Var}
 use Rattle.uv_ids.specs.declared.code.Code.TheVariants.{Ok as Success}
 use Rattle.uv_ids.specs.declared.code.Answer.TheVariants as answer
+use Rattle.uv_ids.specs.declared.phase.Phase.{Phase}
 use Rattle.uv_ids.specs.declared.phase.Phase.TheVariants as phase
 use Rattle.uv_ids.specs.declared.seen.Seen.{Seen}
 use Rattle.uv_ids.specs.declared.seen.Seen.TheVariants as seen
@@ -48,6 +49,13 @@ abbrev pub AllSilent : Program → List Line → Type 0
 AllSilent p [] = Unit {0}
 AllSilent p (l ∷ ls) = (is_send p l.seen ≡ false) × AllSilent p ls
 
+-- a section in which a callback of I/O may begin
+abbrev pub holds_io : Phase → Bool
+holds_io phase.Pending = true
+holds_io phase.Done = true
+holds_io phase.Async = true
+holds_io word = false
+
 -- by the lines alone
 pub record RefusedOnce (p : Program) (before more : List Seen) : Type 0 where
   -- a cancel answers ok without an id, from outside or as an op
@@ -76,3 +84,6 @@ pub record RefusedOrder (p : Program) (before more : List Line) : Type 0 where
   pub called_again : (s a b : Line) (front mid : List Line) (v x : Var) (id : Id) → s.seen ≡ seen.Section phase.Async → AllWithin front →
       a.seen ≡ seen.Call v id → AllWithin mid → AllSilent p mid → b.seen ≡ seen.Call x id →
       Documented p (before ++ s ∷ (front ++ a ∷ (mid ++ b ∷ more))) → ⊥
+  -- a callback of I/O begins in a section of timers, or of idle, prepare, check or closing handles
+  pub io_elsewhere : (s l : Line) (front : List Line) (word : Phase) (v : Var) (id : Id) → holds_io word ≡ false →
+      s.seen ≡ seen.Section word → AllWithin front → l.seen ≡ seen.Io v id → Documented p (before ++ s ∷ (front ++ l ∷ more)) → ⊥
