@@ -56,12 +56,7 @@ refusal_after p es = refusal_of (next p (after p es) Loop)
 
 abbrev pub is_poll : Stage → Bool
 is_poll (Poll deadline) = true
-is_poll Entry = false
-is_poll Pending = false
-is_poll (Walking kind) = false
-is_poll Done = false
-is_poll Closing = false
-is_poll (Timers part _) = false
+is_poll stage = false
 
 -- the loop is at a poll
 abbrev pub is_polling : Place → Bool
