@@ -252,6 +252,7 @@ due_front s (u ∷ ts) t e = at (nat_le u.0.at s.time) e where
   its_front : (h : Option HandleRecord) → handle s u.1 ≡ h → with_id u.1 h ≡ Some t → front s (t.0 ∷ []) ≡ Some t
   its_front None f g = absurd (none-some t g)
   its_front (Some h) f g = subst (λ (x : Id × HandleRecord). front s (x.0 ∷ []) ≡ Some x) (same_Some _ _ g) (rw f refl)
+
   at : (b : Bool) → (if b then with_id u.1 (handle s u.1) else None) ≡ Some t → front s (t.0 ∷ []) ≡ Some t
   at true g = its_front (handle s u.1) refl g
   at false g = absurd (none-some t g)
