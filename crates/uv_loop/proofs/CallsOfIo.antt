@@ -1,5 +1,5 @@
 -- What the event of I/O is answered, by what the memory shows.
-use Rattle.uv_loop.proofs.Names.{◌≡◌, ◌<◌, ◌≤◌, suc, Bool, if◌then◌else◌, length, Option, Some, None, refl, sym, ap, ◌∙◌, inl, inr, arith, lt-ltb, leb_tells, Id, Var, Io, Seen, Blocked, Range, Program, Run, Place, Running, State, live_handle, Moves, Refuses, IsMove, call_io, calls, io_handle, io_run, stage_polled, time_polled, named, Image, StandsFor, OfEach, Goes, MayCall, Leads}
+use Rattle.uv_loop.proofs.Names.{◌≡◌, ◌<◌, ◌≤◌, suc, Bool, if◌then◌else◌, length, Option, Some, sym, ap, ◌∙◌, inl, inr, arith, lt-ltb, leb_tells, Id, Var, Io, Seen, Range, Program, Run, Place, Running, State, live_handle, Refuses, IsMove, call_io, calls, io_handle, io_run, stage_polled, time_polled, named, Image, StandsFor, OfEach, Goes, MayCall, Leads}
 use Rattle.uv_ids.specs.declared.seen.Seen.TheVariants as seen
 use Rattle.uv_ids.specs.declared.seen.Callback.TheVariants as callback
 use Rattle.uv_model.specs.Next.{next}
