@@ -30,9 +30,9 @@ WORDS = {
         rf"|start %{NUMBER}(?: \d{{1,20}} \d{{1,20}})? = {CODE}|repeat %{NUMBER} \d{{1,20}} = {CODE}"
         rf"|(?:stop|again|close|ref|unref|send|cancel) %{NUMBER} = {CODE}|(?:closeloop|stoploop|updatetime) = {CODE}"
     ),
-    "E": re.compile(NUMBER),
+    "E": re.compile(rf"{NUMBER}(?: \+)?"),
     "B": re.compile(rf"on {NUMBER} [a-z_]+(?: [A-Za-z0-9_-]+){{0,2}}|after {NUMBER} (?:ok|ECANCELED)|closed {NUMBER}"),
-    "R": re.compile("default|once|nowait"),
+    "R": re.compile(r"(?:default|once|nowait)(?: \+)?"),
     "r": re.compile("[01]"),
     "P": re.compile(r"-?\d{1,10}"),
     "p": re.compile(r"-?\d{1,10}"),

@@ -178,7 +178,7 @@ def notes_of(made: Made, note: str) -> Notes:
     outside = {at for at, it in enumerate(steps, 1) if it.split(" ")[0] in ("send", "take", "finish")}
     return Notes(
         part_of(made, note), {it.name: (it.kind, it.text) for it in made.program.origins}, made.program.functions,
-        outside - made.outcome.known, foreign_lines(made), made.outcome.outside, made.outcome.times,
+        outside - made.outcome.known, foreign_lines(made), made.outcome.outside, made.outcome.times, made.program.came, made.polls.said(),
     )
 
 

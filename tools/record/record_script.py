@@ -177,7 +177,7 @@ class Maker:
         self.call: Item | None = None
         self.stray: list[Item] = []
         self.runs = 0
-        self.where = Where(has_polls)
+        self.where = Where(has_polls, log.form > 1)
 
     # ---- names
 
@@ -410,6 +410,7 @@ class Maker:
         if not self.depth or not self.call:
             return False
         self.depth -= 1
+        self.where.see_put_off(event.words.endswith("+"))
         # (a close callback that began early goes on with the one that libuv calls last)
         if self.depth == 0:
             call = self.call
@@ -431,10 +432,11 @@ class Maker:
             case "E":
                 return self.read_end(event)
             case "R" if not self.depth and not self.runs:
+                mode, _, put_off = event.words.partition(" ")
                 self.runs += 1
-                self.where.see_run(event.words)
-                self.program.main.append(f"run {event.words}")
-                self.add(event, "run", text=event.words)
+                self.where.see_run(mode, bool(put_off))
+                self.program.main.append(f"run {mode}")
+                self.add(event, "run", text=mode)
             case "r":
                 if not self.runs or self.depth:
                     return False

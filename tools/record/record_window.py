@@ -70,7 +70,7 @@ def window(events: list[Event], time: int, form: int) -> tuple[list[Event], int]
         raise Fault(f"no recording can begin at {time} ms of the log{first}")
     at = before[-1]
     now, begin = events[at - 1].now, begin_of(events, at)
-    mode = next((it.words for it in reversed(events[:begin]) if it.type == "R"), "default")
+    mode = next((it.words.split(" ")[0] for it in reversed(events[:begin]) if it.type == "R"), "default")
     places = [it for it in events[:at] if it.type in "CV"]
     kept = [it for it in events[begin:] if it.type != "K" and (it.type not in "CV" or it.line > events[at - 1].line)]
     run = Event("R", 0, NO_CLOCK, mode, events[at - 1].line)

@@ -38,13 +38,23 @@ struct object *enter(void *handle, const char *what, const char *known) {
     return object;
 }
 
+/* Are there callbacks of I/O that libuv has put off to the section `pending`? (Its queue's first word leads to itself where it is empty.) */
+static const char *put_off(const struct loop *loop) {
+    const void *queue = &loop->uv->pending_queue;
+    return *(void *const *)queue == queue ? "" : " +";
+}
+
+void write_end(struct loop *loop, int id) {
+    if (loop->uv) write_line(loop, 'E', "%d%s", id, put_off(loop));
+}
+
 /* The handle may be gone by now, and another one have its address. */
 void leave(struct loop *loop, void *handle, int id) {
     lock();
     struct object *object = find(handle);
     if (object && object->id != id) object = NULL;
     if (object) settle(object);
-    write_line(loop, 'E', "%d", id);
+    write_end(loop, id);
     if (object && object->watcher && !object->is_unsettled) {
         object->is_unsettled = true;
         object->next_unsettled = loop->unsettled;
@@ -141,7 +151,7 @@ int uv_run(uv_loop_t *uv, uv_run_mode mode) {
         loop->running++;
         loop->mode = mode;
         loop->begun++, loop->away++;
-        write_line(loop, 'R', "%s", (unsigned)mode < 3 ? MODES[mode] : "default");
+        write_line(loop, 'R', "%s%s", (unsigned)mode < 3 ? MODES[mode] : "default", put_off(loop));
     }
     run_here = loop;
     unlock();
@@ -212,7 +222,7 @@ static void on_closed(uv_handle_t *handle) {
     unlock();
     if (callback) PROGRAM(callback(handle));
     lock();
-    write_line(loop, 'E', "%d", id);
+    write_end(loop, id);
     unlock();
 }
 

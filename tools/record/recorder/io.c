@@ -51,6 +51,12 @@ static struct known bytes_known(ssize_t length) {
     return known;
 }
 
+/* (without a sender there is none) */
+static struct known datagram_known(ssize_t length, const void *from) {
+    struct known none = {"none"};
+    return length == 0 && !from ? none : bytes_known(length);
+}
+
 static struct known exit_known(int64_t status, int number) {
     struct known known;
     snprintf(known.text, sizeof known.text, "%d %d", (int)status, number);
@@ -92,7 +98,7 @@ CALLBACK(on_fs_event, uv_fs_event_cb, callback, "fs_event", bits_known(status, e
          (uv_fs_event_t * handle, const char *name, int events, int status), (handle, name, events, status))
 CALLBACK(on_fs_poll, uv_fs_poll_cb, callback, "fs_poll", status_known(status),
          (uv_fs_poll_t * handle, int status, const uv_stat_t *before, const uv_stat_t *now), (handle, status, before, now))
-CALLBACK(on_receive, uv_udp_recv_cb, callback, "receive", bytes_known(length),
+CALLBACK(on_receive, uv_udp_recv_cb, callback, "receive", datagram_known(length, from),
          (uv_udp_t * handle, ssize_t length, const uv_buf_t *bytes, const struct sockaddr *from, unsigned flags),
          (handle, length, bytes, from, flags))
 

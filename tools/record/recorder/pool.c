@@ -53,7 +53,7 @@ static struct after begin_after(void *request, bool cancelled) {
 
 static void end_after(struct after after) {
     lock();
-    write_line(after.loop, 'E', "%d", after.id);
+    write_end(after.loop, after.id);
     unlock();
 }
 

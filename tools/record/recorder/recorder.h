@@ -118,6 +118,8 @@ extern __thread const char *called;
  * error, ..; "" where that is nothing. */
 struct object *enter(void *handle, const char *what, const char *known);
 void leave(struct loop *loop, void *handle, int id);
+/* The line at which a callback ends. */
+void write_end(struct loop *loop, int id);
 /* The loop that this thread runs, or NULL. */
 struct loop *running_here(void);
 /* The op `init`, of a handle that was made. */
