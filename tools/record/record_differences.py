@@ -23,7 +23,7 @@ def says(item: Item) -> str:
     """What the program did, in words."""
     match item.type:
         case "call" if item.list == "on":
-            what = f" ({item.text})" if item.kind in WATCHERS else ""
+            what = f" ({' '.join(filter(None, (item.text, item.known)))})" if item.kind in WATCHERS else ""
             return f"the program calls the callback of {item.name}{what}"
         case "call" if item.list == "after":
             return f"the program calls the after callback of {item.name} ({item.text})"
