@@ -14,7 +14,7 @@ from conversation import Conversation, Fault, Script, State, read_input
 from dap_breaks import More, Unknown, more_of
 from places import Place, next_line, read_place
 from said import CODES, SECTIONS
-from walk import Walk, longest_way
+from walk import OUTSIDE, Walk, longest_way
 from why import why
 
 OPS = re.compile(r"main |(on|after|closed) \S+ ")
@@ -464,7 +464,7 @@ class Adapter:
             raise Refused("this is no command")
         else:
             lines, reason = self.asked(typed)
-        if typed.split(" ")[0] in ("loop", "take", "finish", "cancel", "send", "tick") and self.talk.length != before:
+        if typed.split(" ")[0] in ("loop", *OUTSIDE) and self.talk.length != before:
             self.done_by_hand(before, typed)
         if self.talk.length != before:
             self.later.append(lambda: self.stopped(reason))
