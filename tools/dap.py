@@ -412,7 +412,7 @@ class Adapter:
         if place.callback:
             kind, name, call, _ = place.callback
             names.append(f"call {call} of `{kind} {name}`")
-        names.append("the main program" if place.mode is None else f"run {place.mode}: {place.where}")
+        names.append("the main program" if place.mode is None else place.section())
         source = {"name": os.path.basename(self.path), "path": self.path}
         shown = [{"id": number, "name": name, "line": 0, "column": 0} for number, name in enumerate(names, 1)]
         if at is not None:

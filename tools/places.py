@@ -35,8 +35,12 @@ class Place:
         if self.mode is None:
             return f"the main program, at its line {self.main}"
         inner = f", in call {self.callback[2]} of `{self.callback[0]} {self.callback[1]}`" if self.callback else ""
+        return f"{self.section()}{inner}"
+
+    def section(self) -> str:
+        """Where the run under way is, without its callback."""
         meant = f" ({MEANT[self.where]})" if self.where in MEANT else ""
-        return f"run {self.mode}: {self.where}{meant}{inner}"
+        return f"run {self.mode}: {self.where}{meant}"
 
 
 def read_place(text: str) -> Place:
