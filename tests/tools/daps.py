@@ -229,7 +229,8 @@ def try_io(check) -> None:
     check("adapter, and on", client.ask("evaluate", expression="loop 3")["result"] == "done\nasync\ncheck")
     check("adapter, where none may come", client.ask("evaluate", expression="io r")["result"] == "refused blocked")
     told = client.ask("evaluate", expression="why a")["result"]
-    check("adapter, who waits since nobody woke the poll", "the callback of r left the poll of step 8 at step 9, and nobody had woken it" in told, told)
+    waits = "the callback of r left the poll of step 8 at step 9, and nobody had woken it"
+    check("adapter, who waits since nobody woke the poll", waits in told, told)
     check("adapter, the end of I/O", client.end() == (0, ""))
 
 
