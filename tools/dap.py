@@ -14,7 +14,7 @@ from conversation import Conversation, Fault, Script, State, read_input
 from dap_breaks import More, Unknown, more_of
 from places import Place, next_line, read_place
 from said import CODES, SECTIONS
-from walk import Walk, longest_way
+from walk import OUTSIDE, Walk, longest_way
 from why import why
 
 OPS = re.compile(r"main |(on|after|closed) \S+ ")
@@ -412,7 +412,7 @@ class Adapter:
         if place.callback:
             kind, name, call, _ = place.callback
             names.append(f"call {call} of `{kind} {name}`")
-        names.append("the main program" if place.mode is None else f"run {place.mode}: {place.where}")
+        names.append("the main program" if place.mode is None else place.section())
         source = {"name": os.path.basename(self.path), "path": self.path}
         shown = [{"id": number, "name": name, "line": 0, "column": 0} for number, name in enumerate(names, 1)]
         if at is not None:
@@ -464,7 +464,7 @@ class Adapter:
             raise Refused("this is no command")
         else:
             lines, reason = self.asked(typed)
-        if typed.split(" ")[0] in ("loop", "take", "finish", "cancel", "send", "tick") and self.talk.length != before:
+        if typed.split(" ")[0] in ("loop", *OUTSIDE) and self.talk.length != before:
             self.done_by_hand(before, typed)
         if self.talk.length != before:
             self.later.append(lambda: self.stopped(reason))

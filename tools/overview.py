@@ -7,6 +7,7 @@ from __future__ import annotations
 
 from dataclasses import dataclass
 
+from came import LEFT, behind, came, waited
 from places import read_place
 from waits import Wait
 from walk import Took, Walk
@@ -79,18 +80,33 @@ class Overview:
         return [f"{it.took} ms: {self.told(it, '')}" for it in self.worst(seen)]
 
     def io(self) -> list[str]:
-        """Nobody knows when something came. What is known is how long the loop hadn't looked."""
+        """Nobody knows when something came. What is known is how long the loop hadn't looked, and what it did behind the poll first."""
         found = []
         for name, it in self.called("async"):
             if it.asked in self.walk.notes.guessed and self.walk.notes.kind(name) in STANDING:
-                gap = self.whys[name].unseen_for(it)
-                found.append(Late(name, gap, it))
-        return [f"{it.took} ms that the loop hadn't looked: {it.name}, step {it.wait.ended}, call {it.wait.call}: "
-                + self.walk_between(it.wait.ended, it.took) for it in self.worst(found)]
+                found.append(Late(name, self.whys[name].unseen_for(it), it))
+        for name, it in self.called("io"):
+            left = came(self.walk, it).where == LEFT
+            found.append(Late(name, self.whys[name].unseen_for(it) if left else behind(self.walk, it), it))
+        return [self.came(it) for it in self.worst(found)]
+
+    def came(self, late: Late) -> str:
+        """How long something may have waited for the loop, and what the loop did meanwhile."""
+        wait = late.wait
+        if wait.what == "io" and came(self.walk, wait).where != LEFT:
+            return self.told(late, "")
+        between = self.walk_between(wait.ended, late.took)
+        return f"{late.took} ms that the loop hadn't looked: {late.name}, step {wait.ended}, call {wait.call}: {between}"
 
     def walk_between(self, step: int, gap: int) -> str:
         end = self.walk.clock(step)
         return self.whys[next(iter(self.whys))].delay(end - gap, end)
+
+    def unwoken(self) -> list[str]:
+        """Whose callbacks waited for the next poll, since nobody had woken the one that a callback of I/O left."""
+        found = [(it, others) for it in self.walk.left_by_io if (others := waited(self.walk, it))]
+        return [f"{few(others)}: the callback of {self.walk.calls[it.call][1]} left the poll of step {it.poll} at step {it.call}, and nobody had"
+                " woken it by then" for it, others in found[:LINES]]
 
     def requests(self) -> list[str]:
         found = [Late(name, self.away(it), it) for name, it in self.called("work")]
@@ -180,7 +196,8 @@ class Overview:
         lines = head(self.walk)
         for title, rows in (
             ("the longest callbacks", long_callbacks(self.walk)), ("the latest timers", self.timers()), ("the latest sends", self.sends()),
-            ("I/O", self.io()), ("the longest requests", self.requests()), ("the pool was full", self.full()),
+            ("I/O", self.io()), ("who waited for the next poll", self.unwoken()), ("the longest requests", self.requests()),
+            ("the pool was full", self.full()),
             ("what kept the loop alive", self.alive()), ("who spun", self.spins()), ("never called", self.never()),
         ):
             lines += [title, *(f"    {it}" for it in rows)] if rows else []

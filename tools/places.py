@@ -8,6 +8,12 @@ from dataclasses import dataclass
 from conversation import Script
 
 BODY = re.compile(r" \+ (?P<list>on|after|closed) (?P<name>\S+) (?P<call>\d+) (?P<line>\d+)$")
+# What stands behind a place whose words don't say it.
+MEANT = {
+    "polled": "a callback of I/O left the poll, and nobody had woken it",
+    "polled woken": "a callback of I/O left the poll, which was woken",
+    "done unwoken": "nobody had woken the poll, so it calls nobody",
+}
 RUN = re.compile(r"(?P<mode>default|once|nowait) (?P<main>\d+) (?P<where>.*)$")
 
 
@@ -29,7 +35,12 @@ class Place:
         if self.mode is None:
             return f"the main program, at its line {self.main}"
         inner = f", in call {self.callback[2]} of `{self.callback[0]} {self.callback[1]}`" if self.callback else ""
-        return f"run {self.mode}: {self.where}{inner}"
+        return f"{self.section()}{inner}"
+
+    def section(self) -> str:
+        """Where the run under way is, without its callback."""
+        meant = f" ({MEANT[self.where]})" if self.where in MEANT else ""
+        return f"run {self.mode}: {self.where}{meant}"
 
 
 def read_place(text: str) -> Place:

@@ -9,7 +9,7 @@ from conversation import BAD, Conversation, State
 from places import Place, next_line, read_place
 from said import CODES, SECTIONS
 from shell_breaks import Break, Breaks
-from walk import Walk
+from walk import OUTSIDE, Walk
 from why import why
 
 OWN = ["loop", "take", "finish", "cancel", "send", "io", "tick", "back", "forward", "break", "rback", "trace", "state", "image", "record"]
@@ -20,7 +20,7 @@ SHORT = {
     "h": "help", "stepi": "step",
 }
 # Those of them that do a step.
-STEPS = ("loop", "take", "finish", "cancel", "send", "io", "tick")
+STEPS = ("loop", *OUTSIDE)
 # How many steps `continue` asks for at a time: it can be stopped between two of them.
 STRIDE = 1000
 

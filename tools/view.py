@@ -9,8 +9,10 @@ from dataclasses import dataclass, field
 from pathlib import Path
 from typing import Callable, Iterator
 
+from came import behind, came
 from conversation import Conversation, Script
-from places import Place, next_line, read_place
+from places import MEANT, Place, next_line, read_place
+from waits import Wait
 from walk import Walk
 from why import Why
 
@@ -168,14 +170,22 @@ class Page:
     # ---- what is written
 
     def whys(self) -> tuple[dict[str, list], list[list]]:
-        """For each name its answers with their steps; and the calls that were late: step, name, by how much."""
+        """For each name its answers with their steps; and the calls that were late: step, name, by how much, and that in words."""
         found, late = {}, []
         for name in self.names:
             answers = Why(self.walk, name)
             found[name] = answers.answer()
-            called = [it for it in answers.history.waits if it.how == "called" and answers.is_late(it)]
-            late += [[it.ended, name, self.walk.clock(it.ended) - it.due] for it in called]
+            called = [it for it in answers.history.waits if it.how == "called"]
+            late += [[it.ended, name, *by] for it in called if (by := self.late_by(answers, it))[0] > 0]
         return found, sorted(late)
+
+    def late_by(self, answers: Why, wait: Wait) -> tuple[int, str]:
+        """How late a timer was called; of a callback of I/O how long behind the end of its poll, or its last call."""
+        if wait.what == "io":
+            away = behind(self.walk, wait)
+            return away, f"{away} ms behind {answers.since(wait, came(self.walk, wait))}" if away else ""
+        away = self.walk.clock(wait.ended) - wait.due if wait.due is not None else 0
+        return away, f"late by {away} ms"
 
     def all_lanes(self) -> list[Lane]:
         return [self.sections, *self.lanes.values(), *(self.workers[it] for it in sorted(self.workers))]
@@ -186,6 +196,8 @@ class Page:
         lanes = self.all_lanes()
         if any(SEND.fullmatch(it) for it in self.walk.lines):
             lanes.append(Lane("sends", "sends"))
+        if any(it.startswith("io ") for it in self.walk.steps):
+            lanes.append(Lane("what came", "came"))
         return {
             "script": self.walk.script.lines, "first": self.walk.script.first, "names": self.names,
             "base": self.base, "changes": self.changes, "next": self.lines_done,
@@ -193,7 +205,7 @@ class Page:
             "clock": self.walk.clocks, "lanes": [{"name": it.name, "what": it.what, "parts": it.parts} for it in lanes],
             "late": late, "why": whys, "heaps": self.heaps, "long": self.long(), "part": "\n".join(self.walk.notes.loud()),
             "from": RED_RECORDED if self.walk.notes.names else RED, "kinds": {name: kind for name, (kind, _) in self.walk.notes.names.items()},
-            "texts": self.texts.rows,
+            "meant": MEANT, "texts": self.texts.rows,
         }
 
     def long(self) -> list[list[object]]:
@@ -223,8 +235,9 @@ def trace_events(walk: Walk) -> dict[str, object]:
             begin, until = time_of(walk, length), time_of(walk, end)
             events.append({"ph": "X", "pid": 1, "tid": thread, "name": what, "ts": begin, "dur": until - begin, "args": {"step": length}})
     for step in range(1, walk.length + 1):
-        if SEND.fullmatch(walk.lines[step]):
-            events.append({"ph": "i", "pid": 1, "tid": 1, "s": "p", "name": walk.lines[step], "ts": time_of(walk, step), "args": {"step": step}})
+        what = walk.lines[step] if SEND.fullmatch(walk.lines[step]) else walk.steps[step - 1] if walk.steps[step - 1].startswith("io ") else ""
+        if what:
+            events.append({"ph": "i", "pid": 1, "tid": 1, "s": "p", "name": what, "ts": time_of(walk, step), "args": {"step": step}})
     return {"traceEvents": events, "displayTimeUnit": "ms"}
 
 

@@ -10,16 +10,18 @@ from said import REFUSED
 from walk import Walk
 
 WATCHERS = ("idle", "prepare", "check")
+# What is called again and again while it is active, from its start on.
+STARTED = (*WATCHERS, "io")
 
 
 @dataclass
 class Wait:
     """A callback that was asked for, and what became of that."""
 
-    # `timer`, `idle`, `prepare`, `check`, `async`, `work`, or `close` for a close callback
+    # `timer`, `idle`, `prepare`, `check`, `async`, `io`, `work`, or `close` for a close callback
     what: str
     id: str
-    # the step that asked for it: an op, or the call of a timer that repeats, or of a watcher, which stays active
+    # the step that asked for it: an op, or the call of a timer that repeats, or of a watcher or a handle of I/O, which stays active
     asked: int
     # of a timer: when it is due, by the loop's time
     due: int | None = None
@@ -159,7 +161,7 @@ class Follower:
                 self.history.made.append((step, answer, self.kind))
                 if self.kind == "work":
                     self.begin(step, "work")
-            case "start" if self.kind in WATCHERS:
+            case "start" if self.kind in STARTED:
                 self.ask(step)
             case "start" | "again":
                 self.restart(step)
@@ -177,7 +179,7 @@ class Follower:
                 self.history.refs.append((step, words[0]))
 
     def ask(self, step: int) -> None:
-        """A start of a watcher or a send: where it is asked for already nothing new begins."""
+        """A start of a watcher or of a handle of I/O, or a send: where it is asked for already nothing new begins."""
         if self.open:
             self.open.more.append(step)
         else:

@@ -12,8 +12,9 @@ from conversation import Conversation, Fault, Script, State
 from places import Place, next_line, read_place
 from pool import Pool
 
-# The commands that do a step, those that go to another length, and those that only show something.
-OUTSIDE = ("take", "finish", "cancel", "send", "tick")
+# The commands that do a step beside `loop`, those that go to another length, and those that only show something. A step `io` is from
+# outside, and is the callback itself; all that its body does is the loop's.
+OUTSIDE = ("take", "finish", "cancel", "send", "tick", "io")
 MOVES = ("back", "rback", "forward")
 SHOWS = ("state", "image", "trace", "record")
 LISTS = {"call": "on", "after": "after", "closed": "closed"}
@@ -21,6 +22,17 @@ WORDS = {"on": "the callback", "after": "the after callback", "closed": "the clo
 POLL = "the poll"
 MANY_STEPS = 10000
 AT_ONCE = 200
+
+
+@dataclass
+class LeftByIo:
+    """A poll that a callback of I/O left."""
+
+    # the step that began it, and that of the callback
+    poll: int
+    call: int
+    # whether a request was done by then, or an async handle was sent to
+    woken: bool
 
 
 @dataclass
@@ -130,6 +142,8 @@ class Walk:
         # by that step: the last op; and which call of its list and name it is
         self.last_op: dict[int, int] = {}
         self.calls: dict[int, tuple[str, str, int]] = {}
+        # the callbacks of I/O that left a poll, each with the step that began that
+        self.leaving: dict[int, int] = {}
         self.words: dict[str, list[int]] = {}
         self.tooks: list[Took] = []
         self.took_at: dict[int, Took] = {}
@@ -139,13 +153,15 @@ class Walk:
             line = self.lines[step]
             word = line.split(" ", 1)[0]
             self.words.setdefault(word, []).append(step)
-            if self.steps[step - 1] == "loop":
-                if kind := LISTS.get(word):
-                    first, poll, name = step, 0, line.split(" ", 2)[1]
-                    counts[kind, name] += 1
-                    self.calls[step] = kind, name, counts[kind, name]
-                    self.last_op[step] = step
-                elif " = " in line:
+            if kind := LISTS.get(word):
+                if poll:
+                    self.leaving[step] = poll
+                first, poll, name = step, 0, line.split(" ", 2)[1]
+                counts[kind, name] += 1
+                self.calls[step] = kind, name, counts[kind, name]
+                self.last_op[step] = step
+            elif self.steps[step - 1] == "loop":
+                if " = " in line:
                     self.last_op[first] = step
                 else:
                     first, poll, runs = 0, step if word == "poll" else 0, word != "end" and (runs or word == "run")
@@ -197,10 +213,19 @@ class Walk:
         found = [rows[at - 1] for it in words if (rows := self.words.get(it)) and (at := bisect.bisect_right(rows, length))]
         return max(found, default=None)
 
+    def left_at(self, poll: int) -> int:
+        """The step that left the poll which began at this one: the loop's, or a callback of I/O."""
+        return next((at for at in range(poll + 1, self.length + 1) if self.steps[at - 1] == "loop" or at in self.leaving), self.length)
+
     def left(self, poll: int) -> int:
         """The clock where the poll that began at this step was left."""
-        behind = next((at for at in range(poll + 1, self.length + 1) if self.steps[at - 1] == "loop"), self.length)
-        return self.clocks[behind]
+        return self.clocks[self.left_at(poll)]
+
+    @functools.cached_property
+    def left_by_io(self) -> list[LeftByIo]:
+        """The polls that callbacks of I/O left, in order."""
+        found = self.states_at(list(self.leaving))
+        return [LeftByIo(self.leaving[step], step, " polled woken" in state.place) for step, state in found]
 
     @functools.cached_property
     def of_name(self) -> dict[str, list[tuple[int, list[str]]]]:

@@ -6,17 +6,18 @@ reckoned here.
 
 from __future__ import annotations
 
+from came import BEHIND, LEFT, Came, behind, called_between, came, unwoken_between, waited
 from conversation import State
 from places import read_place
 from waits import WATCHERS, History, Refusal, Wait, follow, kind_of_call
-from walk import Took, Walk
+from walk import LeftByIo, Took, Walk
 
 KINDS = {"timer": "a timer", "idle": "an idle handle", "prepare": "a prepare handle", "check": "a check handle", "async": "an async handle",
-         "work": "a request"}
+         "io": "a handle of I/O", "work": "a request"}
 CALLS = {"call": "call", "after": "after callback", "closed": "close callback"}
 ASKED = {"timer": "started", "async": "sent to", "work": "queued", "close": "closed"}
 SECTIONS = {"work": "done", "close": "closing", "async": "async", "timer": "timers"}
-# What a recording has an async handle for.
+# What a recording has a handle of I/O for; one of before, an async handle.
 STANDING = ("tcp", "udp", "pipe", "tty", "poll", "signal", "fs_event", "fs_poll", "process")
 # How many names or steps a sentence has at the most.
 MANY = 8
@@ -75,7 +76,7 @@ class Why:
         lines = []
         if self.name in self.notes.names:
             kind, origin = self.notes.names[self.name]
-            stands = f"{kind}, which stands as an async handle: " if kind in STANDING else ""
+            stands = f"{kind}, which stands as {KINDS[self.history.kind() or 'io']}: " if kind in STANDING else ""
             lines.append(f"    {stands}{origin}{self.functions()}")
         if self.notes.part:
             lines.append(f"    THE RECORDING IS A PART: {self.notes.part}")
@@ -116,14 +117,17 @@ class Why:
     def is_plain(self, wait: Wait) -> bool:
         """Was it asked for by a callback of its own, and called in its time? In a recording that is within a millisecond."""
         mine = self.walk.lines[self.begun_by(wait)].startswith(f"call {self.name} ")
-        return wait.how == "called" and mine and not wait.more and not self.is_late(wait, 1 if self.notes.names else 0)
+        if wait.how != "called" or not mine or wait.more:
+            return False
+        allowed = 1 if self.notes.names else 0
+        return behind(self.walk, wait) <= allowed if wait.what == "io" else not self.is_late(wait, allowed)
 
     def begun_by(self, wait: Wait) -> int:
         """The step that began the callback in which it was asked for; 0 where it was in none."""
         return self.walk.inside[wait.asked]
 
     def is_again(self, wait: Wait) -> bool:
-        """Whether a call asked for the next one: of a timer that repeats, of a watcher, which stays active."""
+        """Whether a call asked for the next one: of a timer that repeats, of a watcher or a handle of I/O, which stays active."""
         return self.walk.lines[wait.asked].startswith("call ")
 
     def is_late(self, wait: Wait, allowed: int = 0) -> bool:
@@ -134,6 +138,8 @@ class Why:
         late = max(self.walk.clock(it.ended) - it.due for it in run) if first.due is not None else 0
         on_time = "each on time" if late <= 0 else f"each on time, or late by {late} ms"
         how = f"due from {first.due} ms to {last.due} ms, {on_time}" if first.due is not None else "each in its section, as it stays active"
+        if first.what == "io":
+            how = "each as something came"
         if not self.is_again(last):
             how = f"each asked for in the one before, {how}" if first.due is not None else f"each asked for in the one before, {self.longest(run)}"
         return [f"steps {first.ended} to {last.ended}, calls {first.call} to {last.call}: {how}",
@@ -143,7 +149,7 @@ class Why:
         if wait.how != "called":
             return self.not_called(wait)
         kind = kind_of_call(wait.what)
-        answers = {"timer": self.timer, "async": self.sent, "work": self.request, "close": self.close}
+        answers = {"timer": self.timer, "async": self.sent, "io": self.io, "work": self.request, "close": self.close}
         causes, details = answers.get(wait.what, self.watcher)(wait)
         details += [*self.ends_between(wait), self.asked(wait)]
         return [f"step {wait.ended}, {CALLS[kind]} {wait.call}: {causes}", *(f"    {it}" for it in details)]
@@ -235,9 +241,15 @@ class Why:
         begin, end = self.walk.happened(first), self.walk.clock(wait.ended)
         return f"{end - begin} ms later: {self.delay(begin, end)}" if end > begin else "in the same millisecond"
 
+    def something_came(self, wait: Wait) -> str:
+        """That it came, with the kind that it has in a program."""
+        if self.notes.kind(self.name) in STANDING:
+            return f"{self.notes.kind(self.name)}: something came"
+        return "something came" if wait.what == "io" else "somebody sent to it"
+
     def unseen(self, wait: Wait) -> tuple[str, list[str]]:
         """What nobody saw come: between the loop's last look and the one behind which it is called, or while it waited."""
-        what = f"{self.notes.kind(self.name)}: something came" if self.notes.kind(self.name) in STANDING else "somebody sent to it"
+        what = self.something_came(wait)
         poll = self.walk.last_line(("poll",), wait.ended)
         if poll is None:
             return f"{what}, and when nobody knows", []
@@ -264,9 +276,53 @@ class Why:
         sends = [wait.asked, *wait.more]
         if wait.asked in self.notes.guessed and len(sends) == 1:
             return self.unseen(wait)
+        unwoken = self.unwoken(wait)
+        later = "an iteration later, " if unwoken else ""
         if wait.more:
-            return f"{len(sends)} sends, and one call: those at {steps_of(sends)}", [self.between(wait, wait.asked)]
-        return f"for the send at step {wait.asked}, {self.between(wait, wait.asked)}", []
+            return f"{later}{len(sends)} sends, and one call: those at {steps_of(sends)}", [self.between(wait, wait.asked), *unwoken]
+        return f"{later}for the send at step {wait.asked}, {self.between(wait, wait.asked)}", unwoken
+
+    # ---- callbacks of I/O
+
+    def io(self, wait: Wait) -> tuple[str, list[str]]:
+        """What came, and what the loop did from the end of its poll on until it was called."""
+        it = came(self.walk, wait)
+        if it.where == LEFT:
+            cause, details = self.unseen(wait)
+            return f"it left the poll: {cause}", [*details, *self.of_poll(it)]
+        what = self.something_came(wait)
+        if it.poll is None:
+            return f"{what}, and it was called in `pending`, before any poll", []
+        since, away = self.since(wait, it), behind(self.walk, wait)
+        where = "" if it.where == BEHIND else ", in `pending`"
+        if away:
+            return f"{what}{where}, and it was called {away} ms behind {since}: {self.delay(self.walk.clock(it.since), self.walk.clock(it.step))}", []
+        others = called_between(self.walk, it.since + (it.since == wait.asked), it.step)
+        details = [f"behind the callback{'s' if len(others) > 1 else ''} of {few(others)}"] if others else []
+        return f"{what}{where}, and it was called in the same millisecond as {since}", details
+
+    def since(self, wait: Wait, it: Came) -> str:
+        """From where on it may have been called, in words."""
+        if it.since != wait.asked:
+            return f"the end of the poll, at step {it.since}"
+        return f"{'its last call' if self.is_again(wait) else 'its start'}, at step {it.since}"
+
+    def of_poll(self, it: Came) -> list[str]:
+        """Who waited since nobody had woken the poll that it left."""
+        left = next(at for at in self.walk.left_by_io if at.call == it.step)
+        others = waited(self.walk, left)
+        return [f"nobody had woken that poll, so {few(others)} waited for the next one"] if others else []
+
+    def unwoken(self, wait: Wait) -> list[str]:
+        """The polls behind which its callback would have come, if somebody had woken them."""
+        section, first = ("done", wait.finished or wait.cancelled) if wait.what == "work" else ("async", wait.asked)
+        found = unwoken_between(self.walk, first, wait.ended or self.end + 1, section) if first else []
+        return [self.left_unwoken(it, section) for it in found]
+
+    def left_unwoken(self, it: LeftByIo, section: str) -> str:
+        name = self.walk.calls[it.call][1]
+        return (f"the callback of {name} left the poll of step {it.poll} at step {it.call}, and nobody had woken it by then:"
+                f" so its section `{section}` calls nobody")
 
     def close(self, wait: Wait) -> tuple[str, list[str]]:
         details = []
@@ -277,10 +333,10 @@ class Why:
 
     def request(self, wait: Wait) -> tuple[str, list[str]]:
         if wait.cancelled:
-            return "cancelled before a worker took it", [f"cancelled at step {wait.cancelled} {self.walk.by(wait.cancelled)}"]
+            return "cancelled before a worker took it", [f"cancelled at step {wait.cancelled} {self.walk.by(wait.cancelled)}", *self.unwoken(wait)]
         if wait.finished in self.notes.guessed:
             return self.unseen_request(wait)
-        details = [self.waited(wait), self.ran(wait), self.handed(wait)]
+        details = [self.waited(wait), self.ran(wait), *self.unwoken(wait), self.handed(wait)]
         passed = self.overtaken(wait)
         if passed:
             return f"behind {few(passed)}, queued later and done earlier", details
@@ -377,6 +433,7 @@ class Why:
         if wait.what == "async":
             details.append(f"{'the send' if not wait.more else 'the sends'} at {steps_of([wait.asked, *wait.more])} "
                            + ("is lost" if not wait.more else "are lost"))
+            details += self.unwoken(wait)
         if wait.due is not None:
             state = self.walk.state(step - 1)
             aside = " and set aside to be called" if self.name in state.lists["ready"] else ""
@@ -393,6 +450,10 @@ class Why:
             details += self.polls(wait)
         if wait.more:
             details.append(f"asked for again at {steps_of(wait.more)}")
+        if wait.what in ("async", "work"):
+            details += self.unwoken(wait)
+        if wait.what == "io" and (alive := self.keeps_alive("its start")):
+            details.append(alive)
         ends = self.ends_between(wait)
         if ends and self.reason(wait) == "the run ended":
             ends.pop()
@@ -440,6 +501,8 @@ class Why:
                 return f"the session ends in the callback of {place.callback[1]}, and the loop calls one at a time"
             case "not due":
                 return "it isn't due yet, and the session ends"
+        if wait.what == "io":
+            return f"nothing came for it, and the session ends (it stands at `{place.where}`)"
         return f"the session ends before the section `{SECTIONS.get(wait.what, wait.what)}` comes to it (it stands at `{place.where}`)"
 
     def who_works(self, state: State) -> str:
@@ -515,18 +578,19 @@ class Why:
             return []
         word = "send" if kind == "async" else "start"
         refused = [it for it in self.history.refusals if it.op.startswith(word + " ")]
-        alive = [f"    {it}" for it in [self.keeps_alive()] if it]
+        alive = [f"    {it}" for it in [self.keeps_alive("its init")] if it]
         if refused:
             return [f"never called: `{refused[-1].op}` at step {refused[-1].step} was refused, with {refused[-1].code}", *alive]
         return [f"never called: up to the end, at {self.end}, nobody {word}s {'to ' if kind == 'async' else ''}it", *alive]
 
-    def keeps_alive(self) -> str:
+    def keeps_alive(self, since: str) -> str:
+        """That it keeps the loop alive where the session ends, from its init or its start on."""
         slot = self.walk.state(self.end).slot_of(self.name)
         place = self.walk.place(self.end)
         if not slot or slot.values.get("active") != "1" or slot.values.get("ref") != "1" or place.mode is None:
             return ""
         waits = f", and the poll waits since step {self.walk.last_line(('poll',), self.end)}" if self.walk.after == "blocked" else ""
-        return f"it keeps the loop alive: it is active from its init on, and referenced{waits}"
+        return f"it keeps the loop alive: it is active from {since} on, and referenced{waits}"
 
 
 def why(walk: Walk, name: str) -> list[str]:

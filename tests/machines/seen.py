@@ -10,16 +10,25 @@ CODES_OF = {
     'stoploop': 'ok', 'updatetime': 'ok', 'now': 'number', 'alive': '0 1', 'timeout': 'number infinite', 'closeloop': 'EBUSY ok',
     'out cancel': 'ESTALE EKIND EBUSY ok', 'out send': 'ESTALE EKIND EINVAL ok',
 }
+# The same of a handle of I/O.
+IO_CODES = {
+    'init': 'EBOUND', 'start timer': 'EKIND', 'start watcher': 'EINVAL ok', 'stop': 'ok', 'again': 'EKIND', 'repeat': 'EKIND',
+    'due': 'EKIND', 'ref': 'ok', 'unref': 'ok', 'hasref': '0 1', 'active': '0 1', 'closing': '0 1', 'close': 'EINVAL ok', 'send': 'EKIND',
+    'queue': 'EBOUND', 'cancel': 'EKIND', 'out cancel': 'EKIND', 'out send': 'EKIND',
+}
 SECTIONS = ['timers', 'pending', 'idle', 'prepare', 'done', 'async', 'check', 'closing']
-LINES = ['run default', 'run once', 'run nowait', 'poll 0', 'poll number', 'poll infinite', 'call', 'after ok', 'after ECANCELED', 'closed',
-         'end 0', 'end 1', 'out take', 'out finish', 'out tick', 'no line'] + SECTIONS
+LINES = ['run default', 'run once', 'run nowait', 'poll 0', 'poll number', 'poll infinite', 'call', 'io call', 'after ok', 'after ECANCELED',
+         'closed', 'end 0', 'end 1', 'out take', 'out finish', 'out tick', 'no line'] + SECTIONS
 REFUSED = ['loop blocked', 'loop ended', 'take noworker', 'take busyworker', 'take nowork', 'finish noworker', 'finish idleworker',
-           'back range', 'forward range', 'rback range', 'tick range', 'break limit', 'loop steps']
+           'io blocked', 'back range', 'forward range', 'rback range', 'tick range', 'break limit', 'loop steps']
 ANSWERED = ['back at', 'forward at', 'break ok', 'step break at', 'rback break at', 'bad command']
 WALKS = ['idle', 'prepare', 'check', 'async', 'closing', 'done']
-WHERE = ['entry', 'first collect', 'first fire', 'poll number', 'poll infinite', 'timers collect', 'timers fire', 'pending'] + WALKS
-BODIES = ['first fire + on', 'timers fire + on', 'idle + on', 'prepare + on', 'check + on', 'async + on', 'done + after', 'closing + closed']
-SLOTS = ['timer', 'idle', 'prepare', 'check', 'async', 'waiting', 'running', 'done', 'cancelled', 'empty', 'retired']
+WHERE = ['entry', 'first collect', 'first fire', 'poll number', 'poll infinite', 'timers collect', 'timers fire', 'pending', 'polled',
+         'polled woken', 'done unwoken'] + WALKS
+# (a timer that is called straight from the heap is called while the section collects; and the others of these are of I/O)
+BODIES = ['first fire + on', 'timers fire + on', 'idle + on', 'prepare + on', 'check + on', 'async + on', 'done + after', 'closing + closed',
+          'first collect + on', 'timers collect + on', 'pending + on', 'polled + on', 'polled woken + on', 'done + on', 'done unwoken + on']
+SLOTS = ['timer', 'idle', 'prepare', 'check', 'async', 'io', 'waiting', 'running', 'done', 'cancelled', 'empty', 'retired']
 FLAGS = ['stop 1', 'idled 1', 'ref 0', 'ref 1', 'active 0', 'active 1', 'closing 1', 'begun 1', 'pending 1', 'name none', 'unused 0']
 LISTS = ['free', 'timers', 'ready', 'idle', 'prepare', 'check', 'async', 'closing', 'waiting', 'running', 'done']
 LISTS += [walk + '-yet' for walk in WALKS]
@@ -28,6 +37,7 @@ LISTS += [walk + '-yet' for walk in WALKS]
 def wanted():
     """All that is to be seen, each named with the kind of what it is."""
     rows = [('answer', '%s = %s' % (op, code)) for op, codes in CODES_OF.items() for code in codes.split()]
+    rows += [('of I/O', '%s = %s' % (op, code)) for op, codes in IO_CODES.items() for code in codes.split()]
     for op in CODES_OF:
         if op[:4] != 'out ':
             rows += [('where', '%s in %s' % (op, body)) for body in (['main'] if op == 'closeloop' else ['main', 'on', 'after', 'closed'])]
@@ -43,7 +53,7 @@ def kind_of(value):
     return 'id' if re.fullmatch(r'[0-9]+\.[0-9]+', value) else value
 
 
-def see_answer(seen, line, body):
+def see_answer(seen, line, body, kinds):
     op, answer = line.rsplit(' = ', 1)
     words = op.split(' ')
     word = words[0]
@@ -53,15 +63,18 @@ def see_answer(seen, line, body):
         word = 'out ' + words[1]
     shown = answer if word in ('hasref', 'active', 'closing', 'alive') else kind_of(answer)
     seen['answer', '%s = %s' % (word, shown)] += 1
+    if kinds.get(words[2 if word[:4] == 'out ' else 1] if len(words) > 1 else '') == 'io':
+        seen['of I/O', '%s = %s' % (word, shown)] += 1
     if body and word[:4] != 'out ':
         seen['where', '%s in %s' % (word, body)] += 1
 
 
-def see_line(seen, line, body):
-    """A line of a step. BODY is where the step began: the main program or a callback's list; None where that isn't known."""
+def see_line(seen, line, body, kinds):
+    """A line of a step. BODY is where the step began: the main program or a callback's list; None where that isn't known. KINDS has the kind of
+    what each name stood for before it, where that is known."""
     words = line.split(' ')
     if ' = ' in line:
-        see_answer(seen, line, body)
+        see_answer(seen, line, body, kinds)
     elif words[0] == 'poll':
         seen['line', 'poll ' + ('0' if words[1] == '0' else kind_of(words[1]))] += 1
     elif words[0] == 'after':
@@ -72,7 +85,7 @@ def see_line(seen, line, body):
         seen['line', words[0]] += 1
 
 
-def see_reply(seen, command, lines, body):
+def see_reply(seen, command, lines, body, kinds):
     word = command.split(' ')[0]
     if word in ('trace', 'record'):
         return
@@ -86,7 +99,8 @@ def see_reply(seen, command, lines, body):
         elif word in ('back', 'forward'):
             seen['answered', word + ' at'] += 1
         else:
-            see_line(seen, line, body if command == 'loop' else None)
+            see_line(seen, line, body if command == 'loop' else None, kinds if word in ('loop', 'cancel', 'send') else {})
+            seen['line', 'io call'] += word == 'io'
     if command == 'loop' and not lines:
         seen['line', 'no line'] += 1
 
@@ -114,7 +128,7 @@ def see_flags(seen, words):
 def see_slot(seen, words):
     what = words[4] if words[2] == 'work' else words[2]
     seen['slot', what] += 1
-    if what in ('timer', 'idle', 'prepare', 'check', 'async'):
+    if what in ('timer', 'idle', 'prepare', 'check', 'async', 'io'):
         see_flags(seen, words[4:])
 
 
@@ -135,6 +149,13 @@ def see_state(seen, lines):
         elif ' ' in line:
             seen['list', word] += 1
     return body
+
+
+def kinds_of(lines):
+    """What each name stands for in a state."""
+    ids = {words[1]: words[2] for words in (line.split(' ') for line in lines if line.startswith('name '))}
+    slots = [line.split(' ') for line in lines if line.startswith('slot ')]
+    return {words[3]: words[2] for words in slots if len(words) > 3 and ids[words[3]] == words[1]}
 
 
 def parts_of(text):
@@ -159,8 +180,8 @@ def see_session(asked, output):
     if len(parts) != len(asked) + 1 or parts[0][0]:
         return None
     seen = Counter()
-    body = see_state(seen, parts[0][1])
+    body, kinds = see_state(seen, parts[0][1]), kinds_of(parts[0][1])
     for command, (reply, state) in zip(asked, parts[1:]):
-        see_reply(seen, command, reply, body)
-        body = see_state(seen, state)
+        see_reply(seen, command, reply, body, {} if command.startswith('loop ') else kinds)
+        body, kinds = see_state(seen, state), kinds_of(state)
     return seen

@@ -1,7 +1,8 @@
 """Random sessions: a script that uses each op and each kind of handle, and commands, each with `state` behind it."""
 
 KINDS = ['timer', 'idle', 'prepare', 'check', 'async']
-WATCHERS = ['idle', 'prepare', 'check']
+# What is started by `start NAME`.
+STARTED = ['idle', 'prepare', 'check', 'io']
 MODES = ['default', 'default', 'once', 'nowait']
 CODES = ['ok', 'EINVAL', 'EBUSY', 'ECANCELED', 'EBOUND', 'EFULL', 'ESTALE', 'EKIND']
 SECTIONS = ['pending', 'idle', 'prepare', 'poll', 'done', 'async', 'check', 'closing', 'timers']
@@ -10,12 +11,15 @@ TIMES = [0, 0, 1, 1, 2, 3, 5, 10]
 FAR = [2147483647, 2147483648, 2 ** 62, 2 ** 64 - 1]
 BAD = ['loop 0', 'loop 16777217', 'take 65536', 'back', 'state all', 'cancel nobody', 'send', 'break code EBAD', 'tick -1', 'what']
 MOODS = {
-    'walk': [('loop', 30), ('loops', 8), ('tick', 4), ('take', 4), ('finish', 4), ('cancel', 1), ('send', 3), ('back', 3), ('forward', 2)],
-    'run': [('loop', 8), ('loops', 20), ('tick', 6), ('take', 3), ('finish', 3), ('cancel', 1), ('send', 4), ('back', 2), ('forward', 1)],
-    'work': [('loop', 14), ('loops', 12), ('tick', 1), ('take', 9), ('finish', 9), ('cancel', 3), ('send', 1), ('back', 3), ('forward', 2)],
-    'undo': [('loop', 12), ('loops', 10), ('tick', 3), ('take', 3), ('finish', 2), ('cancel', 1), ('send', 2), ('back', 10), ('forward', 8)],
-    'breaks': [('loop', 6), ('loops', 14), ('tick', 3), ('take', 3), ('finish', 2), ('cancel', 2), ('send', 3), ('back', 1), ('forward', 2),
-               ('break', 8), ('rback', 6)],
+    'walk': [('loop', 30), ('loops', 8), ('tick', 4), ('take', 4), ('finish', 4), ('cancel', 1), ('send', 3), ('io', 2), ('back', 3), ('forward', 2)],
+    'run': [('loop', 8), ('loops', 20), ('tick', 6), ('take', 3), ('finish', 3), ('cancel', 1), ('send', 4), ('io', 2), ('back', 2), ('forward', 1)],
+    'work': [('loop', 14), ('loops', 12), ('tick', 1), ('take', 9), ('finish', 9), ('cancel', 3), ('send', 1), ('io', 2), ('back', 3),
+             ('forward', 2)],
+    'undo': [('loop', 12), ('loops', 10), ('tick', 3), ('take', 3), ('finish', 2), ('cancel', 1), ('send', 2), ('io', 2), ('back', 10),
+             ('forward', 8)],
+    'breaks': [('loop', 6), ('loops', 14), ('tick', 3), ('take', 3), ('finish', 2), ('cancel', 2), ('send', 3), ('io', 3), ('back', 1),
+               ('forward', 2), ('break', 8), ('rback', 6)],
+    'io': [('loop', 20), ('loops', 6), ('tick', 3), ('take', 3), ('finish', 3), ('cancel', 1), ('send', 5), ('io', 16), ('back', 2), ('forward', 2)],
 }
 
 
@@ -39,13 +43,18 @@ def init(draw, name, kind):
 def start(draw, name, kind):
     if kind == 'timer':
         return 'start %s %d %d' % (name, number(draw), number(draw))
-    return 'start %s' % name if kind in WATCHERS else 'send %s' % name if kind == 'async' else 'cancel %s' % name
+    return 'start %s' % name if kind in STARTED else 'send %s' % name if kind == 'async' else 'cancel %s' % name
+
+
+def other_kind(draw, names):
+    """Any kind: that of I/O only where the script may have it."""
+    return draw.choice(KINDS + ['request'] + ['io'] * ('io' in names.values()))
 
 
 def op_of(draw, names):
     """An op, mostly one that fits the kind for which its name is meant."""
     name = draw.choice(list(names))
-    kind = names[name] if draw.random() < 0.9 else draw.choice(KINDS + ['request'])
+    kind = names[name] if draw.random() < 0.9 else other_kind(draw, names)
     rows = [(5, lambda: init(draw, name, kind)), (7, lambda: start(draw, name, kind)), (3, lambda: 'stop ' + name),
             (6, lambda: 'close ' + name), (1, lambda: 'ref ' + name), (3, lambda: 'unref ' + name), (2, lambda: 'hasref ' + name),
             (2, lambda: 'active ' + name), (2, lambda: 'closing ' + name), (1, lambda: 'stoploop'), (1, lambda: 'updatetime'),
@@ -61,8 +70,10 @@ def main_of(draw, names):
     """The main program: handles and requests are made and started, the loop runs, and this up to three times."""
     lines = []
     for turn in range(draw.choice([1, 2, 2, 3])):
-        for name in draw.sample(list(names), draw.randint(1 if turn else len(names) // 2, len(names))):
-            kind = names[name] if draw.random() < 0.95 else draw.choice(KINDS + ['request'])
+        made = draw.sample(list(names), draw.randint(1 if turn else len(names) // 2, len(names)))
+        # (a step of I/O is taken only while its handle is active)
+        for name in made + [name for name in names if names[name] == 'io' and not turn and name not in made]:
+            kind = names[name] if draw.random() < 0.95 else other_kind(draw, names)
             lines.append(init(draw, name, kind))
             if draw.random() < 0.8:
                 lines.append(start(draw, name, kind) if kind != 'request' or draw.random() < 0.2 else op_of(draw, names))
@@ -88,10 +99,13 @@ def bodies_of(draw, names):
 
 def script(draw):
     """A script's lines, its names with the kind for which each is meant, and how many workers it has."""
-    names = {name: draw.choice(KINDS + ['timer', 'request', 'request']) for name in draw.sample(NAMES, draw.randint(2, 6))}
+    has_io = draw.random() < 0.5
+    kinds = KINDS + ['timer', 'request', 'request'] + ['io'] * (4 * has_io)
+    names = {name: draw.choice(kinds) for name in draw.sample(NAMES, draw.randint(2, 6))}
     workers = draw.choice([None, 1, 1, 2, 3, 1024])
     order = draw.choice([None, '1.44', '1.45'])
     head = ([] if order is None else ['order ' + order]) + ([] if workers is None else ['workers %d' % workers])
+    head += ['io'] * has_io + ['timers heap'] * (draw.random() < 0.3)
     slots = draw.choice([None, None, 1, 2, 3, 4, 6, 65535, 65536])
     if slots:
         last = draw.choice(['', '', ' 0', ' 1', ' 2', ' 4294967295'])
@@ -114,7 +128,7 @@ def break_of(draw, names):
 def command(draw, what, names, workers):
     """The commands that stand for this word: mostly one."""
     worker = draw.randrange(min(workers, 4)) if draw.random() < 0.93 else draw.choice([workers, 65535])
-    likely = [name for name in names if names[name] == {'cancel': 'request', 'send': 'async'}.get(what)]
+    likely = [name for name in names if names[name] == {'cancel': 'request', 'send': 'async', 'io': 'io'}.get(what)]
     name = draw.choice(likely if likely and draw.random() < 0.7 else list(names))
     if what == 'loop':
         return ['loop']
@@ -129,13 +143,16 @@ def command(draw, what, names, workers):
         return ['%s %d' % (what, worker)]
     if what in ('cancel', 'send'):
         return ['%s %s' % (what, name)]
+    if what == 'io':
+        # most of them come where the loop waits
+        return ['loop 40'] * (draw.random() < 0.5) + ['io ' + name] + ['loop', 'io ' + name] * (draw.random() < 0.4)
     if what in ('back', 'forward'):
         return ['%s %d' % (what, draw.choice([0, 1, 1, 1, 1, 2, 3, 5, 10, 40]))]
     return [what]
 
 
 def commands(draw, names, workers):
-    mood = MOODS[draw.choice(list(MOODS))]
+    mood = MOODS[draw.choice([it for it in MOODS if it != 'io'] + ['io'] * (3 * ('io' in names.values())))]
     rows = []
     if mood is MOODS['breaks']:
         rows += ['break section ' + draw.choice(SECTIONS), 'break call ' + draw.choice(list(names)), 'break code ' + draw.choice(CODES)]

@@ -30,7 +30,8 @@ LIMITS = [
     ('1048576 lines, many of them of threads',
      b'var a\n' + lines(1048574, lambda number: b'thread %d send a\n' % (number % 64)) + b'workers 9\nthread 0 send a\n', 1048577, 'lines'),
     ('1048576 lines, and some that do not count',
-     lines(1048575, lambda number: b'main run once\n') + b'\n# none\nslots 9\nio\norder 1.44\ntimers heap\nworkers 9\nmain run once\n', 1048583, 'lines'),
+     lines(1048575, lambda number: b'main run once\n') + b'\n# none\nslots 9\nio\norder 1.44\ntimers heap\nworkers 9\nmain run once\n',
+     1048583, 'lines'),
 ]
 
 # Commands at a limit, and what they are answered.

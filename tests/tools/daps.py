@@ -13,6 +13,9 @@ from conversation import Conversation, read_input
 
 ROOT = Path(__file__).resolve().parent.parent.parent
 EXAMPLES = ROOT / "crates" / "examples" / "data"
+CONVERSATIONS = ROOT / "tests" / "program" / "conversations"
+# An async handle that a callback of I/O sends to, in a poll that nobody woke.
+BEFORE_SENDS = "what-a-callback-of-i-o-sends-to-in-a-poll-that-nobody-woke-is-called-an-iteration-later"
 ADAPTER = str(ROOT / "tools" / "uvt-dap")
 SECONDS = 60
 
@@ -203,6 +206,32 @@ def try_conditions(check) -> None:
     # (the op stands in the second call: at 45 ms, when the timer is due again 10 ms later)
     check("adapter, the messages", said == ["due 55 at 45\n"] and seen[-1]["body"]["reason"] == "pause", (said, seen[-1]))
     check("adapter, the end behind conditions", client.end() == (0, ""))
+
+
+def try_io(check) -> None:
+    """A callback of I/O is one of the steps of what was launched: a breakpoint on its name stops there, and another one may be done by hand."""
+    client = Client(check)
+    client.begin(CONVERSATIONS / f"{BEFORE_SENDS}.uvt")
+    client.ask("setFunctionBreakpoints", breakpoints=[{"name": "r", "condition": "a.pending == 0"}, {"name": "a"}])
+    client.ask("configurationDone")
+    client.until("stopped")
+    # by hand, from the conversation's output: step 9 is `call r`, which sends to `a`, and 24 is `call a`
+    stops = [(client.go("continue"), client.length()) for _ in range(2)]
+    check("adapter, on to a callback of I/O", stops == [("function breakpoint", 9), ("function breakpoint", 24)], stops)
+    check("adapter, back to it", (client.go("reverseContinue"), client.length()) == ("function breakpoint", 9))
+    wanted = [("on r @1 send a", 9), ("call 1 of `on r`", 0), ("run once: polled (a callback of I/O left the poll, and nobody had woken it)", 0)]
+    check("adapter, the stack in it", client.stack() == wanted, client.stack())
+    check("adapter, over it", (client.go("stepBack"), client.go("next"), client.length()) == ("step", "function breakpoint", 9))
+    client.go("stepOut")
+    again = client.ask("evaluate", expression="io r")["result"]
+    # (its condition doesn't hold any more, but the program's own break does)
+    check("adapter, I/O by hand", again == "call r 0.0\nbreak at 11", again)
+    check("adapter, and on", client.ask("evaluate", expression="loop 3")["result"] == "done\nasync\ncheck")
+    check("adapter, where none may come", client.ask("evaluate", expression="io r")["result"] == "refused blocked")
+    told = client.ask("evaluate", expression="why a")["result"]
+    waits = "the callback of r left the poll of step 8 at step 9, and nobody had woken it"
+    check("adapter, who waits since nobody woke the poll", waits in told, told)
+    check("adapter, the end of I/O", client.end() == (0, ""))
 
 
 def try_stacks(check) -> None:
@@ -407,5 +436,5 @@ def try_pause(check) -> None:
 
 
 def try_adapter(tries) -> None:
-    for part in (try_breakpoints, try_conditions, try_stacks, try_faults, try_odd, try_gone, try_long, try_pause):
+    for part in (try_breakpoints, try_conditions, try_io, try_stacks, try_faults, try_odd, try_gone, try_long, try_pause):
         part(tries.check)

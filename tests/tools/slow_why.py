@@ -9,6 +9,15 @@ from dataclasses import dataclass, field
 
 
 @dataclass
+class Left:
+    """A poll that a callback of I/O left, as the states show it: the step, whether somebody had woken it, and who waited since nobody had."""
+
+    step: int
+    woken: bool
+    waited: list[str] = field(default_factory=list)
+
+
+@dataclass
 class Seen:
     """A callback that was asked for, as the states show it."""
 
@@ -58,6 +67,13 @@ class Look:
         if words[1] == "async":
             return self.value(name, "pending") == "1"
         return self.value(name, "active") == "1" or name in self.rows["ready"]
+
+    def is_woken(self) -> bool:
+        """Whether a request is done, or an async handle sent to."""
+        return bool(self.rows["done"] or self.sent())
+
+    def sent(self) -> list[str]:
+        return [line.split(" ")[3] for line in self.text if line.startswith("slot ") and line.endswith(" pending 1")]
 
     def owner(self) -> str | None:
         found = re.search(r" \+ (on|after|closed) (\S+) \d+ \d+$", self.place)
@@ -159,7 +175,7 @@ class SlowWhy:
         owner, first, poll = "", 0, 0
         for step in range(1, len(self.steps) + 1):
             before, after = self.looks[step - 1], self.looks[step]
-            if self.steps[step - 1] == "loop":
+            if self.steps[step - 1] == "loop" or self.steps[step - 1].startswith("io "):
                 begun = self.began(before, after)
                 if begun:
                     owner, first = begun, step
@@ -192,6 +208,38 @@ class SlowWhy:
             if part > 0:
                 found[what, first] = found.get((what, first), 0) + part
         return found
+
+    # ---- I/O
+
+    def io_calls(self, name: str) -> dict[int, tuple[str, int]]:
+        """Each callback of a handle of I/O: where it came, and how many ms behind the end of its poll, or its own start or last call."""
+        found: dict[int, tuple[str, int]] = {}
+        asked = {it.ended: it.asked for it in self.waits(name) if it.what == "io" and it.how == "called"}
+        left = None
+        for step in range(1, len(self.looks)):
+            before, after = self.looks[step - 1], self.looks[step]
+            if step in asked and left is None and before.is_at() != "poll":
+                found[step] = "pending", 0
+            elif step in asked and before.is_at() != "poll":
+                where = "pending" if before.is_at() == "pending" else "behind"
+                found[step] = where, after.clock - max(self.looks[left].clock, self.looks[asked[step]].clock)
+            elif step in asked:
+                found[step] = "left", 0
+            if before.is_at() == "poll" != after.is_at():
+                left = step
+        return found
+
+    def left_by_io(self) -> list[Left]:
+        rows: list[Left] = []
+        for step in range(1, len(self.looks)):
+            before, after = self.looks[step - 1], self.looks[step]
+            if before.is_at() == "poll" and self.steps[step - 1].startswith("io "):
+                rows.append(Left(step, before.is_woken()))
+            elif before.is_at() == "polled" and after.is_at() == "done" and not rows[-1].woken:
+                rows[-1].waited += after.rows["done"]
+            elif after.place.split(" + ")[0].endswith(" async") and before.place.endswith(" done unwoken"):
+                rows[-1].waited += after.sent()
+        return rows
 
     # ---- the end
 

@@ -15,6 +15,7 @@ sys.path.insert(0, str(ROOT / "tools"))
 
 from conversation import Conversation, read_input  # noqa: E402
 from walk import longest_way  # noqa: E402
+from whys import BEHIND  # noqa: E402
 
 EXAMPLES = ROOT / "crates" / "examples" / "data"
 VIEW = str(ROOT / "tools" / "uvt-view")
@@ -62,12 +63,32 @@ def try_page(check, name: str) -> None:
     check(f"the page of {name} asks for nothing else", not re.search(r"https?://|<link|<img|src=", page), "")
 
 
+def try_io(check) -> None:
+    """What came has a lane, and a callback that came behind another one of its poll is among the late ones."""
+    with tempfile.NamedTemporaryFile("w", suffix=".uvt") as file:
+        file.write(BEHIND)
+        file.flush()
+        run = json.loads(VALUES.search(viewed([file.name]).stdout)[1])
+        events = json.loads(viewed(["--trace-event", file.name]).stdout)["traceEvents"]
+    lanes = {it["name"]: it for it in run["lanes"]}
+    check("the lane of what came", lanes["what came"]["what"] == "came" and "sends" not in lanes, list(lanes))
+    # by hand, from the steps that stand above the script
+    wanted = [[0, "nothing"], [1, "inactive"], [4, "active"], [14, "callback"], [15, "active"], [20, "callback"], [21, "active"]]
+    check("the lane of a handle of I/O", lanes["slow"]["parts"][: len(wanted)] == wanted, lanes["slow"]["parts"])
+    check("the loop's lane behind such a poll", [12, "poll"] in lanes["loop"]["parts"] and [14, "polled"] in lanes["loop"]["parts"], lanes["loop"])
+    behind = [[17, "fast", 30, "30 ms behind the end of the poll, at step 14"], [20, "slow", 32, "32 ms behind its last call, at step 14"],
+              [29, "fast", 9, "9 ms behind its last call, at step 17"]]
+    check("the callbacks of I/O that came behind others", run["late"] == behind, run["late"])
+    came = [(it["name"], it["args"]["step"]) for it in events if it["ph"] == "i"]
+    check("trace events of what came", came == [("io slow", 14), ("io fast", 17), ("io slow", 20), ("io fast", 29)], came)
+
+
 def try_view(check) -> None:
     for name in ("late-timer.uvt", "never-called.uvt", "stale-name.uvt", "sent-session.rec"):
         try_page(check, name)
     run = json.loads(VALUES.search(viewed([str(EXAMPLES / "late-timer.uvt")]).stdout)[1])
     # `ping` was due at 12 and `beat` at 15, and both were called at 50
-    check("the late calls", run["late"] == [[33, "ping", 38], [34, "beat", 35]], run["late"])
+    check("the late calls", run["late"] == [[33, "ping", 38, "late by 38 ms"], [34, "beat", 35, "late by 35 ms"]], run["late"])
     lane = next(it for it in run["lanes"] if it["name"] == "beat")
     wanted = [[0, "nothing"], [3, "inactive"], [6, "active"], [21, "due"], [32, "ready"], [34, "callback"], [35, "inactive"]]
     check("the lane of a timer", lane["parts"] == wanted, lane["parts"])
@@ -76,6 +97,7 @@ def try_view(check) -> None:
     # the callback of beat begins at step 34, and takes one step; the clock is at 50 ms
     called = [it for it in events if it["name"] == "callback" and it["args"]["step"] == 34]
     check("trace events", len(called) == 1 and (called[0]["ts"], called[0]["dur"]) == (50034, 1), called)
+    try_io(check)
     ended = viewed([str(EXAMPLES / "nowhere.uvt")])
     check("the page of no file", ended.returncode == 1 and "No such file" in ended.stderr and "Traceback" not in ended.stderr, ended.stderr)
 

@@ -7,19 +7,23 @@ import random
 import subprocess
 import sys
 from pathlib import Path
+from typing import Callable
 
 ROOT = Path(__file__).resolve().parent.parent.parent
 sys.path.insert(0, str(ROOT / "tools"))
 sys.path.insert(0, str(ROOT / "tests" / "machines"))
 
 import sessions  # noqa: E402
+from came import behind, came, waited  # noqa: E402
 from conversation import Script, read_text  # noqa: E402
+from overview import Overview  # noqa: E402
 from slow_why import Seen, SlowWhy  # noqa: E402
 from waits import Wait  # noqa: E402
 from walk import Walk, longest_way  # noqa: E402
 from why import Why, why  # noqa: E402
 
 EXAMPLES = ROOT / "crates" / "examples" / "data"
+CONVERSATIONS = ROOT / "tests" / "program" / "conversations"
 WHY = str(ROOT / "tools" / "uvt-why")
 SECONDS = 60
 
@@ -77,6 +81,79 @@ WANTED: list[tuple[str, str, str | None, list[str]]] = [
 ]
 
 
+# The same of conversations with I/O (tests/program/conversations); without a name, what stands out.
+WANTED_OF_IO: list[tuple[str, str, list[str]]] = [
+    ("two-callbacks-of-i-o-in-one-poll-of-which-the-first-sets-the-time", "s", [
+        "s: a handle of I/O, 2 calls, made at step 1",
+        "step 12, call 1: it left the poll: something came while the loop waited in the poll, 3 ms went by there, from step 10",
+        "step 14, call 2: something came, and it was called in the same millisecond as its last call, at step 12",
+        "step 15: no further call: stopped by line 9: on s @2 stop s"]),
+    ("what-comes-behind-a-callback-of-i-o-that-left-the-poll-is-for-the-next-one", "a", [
+        "step 28, call 1: an iteration later, for the send at step 14, in the same millisecond",
+        "the callback of r left the poll of step 10 at step 12, and nobody had woken it by then: so its section `async` calls nobody"]),
+    ("what-comes-behind-a-callback-of-i-o-that-left-the-poll-is-for-the-next-one", "w", [
+        "after callback 1: done at step 13", "nobody had woken it by then: so its section `done` calls nobody"]),
+    ("what-comes-behind-a-callback-of-i-o-that-left-the-poll-is-for-the-next-one", "r", [
+        "nobody had woken that poll, so w and a waited for the next one", "step 26: no further call: closed by line 12: after w close r"]),
+    ("what-comes-behind-a-callback-of-i-o-that-left-the-poll-is-for-the-next-one", "", [
+        "who waited for the next poll\n    w and a: the callback of r left the poll of step 10 at step 12, and nobody had woken it by then\n"]),
+    ("callbacks-of-i-o-before-and-behind-the-others-of-a-poll-that-was-woken", "a", [
+        "step 22, call 1: for the send at step 17, in the same millisecond"]),
+    ("a-callback-of-i-o-in-pending-and-none-within-a-callback-of-who-closes-or-out-of-a-run", "q", [
+        "step 7, call 1: something came, and it was called in `pending`, before any poll"]),
+    ("what-the-ops-answer-of-a-handle-of-i-o", "r", [
+        "step 1: `start r` answers ESTALE: no step had made r yet", "step 4: `start r 1 0` answers EKIND: r is a handle of I/O",
+        "step 11: no call: closed by line 13: main close r", "step 12: `start r` answers EINVAL: it closes, since step 11"]),
+    ("where-a-callback-of-i-o-may-come-and-where-none-may", "r", [
+        "step 13, call 1: it left the poll: something came, and when nobody knows", "steps 15 to 22, calls 2 to 4: each as something came",
+        "at steps 15, 17 and 22", "the end, at 22: no further call: nothing came for it, and the session ends (it stands at `pending`)",
+        "it keeps the loop alive: it is active from its start on"]),
+]
+# A callback that comes behind another one of the same poll, and one in `pending`. By hand: steps 1 to 12 lead to the poll, 13 is the tick, 14
+# the callback of `slow`, 15 its op, 16 the tick in it, 17 the callback of `fast`, 18 its op, 20 that of `slow`, and 29 that of `fast` in `pending`.
+BEHIND = """io
+var slow
+var fast
+var c
+main init slow io
+main init fast io
+main init c check
+main start slow
+main start fast
+main start c
+main run default
+on slow @1 now
+on fast @1 now
+begin
+loop 12
+tick 4
+io slow
+loop
+tick 30
+io fast
+loop
+tick 2
+io slow
+loop 3
+loop
+tick 7
+loop 3
+io fast
+loop 2
+"""
+WANTED_BEHIND = [
+    ("fast", ["step 17, call 1: something came, and it was called 30 ms behind the end of the poll, at step 14: the callback of slow took 30 ms,"
+              " from step 14 to 16",
+              "step 29, call 2: something came, in `pending`, and it was called 9 ms behind its last call, at step 17: the callback of fast took"
+              " 2 ms, from step 17 to 19; the callback of c took 7 ms, from step 24 to 25"]),
+    ("", ["I/O\n    slow, step 20, call 2: something came, and it was called 32 ms behind its last call, at step 14: ",
+          "\n    fast, step 17, call 1: something came, and it was called 30 ms behind the end of the poll, at step 14: ",
+          "the longest callbacks\n    30 ms: the callback of slow, from step 14 to 16, at 4 ms"]),
+    ("slow", ["step 14, call 1: it left the poll: something came while the loop waited in the poll, 4 ms went by there, from step 12",
+              "step 20, call 2: something came, and it was called 32 ms behind its last call, at step 14: the callback of slow took 30 ms"]),
+]
+
+
 def cut(path: Path, until: str | None) -> str:
     text = path.read_text()
     return text if until is None else text[: text.index(f"\n{until}\n") + 1]
@@ -90,6 +167,16 @@ def try_examples(check) -> None:
             out = "\n".join(why(walk, name))
         missing = [it for it in wanted if it not in out]
         check(f"why {name} of {file}", not missing, f"{missing} isn't in\n{out}")
+
+
+def try_io(check) -> None:
+    rows = [((CONVERSATIONS / f"{file}.uvt").read_text(), file, name, wanted) for file, name, wanted in WANTED_OF_IO]
+    for text, what, name, wanted in [*rows, *((BEHIND, "one behind another", name, wanted) for name, wanted in WANTED_BEHIND)]:
+        script, commands = read_text(text)
+        with Walk(script, longest_way(script, commands)) as walk:
+            out = "\n".join(why(walk, name) if name else Overview(walk).answer("why NAME"))
+        missing = [it for it in wanted if it not in out]
+        check(f"why {name} of {what}", not missing, f"{missing} isn't in\n{out}")
 
 
 def try_command(check) -> None:
@@ -151,18 +238,51 @@ def differences(slow: SlowWhy, answers: Why, name: str) -> list[str]:
         for at in (it for it in range(wait.asked + 1, len(slow.looks)) if slow.lines[it].startswith("end ")):
             if (a := answers.ended_by(at)) != (b := slow.ended_by(name, at)):
                 found.append(f"{name}, end at {at}: {a} and {b}")
-    return found
+    return found + io_differences(slow, answers, name)
+
+
+def io_differences(slow: SlowWhy, answers: Why, name: str) -> list[str]:
+    """The same of where callbacks of I/O came, and how long behind the end of their poll."""
+    ours = {it.ended: (came(answers.walk, it).where, behind(answers.walk, it)) for it in answers.history.waits if it.what == "io" and it.call}
+    theirs = slow.io_calls(name)
+    return [] if ours == theirs else [f"{name}, I/O: {ours} and {theirs}"]
+
+
+def left_differences(slow: SlowWhy, walk: Walk) -> list[str]:
+    """And of the polls that these left: whether they were woken, and who waited where not."""
+    ours = [(it.call, it.woken, waited(walk, it)) for it in walk.left_by_io]
+    theirs = [(it.step, it.woken, it.waited) for it in slow.left_by_io()]
+    return [] if ours == theirs else [f"{ours} and {theirs}"]
 
 
 def key_of_order(it: Wait | Seen) -> tuple:
     return it.asked, it.what, it.id
 
 
-def try_random(check, first: int, count: int) -> int:
-    """Recordings of random sessions, each name of each: how many callbacks that were asked for were compared."""
-    compared = 0
+IO_NAMES = {"r": "io", "s": "io", "a": "async", "b": "async", "t": "timer", "c": "check", "w": "work"}
+IO_OPS = ["send a", "send b", "send a", "now", "stop s", "start s", "close s", "cancel w", "queue w 1", "start t 3 0", "unref r", "close b"]
+
+
+def io_session(draw: random.Random) -> tuple[list[str], list[str]]:
+    """A session in which I/O comes again and again, some of it behind other callbacks, and with sends about it."""
+    lines = [*draw.choice([[], ["order 1.44"]]), "io", *draw.choice([[], ["timers heap"]]), "workers 2", *(f"var {it}" for it in IO_NAMES)]
+    for name, kind in IO_NAMES.items():
+        lines.append(f"main queue {name} 1" if kind == "work" else f"main init {name} {kind}")
+        if kind in ("io", "check"):
+            lines.append(f"main start {name}")
+    lines += ["main start t 5 4", *[f"main run {draw.choice(['default', 'once', 'nowait'])}"] * draw.randint(1, 3)]
+    for name in draw.choices("rsatcw", k=draw.randint(4, 12)):
+        lines.append(f"{'after' if name == 'w' else 'on'} {name} @{draw.randint(1, 4)} {draw.choice(IO_OPS)}")
+    steps = [*["io r", "io s"] * 3, "send a", "send b", "take 0", "finish 0", "cancel w", "tick 2", "tick 9", *["loop"] * 5, "loop 4", "loop 20"]
+    return lines, ["loop 30", *draw.choices(steps, k=draw.randint(40, 120))]
+
+
+def try_random(check, session: Callable[[random.Random], tuple[list[str], list[str]]], first: int, count: int) -> tuple[int, int, int]:
+    """Recordings of random sessions, each name of each: how many callbacks that were asked for were compared, how many of I/O that were called,
+    and behind how many polls somebody waited since nobody had woken them."""
+    compared = called = late = 0
     for seed in range(first, first + count):
-        lines, asked = sessions.session(random.Random(seed))
+        lines, asked = session(random.Random(seed))
         script = Script(lines)
         steps = longest_way(script, asked)
         slow = SlowWhy(os.environ.get("UVT", str(ROOT / "uvt")), lines, steps)
@@ -172,15 +292,21 @@ def try_random(check, first: int, count: int) -> int:
                 wrong = differences(slow, answers, name)
                 told = answers.answer()
                 compared += len(answers.history.waits)
+                called += sum(it.what == "io" and it.call > 0 for it in answers.history.waits)
                 check(f"why {name} of random session {seed}", not wrong and told, wrong)
-    return compared
+            check(f"polls that I/O left, of random session {seed}", not (wrong := left_differences(slow, walk)), wrong)
+            late += sum(bool(it.waited) for it in slow.left_by_io())
+    return compared, called, late
 
 
 def try_whys(tries) -> None:
     try_examples(tries.check)
+    try_io(tries.check)
     try_command(tries.check)
-    compared = try_random(tries.check, 1, 50)
+    compared, _, _ = try_random(tries.check, sessions.session, 1, 50)
     tries.check("the random sessions ask for callbacks", compared > 200, compared)
+    _, called, late = try_random(tries.check, io_session, 1, 40)
+    tries.check("the random sessions with I/O have some, and it leaves polls that nobody woke", called > 100 and late > 10, (called, late))
 
 
 if __name__ == "__main__":
@@ -196,7 +322,7 @@ if __name__ == "__main__":
     tries = Tries()
     numbers = [int(it) for it in sys.argv[1:]]
     if numbers:
-        print(try_random(tries.check, *numbers), "compared")
+        print(*(try_random(tries.check, it, *numbers) for it in (sessions.session, io_session)), "compared")
     else:
         try_whys(tries)
     print(tries.failed, "failed")
