@@ -58,6 +58,10 @@ class Script:
     def is_recorded(self) -> bool:
         return self.first > 1
 
+    def has_io(self) -> bool:
+        """Whether it may have handles of I/O."""
+        return "io" in self.lines
+
     def names(self) -> list[str]:
         """The names, in the order of their declarations."""
         return [it.split(" ")[1] for it in self.lines if it.startswith("var ") and it.count(" ") == 1]

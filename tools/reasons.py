@@ -13,7 +13,7 @@ REASONS = {
     'long': 'a line has at most 256 bytes, and this one has {0}',
     'byte': 'it has a byte that no line may have: {0}',
     'space': 'fields are separated by one space, and no line begins or ends with one',
-    'word': 'no line begins with `{0}`; the first word is order, slots, workers, var, main, on, after, closed, thread or begin',
+    'word': 'no line begins with `{0}`; the first word is order, io, timers, slots, workers, var, main, on, after, closed, thread or begin',
     'few': 'something is missing: the line has the form `{0}`',
     'many': '`{0}` is too much: the line has the form `{1}`',
     'name': '`{0}` is no name: a lower case letter, and then up to 31 lower case letters, digits or _',
@@ -25,17 +25,20 @@ REASONS = {
     'op': '`{0}` is no op',
     'main': '`{0}` is an op of the main program alone: `main {0} ..`',
     'mode': '`{0}` is no mode: default, once or nowait',
-    'kind': '`{0}` is no kind of handle: timer, idle, prepare, check or async',
+    'kind': '`{0}` is no kind of handle: timer, idle, prepare, check, async or io',
+    'made': 'the line `io` has to stand before it: `init NAME io` makes a handle of I/O, which only a script with that line has',
     'version': '`{0}` is no version of an order: 1.44 or 1.45',
-    'old': 'a recording that begins with `uvt 1` has no line `order`: its runs are in the order of 1.45',
+    'exact': '`{0}` stands where `{1}` has to: the line has the form `{2}`',
+    'old': 'a recording that begins with `{0}` has no line `{1}`: {2}',
     'call': '`{0}` says no call: @ and a number from 1 to 4294967295, once in a line',
     'text': 'TEXT has 1 to 64 bytes, and this one has {0}',
     'sends': 'a thread only sends: `thread K send NAME`',
     'names': 'a script has at most 65535 names',
-    'lines': 'a script has at most 1048575 lines, not counting order, slots, workers, comments and empty ones',
+    'lines': 'a script has at most 1048575 lines, not counting order, io, timers, slots, workers, comments and empty ones',
     'begin': 'the line `begin` is missing, which ends the script',
-    'format': 'a recording begins with the line `uvt 1` or `uvt 2`',
-    'step': 'between `begin` and `calls` each line is a step: loop, take K, finish K, cancel NAME, send NAME or tick MS',
+    'format': 'a recording begins with the line `uvt 1`, `uvt 2` or `uvt 3`',
+    'step': 'between `begin` and `calls` each line is a step: loop, take K, finish K, cancel NAME, send NAME, tick MS or io NAME',
+    'outside': '`io NAME` is the callback of a handle of I/O, and the script has no line `io`',
     'callback': 'behind `calls` each line begins with `call `, `after ` or `closed `, and the last one is `end`',
     'calls': 'the line `calls` is missing, which ends the steps',
     'end': 'the line `end` is missing, which ends the recording',
@@ -60,13 +63,16 @@ OPS = {
     'queue': 'NAME ROUNDS [TEXT]', 'cancel': 'NAME', 'stoploop': '', 'updatetime': '', 'now': '', 'alive': '', 'timeout': '',
 }
 MAIN_OPS = {'run': 'MODE', 'closeloop': ''}
-STEPS = {'loop': '', 'take': 'K', 'finish': 'K', 'cancel': 'NAME', 'send': 'NAME', 'tick': 'MS'}
-WORDS = {'KIND': ('timer', 'idle', 'prepare', 'check', 'async'), 'MODE': ('default', 'once', 'nowait'), 'VERSION': ('1.44', '1.45')}
+STEPS = {'loop': '', 'take': 'K', 'finish': 'K', 'cancel': 'NAME', 'send': 'NAME', 'tick': 'MS', 'io': 'NAME'}
+WORDS = {'KIND': ('timer', 'idle', 'prepare', 'check', 'async', 'io'), 'MODE': ('default', 'once', 'nowait'), 'VERSION': ('1.44', '1.45')}
 LISTED = {
     'CODE': tuple(CODES),
     'WORD': tuple(SECTIONS),
 }
-SETTINGS = {'order': 'VERSION', 'slots': 'N [G]', 'workers': 'N'}
+SETTINGS = {'order': 'VERSION', 'io': '', 'timers': 'heap', 'slots': 'N [G]', 'workers': 'N'}
+# What a recording hasn't before its version of these, and how it is then.
+SINCE = {'order': ('uvt 2', 'its runs are in the order of 1.45'), 'io': ('uvt 3', 'its script has no handles of I/O'),
+         'timers': ('uvt 3', 'its due timers are set aside, all of them, before the first is called')}
 RANGES = {'workers N': (1, 1024), 'slots N': (1, 16777215), 'slots G': (0, 4294967295), 'ROUNDS': (1, 1000), 'thread K': (0, 63), 'K': (0, 65535)}
 
 
@@ -83,7 +89,7 @@ class Why(Exception):
 class Context(NamedTuple):
     """What the lines before a line say of it, each with the number of its own line."""
     names: Dict[str, int]
-    once: Dict[str, int]  # order, slots and workers
+    once: Dict[str, int]  # the settings
     later: Dict[str, int]  # names that are declared only behind it
     counted: int
 
@@ -129,7 +135,7 @@ def of_name(text: str, found: Context) -> None:
 
 
 def of_words(words: List[str], shape: str, head: str, found: Context) -> None:
-    """Words against a shape as `NAME ROUNDS [TEXT]`; what stands in brackets is there as a whole, or not at all."""
+    """Words against a shape as `NAME ROUNDS [TEXT]`; what stands in brackets is there as a whole, or not at all, and what is small is this word."""
     form = (head + ' ' + shape).strip()
     needed, _, more = shape.partition('[')
     wanted, rest = needed.split(), more.rstrip(']').split()
@@ -144,6 +150,9 @@ def of_words(words: List[str], shape: str, head: str, found: Context) -> None:
         elif what == 'TEXT':
             if not 1 <= len(word) <= 64:
                 raise Why('text', len(word))
+        elif what.islower():
+            if word != what:
+                raise Why('exact', word, what, form)
         else:
             key = head + ' ' + what
             of_number(word, what, *RANGES.get(key, RANGES.get(what, (0, LARGEST))))
@@ -175,6 +184,8 @@ def of_op(words: List[str], head: str, in_main: bool, found: Context) -> None:
     if shape is None:
         raise Why('op', op)
     of_words(words[1:], shape, head + ' ' + op, found)
+    if op == 'init' and words[2] == 'io' and 'io' not in found.once:
+        raise Why('made')
 
 
 def of_callback(words: List[str], found: Context) -> None:
@@ -245,15 +256,27 @@ def of_script(lines: List[bytes], number: int, wants_begin: bool = True) -> None
     of_script_line(lines[number - 1], context(lines, number))
 
 
+def of_recorded_script(lines: List[bytes], number: int) -> None:
+    """A recording's lines up to `begin`: what is newer than its version isn't there."""
+    version = lines[0].decode('ascii')
+    word = lines[number - 1].decode('ascii', 'replace').split(' ')[0] if number <= len(lines) else ''
+    try:
+        of_script([b''] + lines[1:], number)
+    except Why as found:
+        if found.row != 'made' or version >= SINCE['io'][0]:
+            raise
+        word = 'io'
+    if word in SINCE and version < SINCE[word][0]:
+        raise Why('old', version, word, SINCE[word][1])
+
+
 def of_recording(lines: List[bytes], number: int) -> None:
     if number == 1:
         raise Why('format')
     before = lines[:number - 1]
     script = lines[:lines.index(b'begin') + 1] if b'begin' in lines else lines
     if b'begin' not in before:
-        of_script([b''] + script[1:], number)
-        if lines[0] == b'uvt 1' and script[number - 1].startswith(b'order '):
-            raise Why('old')
+        of_recorded_script(script, number)
     elif b'end' in before:
         raise Why('behind')
     elif b'calls' in before:
@@ -265,6 +288,8 @@ def of_recording(lines: List[bytes], number: int) -> None:
         words = split(lines[number - 1].decode('ascii'), 9)
         if words[0] not in STEPS:
             raise Why('step')
+        if words[0] == 'io' and b'io' not in script:
+            raise Why('outside')
         of_words(words[1:], STEPS[words[0]], words[0], context(script, len(script) + 1))
 
 

@@ -12,7 +12,7 @@ from shell_breaks import Break, Breaks
 from walk import Walk
 from why import why
 
-OWN = ["loop", "take", "finish", "cancel", "send", "tick", "back", "forward", "break", "rback", "trace", "state", "image", "record"]
+OWN = ["loop", "take", "finish", "cancel", "send", "io", "tick", "back", "forward", "break", "rback", "trace", "state", "image", "record"]
 INFO = ["timers", "handles", "requests", "loop", "breaks"]
 SHORT = {
     "s": "step", "n": "next", "c": "continue", "b": "break", "d": "delete", "l": "list", "i": "info", "p": "print", "r": "run",
@@ -20,7 +20,7 @@ SHORT = {
     "h": "help", "stepi": "step",
 }
 # Those of them that do a step.
-STEPS = ("loop", "take", "finish", "cancel", "send", "tick")
+STEPS = ("loop", "take", "finish", "cancel", "send", "io", "tick")
 # How many steps `continue` asks for at a time: it can be stopped between two of them.
 STRIDE = 1000
 
@@ -101,7 +101,7 @@ class Shell:
                 found = {"call": self.names(), "code": CODES, "section": SECTIONS}.get(typed[1], [])
             case "info", 1:
                 found = INFO
-            case "print" | "why" | "send" | "cancel" | "watch", 1:
+            case "print" | "why" | "send" | "cancel" | "io" | "watch", 1:
                 found = self.names()
             case "help", 1:
                 found = self.words()
@@ -148,6 +148,9 @@ class Shell:
         self.steps = self.steps[:at] + ["loop"] * (at - len(self.steps)) + did
 
     def hint(self, words: list[str]) -> None:
+        if words[0] == "io" and not self.talk.script.has_io():
+            self.write("the script has no line `io`, so it has no handles of I/O")
+            return
         near = difflib.get_close_matches(words[-1], [*self.names(), *CODES, *SECTIONS], 1)
         if near and near[0] != words[-1]:
             self.write(f"did you mean `{' '.join([*words[:-1], near[0]])}`?")

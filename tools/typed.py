@@ -30,6 +30,8 @@ LINES = [
     ('on NAME OP', 'an op of each callback of NAME; `on NAME @2 OP` of the second one alone'),
     ('after NAME OP, closed NAME OP', 'the same of its after callbacks, and of its close callback'),
     ('order VERSION, workers N, slots N', 'the order of the loop (1.44 or 1.45), the pool, the memory'),
+    ('io', 'the script has handles of I/O: behind it `init NAME io` makes one'),
+    ('timers heap', 'due timers are called straight from the heap, as libuv does before 1.48'),
     ('begin', 'ends the script: behind it come commands'),
 ]
 COMMANDS = [
@@ -42,13 +44,14 @@ COMMANDS = [
     ('rback', 'goes back to the last step that matches a break'),
     ('take K, finish K', 'worker K takes a request, or finishes it'),
     ('cancel NAME, send NAME', 'from outside, as another thread does'),
+    ('io NAME', 'the callback of a handle of I/O comes, in a script with the line `io`'),
     ('trace, state, image, record', 'shows the steps, the state, the memory, the recording'),
     ('quit', 'ends'),
 ]
 # The form of each command: words, or what stands for one. Of `break` there are four.
 FORMS = {
-    'loop': ['', 'N'], 'tick': ['MS'], 'take': ['K'], 'finish': ['K'], 'cancel': ['NAME'], 'send': ['NAME'], 'back': ['N'], 'forward': ['N'],
-    'rback': [''], 'trace': [''], 'state': [''], 'image': [''], 'record': [''], 'quit': [''],
+    'loop': ['', 'N'], 'tick': ['MS'], 'take': ['K'], 'finish': ['K'], 'cancel': ['NAME'], 'send': ['NAME'], 'io': ['NAME'],
+    'back': ['N'], 'forward': ['N'], 'rback': [''], 'trace': [''], 'state': [''], 'image': [''], 'record': [''], 'quit': [''],
     'break': ['call NAME', 'code CODE', 'section WORD', 'clear'],
 }
 RANGES = {'MS': (0, reasons.LARGEST), 'K': (0, 65535), 'loop': (1, 16777216), 'back': (0, 16777216), 'forward': (0, 16777216)}
@@ -81,7 +84,7 @@ def why_no_word(word: str, what: str, command: str, names: List[str]) -> Optiona
     return None if least <= int(word) <= most else '`%s` is out of range: %s is %d to %d' % (word, what, least, most)
 
 
-def why_no_command(line: bytes, names: List[str]) -> str:
+def why_no_command(line: bytes, names: List[str], has_io: bool) -> str:
     """Why the program answers `bad command`."""
     try:
         reasons.of_bytes(line)
@@ -92,6 +95,8 @@ def why_no_command(line: bytes, names: List[str]) -> str:
         if words[0] in ('var', 'main', 'on', 'after', 'closed', 'begin'):
             return '`%s` is a line of a script, and the script has ended with `begin`' % words[0]
         return '`%s` is no command%s' % (words[0], near(words[0], [*FORMS, 'help']) or '; help has them all')
+    if words[0] == 'io' and not has_io:
+        return reasons.REASONS['outside']
     forms = [it.split() for it in FORMS[words[0]]]
     for form in forms:
         if len(form) == len(words) - 1 and form[:-1] == words[1:-1]:
@@ -116,10 +121,13 @@ class Typed:
         words = [it.decode('ascii', 'replace').split(' ') for it in self.lines]
         return [it[1] for it in words if it[0] == 'var' and len(it) == 2]
 
+    def script(self) -> List[bytes]:
+        """The lines of the script so far."""
+        return self.lines[:self.lines.index(b'begin')] if b'begin' in self.lines else self.lines
+
     def bad_line(self) -> int:
         """The first bad line of the script so far, by the program; 0 where there is none."""
-        lines = self.lines[:self.lines.index(b'begin')] if b'begin' in self.lines else self.lines
-        script = b''.join(it + b'\n' for it in lines) + b'begin\n'
+        script = b''.join(it + b'\n' for it in self.script()) + b'begin\n'
         tried = subprocess.run([self.program, 'debug'], input=script, stdout=subprocess.DEVNULL, stderr=subprocess.PIPE)
         found = re.search(rb'bad script line (\d+)', tried.stderr)
         return int(found[1]) if found else 0
@@ -181,7 +189,7 @@ class Typed:
         if line == b'help' or line == b'?':
             show_help(True)
         elif self.give(line + b'\n') and not self.has_ended():
-            say(why_no_command(line, self.names()))
+            say(why_no_command(line, self.names(), b'io' in self.script()))
 
     def end(self) -> int:
         """The input has ended: the status is the program's."""

@@ -24,13 +24,13 @@ LIMITS = [
     ('65535 names', lines(65535, lambda number: b'var n%d\n' % number), None, None),
     ('65536 names', lines(65536, lambda number: b'var n%d\n' % number), 65536, 'names'),
     ('1048575 lines, and some that do not count',
-     lines(1048575, lambda number: b'main run once\n') + b'\n# none\nslots 9\norder 1.44\nworkers 9\n', None, None),
+     lines(1048575, lambda number: b'main run once\n') + b'\n# none\nslots 9\nio\norder 1.44\ntimers heap\nworkers 9\n', None, None),
     ('1048575 lines, many of them of threads',
      b'var a\n' + lines(1048574, lambda number: b'thread %d send a\n' % (number % 64)) + b'workers 9\n', None, None),
     ('1048576 lines, many of them of threads',
      b'var a\n' + lines(1048574, lambda number: b'thread %d send a\n' % (number % 64)) + b'workers 9\nthread 0 send a\n', 1048577, 'lines'),
     ('1048576 lines, and some that do not count',
-     lines(1048575, lambda number: b'main run once\n') + b'\n# none\nslots 9\norder 1.44\nworkers 9\nmain run once\n', 1048581, 'lines'),
+     lines(1048575, lambda number: b'main run once\n') + b'\n# none\nslots 9\nio\norder 1.44\ntimers heap\nworkers 9\nmain run once\n', 1048583, 'lines'),
 ]
 
 # Commands at a limit, and what they are answered.
@@ -44,7 +44,7 @@ COMMANDS = [
      + b'closing\nclosing-yet\nwaiting\nrunning\ndone\ndone-yet\n'),
 ]
 
-# A script, and its text: order, workers, slots, names, the main program, of each name its `on`, `after` and `closed` lines, and the
+# A script, and its text: order, io, timers, workers, slots, names, the main program, of each name its `on`, `after` and `closed` lines, and the
 # `thread` lines as they came.
 TEXTS = [
     (b'', b'order 1.45\nworkers 4\nslots 1024 4294967295\n'),
@@ -85,6 +85,14 @@ TEXTS = [
      b'main queue v 2 a  b \nmain queue v 3  \n'
      b'main queue w 7 # 3456789 123456789 123456789 123456789 123456789 1234567890123~\nmain cancel w\n'
      b'on w stop w\nafter w queue v 1 on\nafter w @2 cancel v\nafter w cancel w\nclosed w stop v\n'),
+    # handles of I/O, and timers from their heap: said behind the order, wherever they were said
+    (b'timers heap', b'order 1.45\ntimers heap\nworkers 4\nslots 1024 4294967295\n'),
+    (b'workers 2\nvar r\nslots 5\nio\nmain init r io\ntimers heap\norder 1.44\nclosed r init r io\nmain run once\non r @2 init r io',
+     b'order 1.44\nio\ntimers heap\nworkers 2\nslots 5 4294967295\nvar r\nmain init r io\nmain run once\non r @2 init r io\n'
+     b'closed r init r io\n'),
+    (b'io\nvar io\nvar heap\nvar timers\nafter timers init heap io\nmain init io timer\non io start io 0 0\nthread 1 send io',
+     b'order 1.45\nio\nworkers 4\nslots 1024 4294967295\nvar io\nvar heap\nvar timers\nmain init io timer\non io start io 0 0\n'
+     b'after timers init heap io\nthread 1 send io\n'),
     # lines of threads stay in the order in which they came, and say the same twice
     (b'var b\nthread 63 send b\nvar a\nthread 0 send a\nmain init a async\nthread 0 send b\non a close a\nthread 63 send b\n'
      b'# a comment\nthread 9 send a\nworkers 3',
@@ -99,5 +107,6 @@ def begun(script):
 
 
 def recorded(text):
-    """What `record` shows of a script before any step."""
-    return b'uvt 2\n' + text + b'begin\ncalls\nend\n'
+    """What `record` shows of a script before any step: its version is 3 just where the script says `io` or `timers heap`."""
+    version = b'uvt 3\n' if {b'io', b'timers heap'} & set(text.split(b'\n')) else b'uvt 2\n'
+    return version + text + b'begin\ncalls\nend\n'

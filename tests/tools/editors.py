@@ -53,7 +53,7 @@ def try_manifest(check) -> None:
     language, grammar, debugger = gives["languages"][0], gives["grammars"][0], gives["debuggers"][0]
     check("vscode, the files of the language", language["extensions"] == [".uvt", ".live", ".rec"], language)
     first = language["firstLine"]
-    check("vscode, a recording's first line", all(re.search(first, it) for it in ("uvt 1", "uvt 2")) and COMMON.fullmatch(first))
+    check("vscode, a recording's first line", all(re.search(first, it) for it in ("uvt 1", "uvt 2", "uvt 3")) and COMMON.fullmatch(first))
     named = [grammar["language"], gives["breakpoints"][0]["language"], *debugger["languages"]]
     check("vscode, the language is one", set(named) == {language["id"]}, named)
     for path in (language["configuration"], grammar["path"]):
@@ -145,16 +145,16 @@ def try_grammar(check, grammar: dict) -> None:
         check("vscode, a name for each group", numbered and named, rule)
 
 
-# Lines that are none, by the rules of scripts and of commands, with one declared name, `a`. The program refuses them too.
+# Lines that are none, by the rules of scripts and of commands, with one declared name, `a`, behind the line `io`. The program refuses them too.
 WRONG_LINES = ["order", "order 1.43", "order 1.44 1.45",
                "main strat a 1 0", "main init a tmier", "on a run default", "on a closeloop", "main start a 1", "var A", "main  now", "main now ",
-               "workers", "slots", "after a @ now", "thread 0 close a", "uvt 3", "main", "on now", "main queue a", "main repeat a", "loop",
+               "workers", "slots", "after a @ now", "thread 0 close a", "uvt 4", "io a", "timers", "timers late", "main io a", "heap", "main", "on now", "main queue a", "main repeat a", "loop",
                "main run", "main run forever", "main stoploop a", "slots 1 2 3", " # a space in front", "on a @2", "main queue a 5  " + "x" * 64]
 WRONG_COMMANDS = ["lop", "loop x", "break code EBUZY", "break section timer", "rback 1", "step", "tick", "take", "send", "break", "break call",
-                  "main now", "begin", "state now", "finish", "cancel", "forward", "back"]
+                  "main now", "begin", "state now", "finish", "cancel", "forward", "back", "io", "io 1", "timers heap"]
 # And one of each kind that is.
 RIGHT_LINES = [
-    "order 1.44", "order 1.45",
+    "order 1.44", "order 1.45", "timers heap", "main init a io", "on a @3 init a io",
     "slots 5", "slots 5 2", "workers 3", "var b", "thread 3 send a", "main run once", "main run nowait", "main run default", "main closeloop",
     *(f"{front} {op}" for front in ("main", "on a", "after a @2", "closed a @13") for op in (
         "init a timer", "init a idle", "init a prepare", "init a check", "init a async", "start a 5 10", "start a", "stop a", "again a",
@@ -163,7 +163,7 @@ RIGHT_LINES = [
 ]
 # (`calls` is a bad command of a script, and begins a part of a recording. The colours don't tell the two apart.)
 RIGHT_COMMANDS = [
-    "loop", "loop 5", "tick 5", "take 0", "finish 1", "cancel a", "send a", "back 1", "forward 1", "break call a", "break clear", "rback",
+    "loop", "loop 5", "tick 5", "take 0", "finish 1", "cancel a", "send a", "io a", "back 1", "forward 1", "break call a", "break clear", "rback",
     *(f"break code {it}" for it in ("ok", "EINVAL", "EBUSY", "ECANCELED", "EBOUND", "EFULL", "ESTALE", "EKIND")),
     *(f"break section {it}" for it in ("pending", "idle", "prepare", "poll", "done", "async", "check", "closing", "timers")),
     "trace", "state", "image", "record",
@@ -181,10 +181,10 @@ def is_script(lines: list[str]) -> bool:
 def try_lines(check, grammar: dict) -> None:
     """Lines that are one, and lines that are none: the program and the colours agree."""
     for line in RIGHT_LINES:
-        check(f"vscode, `{line}`", is_script(["var a", line]) and is_told(line, coloured(grammar, [line])[0]), coloured(grammar, [line]))
+        check(f"vscode, `{line}`", is_script(["io", "var a", line]) and is_told(line, coloured(grammar, [line])[0]), coloured(grammar, [line]))
     for line in WRONG_LINES:
-        check(f"vscode, not `{line}`", not is_script(["var a", line]) and is_bad(coloured(grammar, [line])[0]), coloured(grammar, [line]))
-    with Conversation(Script(["var a"])) as talk:
+        check(f"vscode, not `{line}`", not is_script(["io", "var a", line]) and is_bad(coloured(grammar, [line])[0]), coloured(grammar, [line]))
+    with Conversation(Script(["io", "var a"])) as talk:
         for right, lines in ((True, RIGHT_COMMANDS), (False, WRONG_COMMANDS)):
             for line in lines:
                 scopes = coloured(grammar, ["begin", line])[1]
@@ -213,10 +213,14 @@ SCOPES = [
     ("closed a @2 init b check", ["keyword.control.list", "variable.other", "constant.numeric.call", "support.function.op", "variable.other",
                                   "support.type.kind"]),
     ("main queue a 5 now", ["keyword.control.main", "support.function.op", "variable.other", "constant.numeric", "string.unquoted.text"]),
+    ("io", ["storage.modifier.io"]),
+    ("timers heap", ["storage.modifier.timers", "constant.language.heap"]),
+    ("on a init b io", ["keyword.control.list", "variable.other", "support.function.op", "variable.other", "support.type.kind"]),
     ("begin", ["keyword.control.begin"]),
     ("break code EBUSY", ["keyword.other.command", "keyword.other.command", "constant.language.code"]),
     ("break section closing", ["keyword.other.command", "keyword.other.command", "support.constant.section"]),
     ("cancel a", ["keyword.other.command", "variable.other"]),
+    ("io a", ["keyword.other.command", "variable.other"]),
     ("calls", ["keyword.control.calls"]),
     ("after a 1.0 ECANCELED", ["keyword.control.called", "variable.other", "constant.numeric.id", "constant.language.code"]),
 ]

@@ -151,8 +151,10 @@ pub is_made : (text : List ℕ) (p : Program) (es : List Event) → IsScript tex
 is_made text p es is taken = by (has_io p) (from_heap p) refl refl where
   written : AreWritten p
   written = script_written p (lines_of text) is
+
   each : (name : List ℕ) → Contains p.names name → IsName name
   each name h = (written.names name h).0
+
   made : (v : Version) → IsVersion p v → IsMade p es
   made v is_version =
       let run = played p es written.size.slots taken.0 taken.1 in
@@ -164,6 +166,7 @@ is_made text p es is taken = by (has_io p) (from_heap p) refl refl where
         steps = steps_said p each (length p.callbacks) (worker_count p) es (omega (arith, written.each)) written.workers.1 run.steps run.has;
         called = callbacks_said p each es run.lines;
       }
+
   by : (io heap : Bool) → has_io p ≡ io → from_heap p ≡ heap → IsMade p es
   by true heap e f = made versions.V3 (newest p written (rw e refl))
   by false true e f = made versions.V3 (newest p written (rw (e, f) refl))
@@ -185,7 +188,8 @@ are_lines p es h =
     let cs = codes "calls" ∷ callback_lines p es in
     every_append IsLine (ks ++ bs ++ cs) (codes "end" ∷ [])
     (every_append IsLine (ks ++ bs) cs
-    (every_append IsLine ks bs (front, read_lines (unread_in h.version) (record { program = p; said = h.said }) (script_lines p) h.script) (begin, steps_are_lines p es h.steps))
+    (every_append IsLine ks bs (front, read_lines (unread_in h.version) (record { program = p; said = h.said }) (script_lines p) h.script)
+    (begin, steps_are_lines p es h.steps))
     (middle, called_are_lines (callback_lines p es) h.called)) (last, tt)
 
 are_read : (p : Program) (es : List Event) → IsMade p es → ReadsAll Start (recording_lines p es) (Whole p es (callback_lines p es))

@@ -26,6 +26,7 @@ use Rattle.uv_find.specs.Orders.{Rules, Place, Led, led, is_blocked}
 -- the callback that a line begins: which one, and of which name
 abbrev pub begun : Seen → Option (Callback × Var)
 begun (seen.Call v id) = Some (callback.Handle, v)
+begun (seen.Io v id) = Some (callback.Handle, v)
 begun (seen.After digest v id) = Some (callback.After, v)
 begun (seen.Closed v id) = Some (callback.Close, v)
 begun l = None

@@ -18,6 +18,7 @@ fn begun(line: Seen) -> Option<(Callback, Var)>
 {
     match line {
         Seen::Call(name, _) => Some((Callback::Handle, name)),
+        Seen::Io(name, _) => Some((Callback::Handle, name)),
         Seen::After(_, name, _) => Some((Callback::After, name)),
         Seen::Closed(name, _) => Some((Callback::Close, name)),
         _ => None,

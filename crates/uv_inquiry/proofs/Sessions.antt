@@ -1,5 +1,5 @@
 -- The session that an answer shows is read as that script and those steps.
-use Rattle.std.proofs.Common.{◌≡◌, ◌≢◌, ℕ, ◌+◌, ◌==◌, false, List, [], ◌∷◌, ◌++◌, map, refl, sym, subst, arith, append_assoc}
+use Rattle.std.proofs.Common.{◌≡◌, ◌≢◌, ℕ, ◌+◌, ◌==◌, Bool, true, false, List, [], ◌∷◌, ◌++◌, map, refl, sym, subst, arith, append_assoc}
 use Rattle.std.specs.Prelude.{codes}
 use Rattle.std.specs.List.{AllByRecursion}
 use Rattle.std.proofs.lemmas.Bool.{ne_eqb}
@@ -11,20 +11,21 @@ use Rattle.uv_ids.specs.declared.seen.Callback.TheVariants as kinds
 use Rattle.uv_script.specs.declared.op.CallbackLine.{CallbackLine}
 use Rattle.uv_script.specs.declared.op.MainOp.{MainOp}
 use Rattle.uv_script.specs.declared.op.MainOp.TheVariants as main
-use Rattle.uv_script.specs.Program.{Program, lines_in}
+use Rattle.uv_script.specs.Program.{Program, lines_in, order_of, worker_count, arena_size, has_io, from_heap}
 use Rattle.uv_script.specs.Lines.{fields_of, IsLine}
 use Rattle.uv_script.specs.Laws.{IsReadBack}
-use Rattle.uv_script.specs.Text.{var_line, main_line, callback_line, name_lines, callback_lines, thread_line, script_lines, lines_text, script_text}
-use Rattle.uv_script.specs.Grammar.{unread, IsScript}
+use Rattle.uv_script.specs.Text.{var_line, main_line, callback_line, name_lines, callback_lines, thread_line, script_lines, lines_text, script_text, line_if, io_line, heap_line, order_line, workers_line, slots_line, setting_lines}
+use Rattle.uv_script.specs.Grammar.{IsScript}
 use Rattle.uv_script.proofs.Checks.{is_line_decides}
-use Rattle.uv_script.proofs.ReadBack.{settled, lines_back, read_lines}
+use Rattle.uv_script.proofs.ReadBack.{lines_back, read_lines}
 use Rattle.uv_text.specs.Commands as is
-use Rattle.uv_text.specs.Commands.{IsStep, IsCommand, Asks}
+use Rattle.uv_text.specs.Commands.{IsStep, IsCommand, Asks, has_step}
 use Rattle.uv_text.specs.declared.command.Command.TheVariants.{Loop, Step}
 use Rattle.uv_text.specs.declared.command.Asked.TheVariants.{Do}
 use Rattle.uv_text.specs.Recorded.{SaysStep, loop, outside}
 use Rattle.uv_text.specs.Recording.{step_line}
 use Rattle.uv_engine.specs.Input.{NoFeed}
+use Rattle.uv_engine.specs.Recordings.{unread_in}
 use Rattle.uv_engine.specs.Out.{Begins, here, later}
 use Rattle.uv_engine.specs.Verdict.{AllTaken}
 use Rattle.uv_engine.proofs.Remade.{Said, is_made}
@@ -74,25 +75,32 @@ callbacks_other p n (name ∷ names) =
     (map (callback_line p.names kinds.After v) (lines_in p kinds.After v))
     (one kinds.Handle) (one kinds.After)) (one kinds.Close)) (callbacks_other p (n + 1) names)
 
+if_other : (b : Bool) (line : List ℕ) → NoBegin line → AllByRecursion NoBegin (line_if b line)
+if_other true line h = (h, tt)
+if_other false line h = tt
+
+settings_other : (p : Program) → AllByRecursion NoBegin (setting_lines p)
+settings_other p =
+    let front = order_line (order_of p) ∷ line_if (has_io p) io_line in
+    let sizes = workers_line (worker_count p) ∷ slots_line (arena_size p) ∷ [] in
+    every_append NoBegin (front ++ line_if (from_heap p) heap_line) sizes
+    (every_append NoBegin front (line_if (from_heap p) heap_line) (other _ _ refl, if_other (has_io p) io_line (other _ _ refl))
+    (if_other (from_heap p) heap_line (other _ _ refl)))
+    (other _ _ refl, (other _ _ refl, tt))
+
 script_other : (p : Program) → AllByRecursion NoBegin (script_lines p)
 script_other p =
+    let settings = setting_lines p in
     let names = map var_line p.names in
     let ops = map (main_line p.names) p.main in
     let called = callback_lines p 0 p.names in
-    let sent = map (thread_line p.names) p.threads in (
-      other _ _ refl,
-      (
-        other _ _ refl,
-        (
-          other _ _ refl,
-          every_append NoBegin (names ++ ops ++ called) sent
-              (every_append NoBegin (names ++ ops) called
-              (every_append NoBegin names ops (every_mapped NoBegin var_line p.names (λ name. other _ _ refl))
-              (every_mapped NoBegin (main_line p.names) p.main (main_other p.names)))
-              (callbacks_other p 0 p.names)) (every_mapped NoBegin (thread_line p.names) p.threads (λ line. other _ _ refl)),
-        ),
-      ),
-    )
+    let sent = map (thread_line p.names) p.threads in
+    every_append NoBegin (settings ++ names ++ ops ++ called) sent
+    (every_append NoBegin (settings ++ names ++ ops) called
+    (every_append NoBegin (settings ++ names) ops
+    (every_append NoBegin settings names (settings_other p) (every_mapped NoBegin var_line p.names (λ name. other _ _ refl)))
+    (every_mapped NoBegin (main_line p.names) p.main (main_other p.names)))
+    (callbacks_other p 0 p.names)) (every_mapped NoBegin (thread_line p.names) p.threads (λ line. other _ _ refl))
 
 unfed : (line : List ℕ) → IsLine line → NoFeed line
 unfed line is = λ k d inside. ne_eqb _ 10 (λ e. omega (arith, (is.printable k d inside).0, e))
@@ -108,19 +116,20 @@ begins_behind (line ∷ lines) rest each others =
 
 -- ---- the lines of steps
 
-step_is_line : (names : List (List ℕ)) (line : List ℕ) (e : Event) → SaysStep names line e → IsLine line
-step_is_line names line e (loop h) = subst IsLine (sym h) ((is_line_decides (codes "loop")).0 refl)
-step_is_line names line e (outside _ h k) = h
+step_is_line : (p : Program) (line : List ℕ) (e : Event) → SaysStep p line e → IsLine line
+step_is_line p line e (loop h) = subst IsLine (sym h) ((is_line_decides (codes "loop")).0 refl)
+step_is_line p line e (outside _ h k has) = h
 
-steps_are_lines : (names : List (List ℕ)) (es : List Event) → AllByRecursion (Said names) es → AllByRecursion IsLine (map (step_line names) es)
-steps_are_lines names [] h = tt
-steps_are_lines names (e ∷ es) h = (step_is_line names (step_line names e) e h.0, steps_are_lines names es h.1)
+steps_are_lines : (p : Program) (es : List Event) → AllByRecursion (Said p) es → AllByRecursion IsLine (map (step_line p.names) es)
+steps_are_lines p [] h = tt
+steps_are_lines p (e ∷ es) h = (step_is_line p (step_line p.names e) e h.0, steps_are_lines p es h.1)
 
 no_loop : {names : List (List ℕ)} {word argument : List ℕ} {e : Event} → IsStep names word argument e → e ≡ event.Loop → ⊥
 no_loop (is.take worker w h l) z = cc z
 no_loop (is.finish worker w h l) z = cc z
 no_loop (is.cancel v w h) z = cc z
 no_loop (is.send v w h) z = cc z
+no_loop (is.io v w h) z = cc z
 no_loop (is.tick ms w h) z = cc z
 
 outside_asks : (names : List (List ℕ)) (line : List ℕ) (e : Event) → IsLine line → IsCommand names (fields_of line) (Step e) →
@@ -130,18 +139,19 @@ outside_asks names line (event.Take k) l h = is.command (Step (event.Take k)) l 
 outside_asks names line (event.Finish k) l h = is.command (Step (event.Finish k)) l h
 outside_asks names line (event.Cancel v) l h = is.command (Step (event.Cancel v)) l h
 outside_asks names line (event.Send v) l h = is.command (Step (event.Send v)) l h
+outside_asks names line (event.Io v) l h = is.command (Step (event.Io v)) l h
 outside_asks names line (event.Tick ms) l h = is.command (Step (event.Tick ms)) l h
 
 loop_asks : (names : List (List ℕ)) → Asks names (codes "loop") (Do (Loop 1))
 loop_asks names = is.command (Loop 1) ((is_line_decides (codes "loop")).0 refl) (is.one_step refl)
 
-one_asks : (names : List (List ℕ)) (line : List ℕ) (e : Event) → SaysStep names line e → Asks names line (Do (command_of e))
-one_asks names line e (loop h) = subst (λ (l : List ℕ). Asks names l (Do (Loop 1))) (sym h) (loop_asks names)
-one_asks names line _ (outside e l h) = outside_asks names line e l h
+one_asks : (p : Program) (line : List ℕ) (e : Event) → SaysStep p line e → Asks p.names line (Do (command_of e)) × (has_step p e ≡ true)
+one_asks p line e (loop h) = (subst (λ (l : List ℕ). Asks p.names l (Do (Loop 1))) (sym h) (loop_asks p.names), refl)
+one_asks p line _ (outside e l h has) = (outside_asks p.names line e l h, has)
 
-all_ask : (names : List (List ℕ)) (es : List Event) → AllByRecursion (Said names) es → AsksFor names (map (step_line names) es) es
-all_ask names [] h = tt
-all_ask names (e ∷ es) h = (one_asks names (step_line names e) e h.0, all_ask names es h.1)
+all_ask : (p : Program) (es : List Event) → AllByRecursion (Said p) es → AsksFor p (map (step_line p.names) es) es
+all_ask p [] h = tt
+all_ask p (e ∷ es) h = let one = one_asks p (step_line p.names e) e h.0 in (one.0, one.1, all_ask p es h.1)
 
 pub session_is : (text : List ℕ) (p : Program) (es : List Event) → IsScript text p → IsReadBack p → AllTaken p es → IsSession (session_text p es) p es
 unfolding session_text script_text
@@ -154,8 +164,9 @@ session_is text p es is back taken =
       script = script_text p;
       commands = lines_text steps;
       begins = subst (λ (t : List ℕ). Begins t (lines_text lines) (lines_text steps)) (sym whole)
-          (begins_behind lines (lines_text steps) (read_lines unread (settled p) lines made.script) (script_other p));
+          (begins_behind lines (lines_text steps)
+          (read_lines (unread_in made.version) (record { program = p; said = made.said }) lines made.script) (script_other p));
       is = back.script;
-      asks = subst (λ (ls : List (List ℕ)). AsksFor p.names ls es) (sym (lines_back steps (steps_are_lines p.names es made.steps)))
-          (all_ask p.names es made.steps);
+      asks = subst (λ (ls : List (List ℕ)). AsksFor p ls es) (sym (lines_back steps (steps_are_lines p es made.steps)))
+          (all_ask p es made.steps);
     }

@@ -32,6 +32,7 @@ step_is (event.Take m) (event.Take n) e = ap event.Take (eqb-true m n e)
 step_is (event.Finish m) (event.Finish n) e = ap event.Finish (eqb-true m n e)
 step_is (event.Cancel v) (event.Cancel w) e = ap event.Cancel (var_is v w e)
 step_is (event.Send v) (event.Send w) e = ap event.Send (var_is v w e)
+step_is (event.Io v) (event.Io w) e = ap event.Io (var_is v w e)
 step_is (event.Tick m) (event.Tick n) e = ap event.Tick (eqb-true m n e)
 step_is _ _ e = absurd cc
 
@@ -41,6 +42,7 @@ step_self (event.Take n) = itself n
 step_self (event.Finish n) = itself n
 step_self (event.Cancel v) = itself v.0
 step_self (event.Send v) = itself v.0
+step_self (event.Io v) = itself v.0
 step_self (event.Tick n) = itself n
 
 offer_is : (a b : Offer) → same_offer a b ≡ true → a ≡ b

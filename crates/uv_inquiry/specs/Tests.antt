@@ -29,6 +29,7 @@ same_step (event.Take m) (event.Take n) = m == n
 same_step (event.Finish m) (event.Finish n) = m == n
 same_step (event.Cancel v) (event.Cancel w) = v.0 == w.0
 same_step (event.Send v) (event.Send w) = v.0 == w.0
+same_step (event.Io v) (event.Io w) = v.0 == w.0
 same_step (event.Tick m) (event.Tick n) = m == n
 same_step a b = false
 

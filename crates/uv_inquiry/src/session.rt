@@ -43,6 +43,10 @@ fn push_step(text: &mut Vec<u8>, names: &Names, step: Event) -> Result<(), Alloc
             text.extend_from_slice(b"send ")?;
             names.push_name(text, name)
         }
+        Event::Io(name) => {
+            text.extend_from_slice(b"io ")?;
+            names.push_name(text, name)
+        }
         Event::Tick(ms) => {
             text.extend_from_slice(b"tick ")?;
             push_number(text, ms)

@@ -61,9 +61,11 @@ abbrev pub is_send : ℕ → Event → Bool
 is_send v (step.Send name) = name.0 == v
 is_send v _ = false
 
-abbrev pub is_cancel : Event → Bool
-is_cancel (step.Cancel name) = true
-is_cancel _ = false
+-- a step that none of its threads does: a cancel from outside, and a callback of I/O
+abbrev pub is_unthreaded : Event → Bool
+is_unthreaded (step.Cancel name) = true
+is_unthreaded (step.Io name) = true
+is_unthreaded _ = false
 
 abbrev pub is_line : ℕ → ThreadLine → Bool
 is_line v l = l.name.0 == v
@@ -84,7 +86,7 @@ pub record IsSettled {S : Type 0} (plan : Plan S) (s : Course) (book : Standing)
   pub each : AreShifts book.hold.contents.log shifts
   pub finishes : finish_count book.hold.contents.log ≡ counted shifts
   pub sends : AllSendsFit s.steps plan counts
-  pub cancels : count_by is_cancel s.steps ≡ 0
+  pub unthreaded : count_by is_unthreaded s.steps ≡ 0
 
 -- the first place, from 1, where the events and the log part, be it the end of one of them
 abbrev pub PartsFirst : List PoolEvent → List PoolEvent → ℕ → Type 0

@@ -49,16 +49,17 @@ fn do_add_up<L: Ledger>(log: &[PoolEvent], shifts: &[Shift<L>]) -> bool
     left == 0
 }
 
-fn is_cancel(event: Event) -> bool
-    ensures { result ≡ spec.is_cancel event }
+/// Whether none of a live run's threads does such a step.
+fn is_unthreaded(event: Event) -> bool
+    ensures { result ≡ spec.is_unthreaded event }
 {
-    matches!(event, Event::Cancel(_))
+    matches!(event, Event::Cancel(_) | Event::Io(_))
 }
 
-fn cancels(steps: &[Event]) -> usize
-    ensures { result ≡ count_by spec.is_cancel steps.now }
+fn unthreaded(steps: &[Event]) -> usize
+    ensures { result ≡ count_by spec.is_unthreaded steps.now }
 {
-    steps.iter().filter(|event| is_cancel(**event)).count()
+    steps.iter().filter(|event| is_unthreaded(**event)).count()
 }
 
 fn sends_fit<F: Follower>(name: Var, session: &F, seat: &LoopSeat) -> bool
@@ -118,12 +119,13 @@ fn do_agree<F: Follower, L: Ledger>(
     if !all_sends_fit(session, seat) {
         return false;
     }
-    cancels(session.steps()) == 0
+    unthreaded(session.steps()) == 0
 }
 
 /// Compares what the session did with what the threads did. `Ok` comes just where all agrees: the book is closed, and its whole log
 /// are the session's events; the shifts are those of all workers, and together count the log's finishes; the sends of each name
-/// are as many as were absorbed, and no more than its `thread` lines; and nothing was cancelled from outside.
+/// are as many as were absorbed, and no more than its `thread` lines; and no step is a
+/// cancel from outside or a callback of I/O, which none of the threads does.
 ///
 /// `Torn` names the first place, from 1, where the session's events and the log part. It is 0 where they don't.
 pub fn settle<F: Follower, L: Ledger>(

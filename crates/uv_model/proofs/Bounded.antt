@@ -459,6 +459,7 @@ io_bounded p n s v h = if_keeps (StaysBounded (suc n)) (nat_lt v.0 (length s.nam
       taken true g = let same : r ≡ run = same_Some _ _ g in let l : line_of (Running r) ≤ n = subst (λ (q : Place). line_of q ≤ n) (sym e) h.line in
           subst (λ (q : Run). q.line ≤ n) same l
       taken false g = absurd (none-some run g)
+
     at : (r : Option Run) (id : Option Id) → ((run : Run) → r ≡ Some run → run.line ≤ n) → StaysBounded (suc n) (call_io p s v r id)
     at None id l = tt
     at (Some run) None l = tt

@@ -297,7 +297,8 @@ pub did_known : (p : Program) (past : List Seen) (s : State) (n : Next) → Did 
     Follows p past n
 did_known p past s n (row.refused why) kept work begun k = tt
 did_known p past s n (row.still x time clock stop idled l q) kept work begun k = still_known p past (timed s x time clock stop idled) l q k
-did_known p past s n (row.op x at o e) kept work begun k = (op_line p past s at o e kept begun k, op_known p past s o kept (λ id f. new_id p past s id f kept begun) k at e)
+did_known p past s n (row.op x at o e) kept work begun k =
+    (op_line p past s at o e kept begun k, op_known p past s o kept (λ id f. new_id p past s id f kept begun) k at e)
 did_known p past s n (row.begun run q e) kept work begun k = begin_known p past s run q k
 did_known p past s n (row.begun_closing run e) kept work begun k = begins_known p past (record s { closing = all_yet s.closing }) run Closing
     phase.Closing k

@@ -189,8 +189,9 @@ io_did p s v = by (io_run p s s.place) (live_handle s v) refl where
   by None t e = refused Blocked
   by (Some run) (Err code) e = refused Blocked
   by (Some run) (Ok t) e = cond_both (is_io t.1.kind && t.1.active) _ _ (λ (id : Option Id). Did p s (step.call_io p s v (Some run) id))
-      (λ on. let parts = and_parts (is_io t.1.kind) t.1.active on in answered (record run { stage = stage_polled s run.stage }) (time_polled s run.stage)
-      v t e (io_kind t.1.kind parts.0) parts.1) (λ off. refused Blocked)
+      (λ on. let parts = and_parts (is_io t.1.kind) t.1.active on in
+      answered (record run { stage = stage_polled s run.stage }) (time_polled s run.stage) v t e (io_kind t.1.kind parts.0) parts.1)
+      (λ off. refused Blocked)
 
 pub did : (p : Program) (s : State) (e : Event) → BeginsAt s.place s → Did p s (next p s e)
 unfolding next

@@ -190,7 +190,8 @@ holds_next p told past s at e k =
     let n = next p s e in
     let d = did p s e (begins_at p s s.place at k.stands.stands) in
     by n (did_kept p s n d k.kept) (did_sent p told s n d k.kept k.sent) (did_working p s n d k.kept k.working)
-    (follows p told s at e k.kept k.sent k.working (λ v t live. its_name p past s v t live k.known) k.stands) (did_known p past s n d k.kept k.working k.started k.known)
+    (follows p told s at e k.kept k.sent k.working (λ v t live. its_name p past s v t live k.known) k.stands)
+    (did_known p past s n d k.kept k.working k.started k.known)
     (did_started p past s n d k.kept k.known k.started) (says p s n d) (did_pools p s n d k.kept k.working)
   where
     by : (n : Next) → StaysKept n → SentFollows p told s n → StaysWorking n → Follows p told at s n → known.Follows p past n → StartedFollows p

@@ -59,7 +59,7 @@ left_poll p told s run deadline sent g c e = cond_both (may_leave s deadline) _ 
     })
     (λ h. tt)
 
--- nor is anything asked where a callback of I/O left it
+-- where a callback of I/O left it, done follows once its ops are done, with a list where the poll was woken
 left_polled : (p : Program) (told : Told) (s : State) (run : Run) (woken : Bool) (sites : List Site) → sites ≡ [] → Working s →
     Counted p s.names told → NobodyLeft (rest s.ready s) →
     Follows p told (Running run.mode run.line (Answering woken sites)) s (step.leave_polled s run woken)
@@ -82,7 +82,8 @@ left_polled p told s run false sites b g c e = record {
 
 -- the timers of a section are collected, or called straight from their heap
 timers_follow : (p : Program) (told : Told) (s : State) (run : Run) (part : TimersOf) (at : Standing) → Kept s → Working s → Counted p s.names told →
-    StandsIn p None (stage.Timers part Collecting) at → Leaves (rest (waiting (stage.Timers part Collecting) (from_heap p) s.ready (due_now s)) s) at →
+    StandsIn p None (stage.Timers part Collecting) at →
+    Leaves (rest (waiting (stage.Timers part Collecting) (from_heap p) s.ready (due_now s)) s) at →
     Follows p told (Running run.mode run.line at) s (step.timers p s run part Collecting)
 timers_follow p told s run part at k g c stands l = by at stands l where
   left : Bool → Standing → Type 0
@@ -320,8 +321,8 @@ main_follows p told s i (Some (main.Op o)) e k c l = record {
 
 pub run_follows : (p : Program) (told : Told) (s : State) (run : Run) (body : Option Body) (at : Standing) → Kept s → SentAt told.sent s →
     Working s → Counted p s.names told →
-    StandsIn p body run.stage at → Leaves (rest (waiting run.stage (from_heap p) s.ready (due_now s)) s) at → Follows p told (Running run.mode run.line at) s
-    (step.run_step p s run body)
+    StandsIn p body run.stage at → Leaves (rest (waiting run.stage (from_heap p) s.ready (due_now s)) s) at →
+    Follows p told (Running run.mode run.line at) s (step.run_step p s run body)
 run_follows p told s run None at k sent g c h l = stage_follows p told s run run.stage at refl k sent g c h l
 run_follows p told s run (Some body) at k sent g c h l =
     body_follows p told s run body run.stage at (slice_get (lines_in p body.callback body.name) body.next) refl refl k sent c h l

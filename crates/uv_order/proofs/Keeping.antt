@@ -322,11 +322,12 @@ watcher_started_kept s q id h e t off stays k =
     (λ r. started_lists s q r id x (in_front s id h x (kind_as q) (members (watched s q)) e off t refl (k.watchers q))
     (λ apart. others s.arena.slots (kind_as q) (kind_as r) id h x (members (watched s r)) e t t apart (k.watchers r))) still.2
 
--- a handle of I/O is started, which is on no list
+-- a handle of I/O is no watcher
 no_watcher : (q : WatcherKind) → Apart kind.Io (kind_as q)
 no_watcher watcher.Idle = λ e. cc e
 no_watcher each = λ e. cc e
 
+-- one is started, which is on no list
 pub io_started_kept : (s : State) (id : Id) (h : HandleRecord) → handle s id ≡ Some h → h.kind ≡ kind.Io → h.closing ≡ false → Kept s →
     Kept (with_handle s id (activated h))
 io_started_kept s id h e t stays k =

@@ -48,8 +48,8 @@ own_id (n ∷ names) (suc i) x id e = own_id names i x id e
 abbrev pub IsShut : Slots Content → Id → Type 0
 IsShut arena id = Fits arena.slots Closes id ⊎ IsGone arena.slots arena.free id
 
--- what is held is called as the lines tell; names are bound as they tell, each to what was made under it, and just the ids of which they tell a `close` close, or are gone;
--- those with a `closed` line are gone
+-- what is held is called as the lines tell; names are bound as they tell, each to what was made under it, and just
+-- the ids of which they tell a `close` close, or are gone; those with a `closed` line are gone
 pub record Known (p : Program) (past : List Seen) (arena : Slots Content) (names : List Named) (waiting runs : List Id) : Type 0 where
   pub binding : (v : Var) (id : Id) → id_in names v ≡ Some id → bound p past v ≡ Some id
   pub made : (id : Id) (v : Var) → name_at arena.slots id ≡ Some v → made_as p past id ≡ Some v

@@ -160,7 +160,8 @@ again_effect : (s : State) (v : Var) (t : Id × HandleRecord) → live_handle s 
     (ops.again s t.0 t.1)
 again_effect s v t e is k = cond_both (t.1.repeat == 0) _ _ (λ (u : State). Effect s (op.Again v) (ops.succeeds u))
     (λ z. timer_effect s (stopped s t.0 t.1) (op.Again v) v t e is k (λ word. refl) refl refl refl (assumption))
-    (λ z. timer_effect s (started (stopped s t.0 t.1) t.0 t.1 t.1.repeat t.1.repeat) (op.Again v) v t e is k (λ word. refl) refl refl refl (assumption))
+    (λ z. timer_effect s (started (stopped s t.0 t.1) t.0 t.1 t.1.repeat t.1.repeat) (op.Again v) v t e is k (λ word. refl) refl refl refl
+    (assumption))
 
 -- ---- the other ops
 

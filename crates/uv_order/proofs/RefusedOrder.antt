@@ -127,7 +127,8 @@ stays p told names m i part w l to e g = at to e g where
   at to e (doc.call kind v id behind a b c d f) =
       let walk : Walk = record w { ahead = behind; body = body kind v } in
       so walk (λ x on. on) l.seen refl (call_tells p told names part w walk l.before kind v id behind l.seen b d)
-  at to e (doc.fires v id due others a b c d f g h i) = so (record w { body = body callback.Handle v }) (λ x on. on) (seen.Call v id) h ((λ heap. cc (a, heap)), rw b refl)
+  at to e (doc.fires v id due others a b c d f g h i) =
+      so (record w { body = body callback.Handle v }) (λ x on. on) (seen.Call v id) h ((λ heap. cc (a, heap)), rw b refl)
   at to e (doc.answers v id a b c d f g) =
       let s = answered l.before told (body callback.Handle v) part w in
       subst (λ (y : Standing). Stays p told names m i part w (Running m i y) l.seen) (sym s.is)

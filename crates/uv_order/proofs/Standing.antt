@@ -145,8 +145,8 @@ due_now s = due_ids s.time s.timers
 
 pub data StandsAt (p : Program) (s : State) : Place → Position → Type 0 where
   between : {i : ℕ} → NobodyLeft (rest s.ready s) → StandsAt p s (place.Main i) (Between i)
-  running : {run : Run} {at : Standing} → StandsIn p run.body run.stage at → Leaves (rest (waiting run.stage (from_heap p) s.ready (due_now s)) s) at →
-      StandsAt p s (place.Running run) (Running run.mode run.line at)
+  running : {run : Run} {at : Standing} → StandsIn p run.body run.stage at →
+      Leaves (rest (waiting run.stage (from_heap p) s.ready (due_now s)) s) at → StandsAt p s (place.Running run) (Running run.mode run.line at)
 
 pub record Stands (p : Program) (told : Told) (s : State) (at : Position) : Type 0 where
   pub stands : StandsAt p s s.place at

@@ -199,8 +199,8 @@ timers_call part told w id more n b = grind arith
 
 -- a timer is called from the ready list, in a state that may have started it again
 pub call_timer : (p : Program) (told : Told) (s u : State) (run : Run) (part : TimersOf) (w : Walk) (t : Id × HandleRecord) (more : List Id) →
-    handle s t.0 ≡ Some t.1 → u.names ≡ s.names → lasting u ≡ lasting s → OnlyReady (rest (t.0 ∷ more) u) w → u.ready ≡ more → w.body ≡ [] → from_heap p ≡ false →
-    Counted p s.names told → Follows p told (Running run.mode run.line (Within (section_of part) w)) s
+    handle s t.0 ≡ Some t.1 → u.names ≡ s.names → lasting u ≡ lasting s → OnlyReady (rest (t.0 ∷ more) u) w → u.ready ≡ more → w.body ≡ [] →
+    from_heap p ≡ false → Counted p s.names told → Follows p told (Running run.mode run.line (Within (section_of part) w)) s
     (call p u (record run { stage = stage.Timers part Firing }) t.0 t.1.name)
 call_timer p told s u run part w t more h names lasts o ready b heap c =
     let next = next_of w t.0 more (sym o.ready) in
@@ -217,7 +217,8 @@ fire_follows p told s run part w alive k c l b heap =
     found_both (front s s.ready) _ _ (Follows p told (Running run.mode run.line (Within (section_of part) w)) s)
     (λ t e. fired o t (front_of s s.ready t e)) (λ e. let none : s.ready ≡ [] = no_front s Rests s.ready k.ready.each e in
     turn_follows p told s run (Behind part) (Within (section_of part) w) alive refl
-    (timers_over part w b (all_off w.ahead w.off (sym o.ready ∙ none)), none_due_now part p s (λ on. cc (heap, on))) k c (left_all none o.idle o.prepare o.check o.async o.closing o.done))
+    (timers_over part w b (all_off w.ahead w.off (sym o.ready ∙ none)), none_due_now part p s (λ on. cc (heap, on))) k c
+    (left_all none o.idle o.prepare o.check o.async o.closing o.done))
   where
     fired : OnlyReady (rest s.ready s) w → (t : Id × HandleRecord) → FrontOf s s.ready t →
         Follows p told (Running run.mode run.line (Within (section_of part) w)) s
@@ -305,7 +306,8 @@ call_due_timer p told s u run part w t f names lasts e none b heap k c =
     record {
       to = Running run.mode run.line (Within (section_of part) (record w { body = body_of p callback.Handle v (next_call told callback.Handle v) }));
       goes = doc.fires v t.0 f.key f.rest heap (timers_are part) b
-          (subst (AreTimers s) f.are (are_timers s s.timers s.next_start k.timers)) (grind (arith, nat_tests, f.due)) (named_of s t f.holds) refl lasts;
+          (subst (AreTimers s) f.are (are_timers s s.timers s.next_start k.timers)) (grind (arith, nat_tests, f.due))
+          (named_of s t f.holds) refl lasts;
       stands = record {
         stands = running (calls_due heap none (its_body p told u callback.Handle v cu)) (rw heap (timers_left part (rest u.ready u) _
             (assumption (e.timers ∙ sym (ap (λ (ids : List Id). left_of ids w.off) none), e))));

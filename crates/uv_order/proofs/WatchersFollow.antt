@@ -96,7 +96,8 @@ none_behind slots w yet none e = record {
 
 -- such a section begins behind a part that may be left
 pub begin_follows : (p : Program) (told : Told) (s : State) (run : Run) (q : WatcherKind) (at : Standing) → MayLeave p s told at →
-    IsNext (part_of at) (doc.Of (In (phase_of q))) → doc.has_list p (phase_of q) (doc.woken_at at) ≡ true → Kept s → SentAt told.sent s → Counted p s.names told → NobodyLeft (rest s.ready s) →
+    IsNext (part_of at) (doc.Of (In (phase_of q))) → doc.has_list p (phase_of q) (doc.woken_at at) ≡ true → Kept s →
+    SentAt told.sent s → Counted p s.names told → NobodyLeft (rest s.ready s) →
     Follows p told (Running run.mode run.line at) s (step.begin_walk s run q)
 begin_follows p told s run q at over follows has k h c e = record {
   to = Running run.mode run.line (Within (In (phase_of q)) (walk_with told q (doc.woken_at at) (watched s q).list));
@@ -260,7 +261,8 @@ async_follows p told s run w alive st k h c l b = found_both (front s s.watchers
     (λ e. let all = s.watchers.async in
     let each = each_back (Fits s.arena.slots (Watches kind.Async)) all.list all.yet (k.watchers watcher.Async).lists.each in
     let none : s.watchers.async.yet ≡ [] = no_front s (Watches kind.Async) s.watchers.async.yet each e in
-    after_follows p told s run watcher.Async w alive (async_over s.arena.slots w s.watchers.async.yet l.async none b) k h c (left_all l.timers l.idle l.prepare l.check none l.closing l.done))
+    after_follows p told s run watcher.Async w alive (async_over s.arena.slots w s.watchers.async.yet l.async none b) k h c
+    (left_all l.timers l.idle l.prepare l.check none l.closing l.done))
   where
     at : (t : Id × HandleRecord) → FrontOf s s.watchers.async.yet t → Follows p told (Running run.mode run.line (Within (In phase.Async) w)) s
         (if t.1.pending then call p (with_handle (front_moved s watcher.Async t.0) t.0 (records.woken t.1)) run t.0 t.1.name
@@ -320,8 +322,8 @@ done_follows p told s run w st k h g c l woken b = found_both (front_request s s
     (λ t e. at t (request_front s s.done.yet t e))
     (λ e. let none : s.done.yet ≡ [] = no_request s HasEnded s.done.list s.done.yet g.ended e in
     begin_follows p told s run watcher.Async (Within (In phase.Done) w)
-    (record { done = b; may_pass = all_off w.ahead w.off (sym l.done ∙ none) }, tt) async_next woken k h c (left_all l.timers l.idle l.prepare l.check l.async
-    l.closing none))
+    (record { done = b; may_pass = all_off w.ahead w.off (sym l.done ∙ none) }, tt) async_next woken k h c
+    (left_all l.timers l.idle l.prepare l.check l.async l.closing none))
   where
     at : (t : Id × Request) → FrontRequest s s.done.yet t → Follows p told (Running run.mode run.line (Within (In phase.Done) w)) s
         (calls p (record s {

@@ -389,7 +389,7 @@ part_of (Within part w) = Of part
 part_of (Polling deadline) = Poll
 part_of (Answering woken body) = Poll
 
--- whether the poll was woken: one that no callback of I/O left was
+-- whether the poll was woken: one that no callback of I/O left counts so
 abbrev pub woken_at : Standing → Bool
 woken_at Begun = true
 woken_at (Within part w) = w.woken

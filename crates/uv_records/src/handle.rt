@@ -1,7 +1,8 @@
 //! The record of a handle, and what the ops make of it.
 ghost use Rattle.std.specs.Prelude.{◌≡◌};
 ghost use Rattle.uv_records.specs.Dues.{due_in, due_after};
-ghost use Rattle.uv_records.specs.Handles.{is_io, 
+ghost use Rattle.uv_records.specs.Handles.{
+  is_io,
   no_due,
   inited,
   stopped,

@@ -18,6 +18,6 @@ settled_by plan q s e h = subst (λ (x : Plan Program). RunSettles x s) e (
     each = h.3.each;
     finishes = h.3.finishes;
     sends = h.3.sends;
-    cancels = h.3.cancels;
+    unthreaded = h.3.unthreaded;
   },
 )

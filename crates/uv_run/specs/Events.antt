@@ -16,7 +16,7 @@ use Rattle.uv_work.specs.declared.event.PoolEvent.{PoolEvent}
 use Rattle.uv_model.specs.declared.place.Place.{Place}
 use Rattle.uv_model.specs.declared.place.Place.TheVariants.{Main, Running}
 use Rattle.uv_model.specs.declared.place.Stage.{Stage}
-use Rattle.uv_model.specs.declared.place.Stage.TheVariants.{Entry, Pending, Walking, Poll, Done, Closing, Timers}
+use Rattle.uv_model.specs.declared.place.Stage.TheVariants.{Poll}
 use Rattle.uv_model.specs.Next.{next}
 use Rattle.uv_model.specs.After.{after, lines, refusal_of}
 use Rattle.uv_order.specs.PoolEvents.{line_events, pool_events}
@@ -56,12 +56,7 @@ refusal_after p es = refusal_of (next p (after p es) Loop)
 
 abbrev pub is_poll : Stage → Bool
 is_poll (Poll deadline) = true
-is_poll Entry = false
-is_poll Pending = false
-is_poll (Walking kind) = false
-is_poll Done = false
-is_poll Closing = false
-is_poll (Timers part _) = false
+is_poll stage = false
 
 -- the loop is at a poll
 abbrev pub is_polling : Place → Bool

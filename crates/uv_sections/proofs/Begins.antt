@@ -40,18 +40,29 @@ module _ (i j : Image Place) where
       (all_but_two i s st j.arena t ids name.Closing name.ClosingYet b.others (beside_closing s s.arena s.time q) here there)
       (all_timers i.arena j.arena s.timers ids)
 
-  -- the done section, at the end of a poll: the loop's time is that of the clock
-  pub done_begun : j ≡ record i { arena = j.arena; times = record i.times { time = i.clock } } → (u : SpliceUndo)
+  -- the requests that are done are yet to call back, and this is the loop's time
+  done_at : (now time : ℕ) → j ≡ record i { arena = j.arena; times = record i.times { time = now } } → (u : SpliceUndo)
       → work.IsBegun request_of (working_of i) (working_of j) u
-      → (s : State) → StandsFor i s → StandsFor j (record (refreshed s) { done = all_yet s.done })
-  done_begun frame u b s st =
+      → (s : State) → StandsFor i s → now ≡ time → StandsFor j (record s { time = time; done = all_yet s.done })
+  done_at now time frame u b s st same =
       let q = all_yet s.done in
-      let t : State = record (refreshed s) { done = q } in
+      let t : State = record s { time = time; done = q } in
       let ids = ids_moved i.arena j.arena b.slots.plain in
       let here : Listed j.arena t name.Done = listed_as i.arena j.arena t name.Done [] [] ids refl refl b.done in
       let there : Listed j.arena t name.DoneYet =
       listed_as i.arena j.arena t name.DoneYet s.done.list (arena.members i.arena name.Done) ids (st.lists name.Done) refl b.yet in
-      stands_then i j s t st frame (sections_kept s s.arena s.watchers s.closing q s.clock)
-      (clock_is st) (b.slots.plain ∙ st.slots)
-      (all_but_two i s st j.arena t ids name.Done name.DoneYet b.others (beside_done s s.arena s.clock q) here there)
+      stands_then i j s t st frame (sections_kept s s.arena s.watchers s.closing q time)
+      same (b.slots.plain ∙ st.slots)
+      (all_but_two i s st j.arena t ids name.Done name.DoneYet b.others (beside_done s s.arena time q) here there)
       (all_timers i.arena j.arena s.timers ids)
+
+  -- the done section
+  pub done_begun : OnlySlots i j → (u : SpliceUndo) → work.IsBegun request_of (working_of i) (working_of j) u
+      → (s : State) → StandsFor i s → StandsFor j (record s { done = all_yet s.done })
+  done_begun frame u b s st = done_at i.times.time s.time frame u b s st (time_is st)
+
+  -- at the end of a poll the loop's time is that of the clock
+  pub poll_left : j ≡ record i { arena = j.arena; times = record i.times { time = i.clock } } → (u : SpliceUndo)
+      → work.IsBegun request_of (working_of i) (working_of j) u
+      → (s : State) → StandsFor i s → StandsFor j (record (refreshed s) { done = all_yet s.done })
+  poll_left frame u b s st = done_at i.clock s.clock frame u b s st (clock_is st)

@@ -1,5 +1,5 @@
 -- A callback begins behind a change: of what was freed, or of what moved on.
-use Rattle.uv_sections.proofs.Names.{◌≡◌, ◌≢◌, ℕ, Bool, true, if◌then◌else◌, List, Option, None, ◌<◌, ◌^◌, drop, Some, sym, ap, ◌∙◌, subst, Id, Var, Seen, Callback, HandleRecord, WatcherKind, woken, Request, Program, arena_size, Run, Walking, Timers, TimersOf, Firing, restarted, Fires, Goes, Place, State, with_handle, digest_in, Moves, calls, close_front, collect_request, walk, walk_async, call, at, fire, front_moved, named, count_of, Record, Recorded, Image, Held, IsReady, StandsFor, RequestGone, HandleGone, HandleMoved, moved_state}
+use Rattle.uv_sections.proofs.Names.{◌≡◌, ◌≢◌, ℕ, Bool, true, if◌then◌else◌, List, Option, None, ◌<◌, ◌^◌, drop, Some, sym, ap, ◌∙◌, subst, Id, Var, Seen, Callback, HandleRecord, WatcherKind, woken, Request, Program, arena_size, Run, Walking, Timers, TimersOf, Collecting, Firing, restarted, stopped, Fires, CallsFirst, OfEach, Goes, Place, State, with_handle, digest_in, Moves, calls, close_front, collect_request, walk, walk_async, call, call_due, stage_polled, time_polled, at, fire, front_moved, named, count_of, Record, Recorded, Image, Held, IsReady, StandsFor, RequestGone, HandleGone, HandleMoved, moved_state}
 use Rattle.uv_ids.specs.declared.seen.Seen.TheVariants as seen
 use Rattle.uv_ids.specs.declared.seen.Callback.TheVariants as callback
 use Rattle.uv_records.specs.declared.lists.WatcherKind.TheVariants as watcher
@@ -66,3 +66,27 @@ fire_goes p run part i j k id v fires begins s h reached =
       rw f.1 ((λ l. calls p fired (record run { stage = Timers part Firing }) callback.Handle (f.2 l) (seen.Call (f.2 l) id)) ∙ b.1),
       b.2,
     )
+
+-- that of a timer that is due, straight from the heap
+pub due_goes : (p : Program) (run : Run) (part : TimersOf) (i j k : Image Place) (id : Id) (v : Var) → CallsFirst i j id v
+    → Begins p (record run { stage = Timers part Collecting }) callback.Handle v j k
+    → Goes (λ s. call_due p s run part) i k (Some (seen.Call v id))
+due_goes p run part i j k id v first begins s h reached =
+    let f = first s h reached in
+    let b = begins _ f.3 (seen.Call v id) in
+    let again = restarted (stopped s id f.0) id f.0 in (
+      b.0,
+      rw f.1 ((λ l. calls p again (record run { stage = Timers part Collecting }) callback.Handle (f.2 l) (seen.Call (f.2 l) id)) ∙ b.1),
+      b.2,
+    )
+
+-- that of a handle of I/O
+pub io_goes : (p : Program) (run left : Run) (i j k : Image Place) (id : Id) (v : Var)
+    → OfEach i (λ s. record run { stage = stage_polled s run.stage } ≡ left)
+    → ((s : State) → StandsFor i s → StandsFor j (record s { time = time_polled s run.stage })) → Begins p left callback.Handle v j k
+    → Goes (λ s. calls p (record s { time = time_polled s run.stage }) (record run { stage = stage_polled s run.stage }) callback.Handle v
+    (seen.Io v id)) i k (Some (seen.Io v id))
+io_goes p run left i j k id v same stands begins s h reached =
+    let t : State = record s { time = time_polled s run.stage } in
+    let b = begins t (stands s h) (seen.Io v id) in
+    (b.0, ap (λ r. calls p t r callback.Handle v (seen.Io v id)) (same s h reached) ∙ b.1, b.2)

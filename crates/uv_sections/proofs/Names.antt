@@ -19,18 +19,18 @@ pub use Rattle.uv_ids.specs.declared.seen.Callback.TheVariants.{After, Close, Ha
 pub use Rattle.uv_ids.specs.declared.seen.Seen.{Seen}
 pub use Rattle.uv_ids.specs.declared.seen.Seen.TheVariants.{End, Section}
 pub use Rattle.uv_model.specs.Ids.{same_id}
-pub use Rattle.uv_model.specs.Next.{Moves, at, body_from, call, calls, close_front, collect_request, fire, front_moved, goes_by, refreshes, walk, walk_async, way}
+pub use Rattle.uv_model.specs.Next.{Moves, at, body_from, call, call_due, calls, close_front, collect_request, fire, front_moved, goes_by, refreshes, stage_polled, time_polled, walk, walk_async, way}
 pub use Rattle.uv_model.specs.Queries.{members}
 pub use Rattle.uv_model.specs.State.{State, Watchers, front, front_request, refreshed, watched, with_handle, with_id, with_named, with_watched}
 pub use Rattle.uv_model.specs.Timeout.{deadline_of}
-pub use Rattle.uv_model.specs.Timers.{restarted}
+pub use Rattle.uv_model.specs.Timers.{restarted, stopped}
 pub use Rattle.uv_model.specs.declared.place.Body.{Body}
 pub use Rattle.uv_model.specs.declared.place.Place.{Place}
 pub use Rattle.uv_model.specs.declared.place.Place.TheVariants.{Main, Running}
 pub use Rattle.uv_model.specs.declared.place.Run.{Run}
 pub use Rattle.uv_model.specs.declared.place.Stage.TheVariants.{Poll, Timers, Walking}
 pub use Rattle.uv_model.specs.declared.place.TimersOf.{TimersOf}
-pub use Rattle.uv_model.specs.declared.place.Timing.TheVariants.{Firing}
+pub use Rattle.uv_model.specs.declared.place.Timing.TheVariants.{Collecting, Firing}
 pub use Rattle.uv_model.specs.declared.place.Way.{Way}
 pub use Rattle.uv_order.specs.Active.{Has, IsTimer, has_id}
 pub use Rattle.uv_order.specs.Reached.{IsReached}
@@ -56,7 +56,7 @@ pub use Rattle.uv_stands.proofs.Lists.{Listed, all_but_two, beside_lists, list_i
 pub use Rattle.uv_stands.proofs.Pools.{asked_there, first_one, front_there, ids_moved}
 pub use Rattle.uv_stands.proofs.Single.{clock_is, names_is, time_is}
 pub use Rattle.uv_stands.proofs.Values.{called_stands, count_after, placed}
-pub use Rattle.uv_stands.specs.Doing.{Goes}
+pub use Rattle.uv_stands.specs.Doing.{Goes, OfEach}
 pub use Rattle.uv_stands.specs.Ready.{IsReady}
 pub use Rattle.uv_stands.specs.Stands.{StandsFor, timer_in, values_in}
 pub use Rattle.uv_step.specs.Does.{FirstIs, NoHandleFirst}
@@ -64,7 +64,7 @@ pub use Rattle.uv_step.specs.Image.{Held, Image, OnlyHandles, OnlySlots, OnlyWor
 pub use Rattle.uv_step.specs.MemoryParts.{MemoryParts}
 pub use Rattle.uv_step.specs.Record.{Record}
 pub use Rattle.uv_step.specs.Undo.{Recorded}
-pub use Rattle.uv_timing.specs.Section.{Fires}
+pub use Rattle.uv_timing.specs.Section.{CallsFirst, Fires}
 pub use Rattle.uv_watch.specs.Watch.{IsMovedOn, pending_of}
 pub use Rattle.uv_watch.specs.declared.undo.WalkUndo.{WalkUndo}
 pub use Rattle.uv_work.specs.Content.{handle_of, request_of}

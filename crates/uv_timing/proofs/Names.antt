@@ -65,7 +65,7 @@ pub use Rattle.uv_timer.specs.declared.change.TimerChange.{TimerChange}
 pub use Rattle.uv_timer.specs.declared.change.Times.{Times}
 pub use Rattle.uv_timer.specs.declared.undo.CollectUndo.{CollectUndo}
 pub use Rattle.uv_timer.specs.declared.undo.TimerUndo.{TimerUndo}
-pub use Rattle.uv_timing.specs.Section.{Calls, Collects, CollectsNone, Fires, FiresNone, ids_of}
+pub use Rattle.uv_timing.specs.Section.{CallsFirst, Collects, CollectsNone, Fires, FiresNone, ids_of}
 pub use Rattle.uv_work.specs.Content.{handle_of}
 pub use Rattle.uv_work.specs.declared.content.Content.{Content}
 pub use Rattle.uv_work.specs.declared.content.Content.TheVariants.{Handle}

@@ -29,8 +29,8 @@ Fires i j d v = OfEach i (λ s. (h : HandleRecord) × (front s s.ready ≡ Some 
     × StandsFor j (restarted (record s { ready = drop 1 s.ready }) d h))
 
 -- the first timer, of this name, is due, and is called straight from the heap: it is stopped, and set again if it repeats
-abbrev pub Calls : Image Place → Image Place → Id → Var → Type 0
-Calls i j d v = OfEach i (λ s. (h : HandleRecord) × (first_due s s.timers ≡ Some (d, h)) × (h.name ≡ v)
+abbrev pub CallsFirst : Image Place → Image Place → Id → Var → Type 0
+CallsFirst i j d v = OfEach i (λ s. (h : HandleRecord) × (first_due s s.timers ≡ Some (d, h)) × (h.name ≡ v)
     × StandsFor j (restarted (stopped s d h) d h))
 
 -- none is set aside

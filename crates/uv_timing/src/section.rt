@@ -3,7 +3,7 @@ ghost use Rattle.std.specs.Prelude.{◌≡◌, IfSome, IfNone};
 ghost use Rattle.uv_step.specs.Image.{held};
 ghost use Rattle.uv_step.specs.Undo.{Recorded};
 ghost use Rattle.uv_stands.specs.Ready.{IsReady};
-ghost use Rattle.uv_timing.specs.Section.{Collects, CollectsNone, Fires, FiresNone, Calls};
+ghost use Rattle.uv_timing.specs.Section.{CallsFirst, Collects, CollectsNone, Fires, FiresNone};
 
 use uv_handle::handle_at;
 use uv_ids::{Id, Var};
@@ -53,7 +53,7 @@ pub fn fire_timer(memory: &mut Memory<Place>) -> Option<(Id, Var)>
 pub fn call_first(memory: &mut Memory<Place>) -> Option<(Id, Var)>
     requires ready { IsReady (held memory.old) }
     ensures recorded { IfSome result (λ _. Recorded memory.new.step_record (held memory.old) (held memory.new)) }
-    ensures calls { IfSome result (λ r. Calls (held memory.old).image (held memory.new).image r.0 r.1) }
+    ensures calls { IfSome result (λ r. CallsFirst (held memory.old).image (held memory.new).image r.0 r.1) }
     ensures none { IfNone result (CollectsNone (held memory.old).image) }
     ensures unchanged { IfNone result (held memory.new ≡ held memory.old) }
     ensures pieces { memory.new.slots.room ≡ memory.old.slots.room }

@@ -1,4 +1,4 @@
-use Rattle.uv_live.proofs.Names.{◌∙◌, ap, List, map, sym, subst, rules, count_by, length-map, PoolEvent, AreShifts, is_cancel, worked}
+use Rattle.uv_live.proofs.Names.{◌∙◌, ap, List, map, sym, subst, rules, count_by, length-map, PoolEvent, AreShifts, is_unthreaded, worked}
 use Rattle.uv_live.proofs.Settled.{is_settled}
 use Rattle.uv_live.proofs.settling.do_agree.Goals as goal
 
@@ -10,7 +10,7 @@ returns-then-not-are_shifts g c = λ settled.
 pub returns : goal.returns
 returns g c =
     let shifts = map (λ s. worked s.worker s.events.items s.share.amount) c.args.shifts.now in
-    is_settled _ _ _ shifts _ c.cancels.result (c.cancels.ensures ∙ ap (count_by is_cancel) c.steps.ensures) (λ none. record {
+    is_settled _ _ _ shifts _ c.unthreaded.result (c.unthreaded.ensures ∙ ap (count_by is_unthreaded) c.steps.ensures) (λ none. record {
       closed = search rules;
       workers = search rules;
       whole = search rules;
@@ -19,5 +19,5 @@ returns g c =
       each = subst (λ (log : List PoolEvent). AreShifts log shifts) c.log.ensures.log c.if-not-are_shifts.ensures;
       finishes = search rules;
       sends = search rules;
-      cancels = none;
+      unthreaded = none;
     })
