@@ -44,6 +44,10 @@ class Polls:
         return f"{count}; {self.others} of {self.compared} timeouts are others, first: {self.first}"
 
 
+def waits(timeout: int) -> str:
+    return "infinite" if timeout < 0 else str(timeout)
+
+
 def timeout_of(text: str) -> int:
     return -1 if text == "infinite" else int(text)
 
@@ -83,5 +87,6 @@ def compare(program: Program, lines: list[str], callbacks: int, whole: bool) -> 
             polls.compared += 1
             if one.timeout != other.timeout:
                 polls.others += 1
-                polls.first = polls.first or f"{one.timeout} at step {one.at}, and {other.timeout} in line {other.at} of the log"
+                first = f"{waits(one.timeout)} at step {one.at}, and {waits(other.timeout)} in the program (line {other.at} of the log)"
+                polls.first = polls.first or first
     return polls

@@ -22,7 +22,7 @@ from record_log import Event, Log, read_log
 from record_names import name_addresses, named_log
 from record_polls import Polls, compare
 from record_script import Program, program_of
-from record_window import window
+from record_window import NoPart, window
 from tell import Teller
 
 RECORDER = Path(__file__).resolve().parent / "recorder"
@@ -216,10 +216,24 @@ def told(made: Made, loop: int, path: Path, note: str) -> list[str]:
     return lines + [f"    {'uvt shell' if INSTALLED else './uvt shell'} {path}"]
 
 
+def all_made(log: Log, part: Part) -> tuple[list[tuple[int, Made]], list[str]]:
+    """The recordings of its loops; and of which loops none can begin where the part does. A fault where that is so of all of them."""
+    made, faults = [], {}
+    for loop in sorted(log.loops):
+        try:
+            if it := make(log, loop, part):
+                made.append((loop, it))
+        except NoPart as fault:
+            faults[loop] = fault
+    if faults and not made:
+        raise faults[max(faults, key=lambda it: len(log.loops[it]))]
+    return made, [f"loop {loop} is left out: {fault}" for loop, fault in faults.items()]
+
+
 def from_data(data: bytes, log: Log, name: str, part: Part = Part()) -> tuple[list[str], bool]:
     """Makes the recordings of a log, and writes them. Answers what is to be said, and whether all go all the way."""
-    made = [(loop, it) for loop in sorted(log.loops) if (it := make(log, loop, part))]
-    lines, whole = [], True
+    made, lines = all_made(log, part)
+    whole = True
     for loop, it in made:
         path = Path(f"{name}.rec" if len(made) == 1 else f"{name}.{loop}.rec")
         recording = ("\n".join(it.outcome.recording) + "\n").encode()

@@ -11,6 +11,10 @@ from conversation import Fault
 from record_log import NO_CLOCK, TIMER_OWN, WATCHERS, Event
 
 
+class NoPart(Fault):
+    """A loop of which no recording can begin there."""
+
+
 def starts_of(events: list[Event]) -> list[int]:
     """Where the recorder wrote down all of it: the places behind these lines, with a poll next."""
     return [at + 1 for at, it in enumerate(events) if it.type == "K" and it.words == "end"]
@@ -67,7 +71,7 @@ def window(events: list[Event], time: int, form: int) -> tuple[list[Event], int]
     if not before:
         nothing = ", since nothing of it was written down (a short log, or an old one)"
         first = f": it is possible from {events[known[0] - 1].now} ms on" if known else nothing
-        raise Fault(f"no recording can begin at {time} ms of the log{first}")
+        raise NoPart(f"no recording can begin at {time} ms of the log{first}")
     at = before[-1]
     now, begin = events[at - 1].now, begin_of(events, at)
     mode = next((it.words.split(" ")[0] for it in reversed(events[:begin]) if it.type == "R"), "default")
