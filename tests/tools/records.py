@@ -393,13 +393,15 @@ def try_pages(check) -> None:
 
 
 def try_sharpness(check) -> None:
-    """Changed logs are noticed: a request's callback left out or doubled always, two swapped in nine of ten."""
+    """Changed logs are noticed: a request's callback left out or doubled always, two swapped of which not both are of I/O in nine of ten."""
     logs = [str(LOGS / f"{name}.log") for name in WANTED]
-    ran = subprocess.run([str(ROOT / "tools" / "record" / "sharpness"), *logs], capture_output=True, text=True, timeout=SECONDS)
-    counts = {it[0]: (int(it[1]), int(it[2])) for it in re.findall(r"^(\w+): (\d+) of (\d+) noticed$", ran.stdout, re.MULTILINE)}
-    swapped, requests = counts.get("swapped", (0, 0)), counts.get("request", (0, 0))
+    words = [str(ROOT / "tools" / "record" / "sharpness"), "--most", "20", *logs]
+    ran = subprocess.run(words, capture_output=True, text=True, timeout=LONG)
+    counts = {it[0]: (int(it[1]), int(it[2])) for it in re.findall(r"^([\w/ ]+): (\d+) of (\d+) noticed$", ran.stdout, re.MULTILINE)}
+    (swapped, of), requests = counts.get("swapped", (0, 0)), counts.get("request", (0, 0))
     check("record, requests left out or twice", requests[1] >= 20 and requests[0] == requests[1], ran.stdout + ran.stderr)
-    check("record, swapped callbacks", swapped[1] >= 100 and swapped[0] >= 0.9 * swapped[1], ran.stdout + ran.stderr)
+    check("record, swapped callbacks", of >= 150 and swapped >= 0.9 * of, ran.stdout + ran.stderr)
+    check("record, two swapped that are both of I/O: these may come in any order", counts.get("both of I/O", (0, 0))[1] >= 20, ran.stdout)
 
 
 def try_records(tries) -> None:
