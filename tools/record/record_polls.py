@@ -34,7 +34,9 @@ class Polls:
     first: str = ""
 
     def said(self) -> str:
-        """Both, in a sentence."""
+        """Both, in a sentence; `` where there are none."""
+        if not self.here and not self.there:
+            return ""
         many = f"{self.here} polls" if self.here != 1 else "1 poll"
         count = f"{many}, as in the program" if self.here == self.there else f"{many}, and {self.there} in the program"
         if not self.compared:

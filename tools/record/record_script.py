@@ -18,6 +18,8 @@ NAMES = 65535
 # So many handles whose names come from one callback have numbers that stay; behind that the number of one that is gone stands for another.
 STAYS = 500
 ID = re.compile(r"%(\d+)")
+# node's function around all callbacks of requests, which tells nothing of them.
+WRAPPER = "MakeLibuvRequestCallback::Wrapper"
 # What libuv does by itself with a handle of I/O, about its callback: the recorder sees it behind that.
 SETTLES = ("start", "stop", "ref", "unref")
 FULL = ": docs/LIBUV.md, `More than a script holds`"
@@ -188,9 +190,9 @@ class Maker:
         if address and (base := base_name(address, size)):
             return base, f"the variable {address.name()}{element(address, size)} of {address.file}", True
         address = self.log.addresses.get(self.first_callback.get(id, -1))
-        if address and (base := base_name(address, 0)):
+        if address and (base := base_name(address, 0)) and not address.name().endswith(WRAPPER):
             return base, f"in memory of its own: the name is that of its function {self.told(address)}", False
-        return kind, "in memory of its own, and its function has no symbol", False
+        return kind, "in memory of its own, and its function has no symbol that tells more", False
 
     @staticmethod
     def told(address: Address) -> str:

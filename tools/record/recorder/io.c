@@ -258,6 +258,12 @@ SENDS(uv_udp_send, WRITE, "send", on_send,
       (uv_udp_send_t * request, uv_udp_t *handle, const uv_buf_t buffers[], unsigned count, const struct sockaddr *address,
        uv_udp_send_cb callback), W_SEND)
 
+/* (from 1.46 on) */
+int uv_pipe_connect2(uv_connect_t *request, uv_pipe_t *handle, const char *name, size_t length, unsigned flags, uv_connect_cb callback);
+#define W_CONNECT2(x) (request, handle, name, length, flags, x)
+SENDS(uv_pipe_connect2, CONNECT, "connect", on_connect,
+      (uv_connect_t * request, uv_pipe_t *handle, const char *name, size_t length, unsigned flags, uv_connect_cb callback), W_CONNECT2)
+
 REAL(uv_pipe_connect)
 void uv_pipe_connect(uv_connect_t *request, uv_pipe_t *handle, const char *name, uv_connect_cb callback) {
     struct object *object = INSIDE() ? NULL : begin_start(request, handle, (void *)callback, CONNECT, "connect");
