@@ -99,11 +99,12 @@ def try_ops(check) -> None:
     """What libuv does by itself about a callback stands in it, be there a send of another thread between."""
     lines = run(["P 0 -1"], came("read EOF"), ["S 0 0 2 77", "O 0 stop %1 = ok", "O 0 unref %1 = ok", "P 0 -1"], ASYNC)
     it = made(lines)
-    check("I/O, what libuv stops behind a callback", "on tcp stop tcp" in it.outcome.recording and "on tcp unref tcp" in it.outcome.recording, it)
-    late = made(run(["P 0 -1"], ["B 0 0 on 1 write ok", "O 0 close %1 = ok", "E 0 0 1"], came("write ECANCELED"), CHECK, ["B 0 0 closed 1", "E 0 0 1"]))
+    check("I/O, what libuv stops behind a callback", {"on tcp stop tcp", "on tcp unref tcp"} <= set(it.outcome.recording), it)
+    closed, end = ["O 0 close %1 = ok", "E 0 0 1"], ["B 0 0 closed 1", "E 0 0 1"]
+    late = made(run(["P 0 -1", "B 0 0 on 1 write ok"], closed, came("write ECANCELED"), CHECK, end))
     check("I/O, what is called of one that its callback has closed", late.is_whole() and late.outcome.callbacks == 3, late)
     check("I/O, what came of it", late.program.came == {"tcp": {1: "write:ok+write:ECANCELED"}}, late.program.came)
-    early = made(run(["P 0 -1"], ["B 0 0 on 1 read 5", "O 0 close %1 = ok", "E 0 0 1"], CHECK, came("write ECANCELED"), ["B 0 0 closed 1", "E 0 0 1"]))
+    early = made(run(["P 0 -1", "B 0 0 on 1 read 5"], closed, CHECK, came("write ECANCELED"), end))
     check("I/O, what is called as it closes", early.is_whole() and early.outcome.callbacks == 3, early)
 
 
@@ -121,7 +122,8 @@ POLLS = {
     "one that doesn't wait for what was put off": (
         run(["P 0 0"], came("write ok"), first="R 0 default +"),
         "1 poll, as in the program; 1 of 1 timeouts are others, first: infinite at step 13, and 0 in the program (line 10 of the log)"),
-    "one that only looks, in a run once": (run(["P 0 0", "P 0 -1"], came("read 5"), first="R 0 once"), "1 poll, as in the program; the timeouts are the same"),
+    "one that only looks, in a run once": (
+        run(["P 0 0", "P 0 -1"], came("read 5"), first="R 0 once"), "1 poll, as in the program; the timeouts are the same"),
 }
 
 
@@ -134,12 +136,13 @@ def try_polls(check) -> None:
 
 # What came, in the log's words and in a person's.
 WORDS = {
-    "read:512": "512 bytes were read", "read:1": "1 byte was read", "read:EOF": "the end of the stream", "read:ECONNRESET": "a read failed, ECONNRESET",
-    "read": "a read", "write:ok": "a write is done", "write:ECANCELED": "a write was cancelled", "write": "a write", "connect:ok": "it is connected",
-    "connect:ECONNREFUSED": "the connect failed, ECONNREFUSED", "connection:ok": "a connection", "shutdown:ok": "the shutdown is done",
-    "send:ok": "a datagram is sent", "receive:30": "a datagram of 30 bytes", "receive:none": "no more datagrams", "poll:rw": "it is readable and writable",
-    "poll:EBADF": "the poll failed, EBADF", "signal:15": "SIGTERM", "signal:99": "signal 99", "exit:3:0": "it ended with status 3",
-    "exit:0:9": "it was ended by SIGKILL", "fs_event:rc": "it was renamed and changed", "fs_poll:ok": "a change", "fs_poll:ENOENT": "a look at the file failed, ENOENT",
+    "read:512": "512 bytes were read", "read:1": "1 byte was read", "read:EOF": "the end of the stream", "read": "a read",
+    "read:ECONNRESET": "a read failed, ECONNRESET", "write:ok": "a write is done", "write:ECANCELED": "a write was cancelled", "write": "a write",
+    "connect:ok": "it is connected", "connect:ECONNREFUSED": "the connect failed, ECONNREFUSED", "connection:ok": "a connection",
+    "shutdown:ok": "the shutdown is done", "send:ok": "a datagram is sent", "receive:30": "a datagram of 30 bytes",
+    "receive:none": "no more datagrams", "poll:rw": "it is readable and writable", "poll:EBADF": "the poll failed, EBADF",
+    "signal:15": "SIGTERM", "signal:99": "signal 99", "exit:3:0": "it ended with status 3", "exit:0:9": "it was ended by SIGKILL",
+    "fs_event:rc": "it was renamed and changed", "fs_poll:ok": "a change", "fs_poll:ENOENT": "a look at the file failed, ENOENT",
     "write:ok+write:ECANCELED": "a write is done and a write was cancelled", "": "", "other:word": "other",
 }
 

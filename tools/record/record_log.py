@@ -132,7 +132,8 @@ def read_log(data: bytes) -> Log:
     if not head and re.match(r"uvt \d", lines[0] if lines else ""):
         raise Fault("this is a recording, and no log: uvt-why, uvt-shell and uvt-view take it as it is")
     if not head:
-        raise Fault("this is no log of a program: its first line isn't `uvt-log 1` or `uvt-log 2` with libuv's version, a process, workers and a program")
+        raise Fault("this is no log of a program: its first line isn't `uvt-log 1` or `uvt-log 2` with libuv's version, a process, workers"
+                    " and a program")
     log = Log(int(head[1]), head[2], int(head[3]), within(int(head[4])), head[5])
     for number, text in enumerate(lines[1:], 2):
         log.lines = number

@@ -434,11 +434,7 @@ class Maker:
             case "E":
                 return self.read_end(event)
             case "R" if not self.depth and not self.runs:
-                mode, _, put_off = event.words.partition(" ")
-                self.runs += 1
-                self.where.see_run(mode, bool(put_off))
-                self.program.main.append(f"run {mode}")
-                self.add(event, "run", text=mode)
+                self.read_run(event)
             case "r":
                 if not self.runs or self.depth:
                     return False
@@ -466,6 +462,13 @@ class Maker:
                 for it in what:
                     self.callback[int(id), it] = int(place)
         return True
+
+    def read_run(self, event: Event) -> None:
+        mode, _, put_off = event.words.partition(" ")
+        self.runs += 1
+        self.where.see_run(mode, bool(put_off))
+        self.program.main.append(f"run {mode}")
+        self.add(event, "run", text=mode)
 
     def read_poll(self, event: Event) -> None:
         found = self.where.see_poll(event.type == "p")
