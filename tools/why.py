@@ -120,7 +120,10 @@ class Why:
         if wait.how != "called" or not mine or wait.more:
             return False
         allowed = 1 if self.notes.names else 0
-        return behind(self.walk, wait) <= allowed if wait.what == "io" else not self.is_late(wait, allowed)
+        if wait.what == "io":
+            unseen = self.unseen_for(wait) if came(self.walk, wait).where == LEFT else 0
+            return max(behind(self.walk, wait), unseen) <= allowed
+        return not self.is_late(wait, allowed)
 
     def begun_by(self, wait: Wait) -> int:
         """The step that began the callback in which it was asked for; 0 where it was in none."""
