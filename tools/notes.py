@@ -1,20 +1,44 @@
 """What is known of a recording of a program beside its steps: NAME.notes, which ./uvt record writes beside NAME.rec.
 
 A line each: what a name stands for, which functions its callbacks are, which steps from outside nobody saw, which ticks are no
-callback's, which ops another thread did, and whether the recording is only a beginning. The first line has the recording's digest: of
-another one the notes say nothing.
+callback's, which ops another thread did, what came with each callback of I/O, how the polls are beside the program's, and whether the
+recording is only a beginning. The first line has the recording's digest: of another one the notes say nothing.
+
+Of handles of I/O tools ask `is_io(NAME)`, `thing(NAME)` (`a tcp`) and `came(NAME, CALL)` (`512 bytes were read`), CALL from 1 as in `@CALL`.
 """
 
 from __future__ import annotations
 
 import bisect
 import hashlib
+import itertools
 import os
+import signal
 from dataclasses import dataclass, field
 from pathlib import Path
 
 HEAD = "uvt-notes 1"
 IN_A_LINE = 20
+# Handles of I/O by their kinds, in a person's words.
+THINGS = {
+    "tcp": "a tcp", "pipe": "a pipe", "tty": "a terminal", "udp": "a udp", "poll": "a poll", "signal": "a signal", "process": "a process",
+    "fs_event": "a watched file", "fs_poll": "a watched file",
+}
+# What came with a callback of I/O by the log's word: where all is well; and what it is where it failed, or where the log says no more.
+CAME = {
+    "connect": "it is connected", "write": "a write is done", "send": "a datagram is sent", "shutdown": "the shutdown is done",
+    "connection": "a connection", "fs_poll": "a change",
+}
+THAT = {
+    "read": "a read", "receive": "a datagram", "connection": "a connection", "connect": "the connect", "write": "a write",
+    "send": "the sending of a datagram", "shutdown": "the shutdown", "poll": "an event", "signal": "a signal", "exit": "its end",
+    "fs_event": "a change", "fs_poll": "a look at the file",
+}
+FAILS = {"poll": "the poll", "fs_event": "the watch"}
+# Signs of what an event of a poll, or a change of a file, was.
+SIGNS = {
+    "poll": {"r": "readable", "w": "writable", "d": "disconnected", "p": "readable out of band"}, "fs_event": {"r": "renamed", "c": "changed"},
+}
 
 
 @dataclass
@@ -36,6 +60,11 @@ class Notes:
     outside: set[int] = field(default_factory=set)
     # of a take or a finish the clock, where that was another one than at its step
     times: dict[int, int] = field(default_factory=dict)
+    # of a name of I/O by its call what came, in the log's words with signs between: `read:512`, and `write:ok+write:ok` where one call
+    # stands for two callbacks
+    what: dict[str, dict[int, str]] = field(default_factory=dict)
+    # how many polls there are, and how many in the program, and whether they wait as long, in a sentence
+    polls: str = ""
 
     def function(self, list: str, name: str, call: int) -> str:
         """Which function that call is, `` where nobody knows."""
@@ -45,6 +74,18 @@ class Notes:
 
     def kind(self, name: str) -> str:
         return self.names.get(name, ("", ""))[0]
+
+    def is_io(self, name: str) -> bool:
+        """Is it a handle of I/O?"""
+        return self.kind(name) in THINGS
+
+    def thing(self, name: str) -> str:
+        """What a handle of I/O is: `a tcp`, `a watched file`; `` of any other one."""
+        return THINGS.get(self.kind(name), "")
+
+    def came(self, name: str, call: int) -> str:
+        """What came with this call of a handle of I/O, in words: `512 bytes were read`, `the end of the stream`; `` where nobody knows."""
+        return sentence(self.what.get(name, {}).get(call, ""))
 
     def loud(self) -> list[str]:
         """What each tool says before all else: that it isn't all of it, and what another thread did."""
@@ -57,16 +98,76 @@ class Notes:
     def text(self, recording: bytes) -> str:
         lines = [f"{HEAD} {hashlib.sha256(recording).hexdigest()}"]
         lines += [f"part {self.part}"] if self.part else []
+        lines += [f"polls {self.polls}"] if self.polls else []
         for name, (kind, origin) in self.names.items():
             lines.append(f"name {name} {kind} {origin}")
             for list in ("work", "on", "after", "closed"):
                 lines += [f"calls {list} {name} {call} {text}" for call, text in self.functions.get((list, name), [])]
+            lines += came_lines(name, self.what.get(name, {}))
         lines += [f"thread {line} {function}" for line, function in sorted(self.foreign.items())]
         lines += [f"clock {step} {clock}" for step, clock in sorted(self.times.items())]
         for word, found in (("unseen", self.guessed), ("outside", self.outside)):
             steps = sorted(found)
             lines += [f"{word} " + " ".join(map(str, steps[at : at + IN_A_LINE])) for at in range(0, len(steps), IN_A_LINE)]
         return "\n".join(lines) + "\n"
+
+
+def signal_name(number: str) -> str:
+    """`SIGTERM`, or `signal 77` where it has no name."""
+    try:
+        return signal.Signals(int(number)).name
+    except ValueError:
+        return f"signal {number}"
+
+
+def listed(texts: list[str]) -> str:
+    """`a`, `a and b`, `a, b and c`."""
+    return " and ".join(filter(None, [", ".join(texts[:-1]), *texts[-1:]]))
+
+
+def one_sentence(what: str, known: list[str]) -> str:
+    """A thing that came, in words."""
+    match what, known:
+        case "read", ["EOF"]:
+            return "the end of the stream"
+        case "read" | "receive", ["0"]:
+            return "nothing more to read" if what == "read" else "an empty datagram"
+        case "receive", ["none"]:
+            return "no more datagrams"
+        case "read", [count] if count.isdecimal():
+            return "1 byte was read" if count == "1" else f"{count} bytes were read"
+        case "receive", [count] if count.isdecimal():
+            return f"a datagram of {count} byte{'s' * (count != '1')}"
+        case "signal", [number] if number.isdecimal():
+            return signal_name(number)
+        case "exit", [status, "0"]:
+            return f"it ended with status {status}"
+        case "exit", [_, number] if number.isdecimal():
+            return f"it was ended by {signal_name(number)}"
+        case _, [code] if code.startswith("E") and what in THAT:
+            that = FAILS.get(what, THAT[what])
+            return f"{that} was cancelled" if code == "ECANCELED" else f"{that} failed, {code}"
+        case _, [signs] if what in SIGNS and signs and set(signs) <= set(SIGNS[what]):
+            return f"it {'is' if what == 'poll' else 'was'} {listed([SIGNS[what][it] for it in signs])}"
+        case _, ["ok"] if what in CAME:
+            return CAME[what]
+    return THAT.get(what, what)
+
+
+def sentence(told: str) -> str:
+    """What came, in words: several things where one call stands for several callbacks."""
+    return listed([one_sentence(what, known) for what, *known in (it.split(":") for it in told.split("+"))]) if told else ""
+
+
+def came_lines(name: str, what: dict[int, str]) -> list[str]:
+    """What came, in lines of some calls each, one behind the other."""
+    lines: list[str] = []
+    for _, run in itertools.groupby(enumerate(sorted(what)), lambda it: it[1] - it[0]):
+        calls = [call for _, call in run]
+        for at in range(0, len(calls), IN_A_LINE):
+            part = calls[at : at + IN_A_LINE]
+            lines.append(" ".join([f"came {name} {part[0]}", *(what[it] for it in part)]))
+    return lines
 
 
 def take(notes: Notes, line: str) -> None:
@@ -76,6 +177,10 @@ def take(notes: Notes, line: str) -> None:
         match words[0]:
             case "part":
                 notes.part = line.removeprefix("part ")
+            case "polls":
+                notes.polls = line.removeprefix("polls ")
+            case "came":
+                notes.what.setdefault(words[1], {}).update(enumerate(words[3:], int(words[2])))
             case "name":
                 notes.names[words[1]] = words[2], " ".join(words[3:])
             case "calls":

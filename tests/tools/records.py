@@ -18,7 +18,8 @@ ROOT = Path(__file__).resolve().parent.parent.parent
 sys.path[:0] = [str(ROOT / "tools"), str(ROOT / "tools" / "record")]
 
 from conversation import Fault, built_program  # noqa: E402
-from notes import read_notes  # noqa: E402
+from ios import try_io  # noqa: E402
+from notes import Notes, read_notes  # noqa: E402
 from record_log import read_log  # noqa: E402
 from record_run import from_data  # noqa: E402
 
@@ -30,16 +31,14 @@ WHY = str(ROOT / "tools" / "uvt-why")
 SECONDS = 120
 # (for the program before its proofs, which takes 250 times as long)
 LONG = 1200
-IO, ZERO, NESTED = (
-    "Callbacks of I/O come in the order of the system",
-    "A zero timeout started in a callback waits (own)",
-    "A run in a callback",
-)
+NESTED, CLOSING = "A run in a callback", "Some handles close later"
 
 # Of each log its loops, and of one that isn't `same` all the way: what the program does there, and the heading that speaks of it.
-#   mixed    in one poll the callback of a socket comes before the after callback of a file, and a check handle is called behind both
-#   zero     a timer is started with 0 in its own callback, and a prepare handle is to be called
 #   nested   uv_run in a timer's callback
+#   closing  a watched file closes once it has been looked at, behind a timer that was closed before it
+# Those of the earlier form (uvt-log 1) don't say when a handle of I/O is started and stopped, nor what came:
+#   mixed    in one poll the callback of a socket comes before the after callback of a file, and a check handle is called behind both
+#   zero     a timer is started with 0 in its own callback, and a prepare handle is called behind the timers
 #   dig      the callback of a datagram that was sent at once comes before the poll, and the async handle has sent to itself
 #   node     the check handle of node's immediates stands between two callbacks of I/O of one poll
 WANTED: dict[str, dict[int, tuple[str, str] | None]] = {
@@ -49,19 +48,28 @@ WANTED: dict[str, dict[int, tuple[str, str] | None]] = {
     "starved": {0: None},
     "watchers": {0: None},
     "killed": {0: None},
-    "mixed": {0: ("the program calls the after callback of file (ok)", IO)},
-    "zero": {0: ("the program calls the callback of again", ZERO)},
+    "mixed": {0: None},
+    "zero": {0: None},
     "nested": {0: ("the program calls uv_run in a callback", NESTED)},
+    "closing": {0: ("the program calls the close callback of timer", CLOSING)},
+    "clients": {0: None},
+    "datagrams": {0: None},
     "named": {0: None, 1: None},
-    "dig": {0: ("the program calls the callback of isc_nm_udp_read_cb (send)", IO), 1: None},
+    "dig": {0: None, 1: None},
     "dig-tcp": {0: None, 1: None},
     "nvim": {1: None},
     "ctest": {0: None},
     "uvloop": {0: None},
     "luv": {0: None},
     "node-late": {0: None, 1: None, 2: None},
-    "node-http": {0: None, 1: None, 2: ("the program calls the callback of tcp_2 (read)", IO)},
+    "node-http": {0: None, 1: None, 2: None},
+    "node-server": {0: None, 1: None, 2: None},
+    "uvloop-echo": {0: None},
+    "nvim-job": {1: None},
 }
+# Of a loop how many polls it has, and how many in the program, where these aren't as many; and how many wait for another time than there.
+#   datagrams  two datagrams that are received go, and the callbacks of two that were sent at once before wait, as the loop polls
+POLLS: dict[tuple[str, int], tuple[int, int, int]] = {("watchers", 0): (5, 6, 0), ("datagrams", 0): (3, 3, 1)}
 
 
 def recorded(words: list[str], folder: str, seconds: int = SECONDS) -> subprocess.CompletedProcess[str]:
@@ -74,12 +82,12 @@ def verdict(path: Path, seconds: int = SECONDS) -> str:
 
 
 def callbacks(log: Path, loop: int) -> list[tuple[str, str]]:
-    """The list and the object of each callback of a loop, by the log's own lines: those in another one are part of it, and so is
-    one that comes behind another one of the same handle of I/O."""
+    """The list and the object of each callback of a loop, by the log's own lines: those in another one are part of it, and what comes of a
+    handle of I/O that closes is part of its close callback, or of its own that has closed it right before."""
     watchers, found, depth, closing, over = set(), [], 0, set(), False
     for line in log.read_text().splitlines()[1:]:
         words = line.split(" ")
-        if words[0] != str(loop) or words[1] in "CVSTFW":
+        if words[0] != str(loop) or words[1] in "CVSTFWK":
             continue
         if words[1] == "O" and words[3] == "init" and words[5] not in ("timer", "idle", "prepare", "check", "async"):
             watchers.add(words[4][1:])
@@ -88,15 +96,16 @@ def callbacks(log: Path, loop: int) -> list[tuple[str, str]]:
         if words[1] == "B":
             # (between the loop's time and the callback stands the clock, but in logs of earlier recorders)
             begun = tuple(words[4:6] if words[3].isdecimal() else words[3:5])
-            if begun[0] == "on" and begun[1] in watchers & closing:
+            late = begun[0] == "on" and begun[1] in watchers & closing
+            again = late and over and begun == found[-1]
+            if late and not again:
                 begun = ("closed", begun[1])
-            again = over and begun == found[-1] and begun[0] == "on" and begun[1] in watchers
             if depth == 0 and not again and begun not in [it for it in found if it[0] == "closed"]:
                 found.append(begun)
             depth += 1
         elif words[1] == "E":
             depth -= 1
-        over = words[1] == "E" or over and words[1] == "O" and words[3] in ("ref", "unref")
+        over = words[1] == "E" or over and words[1] == "O" and words[3] in ("start", "stop", "ref", "unref")
     return found
 
 
@@ -135,10 +144,36 @@ def try_log(check, name: str, folder: str) -> None:
             check(f"{what}: all of it", bool(got) and int(got[1]) == int(got[2]) == len(wanted), text)
         else:
             check(f"{what}: where it stops", stops[0] in text and f"docs/LIBUV.md, `{stops[1]}`" in text, text)
-            if name == "zero":
+            if name == "closing":
                 page = (ROOT / "docs" / "RECORD.md").read_text()
                 check("RECORD.md shows where a recording stops", "\n".join(text.splitlines()[:2]) + "\n" in page, text)
             check(f"{what}: the heading", f"### {stops[1]}\n" in (ROOT / "docs" / "LIBUV.md").read_text())
+        try_polls(check, what, (log, loop), text, notes, stops is None)
+        settings = ["order 1.44", *(["io"] if any(map(notes.is_io, notes.names)) else []), "timers heap"]
+        lines = path.read_text().splitlines()
+        check(f"{what}: its version and its settings", lines[: len(settings) + 1] == ["uvt 3", *settings], lines[:6])
+
+
+def polls_of(log: Path, loop: int) -> int:
+    """How many polls a loop has, by the log's own lines. (In the earlier form one that only looks stands right before its poll.)"""
+    form, *lines = log.read_text().splitlines()
+    types = [it.split(" ")[1] for it in lines if it.startswith(f"{loop} ")]
+    return sum(it == "P" and (form.startswith("uvt-log 2") or types[at + 1 : at + 2] != ["P"]) for at, it in enumerate(types))
+
+
+def try_polls(check, what: str, of: tuple[Path, int], text: str, notes: Notes, whole: bool) -> None:
+    """How many polls there are, and how many in the program, is said, and stands in the notes; and whether they wait as long."""
+    log, loop = of
+    said = next((it.strip() for it in text.splitlines() if re.match(r"    \d+ polls?, ", it)), "")
+    check(f"{what}: its polls in the notes", said == notes.polls, (said, notes.polls))
+    here, there, others = POLLS.get((log.stem, loop), (polls_of(log, loop), polls_of(log, loop), 0))
+    if not whole:
+        return
+    wanted = f"{here} poll{'s' * (here != 1)}, " + ("as in the program" if here == there else f"and {there} in the program")
+    check(f"{what}: its polls", said.startswith(wanted), (wanted, said))
+    if log.read_text().startswith("uvt-log 2"):
+        long = f"; {others} of {here} timeouts are others, first: " if others else "; the timeouts are the same"
+        check(f"{what}: how long they wait", long in said, said)
 
 
 # ---- bad input
@@ -154,7 +189,7 @@ def changes(text: bytes) -> list[bytes]:
 
 def try_changed(check, folder: str) -> None:
     """A log that is cut anywhere, or has another byte: a sentence and a status, and what is written is `same`."""
-    for log in (LOGS / "work.log", LOGS / "watchers.log", TRUTHS / "wrongthread.log", TRUTHS / "starve.log"):
+    for log in (LOGS / "work.log", LOGS / "watchers.log", LOGS / "datagrams.log", TRUTHS / "wrongthread.log", TRUTHS / "starve.log"):
         name = log.stem
         for number, data in enumerate(changes(log.read_bytes())):
             what, said = f"record, {name} changed, {number}", []
@@ -246,6 +281,46 @@ def long_log(calls: int) -> bytes:
     return "\n".join([*lines, f"0 P {now} 0", f"0 B {now} {clock} closed 0", f"0 E {now} {clock} 0", f"0 r {now} 0", ""]).encode()
 
 
+def talk_log(reads: int) -> bytes:
+    """A tcp that is read so often, four times in a millisecond, with a heartbeat of 10 ms; all that there is, written down each 1,000 reads."""
+    lines = ["uvt-log 2 1.44.2 7 4 /home/user/talk", "0 O 0 init %0 timer = ok", "0 O 0 start %0 10 10 = ok", "0 O 0 init %1 tcp = ok",
+             "0 O 0 start %1 = ok", "0 R 0 default"]
+    now, due = 0, 10
+    for read in range(1, reads + 1):
+        row = f"0 K {now} 0 timer 1 1 0 {due - now} 10 {due}"
+        lines += [f"0 K {now} all", row, f"0 K {now} 1 tcp 1 1 0 0 0 1", f"0 K {now} end"] if read % 1000 == 0 else []
+        lines.append(f"0 P {now} {due - now}")
+        now = read // 4
+        lines.append(f"0 B {now} {now} on 1 read {read % 100 + 1}")
+        lines += [f"0 O {now} close %0 = ok", f"0 O {now} close %1 = ok"] if read == reads else []
+        lines.append(f"0 E {now} {now} 1")
+        if now == due and read < reads:
+            due += 10
+            lines += [f"0 B {now} {now} on 0 timer", f"0 E {now} {now} 0"]
+    lines += [f"0 B {now} {now} closed {it}\n0 E {now} {now} {it}" for it in (1, 0)]
+    return "\n".join([*lines, f"0 r {now} 0", ""]).encode()
+
+
+READS = 8_000
+
+
+def try_talk(check, folder: str) -> None:
+    """A long log of I/O, and a part of it."""
+    data = talk_log(READS)
+    (Path(folder) / "talk.log").write_bytes(data)
+    calls = data.count(b" B ")
+    ran = recorded(["--log", "talk.log"], folder, LONG)
+    check("record, a long talk", f"loop 0: {calls} of {calls} callbacks" in ran.stdout and ran.returncode == 0, ran)
+    check("record, a long talk: its polls", f"{data.count(b' P ')} polls, as in the program; the timeouts are the same" in ran.stdout, ran.stdout)
+    path = Path(folder) / "talk.rec"
+    notes = read_notes(path, path.read_bytes())
+    check("record, a long talk: what came", notes.came("tcp", READS - 1) == f"{(READS - 1) % 100 + 1} bytes were read", notes.came("tcp", READS - 1))
+    ran = recorded(["-o", "part", "--log", "talk.log", "--from", "1600"], folder, LONG)
+    check("record, a part of a long talk", "it begins at 1499 ms" in ran.stdout and ran.returncode == 0, ran)
+    part = (Path(folder) / "part.rec").read_text()
+    check("record, a part of a long talk: its callbacks", part.count("\ncall tcp ") == READS - 6000 + 1, part.count("\ncall tcp "))
+
+
 def try_long(check, folder: str) -> None:
     (Path(folder) / "long.log").write_bytes(long_log(CALLS_OF_LONG))
     ran = recorded(["--log", "long.log"], folder, LONG)
@@ -267,8 +342,8 @@ def try_long(check, folder: str) -> None:
 
 def try_whys_of_parts(check, folder: str) -> None:
     """A recording that is only a beginning: each tool says so."""
-    recorded(["-o", "cut", "--log", str(LOGS / "zero.log")], folder)
-    for words in (["uvt-why", "again", "cut.rec"], ["uvt-why", "cut.rec"], ["uvt-shell", "cut.rec"], ["uvt-view", "cut.rec"]):
+    recorded(["-o", "cut", "--log", str(LOGS / "closing.log")], folder)
+    for words in (["uvt-why", "timer", "cut.rec"], ["uvt-why", "cut.rec"], ["uvt-shell", "cut.rec"], ["uvt-view", "cut.rec"]):
         ran = subprocess.run([str(ROOT / "tools" / words[0]), *words[1:]], cwd=folder, capture_output=True, text=True, timeout=SECONDS,
                              env=os.environ, input="")
         check(f"{' '.join(words)} of a beginning", "THE RECORDING IS A PART: it has the first" in ran.stdout, ran.stdout[-500:] + ran.stderr)
@@ -279,15 +354,23 @@ def try_whys_of_parts(check, folder: str) -> None:
 
 # ---- the pages
 
+# Each page, the log that was kept of the program that it records, how that is called there, and what its calls have in them.
+PAGES = (
+    ("README.md", "late", "./uvt record ./late", "late.rec"),
+    ("docs/RECORD.md", "late", "./uvt record ./late", "late.rec"),
+    ("docs/NODE.md", "node-server", "./uvt record -o server node server.js", "server.2."),
+)
 
-def try_page(check, page: Path, folder: str) -> None:
-    """Each call that the page shows, in order in one folder. In place of running `./late` its log is taken."""
+
+def try_page(check, page: Path, folder: str, log: str, call: str, other: str) -> None:
+    """Each call that the page shows, in order in one folder. In place of running the program its log is taken."""
+    name = "server" if " -o " in call else log
     blocks = re.findall(r"```text\n(.*?)```", page.read_text(), re.DOTALL)
-    shown = [(block, behind) for block, behind in zip(blocks, blocks[1:]) if "late.rec" in block or "uvt record ./late" in block]
+    shown = [(block, behind) for block, behind in zip(blocks, blocks[1:]) if other in block or call in block]
     calls = [(block, behind) for block, behind in shown if all(re.match(r"(\./uvt |printf |sed |grep )", it) for it in block.splitlines())]
     check(f"{page.name}: it shows calls", bool(calls))
     for block, behind in calls:
-        command = block.replace("./uvt record ./late", "./uvt record -o late --log late.log")
+        command = block.replace(call, f"./uvt record -o {name} --log {log}.log")
         ran = subprocess.run(["sh", "-c", command], cwd=folder, capture_output=True, text=True, timeout=SECONDS, env=os.environ)
         # (what the program printed)
         parts = [it for it in behind.splitlines() if not it.startswith("beat ")]
@@ -302,21 +385,23 @@ def try_page(check, page: Path, folder: str) -> None:
 
 
 def try_pages(check) -> None:
-    for page in (ROOT / "README.md", ROOT / "docs" / "RECORD.md"):
+    for page, log, call, other in PAGES:
         with tempfile.TemporaryDirectory() as folder:
             (Path(folder) / "uvt").symlink_to(ROOT / "uvt")
-            shutil.copy(LOGS / "late.log", folder)
-            try_page(check, page, folder)
+            shutil.copy(LOGS / f"{log}.log", folder)
+            try_page(check, ROOT / page, folder, log, call, other)
 
 
 def try_sharpness(check) -> None:
-    """Changed logs are noticed: a request's callback left out or doubled always, two swapped in nine of ten."""
+    """Changed logs are noticed: a request's callback left out or doubled always, two swapped of which not both are of I/O in nine of ten."""
     logs = [str(LOGS / f"{name}.log") for name in WANTED]
-    ran = subprocess.run([str(ROOT / "tools" / "record" / "sharpness"), *logs], capture_output=True, text=True, timeout=SECONDS)
-    counts = {it[0]: (int(it[1]), int(it[2])) for it in re.findall(r"^(\w+): (\d+) of (\d+) noticed$", ran.stdout, re.MULTILINE)}
-    swapped, requests = counts.get("swapped", (0, 0)), counts.get("request", (0, 0))
+    words = [str(ROOT / "tools" / "record" / "sharpness"), "--most", "20", *logs]
+    ran = subprocess.run(words, capture_output=True, text=True, timeout=LONG)
+    counts = {it[0]: (int(it[1]), int(it[2])) for it in re.findall(r"^([\w/ ]+): (\d+) of (\d+) noticed$", ran.stdout, re.MULTILINE)}
+    (swapped, of), requests = counts.get("swapped", (0, 0)), counts.get("request", (0, 0))
     check("record, requests left out or twice", requests[1] >= 20 and requests[0] == requests[1], ran.stdout + ran.stderr)
-    check("record, swapped callbacks", swapped[1] >= 100 and swapped[0] >= 0.9 * swapped[1], ran.stdout + ran.stderr)
+    check("record, swapped callbacks", of >= 150 and swapped >= 0.9 * of, ran.stdout + ran.stderr)
+    check("record, two swapped that are both of I/O: these may come in any order", counts.get("both of I/O", (0, 0))[1] >= 20, ran.stdout)
 
 
 def try_records(tries) -> None:
@@ -326,9 +411,11 @@ def try_records(tries) -> None:
     with tempfile.TemporaryDirectory() as folder:
         for name in WANTED:
             try_log(check, name, folder)
+        try_io(check, folder)
         try_changed(check, folder)
         try_faults(check, folder)
         try_long(check, folder)
+        try_talk(check, folder)
         try_whys_of_parts(check, folder)
         if has_libuv():
             try_programs(check, folder)

@@ -70,8 +70,8 @@ QUESTIONS = [
     Question("blocked", ALL, [r"the longest callbacks\n    20\d ms: the callback of blocker, on_blocker \(blocked\.c:6\)",
                               r"the latest sends\n    1\d\d ms: inbox, "]),
     Question("echo", "heartbeat", [r"late by 2\d ms: the callback of peer, on_server_read \(echo\.c:15\), took 3\d ms"]),
-    Question("echo", "client", ["tcp, which stands as an async handle", "tcp: something came, and when nobody knows",
-                                r"lie 3\d ms: the callback of peer, on_server_read"], ["same millisecond", r"\d ms later"]),
+    Question("echo", "client", ["tcp, which stands as a handle of I/O", "it left the poll: tcp: .*, and when nobody knows",
+                                r"lie 3\d ms: the callback of peer, on_server_read"], [r"when nobody knows\n +.* same millisecond", r"\d ms later"]),
     Question("wrongthread", "wrong", ["WRONG THREAD: uv_timer_start was called by another thread while the loop ran",
                                       r"started at step \d+, .*, by ANOTHER THREAD, with uv_timer_start"], ["in on_innocent"]),
     Question("wrongthread", "innocent", ["call 1: (on time|late by [12] ms)"], ["ANOTHER", "WRONG"]),
@@ -86,7 +86,11 @@ QUESTIONS = [
     Question("files", "opening", [r"called 12\d ms after it was queued; when a worker took it and was through nobody knows \(fs_open\)",
                                   r"for 1[12]\d ms of them each worker had other work, .*compress_0 and compress_1"], [r"worker \d ran it"]),
     Question("files", ALL, [r"the longest callbacks\n    1\d ms: the after callback of reading, on_read \(files\.c:\d+\)"]),
-    Question("child", "output", ["pipe, which stands as an async handle", "something came"], ["same millisecond"]),
+    Question("child", "output", ["pipe, which stands as a handle of I/O", "it left the poll: pipe: .*, and when nobody knows"], ["same millisecond"]),
+    Question("crowd", "slow", ["it left the poll: pipe: .*, and when nobody knows"], [r"\d ms behind"]),
+    Question("crowd", "quick", [r"30 ms behind the end of the poll, .*: the callback of slow, on_slow \(crowd\.c:8\), took 30 ms"], ["nobody knows"]),
+    Question("crowd", "ended", [r"30 ms behind the end of the poll, .*: the callback of slow, on_slow \(crowd\.c:8\), took 30 ms"], ["nobody knows"]),
+    Question("crowd", ALL, [r"the longest callbacks\n    30 ms: the callback of slow, on_slow \(crowd\.c:8\)", r"I/O\n    quick, .*30 ms behind"]),
     Question("child", "kill_it", [r"call 1: (on time|late by \d ms: the poll, .* the system ended it)"], ["callback of output"]),
 ]
 SAID = re.compile(r"(.+) took (\d+) ms")

@@ -12,7 +12,6 @@ PAGE = "docs/LIBUV.md"
 IO = "Callbacks of I/O come in the order of the system"
 ROUND = "Each iteration ends with its timers, and doesn't begin with them"
 ENDS = "A default run that its first timers finish does no iteration (own)"
-ZERO = "A zero timeout started in a callback waits (own)"
 CLOSING = "Some handles close later"
 THREAD = "An op by another thread"
 ANY = "The loop goes another way"
@@ -23,7 +22,7 @@ def says(item: Item) -> str:
     """What the program did, in words."""
     match item.type:
         case "call" if item.list == "on":
-            what = f" ({item.text})" if item.kind in WATCHERS else ""
+            what = f" ({' '.join(filter(None, (item.text, item.known)))})" if item.kind in WATCHERS else ""
             return f"the program calls the callback of {item.name}{what}"
         case "call" if item.list == "after":
             return f"the program calls the after callback of {item.name} ({item.text})"
@@ -47,14 +46,6 @@ def is_io(kind: str) -> bool:
     return kind in WATCHERS or kind == "async" or bool(kind) and is_pool(kind)
 
 
-def in_its_section(program: Program, item: Item) -> bool:
-    """Is it a timer that comes right behind another timer, without a poll between?"""
-    for other in reversed(program.items[: program.items.index(item)]):
-        if other.type in ("call", "poll", "run"):
-            return other.type == "call" and other.list == "on" and other.kind == "timer"
-    return False
-
-
 def heading_of(program: Program, outcome: Outcome) -> str:
     """The heading of the page that speaks of this difference."""
     item, made = outcome.item, MADE.search(outcome.why)
@@ -65,10 +56,8 @@ def heading_of(program: Program, outcome: Outcome) -> str:
         return CLOSING
     if item.type == "call" and item.list == "closed" and item.kind in ("fs_poll", "signal"):
         return CLOSING
-    if item.type == "call" and item.kind == "timer" and item.list == "on" and in_its_section(program, item):
-        return ZERO
     if item.type == "call" and is_io(item.kind) or is_io(kind):
         return IO
     if item.type == "end" or "`end " in outcome.why or "`call " in outcome.why:
-        return ROUND if int(program.version.split(".")[1]) < 45 else ENDS
+        return ROUND if program.is_before(45) else ENDS
     return ANY

@@ -7,6 +7,7 @@ one on that is another, the steps are taken back, and the follower looks for the
 
 from __future__ import annotations
 
+import bisect
 from dataclasses import dataclass
 from typing import TYPE_CHECKING
 
@@ -63,6 +64,9 @@ class Ways:
 
     def __init__(self, follower: Follower) -> None:
         self.follower, self.items = follower, follower.items
+        # the items that end a poll's callbacks, and those of them that are made ready for it
+        self.ends = [at for at, it in enumerate(self.items) if it.type in ("poll", "run", "end")]
+        self.called = [at for at, it in enumerate(self.items) if it.type == "call" and not it.is_io()]
         self.ways: dict[tuple, Way] = {}
         self.many = 4
         # a unit that went otherwise than the last time
@@ -77,7 +81,7 @@ class Ways:
             item = self.items[behind]
             match item.type:
                 case "done":
-                    return behind + 1 if calls else 0
+                    return behind + 1 if calls and len(self.ahead(behind + 1)) <= LONGEST else 0
                 case "call" if item.list != "after" and not calls:
                     calls = 1
                 case "poll" if not calls:
@@ -89,15 +93,17 @@ class Ways:
         return 0
 
     def key(self, at: int, end: int, where: str) -> tuple:
-        """What happens in a unit, and who is called behind it in the same poll."""
+        """What happens in a unit, and who is called behind it before the next poll."""
         key: list[object] = [where]
-        key += [(it.type, it.name, it.list, it.text, it.answer) if it.type == "op" else (it.type, it.name, it.list) for it in self.items[at:end]]
-        for it in self.items[end : end + LONGEST]:
-            if it.type in ("poll", "run", "end"):
-                break
-            if it.type == "call":
-                key.append(it.name)
-        return tuple(key)
+        for it in self.items[at:end]:
+            key.append((it.type, it.name, it.list, it.text, it.answer) if it.type == "op" else (it.type, it.name, it.list, it.section))
+        return tuple(key + [self.items[it].name for it in self.ahead(end)])
+
+    def ahead(self, at: int) -> list[int]:
+        """The callbacks from this item on up to the next poll, but for those of I/O, which need nothing."""
+        end = bisect.bisect_left(self.ends, at)
+        last = self.ends[end] if end < len(self.ends) else len(self.items)
+        return self.called[bisect.bisect_left(self.called, at) : bisect.bisect_left(self.called, last)]
 
     # ---- a way is learnt
 
@@ -162,12 +168,12 @@ class Ways:
             commands += more
             marks.append((end, way, clock, begin + len(commands)))
             first = end
-        lines = follower.talk.ask_all(commands)
+        lines = self.by_step(follower.talk.ask_all(commands), wanted)
         right = self.how_many(lines, wanted)
         done = [it for it in marks if it[3] - begin <= right] if follower.talk.length == begin + len(commands) or right < len(wanted) else []
         self.many = min(MOST, 2 * self.many) if len(done) == len(marks) else max(1, len(done))
         length = done[-1][3] if done else begin
-        follower.took(commands, wanted, outside, length)
+        follower.took(commands, lines, outside, length)
         if not done:
             self.slow_until = at + 1
             return at
@@ -179,13 +185,16 @@ class Ways:
         return done[-1][0]
 
     @staticmethod
+    def by_step(lines: list[str], wanted: list[str]) -> list[str]:
+        """The line of each step. (One that is to have none has none; where there are more lines than that, the last one is wrong.)"""
+        answers = iter(lines)
+        found = [next(answers, "") if it else "" for it in wanted]
+        return found if next(answers, None) is None else found[:-1]
+
+    @staticmethod
     def how_many(lines: list[str], wanted: list[str]) -> int:
-        """How many of the steps have the lines that they are to have. (A step whose line is empty prints none.)"""
-        at = 0
-        for number, line in enumerate(wanted):
-            if not line:
-                continue
-            if at >= len(lines) or not lines[at].startswith(line) or (line[-1] != " " and lines[at] != line):
+        """How many of the steps have the lines that they are to have."""
+        for number, (line, want) in enumerate(zip(lines, wanted)):
+            if want and (not line.startswith(want) or want[-1] != " " and line != want):
                 return number
-            at += 1
-        return len(wanted) if at == len(lines) else max(0, len(wanted) - 1)
+        return min(len(lines), len(wanted))

@@ -6,7 +6,8 @@ in three ways:
 
   - the clock goes on to the time that the loop had at the next event, before a step that may look at the clock; and at a callback's end
     to the time that the clock had there, so the tick stands behind the callback that took the time
-  - before a poll is left, all that the program's poll called is made ready: sends for async handles and watchers, finishes for requests
+  - before a poll is left, all that the program's poll called is made ready: sends for async handles, finishes for requests. A callback of
+    I/O is a step of its own, and needs nothing
   - at each poll of the program the loop is led to its own. Where that takes a callback, the steps are taken back
 """
 
@@ -22,14 +23,18 @@ from typing import Callable, Iterator
 
 from conversation import Conversation, Script
 from record_fast import CLOCK, END, NOW, Ways
-from record_log import NO_CLOCK, WATCHERS
+from record_log import NO_CLOCK
 from record_script import Item, Program, is_pool
+from record_where import NOWHERE, PENDING
 from said import SECTIONS
 
 FAR = 40
 MANY_WORKERS = 64
 PATIENCE = 5000
 CALLS = {"on": "call", "after": "after", "closed": "closed"}
+# Where a loop is whose poll was left by a callback of I/O, before its next step; and where such callbacks are of the same poll still.
+POLLED = "polled"
+BEHIND = (POLLED, "done", "async")
 # In place of an item: of a tick when no callback is under way.
 OUTSIDE = Item("", 0, 0, 0)
 # So many sends and finishes may be put off; and what is kept before each.
@@ -72,6 +77,8 @@ class Outcome:
     times: dict[int, int] = field(default_factory=dict)
     # the ticks of time that went by when no callback of the program was under way
     outside: set[int] = field(default_factory=set)
+    # the line of each step
+    lines: list[str] = field(default_factory=list)
 
 
 def section_of(item: Item) -> str:
@@ -84,8 +91,8 @@ def section_of(item: Item) -> str:
 
 
 def is_polled(item: Item) -> bool:
-    """Does it come with the poll?"""
-    return item.list != "closed" and (item.kind == "async" or item.kind in WATCHERS or is_pool(item.kind))
+    """Does it come with the poll, of what has to be made ready for it?"""
+    return item.list != "closed" and (item.kind == "async" or is_pool(item.kind))
 
 
 class Follower:
@@ -177,7 +184,7 @@ class Follower:
             del self.did[length:], self.said[length:]
 
     def took(self, commands: list[str], lines: list[str], outside: list[int], length: int) -> None:
-        """These steps were done, without a look at each, and stand up to this length."""
+        """These steps were done, with these lines, and stand up to this length."""
         begin = len(self.did)
         self.did += commands
         self.said += lines
@@ -222,22 +229,20 @@ class Follower:
 
     def distance(self, section: str) -> int:
         """How many steps there may be to a callback of that section, or to the poll before it."""
-        if self.where not in SECTIONS:
+        where = "poll" if self.where == POLLED else self.where
+        if where not in SECTIONS or self.where == section:
             return 1
-        here, there, poll = SECTIONS.index(self.where), SECTIONS.index(section), SECTIONS.index("poll")
-        if here == there:
-            return 1
-        far = (there - here) % len(SECTIONS)
-        to_poll = (poll - here) % len(SECTIONS)
-        return to_poll if 0 < to_poll <= far else far + 1
+        far, to_poll = ((SECTIONS.index(it) - SECTIONS.index(where)) % len(SECTIONS) or len(SECTIONS) for it in (section, "poll"))
+        return to_poll if to_poll <= far else far + 1
 
-    def steps(self, count: int) -> list[str]:
-        """Lines of the next steps, up to one that isn't that of a section. What comes behind it is taken back."""
+    def steps(self, count: int, wanted: str = "poll ") -> list[str]:
+        """Lines of the next steps, up to one that isn't that of a section, or is of the poll, or begins so. What comes behind it is taken
+        back."""
         before = self.talk.length + sum(1 for it in self.queue if not it[0].startswith("back"))
         answers = self.ask(["loop"] * count)
         for at, line in enumerate(answers):
             self.see(line)
-            if line and (line.split(" ")[0] not in SECTIONS or line.startswith("poll ")):
+            if line and (line.split(" ")[0] not in SECTIONS or line.startswith(("poll ", wanted))):
                 self.move(min(self.talk.length, before + at + 1))
                 return answers[: at + 1]
         return answers
@@ -252,10 +257,10 @@ class Follower:
         """Steps until a line that begins so. A line of another callback, op or run is a difference."""
         woken = False
         self.tick_to(at, NOW)
-        if self.where == "poll":
+        if self.where in ("poll", POLLED):
             self.at_poll(at)
         for _ in range(PATIENCE):
-            line = self.steps(self.distance(section))[-1]
+            line = self.steps(self.distance(section), wanted)[-1]
             if line.startswith("refused blocked"):
                 if not self.wake or woken:
                     raise Stopped("waits in the poll") if self.wake else NeedsWake
@@ -280,7 +285,7 @@ class Follower:
         length, where, clock, trail = self.talk.length, self.where, self.clock, len(self.trail)
         self.tick_to(at, NOW)
         for _ in range(FAR):
-            line = self.steps(max(1, (3 - SECTIONS.index(self.where)) % 9 if self.where in SECTIONS else 1))[-1]
+            line = self.steps(self.distance("poll"))[-1]
             if line.startswith("poll "):
                 return
             if line and line.split(" ")[0] not in SECTIONS:
@@ -301,14 +306,14 @@ class Follower:
                     self.know(self.talk.length + len(self.queue), self.sent_late.pop(item.name))
 
     def group(self, at: int) -> list[Item]:
-        """The callbacks of this poll, from this item on, that the loop calls in this order in one iteration."""
-        first, chosen, last, places = self.items[at], [], -1, None
+        """The callbacks of this poll, from this item on, that the loop calls in this order in one iteration; but for those of I/O."""
+        chosen, last, places = [], -1, None
         for item in (self.items[it] for it in range(at, len(self.items))):
             if item.type in ("poll", "run", "end"):
                 break
-            if item.type != "call":
+            if item.type != "call" or item.is_io():
                 continue
-            if not is_polled(item) or item.now != first.now or item.made >= at or any(it.name == item.name for it in chosen):
+            if not is_polled(item) or item.made >= at or any(it.name == item.name for it in chosen):
                 break
             if item.list == "after" and last >= 0:
                 break
@@ -392,6 +397,35 @@ class Follower:
         self.later("loop", f"run {item.text}")
         self.where = "entry"
 
+    def do_io(self, item: Item, at: int) -> None:
+        """A callback of I/O: the loop is led to the poll or to the section pending, where the program's came, and there it is a step."""
+        if item.section == PENDING and self.where != PENDING:
+            self.until(PENDING, at, PENDING)
+        elif item.section != PENDING and self.where not in BEHIND:
+            if self.where != "poll":
+                self.until("poll ", at, "poll")
+            self.at_poll(at)
+        self.answer(item, at)
+        self.in_call = True
+        self.outcome.callbacks += 1
+
+    def answer(self, item: Item, at: int) -> None:
+        """The step of such a callback. The one that leaves the poll makes the loop's time that of the clock: so what goes by before the
+        callback begins comes behind its step."""
+        leaves = self.where == "poll"
+        if not leaves:
+            self.tick_to(at, CLOCK)
+        while not (line := self.ask([f"io {item.name}"])[0]).startswith("call ") and self.where == "async":
+            # (the section passes over its handles that nobody has sent to, one in a step without a line)
+            if passed := self.steps(1)[-1]:
+                raise Stopped(f"has `{passed}` there")
+        if not line.startswith("call "):
+            raise Stopped(f"refuses `io {item.name}`")
+        if leaves:
+            self.where = POLLED
+            self.tick_to(at, CLOCK)
+            self.flush()
+
     def do_call(self, item: Item, at: int) -> None:
         wanted = f"{CALLS[item.list]} {item.name} "
         line = self.until(wanted, at, section_of(item))
@@ -465,6 +499,12 @@ class Follower:
                 self.outcome.ends += line != f"end {item.text}"
             case "poll":
                 self.to_poll(at)
+            case "call" if item.section == NOWHERE:
+                self.flush()
+                raise Stopped("hasn't polled there")
+            case "call" if item.is_io():
+                self.flush()
+                self.do_io(item, at)
             case "call":
                 self.flush()
                 self.do_call(item, at)
@@ -574,5 +614,6 @@ class Follower:
 
     def record(self) -> None:
         self.outcome.steps = self.talk.length
+        self.outcome.lines = self.said
         self.outcome.recording = self.talk.record()
         self.talk.close()

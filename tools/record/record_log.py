@@ -14,7 +14,9 @@ from conversation import Fault
 NUMBER = r"(?:0|[1-9]\d{0,18})"
 TIMER_OWN = {"timer", "idle", "prepare", "check", "async"}
 WATCHERS = {"tcp", "udp", "pipe", "tty", "poll", "signal", "fs_event", "fs_poll", "process"}
-HEAD = re.compile(r"uvt-log 1 (1\.\d{1,4}\.\d{1,4}\S*) (\d{1,9}) (\d{1,9}) (.*)")
+# In logs of version 1 `ref` and `unref` of a watcher say whether it counts for the loop (it is active and referenced, or has a request
+# under way), and nothing says that it is started or stopped; `P` has the timeout that libuv asks with, be it only to look.
+HEAD = re.compile(r"uvt-log ([12]) (1\.\d{1,4}\.\d{1,4}\S*) (\d{1,9}) (\d{1,9}) (.*)")
 ADDRESS = re.compile(r"- A (\d{1,9}) ([0-9a-f]{1,16}) (\S+) (.*)")
 WORKERS = re.compile(r"- N (\d{1,9})")
 NO_CLOCK = -1
@@ -28,11 +30,12 @@ WORDS = {
         rf"|start %{NUMBER}(?: \d{{1,20}} \d{{1,20}})? = {CODE}|repeat %{NUMBER} \d{{1,20}} = {CODE}"
         rf"|(?:stop|again|close|ref|unref|send|cancel) %{NUMBER} = {CODE}|(?:closeloop|stoploop|updatetime) = {CODE}"
     ),
-    "E": re.compile(NUMBER),
-    "B": re.compile(rf"on {NUMBER} [a-z_]+|after {NUMBER} (?:ok|ECANCELED)|closed {NUMBER}"),
-    "R": re.compile("default|once|nowait"),
+    "E": re.compile(rf"{NUMBER}(?: \+)?"),
+    "B": re.compile(rf"on {NUMBER} [a-z_]+(?: [A-Za-z0-9_-]+){{0,2}}|after {NUMBER} (?:ok|ECANCELED)|closed {NUMBER}"),
+    "R": re.compile(r"(?:default|once|nowait)(?: \+)?"),
     "r": re.compile("[01]"),
     "P": re.compile(r"-?\d{1,10}"),
+    "p": re.compile(r"-?\d{1,10}"),
     "T": re.compile(NUMBER),
     "F": re.compile(NUMBER),
     "S": re.compile(rf"{NUMBER} \d{{1,20}}"),
@@ -79,6 +82,8 @@ class Address:
 
 @dataclass
 class Log:
+    # of the log's own form, and of libuv
+    form: int
     version: str
     process: int
     workers: int
@@ -127,8 +132,9 @@ def read_log(data: bytes) -> Log:
     if not head and re.match(r"uvt \d", lines[0] if lines else ""):
         raise Fault("this is a recording, and no log: uvt-why, uvt-shell and uvt-view take it as it is")
     if not head:
-        raise Fault("this is no log of a program: its first line isn't `uvt-log 1` with libuv's version, a process, workers and a program")
-    log = Log(head[1], int(head[2]), within(int(head[3])), head[4])
+        raise Fault("this is no log of a program: its first line isn't `uvt-log 1` or `uvt-log 2` with libuv's version, a process, workers"
+                    " and a program")
+    log = Log(int(head[1]), head[2], int(head[3]), within(int(head[4])), head[5])
     for number, text in enumerate(lines[1:], 2):
         log.lines = number
         if event := read_event(text, number):

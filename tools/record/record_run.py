@@ -20,8 +20,9 @@ from record_differences import PAGE, heading_of, says
 from record_follow import CALLS, MANY_WORKERS, Follower, NeedsWake, Outcome
 from record_log import Event, Log, read_log
 from record_names import name_addresses, named_log
+from record_polls import Polls, compare
 from record_script import Program, program_of
-from record_window import window
+from record_window import NoPart, window
 from tell import Teller
 
 RECORDER = Path(__file__).resolve().parent / "recorder"
@@ -52,6 +53,7 @@ class Made:
     program: Program
     verdict: str
     agrees: bool
+    polls: Polls
 
     def is_whole(self) -> bool:
         return not self.outcome.why and not self.program.stopped and self.verdict == "same" and self.agrees
@@ -102,12 +104,12 @@ def followed(program: Program, workers: int) -> Outcome:
         workers = MANY_WORKERS
 
 
-def chosen(events: list[Event], part: Part) -> tuple[list[Event], str, str]:
+def chosen(events: list[Event], part: Part, form: int) -> tuple[list[Event], str, str]:
     """The part of a loop's events that is asked for; where it begins and where it is cut, in a sentence each."""
     began = cut = ""
     time = part.begin if part.last is None else max(0, events[-1].now - part.last)
     if time is not None:
-        events, now = window(events, time)
+        events, now = window(events, time, form)
         began = f"it begins at {now} ms of the loop's time, with what there was then, and its times count from there"
     calls = [at for at, it in enumerate(events) if it.type == "B"]
     if len(calls) > part.most:
@@ -121,14 +123,15 @@ def make(log: Log, loop: int, part: Part = Part()) -> Made | None:
     """The recording of a loop. None if it has no callback."""
     if not any(it.type == "B" for it in log.loops[loop]):
         return None
-    events, began, cut = chosen(log.loops[loop], part)
+    events, began, cut = chosen(log.loops[loop], part, log.form)
     program = program_of(log, events)
     program.began = began
     program.stopped = program.stopped or cut
     if not program.callbacks():
         return None
     outcome = followed(program, log.workers)
-    return Made(outcome, program, replayed(outcome.recording), agrees(program, outcome))
+    polls = compare(program, outcome.lines, outcome.callbacks, not outcome.why)
+    return Made(outcome, program, replayed(outcome.recording), agrees(program, outcome), polls)
 
 
 # ---- what is said of it
@@ -175,7 +178,7 @@ def notes_of(made: Made, note: str) -> Notes:
     outside = {at for at, it in enumerate(steps, 1) if it.split(" ")[0] in ("send", "take", "finish")}
     return Notes(
         part_of(made, note), {it.name: (it.kind, it.text) for it in made.program.origins}, made.program.functions,
-        outside - made.outcome.known, foreign_lines(made), made.outcome.outside, made.outcome.times,
+        outside - made.outcome.known, foreign_lines(made), made.outcome.outside, made.outcome.times, made.program.came, made.polls.said(),
     )
 
 
@@ -202,7 +205,7 @@ def told(made: Made, loop: int, path: Path, note: str) -> list[str]:
         lines = [head + f"same up to line {outcome.item.line} of the log", f"    there {where_it_stops(made)}"]
     else:
         lines = [head + "same"]
-    lines += [f"    {it}" for it in (program.began, program.stopped, note, *by_other_threads(program)) if it]
+    lines += [f"    {it}" for it in (program.began, program.stopped, note, *by_other_threads(program), made.polls.said()) if it]
     if outcome.answers:
         lines.append(f"    {len(outcome.answers)} answers differ, first: {outcome.answers[0]}")
     if outcome.ends:
@@ -213,10 +216,24 @@ def told(made: Made, loop: int, path: Path, note: str) -> list[str]:
     return lines + [f"    {'uvt shell' if INSTALLED else './uvt shell'} {path}"]
 
 
+def all_made(log: Log, part: Part) -> tuple[list[tuple[int, Made]], list[str]]:
+    """The recordings of its loops; and of which loops none can begin where the part does. A fault where that is so of all of them."""
+    made, faults = [], {}
+    for loop in sorted(log.loops):
+        try:
+            if it := make(log, loop, part):
+                made.append((loop, it))
+        except NoPart as fault:
+            faults[loop] = fault
+    if faults and not made:
+        raise faults[max(faults, key=lambda it: len(log.loops[it]))]
+    return made, [f"loop {loop} is left out: {fault}" for loop, fault in faults.items()]
+
+
 def from_data(data: bytes, log: Log, name: str, part: Part = Part()) -> tuple[list[str], bool]:
     """Makes the recordings of a log, and writes them. Answers what is to be said, and whether all go all the way."""
-    made = [(loop, it) for loop in sorted(log.loops) if (it := make(log, loop, part))]
-    lines, whole = [], True
+    made, lines = all_made(log, part)
+    whole = True
     for loop, it in made:
         path = Path(f"{name}.rec" if len(made) == 1 else f"{name}.{loop}.rec")
         recording = ("\n".join(it.outcome.recording) + "\n").encode()

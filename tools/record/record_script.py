@@ -11,13 +11,17 @@ from dataclasses import dataclass, field
 
 from record_log import NO_CLOCK, TIMER_OWN, WATCHERS, Address, Event, Log
 from record_names import base_name, element
+from record_where import MORE, NEW, Where
 
 SCRIPT_LINES = 1048575
 NAMES = 65535
 # So many handles whose names come from one callback have numbers that stay; behind that the number of one that is gone stands for another.
 STAYS = 500
 ID = re.compile(r"%(\d+)")
-KEEPS = ("ref", "unref")
+# node's function around all callbacks of requests, which tells nothing of them.
+WRAPPER = "MakeLibuvRequestCallback::Wrapper"
+# What libuv does by itself with a handle of I/O, about its callback: the recorder sees it behind that.
+SETTLES = ("start", "stop", "ref", "unref")
 FULL = ": docs/LIBUV.md, `More than a script holds`"
 
 
@@ -41,6 +45,13 @@ class Item:
     made: int = 0
     # of an op that another thread than the loop's did: the function
     foreign: str = ""
+    # of a callback of I/O, of an async handle or of a request: where libuv calls it; and of one of I/O what is known of what came
+    section: str = ""
+    known: str = ""
+
+    def is_io(self) -> bool:
+        """Is it a callback of a handle of I/O? (What comes while that closes is a part of its close callback.)"""
+        return self.list == "on" and self.kind in WATCHERS
 
 
 @dataclass
@@ -98,9 +109,13 @@ class Program:
     # the ops of these, by list, name, call and place in the body, each with its function
     foreign_ops: dict[tuple[str, str, int, int], str] = field(default_factory=dict)
     notes: collections.Counter[str] = field(default_factory=collections.Counter)
+    # of a name of I/O by its call: what came, in the log's words
+    came: dict[str, dict[int, str]] = field(default_factory=dict)
+    has_io: bool = False
     slots: int = 0
-    # of libuv
+    # of libuv, and of the log's form
     version: str = ""
+    form: int = 2
     # where the items begin, if that isn't where the log does, in a sentence
     began: str = ""
     # why the items end before the log does, in a sentence
@@ -122,11 +137,20 @@ class Program:
                     lines += [f"{kind} {name} @{call} {op}" for call, body in enumerate(bodies, 1) for op in body]
         return lines
 
+    def is_before(self, minor: int) -> bool:
+        """Is it a libuv before 1.MINOR?"""
+        return bool(self.version) and int(self.version.split(".")[1]) < minor
+
+    def settings(self) -> list[str]:
+        """The lines of the script that say which loop it is."""
+        order = ["order 1.44"] if self.is_before(45) else []
+        io = ["io"] if self.has_io else []
+        return order + io + (["timers heap"] if self.is_before(48) else [])
+
     def script(self, workers: int, wake: bool) -> list[str]:
         """The whole script. With `wake` a handle more, that stands for what woke the loop and called nobody."""
         slots = self.slots + (1 if wake else 0)
-        old = tuple(int(it) for it in self.version.split(".")[:2]) < (1, 45) if self.version else False
-        lines = (["order 1.44"] if old else []) + [f"workers {workers}"] + ([f"slots {slots}"] if slots > 1024 else [])
+        lines = self.settings() + [f"workers {workers}"] + ([f"slots {slots}"] if slots > 1024 else [])
         lines += [f"var {name}" for name in (["wake"] if wake else []) + self.names]
         lines += ["main init wake async", "main unref wake"] if wake else []
         return lines + [f"main {op}" for op in self.main] + self.body_lines()
@@ -135,9 +159,9 @@ class Program:
 class Maker:
     """Reads the events of a loop one after another."""
 
-    def __init__(self, log: Log) -> None:
+    def __init__(self, log: Log, has_polls: bool) -> None:
         self.log = log
-        self.program = Program(version=log.version)
+        self.program = Program(version=log.version, form=log.form)
         self.bound: dict[int, Bound] = {}
         self.first_callback: dict[int, int] = {}
         self.variable: dict[int, tuple[int, int]] = {}
@@ -155,6 +179,7 @@ class Maker:
         self.call: Item | None = None
         self.stray: list[Item] = []
         self.runs = 0
+        self.where = Where(has_polls, log.form > 1)
 
     # ---- names
 
@@ -165,9 +190,9 @@ class Maker:
         if address and (base := base_name(address, size)):
             return base, f"the variable {address.name()}{element(address, size)} of {address.file}", True
         address = self.log.addresses.get(self.first_callback.get(id, -1))
-        if address and (base := base_name(address, 0)):
+        if address and (base := base_name(address, 0)) and not address.name().endswith(WRAPPER):
             return base, f"in memory of its own: the name is that of its function {self.told(address)}", False
-        return kind, "in memory of its own, and its function has no symbol", False
+        return kind, "in memory of its own, and its function has no symbol that tells more", False
 
     @staticmethod
     def told(address: Address) -> str:
@@ -207,16 +232,23 @@ class Maker:
         self.program.items.append(item)
         return item
 
-    def add_op(self, event: Event, text: str, answer: str, foreign: str = "") -> None:
+    def last_done(self) -> int:
+        """Where the end of the last callback stands, if the loop did nothing behind it; else -1."""
+        items, at = self.program.items, len(self.program.items) - 1
+        while at >= 0 and items[at].type in ("send", "take", "finish"):
+            at -= 1
+        return at if at >= 0 and items[at].type == "done" else -1
+
+    def add_op(self, event: Event, text: str, answer: str, foreign: str = "", settles: bool = False) -> None:
         """An op of the callback under way, or of the main program."""
         items = self.program.items
         if self.body is not None:
             self.keep_foreign(foreign)
             self.body.append(text)
-        elif self.runs and items and items[-1].type == "done" and text.split(" ")[0] in KEEPS:
+        elif self.runs and settles and not foreign and (at := self.last_done()) >= 0:
             # (seen as the callback was over: its last op)
-            self.program.bodies[items[-1].list, items[-1].name, int(items[-1].text)].append(text)
-            items.insert(len(items) - 1, Item("op", items[-1].now, event.clock, event.line, text, answer))
+            self.program.bodies[items[at].list, items[at].name, int(items[at].text)].append(text)
+            items.insert(at, Item("op", items[at].now, event.clock, event.line, text, answer))
             return
         elif self.runs:
             self.stray.append(Item("op", event.now, event.clock, event.line, text, answer, foreign=foreign))
@@ -249,47 +281,54 @@ class Maker:
         text, answer = event.words.rsplit(" = ", 1)
         id = ID.search(text)
         if not id:
+            self.where.see_op(text, event.now)
             self.add_op(event, text, answer, self.foreign_of(-1, ""))
             return True
         number, word = int(id[1]), text.split(" ")[0]
         if word in ("init", "queue"):
-            kind = text.split(" ")[2]
-            if number in self.bound:
-                return False
-            name = self.bind(number, kind, event.line).name
-            foreign = self.foreign_of(number, name)
-            if word == "queue":
-                self.add_op(event, f"queue {name} 1", "id", foreign)
-                return True
-            self.add_op(event, f"init {name} {kind if kind in TIMER_OWN else 'async'}", "id", foreign)
-            if kind in WATCHERS:
-                self.add_op(event, f"unref {name}", "ok")
-            return True
+            return number not in self.bound and self.read_made(event, number, text.split(" ")[2])
         bound = self.bound.get(number)
         if not bound or not self.fits(bound, text):
             return False
         bound.closing |= word == "close" and answer == "ok"
-        self.add_op(event, ID.sub(bound.name, text), answer, self.foreign_of(number, bound.name))
+        settles = bound.kind in WATCHERS and word in SETTLES
+        self.add_op(event, ID.sub(bound.name, text), answer, self.foreign_of(number, bound.name), settles)
+        return True
+
+    def read_made(self, event: Event, id: int, kind: str) -> bool:
+        """A handle, or a request."""
+        name = self.bind(id, kind, event.line).name
+        foreign = self.foreign_of(id, name)
+        if is_pool(kind):
+            self.add_op(event, f"queue {name} 1", "id", foreign)
+            return True
+        self.add_op(event, f"init {name} {kind if kind in TIMER_OWN else 'io'}", "id", foreign)
+        if kind in WATCHERS:
+            self.program.has_io = True
+            # (such a log doesn't say when it is started: it is so always, and referenced while it counts)
+            for op in ("start", "unref") if self.log.form == 1 else ():
+                self.add_op(event, f"{op} {name}", "ok")
         return True
 
     def fits(self, bound: Bound, text: str) -> bool:
         """Does the recorder write this op of this kind? A log with a changed byte may say anything."""
         word, words = text.split(" ")[0], text.count(" ")
+        may_start = {"idle", "prepare", "check"} | (WATCHERS if self.log.form > 1 else set())
         if word == "cancel":
             return is_pool(bound.kind)
         if word == "start":
-            return bound.kind == "timer" if words == 3 else bound.kind in ("idle", "prepare", "check")
+            return bound.kind == "timer" if words == 3 else bound.kind in may_start
         if word in ("again", "repeat"):
             return bound.kind == "timer"
         if word == "send":
             return bound.kind == "async"
-        return not is_pool(bound.kind) and (word != "stop" or bound.kind in TIMER_OWN - {"async"})
+        return not is_pool(bound.kind) and (word != "stop" or bound.kind == "timer" or bound.kind in may_start)
 
     # ---- callbacks
 
     def read_begin(self, event: Event) -> bool:
         words = event.words.split(" ")
-        list, id, what = words[0], int(words[1]), words[2] if len(words) > 2 else ""
+        list, id, what, known = words[0], int(words[1]), words[2] if len(words) > 2 else "", " ".join(words[3:])
         bound = self.bound.get(id)
         if not bound:
             # (its close callback has begun with an earlier one)
@@ -302,15 +341,25 @@ class Maker:
             self.program.notes["callbacks that came in another one, as part of it"] += 1
             self.depth += 1
             return True
-        if list == "on" and bound.kind in WATCHERS and bound.closing:
+        of_closing = list == "on" and bound.kind in WATCHERS and bound.closing
+        joined = of_closing and self.joins(bound)
+        if of_closing and not joined:
             list, what = "closed", f"early {id}"
         self.depth = 2 if what.startswith("early") else 1
-        joined = list == "on" and bound.kind in WATCHERS and self.joins(bound)
         if not joined:
             self.functions = []
             self.begin_call(event, bound, list, what)
+        if list == "on" and bound.kind in WATCHERS:
+            self.keep_known(bound, what, known)
         self.keep_function(id, what if list == "on" else words[0])
         return True
+
+    def keep_known(self, bound: Bound, what: str, known: str) -> None:
+        """What came: several things where one call stands for several callbacks."""
+        told = ":".join([what, *known.split(" ")] if known else [what])
+        came, call = self.program.came.setdefault(bound.name, {}), self.program.counts["on", bound.name]
+        came[call] = f"{came[call]}+{told}" if call in came else told
+        self.call.known = self.call.known or known
 
     def keep_function(self, id: int, what: str) -> None:
         """Which function of the program is called there: several where one call stands for several callbacks."""
@@ -330,7 +379,7 @@ class Maker:
             known.append((call, told))
 
     def joins(self, bound: Bound) -> bool:
-        """Several callbacks of one watcher in a row are one: the loop calls it once for all that it has."""
+        """What libuv calls of a watcher that its own callback has closed, in a row with that one, is a part of it."""
         items = self.program.items
         if not items or items[-1].type != "done" or items[-1].list != "on" or items[-1].name != bound.name:
             return False
@@ -344,6 +393,12 @@ class Maker:
         program.counts[list, bound.name] += 1
         call = program.counts[list, bound.name]
         self.call = self.add(event, "call", text=what, name=bound.name, list=list, kind=bound.kind, made=bound.made)
+        if self.call.is_io():
+            self.call.section = self.where.see_io(what, event.now)
+        elif list == "after" or list == "on" and bound.kind == "async":
+            self.call.section = self.where.see_call(event.now)
+        else:
+            self.where.see_other(bound.kind)
         self.body = program.bodies[list, bound.name, call] = []
         for item in self.stray:
             self.keep_foreign(item.foreign)
@@ -357,6 +412,7 @@ class Maker:
         if not self.depth or not self.call:
             return False
         self.depth -= 1
+        self.where.see_put_off(event.words.endswith("+"))
         # (a close callback that began early goes on with the one that libuv calls last)
         if self.depth == 0:
             call = self.call
@@ -378,16 +434,15 @@ class Maker:
             case "E":
                 return self.read_end(event)
             case "R" if not self.depth and not self.runs:
-                self.runs += 1
-                self.program.main.append(f"run {event.words}")
-                self.add(event, "run", text=event.words)
+                self.read_run(event)
             case "r":
                 if not self.runs or self.depth:
                     return False
                 self.runs -= 1
+                self.where.see_other()
                 self.add(event, "end", text=event.words)
-            case "P":
-                self.add(event, "poll", text=event.words)
+            case "P" | "p":
+                self.read_poll(event)
             case "T":
                 if bound := self.bound.get(int(event.words)):
                     self.add(event, "take", name=bound.name)
@@ -408,6 +463,22 @@ class Maker:
                     self.callback[int(id), it] = int(place)
         return True
 
+    def read_run(self, event: Event) -> None:
+        mode, _, put_off = event.words.partition(" ")
+        self.runs += 1
+        self.where.see_run(mode, bool(put_off))
+        self.program.main.append(f"run {mode}")
+        self.add(event, "run", text=mode)
+
+    def read_poll(self, event: Event) -> None:
+        found = self.where.see_poll(event.type == "p")
+        if found == NEW:
+            self.add(event, "poll", text=event.words)
+        elif found == MORE:
+            self.add(event, "poll", text=MORE)
+        elif event.type == "P":
+            next(it for it in reversed(self.program.items) if it.type == "poll").text = event.words
+
     def read_place(self, event: Event) -> None:
         """Where an object lies, and its first callback: its name is made of these, and they may come behind its first op."""
         id, place, *more = event.words.split(" ")
@@ -418,7 +489,7 @@ class Maker:
 
 
 def without_looks(events: list[Event]) -> list[Event]:
-    """Without the polls that libuv's idle-time metrics put before each poll: they only look, and don't wait."""
+    """Without the polls that libuv's idle-time metrics put before each poll: they only look, and don't wait. (Later logs say so.)"""
     kept = []
     for at, event in enumerate(events):
         looks = event.type == "P" and event.words == "0" and at + 1 < len(events) and events[at + 1].type == "P"
@@ -429,11 +500,11 @@ def without_looks(events: list[Event]) -> list[Event]:
 
 def make_program(log: Log, events: list[Event]) -> Program:
     """The script of a loop's events, up to the first that a script can't say."""
-    maker = Maker(log)
+    maker = Maker(log, any(it.type == "P" for it in events))
     for event in events:
         if event.type in "CV":
             maker.read_place(event)
-    for event in without_looks(events):
+    for event in without_looks(events) if log.form == 1 else events:
         if event.type == "R" and (maker.depth or maker.runs):
             maker.program.stopped = (
                 f"at line {event.line} of the log the program calls uv_run in a callback, and a script has its runs in the main program only:"

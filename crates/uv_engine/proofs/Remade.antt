@@ -188,7 +188,8 @@ are_lines p es h =
     let cs = codes "calls" ∷ callback_lines p es in
     every_append IsLine (ks ++ bs ++ cs) (codes "end" ∷ [])
     (every_append IsLine (ks ++ bs) cs
-    (every_append IsLine ks bs (front, read_lines (unread_in h.version) (record { program = p; said = h.said }) (script_lines p) h.script) (begin, steps_are_lines p es h.steps))
+    (every_append IsLine ks bs (front, read_lines (unread_in h.version) (record { program = p; said = h.said }) (script_lines p) h.script)
+    (begin, steps_are_lines p es h.steps))
     (middle, called_are_lines (callback_lines p es) h.called)) (last, tt)
 
 are_read : (p : Program) (es : List Event) → IsMade p es → ReadsAll Start (recording_lines p es) (Whole p es (callback_lines p es))

@@ -164,7 +164,8 @@ session_is text p es is back taken =
       script = script_text p;
       commands = lines_text steps;
       begins = subst (λ (t : List ℕ). Begins t (lines_text lines) (lines_text steps)) (sym whole)
-          (begins_behind lines (lines_text steps) (read_lines (unread_in made.version) (record { program = p; said = made.said }) lines made.script) (script_other p));
+          (begins_behind lines (lines_text steps)
+          (read_lines (unread_in made.version) (record { program = p; said = made.said }) lines made.script) (script_other p));
       is = back.script;
       asks = subst (λ (ls : List (List ℕ)). AsksFor p ls es) (sym (lines_back steps (steps_are_lines p es made.steps)))
           (all_ask p es made.steps);

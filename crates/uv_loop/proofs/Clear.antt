@@ -19,7 +19,9 @@ module _ (i : Image Place) (s : State) (h : StandsFor i s) where
   behind (stage.Walking watcher.Idle) e = empty name.PrepareYet e
   behind (stage.Walking watcher.Prepare) e = tt
   behind (stage.Poll deadline) e = empty name.DoneYet e
+  behind (stage.Polled woken) e = empty name.DoneYet e
   behind stage.Done e = empty name.AsyncYet e
+  behind stage.DoneUnwoken e = tt
   behind (stage.Walking watcher.Async) e = empty name.CheckYet e
   behind (stage.Walking watcher.Check) e = empty name.ClosingYet e
   behind stage.Closing e = tt

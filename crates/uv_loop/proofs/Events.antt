@@ -23,7 +23,7 @@ tick_refused p i s ms h l =
     ]
 
 -- as many names
-names_as : (i : Image Place) (s : State) → StandsFor i s → length i.names ≡ length s.names
+pub names_as : (i : Image Place) (s : State) → StandsFor i s → length i.names ≡ length s.names
 names_as i s h = ap (λ ns. length ns) (names_is h)
 
 pub send_moves : (p : Program) (i : Image Place) (s : State) (v : Var) → StandsFor i s → v.0 < length i.names
@@ -64,7 +64,7 @@ cancel_refused p i s v h l =
 
 -- ---- what the steps lead to
 
-is_move : (n : Next) (t : State) (line : Option Seen) → n ≡ Moves t line → IsMove n
+pub is_move : (n : Next) (t : State) (line : Option Seen) → n ≡ Moves t line → IsMove n
 is_move n t line h = rw h tt
 
 pub tick_may : (p : Program) (i : Image Place) (ms : ℕ) → i.clock + ms ≤ LATEST → (s : State) → StandsFor i s → IsMove (next p s (Tick ms))

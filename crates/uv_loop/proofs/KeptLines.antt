@@ -1,6 +1,6 @@
 -- The row of lines: one more, and one less.
-use Rattle.std.proofs.Common.{◌≡◌, ℕ, zero, suc, ◌+◌, ◌<◌, ◌≤◌, List, [], ◌∷◌, ◌++◌, map, length, Bool, true, false, Option, Some, None, slice_get, take, pred, refl, sym, ap, ◌∙◌, subst, arith}
-use Rattle.std.proofs.lemmas.List.{map-append, length-append, length-map}
+use Rattle.std.proofs.Common.{◌≡◌, ℕ, zero, suc, ◌+◌, ◌<◌, ◌≤◌, List, [], ◌∷◌, ◌++◌, length, true, false, Option, Some, slice_get, take, pred, refl, sym, ap, ◌∙◌, subst, arith}
+use Rattle.std.proofs.lemmas.List.{map-append, length-append}
 use Rattle.uv_ids.specs.declared.seen.Seen.{Seen}
 use Rattle.uv_loop.specs.declared.line_row.Line.{Line}
 use Rattle.uv_loop.specs.declared.line_row.Line.TheVariants as line

@@ -1,5 +1,5 @@
 -- No step and no undo changes how many slots the arena may have, and at which generation it retires one.
-use Rattle.uv_loop.proofs.Names.{◌≡◌, ℕ, List, [], ◌∷◌, Option, Some, None, refl, ◌∙◌, cond_both, InsertUndo, RemoveUndo, insert_undone, remove_undone, Request, reopened_by, Place, Content, Asked, Record, request_of, Image, Part, undo, unwind, unwind_parts, parts, unwound}
+use Rattle.uv_loop.proofs.Names.{◌≡◌, ℕ, List, [], ◌∷◌, Option, Some, None, refl, ◌∙◌, cond_both, InsertUndo, RemoveUndo, insert_undone, remove_undone, Request, reopened_by, Place, Content, Asked, Record, request_of, Image, Part, undo, unwind_parts, parts, unwound}
 use Rattle.uv_arena.specs.Image as arena
 use Rattle.uv_requests.specs.Working as work
 use Rattle.uv_step.specs.Parts as part

@@ -1,3 +1,4 @@
+pub mod CallsOfIo
 pub mod Clear
 pub mod Courses
 pub mod Events

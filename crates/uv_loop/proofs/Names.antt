@@ -12,17 +12,17 @@ pub use Rattle.uv_arena.specs.declared.undo.RemoveUndo.{RemoveUndo}
 pub use Rattle.uv_ids.specs.declared.code.Answer.{Answer}
 pub use Rattle.uv_ids.specs.declared.code.Code.{Code}
 pub use Rattle.uv_ids.specs.declared.event.Event.{Event}
-pub use Rattle.uv_ids.specs.declared.event.Event.TheVariants.{Cancel, Finish, Loop, Send, Take, Tick}
+pub use Rattle.uv_ids.specs.declared.event.Event.TheVariants.{Cancel, Finish, Io, Loop, Send, Take, Tick}
 pub use Rattle.uv_ids.specs.declared.fault.Fault.{Fault}
 pub use Rattle.uv_ids.specs.declared.fault.Why.{Why}
-pub use Rattle.uv_ids.specs.declared.fault.Why.TheVariants.{NoWork, Range}
+pub use Rattle.uv_ids.specs.declared.fault.Why.TheVariants.{Blocked, NoWork, Range}
 pub use Rattle.uv_ids.specs.declared.id.Id.{Id}
 pub use Rattle.uv_ids.specs.declared.id.Var.{Var}
 pub use Rattle.uv_ids.specs.declared.seen.Seen.{Seen}
 pub use Rattle.uv_layout.proofs.Lies.{IsWhole, lies_for}
 pub use Rattle.uv_layout.proofs.Same.{slots_long}
 pub use Rattle.uv_layout.specs.Laid.{ShowsAll}
-pub use Rattle.uv_loop.specs.Acting.{MayAt, Refusal}
+pub use Rattle.uv_loop.specs.Acting.{MayAt, MayCall, Refusal}
 pub use Rattle.uv_loop.specs.Begins.{IsClear, IsClearAt, IsClearBehind, IsClearIn}
 pub use Rattle.uv_loop.specs.Course.{Course, IsCourse, Leads, StandFrom, first_image}
 pub use Rattle.uv_loop.specs.Pooling.{MayFinish, MayTake}
@@ -37,7 +37,7 @@ pub use Rattle.uv_model.specs.Bounds.{CanStep, line_of}
 pub use Rattle.uv_model.specs.Found.{found_or}
 pub use Rattle.uv_model.specs.Handing.{AnswersResult, RefusesResult, job_in, job_run}
 pub use Rattle.uv_model.specs.Limits.{LATEST}
-pub use Rattle.uv_model.specs.Next.{Moves, Next, Refuses, body_from, body_step, finish, loop_step, main_step, next_work, run_step, work_of}
+pub use Rattle.uv_model.specs.Next.{Moves, Next, Refuses, body_from, body_step, call_io, calls, finish, io_handle, io_run, loop_step, main_step, next_work, run_step, stage_polled, time_polled, work_of}
 pub use Rattle.uv_model.specs.Ops.{Coded, Done, cancel, send}
 pub use Rattle.uv_model.specs.Queries.{is_free, members, numbers, run_by, runner_from, timer_ids, worker_of}
 pub use Rattle.uv_model.specs.State.{State, front_request, live_handle, live_request, with_id}
@@ -71,7 +71,7 @@ pub use Rattle.uv_stands.proofs.Loose.{idle_loose}
 pub use Rattle.uv_stands.proofs.Pools.{asked_there, done_more, first_one, front_there, ids_moved, list_same, pool_stands, run_there}
 pub use Rattle.uv_stands.proofs.Returning.{extended_returns, recorded_returns}
 pub use Rattle.uv_stands.proofs.Single.{clock_is, names_is, place_is, running_is, start_is, time_is}
-pub use Rattle.uv_stands.specs.Doing.{OfEach, Returns}
+pub use Rattle.uv_stands.specs.Doing.{Goes, OfEach, Returns}
 pub use Rattle.uv_stands.specs.Ready.{IsReady}
 pub use Rattle.uv_stands.specs.Stands.{StandsFor}
 pub use Rattle.uv_step.proofs.Rooms.{unwind_still}

@@ -1,5 +1,5 @@
 -- Which event appended a line.
-use Rattle.uv_loop.proofs.Names.{◌≡◌, ◌<◌, ℕ, List, [], ◌∷◌, ◌++◌, length, take, slice_get, nat_le, nat_lt, ◌+◌, Option, Some, None, Result, Ok, Err, refl, sym, ap, ◌∙◌, subst, cond_both, map-append, take-map, length-map, Id, Var, Event, Loop, Take, Finish, Cancel, Send, Tick, Seen, Why, Program, LATEST, Place, Request, State, Next, Moves, Refuses, STEPS, IsOfLoop, OfLoop, loop_lines, Record, Image, Held, reached, IsCourse, Leads, event_of, events_of}
+use Rattle.uv_loop.proofs.Names.{◌≡◌, ◌<◌, ℕ, List, [], ◌∷◌, ◌++◌, length, take, slice_get, nat_le, nat_lt, ◌+◌, Option, Some, None, Result, Ok, Err, refl, sym, ap, ◌∙◌, subst, cond_both, map-append, take-map, length-map, Id, Var, Event, Loop, Take, Finish, Cancel, Send, Io, Tick, Seen, Why, Program, LATEST, Place, Run, Request, State, live_handle, Next, Moves, Refuses, STEPS, IsOfLoop, OfLoop, loop_lines, Record, Image, Held, reached, IsCourse, Leads, event_of, events_of}
 use Rattle.uv_ids.specs.declared.seen.Seen.TheVariants as seen
 use Rattle.uv_model.specs.Next as step
 use Rattle.uv_model.specs.Next.{next}
@@ -27,6 +27,7 @@ own (Some (seen.Take k v id)) h = absurd h
 own (Some (seen.Finish k v id)) h = absurd h
 own (Some (seen.Cancel v a)) h = absurd h
 own (Some (seen.Send v code)) h = absurd h
+own (Some (seen.Io v id)) h = absurd h
 own (Some (seen.Tick ms)) h = absurd h
 
 tells : (n : Next) → OfLoop n → Tells Loop n
@@ -49,6 +50,15 @@ cancel_tells s v = cond_both (nat_lt v.0 (length s.names)) _ _ (Tells (Cancel v)
 send_tells : (s : State) (v : Var) → Tells (Send v) (step.sent_to s v)
 send_tells s v = cond_both (nat_lt v.0 (length s.names)) _ _ (Tells (Send v)) (λ e. refl) (λ e. tt)
 
+io_calls : (p : Program) (s : State) (v : Var) (run : Option Run) (id : Option Id) → Tells (Io v) (step.call_io p s v run id)
+io_calls p s v (Some run) (Some id) = refl
+io_calls p s v (Some run) None = tt
+io_calls p s v None id = tt
+
+io_tells : (p : Program) (s : State) (v : Var) → Tells (Io v) (step.io p s v)
+io_tells p s v = cond_both (nat_lt v.0 (length s.names)) _ _ (Tells (Io v))
+    (λ e. io_calls p s v (step.io_run p s s.place) (step.io_handle (live_handle s v))) (λ e. tt)
+
 tick_tells : (s : State) (ms : ℕ) → Tells (Tick ms) (step.tick s ms)
 tick_tells s ms = cond_both (nat_le (s.clock + ms) LATEST) _ _ (Tells (Tick ms)) (λ e. refl) (λ e. tt)
 
@@ -59,6 +69,7 @@ next_tells p s (Take k) = take_tells s k (step.next_work s (slice_get s.running 
 next_tells p s (Finish k) = finish_tells s k (step.work_of s (slice_get s.running k))
 next_tells p s (Cancel v) = cancel_tells s v
 next_tells p s (Send v) = send_tells s v
+next_tells p s (Io v) = io_tells p s v
 next_tells p s (Tick ms) = tick_tells s ms
 
 -- ---- the events of the steps that stand, by their lines

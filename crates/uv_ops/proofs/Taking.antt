@@ -1,5 +1,5 @@
 -- A slot is taken, and the ids of all stay.
-use Rattle.uv_ops.proofs.Names.{◌≡◌, ℕ, zero, suc, List, [], ◌∷◌, ◌++◌, slice_get, Option, Some, None, option_and_then, refl, sym, ap, ◌∙◌, Id, Slot, Slots, next_id, next_free, id_of, taken, taken_from, plain_slots, held_slots, slot_at, id_in, Content, slot_or, slot_by, generation_kept}
+use Rattle.uv_ops.proofs.Names.{◌≡◌, ℕ, zero, suc, List, [], ◌∷◌, ◌++◌, slice_get, Option, Some, None, option_and_then, refl, sym, ap, ◌∙◌, Id, Slot, Slots, next_id, next_free, id_of, taken, taken_from, plain_slots, slot_at, id_in, Content, slot_or, slot_by, generation_kept}
 use Rattle.uv_arena.specs.Image as arena
 
 module _ {X : Type 0} where

@@ -16,7 +16,7 @@ use Rattle.uv_work.specs.declared.event.PoolEvent.{PoolEvent}
 use Rattle.uv_model.specs.declared.place.Place.{Place}
 use Rattle.uv_model.specs.declared.place.Place.TheVariants.{Main, Running}
 use Rattle.uv_model.specs.declared.place.Stage.{Stage}
-use Rattle.uv_model.specs.declared.place.Stage.TheVariants.{Entry, Pending, Walking, Poll, Done, Closing, Timers}
+use Rattle.uv_model.specs.declared.place.Stage.TheVariants.{Poll}
 use Rattle.uv_model.specs.Next.{next}
 use Rattle.uv_model.specs.After.{after, lines, refusal_of}
 use Rattle.uv_order.specs.PoolEvents.{line_events, pool_events}

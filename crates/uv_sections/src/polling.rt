@@ -91,10 +91,6 @@ pub fn begin_unwoken_async(memory: &mut Memory<Place>, run: Run) -> Seen
     ensures goes { Goes (λ s. begins s run (Walking async) phase.Async) (held memory.old).image (held memory.new).image (Some result) }
     ensures pieces { memory.new.slots.room ≡ memory.old.slots.room }
 {
-    begin_empty(
-        memory,
-        run,
-        Stage::Walking(WatcherKind::Async),
-        Phase::Async,
-    )
+    let stage = Stage::Walking(WatcherKind::Async);
+    begin_empty(memory, run, stage, Phase::Async)
 }

@@ -1,5 +1,5 @@
 -- A handle's slot is changed: the requests are as before. A request's slot is changed: the handles are counted as before.
-use Rattle.uv_step.proofs.Names.{◌≡◌, ℕ, Bool, true, false, if◌then◌else◌, eqb, List, Some, None, option_and_then, refl, ap, ◌∙◌, inl, inr, Id, HandleRecord, ListName, Waiting, Ended, EndedYet, without, IsIn, members, held, on_list, plain_slots, held_slots, or_none, without_none, record_at, content_of, Running, working, id_in, asked_at, IsWork, one_id, Content, handle_of, request_of, no_request}
+use Rattle.uv_step.proofs.Names.{◌≡◌, ℕ, Bool, true, false, if◌then◌else◌, eqb, List, Some, None, option_and_then, refl, ap, ◌∙◌, inl, inr, Id, HandleRecord, ListName, Waiting, Ended, EndedYet, without, IsIn, members, held, or_none, without_none, record_at, content_of, Running, working, id_in, asked_at, IsWork, one_id, Content, handle_of, request_of, no_request}
 use Rattle.uv_arena.specs.Image as arena
 
 -- under no id of a handle's slot there is a request

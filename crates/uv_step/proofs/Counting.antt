@@ -1,5 +1,5 @@
 -- What becomes of a request leaves the count of active referenced handles.
-use Rattle.uv_step.proofs.Names.{◌≡◌, ℕ, zero, suc, ◌+◌, ◌<◌, Bool, false, if◌then◌else◌, List, [], ◌∷◌, ◌++◌, set, slice_get, Option, Some, None, option_and_then, refl, sym, ap, ◌∙◌, inl, inr, arith, eqb_tells, Id, Slot, one_if, content_keeps, keeps_in, active_count, ChainPlace, IsIn, CHAIN_COUNT, FREE, held, held_slots, plain_slots, slot_at, place_at, IsSound, push_undone, unlink_undone, SameSlots, get-slots, member_tells, slots_relinked, slots_edited, held_tells, alive_count, Request, reopened, asked_at, reopened_by, reopened_in, Content, Asked, handle_of, request_of, no_handle}
+use Rattle.uv_step.proofs.Names.{◌≡◌, ℕ, zero, suc, ◌+◌, ◌<◌, Bool, false, if◌then◌else◌, List, [], ◌∷◌, ◌++◌, set, slice_get, Option, Some, None, option_and_then, refl, sym, ap, ◌∙◌, inl, inr, arith, eqb_tells, Id, Slot, one_if, content_keeps, keeps_in, active_count, ChainPlace, IsIn, CHAIN_COUNT, FREE, held_slots, plain_slots, slot_at, place_at, IsSound, push_undone, unlink_undone, SameSlots, get-slots, member_tells, slots_relinked, slots_edited, held_tells, alive_count, Request, reopened, asked_at, reopened_by, reopened_in, Content, Asked, handle_of, request_of, no_handle}
 use Rattle.uv_records.specs.Slots as plain
 use Rattle.uv_arena.specs.Image as arena
 use Rattle.uv_requests.proofs.Holding.{content_of}

@@ -1,5 +1,5 @@
 -- Each step leaves a record that gives back the very image from before it.
-use Rattle.uv_step.proofs.Names.{◌≡◌, ℕ, Bool, true, false, List, Some, option_and_then, refl, sym, ap, ◌∙◌, subst, Id, Var, Kind, HandleRecord, ListName, WatcherKind, list_of, yet_of, inited, members, IsSound, push_undone, splice_undone, CanUndoPush, CanUndoSplice, IsPushed, IsFirst, IsSpliced, SameSlots, RecordUndo, AddUndo, ListUndo, DelistUndo, TakeUndo, SpliceUndo, Counted, counted, record_at, alive_count, add_undone, CanUndoAdd, IsTaken, IsAdded, IsChanged, IsEnlisted, IsDelisted, Heap, Times, TimerChange, TimerUndo, CollectUndo, timed, timer_undone, CanUndoTimer, IsRescheduled, IsFired, IsCollected, Running, working, id_in, IsWork, kept_by_insert, QueueUndo, TakeWorkUndo, CollectWorkUndo, FinishUndo, CancelUndo, reopened_in, IsQueued, IsFinished, IsCancelled, listed_id, Request, Job, WalkUndo, IsMovedOn, Content, Handle, Asked, Record, handle_of, request_of, only_handle, Image, Held, counted_of, timed_of, with_counted, with_timed, with_working, Recorded, IsFit, By, changed, moved_by, closed_by, ended_by, FirstIs}
+use Rattle.uv_step.proofs.Names.{◌≡◌, ℕ, Bool, true, false, List, Some, option_and_then, refl, sym, ap, ◌∙◌, subst, Id, Var, Kind, HandleRecord, ListName, WatcherKind, list_of, yet_of, inited, IsSound, push_undone, splice_undone, CanUndoPush, CanUndoSplice, IsPushed, IsFirst, IsSpliced, SameSlots, RecordUndo, AddUndo, ListUndo, DelistUndo, TakeUndo, SpliceUndo, Counted, counted, record_at, alive_count, add_undone, CanUndoAdd, IsTaken, IsAdded, IsChanged, IsEnlisted, IsDelisted, Heap, Times, TimerChange, TimerUndo, CollectUndo, timed, timer_undone, CanUndoTimer, IsRescheduled, IsFired, IsCollected, Running, working, id_in, IsWork, kept_by_insert, QueueUndo, TakeWorkUndo, CollectWorkUndo, FinishUndo, CancelUndo, reopened_in, IsQueued, IsFinished, IsCancelled, listed_id, Request, Job, WalkUndo, IsMovedOn, Content, Handle, Asked, Record, handle_of, request_of, only_handle, Image, Held, counted_of, timed_of, with_counted, with_timed, with_working, Recorded, IsFit, By, changed, moved_by, closed_by, ended_by, FirstIs}
 use Rattle.uv_records.specs.declared.lists.ListName.TheVariants as name
 use Rattle.uv_arena.specs.Image as arena
 use Rattle.uv_requests.specs.Calls as requests

@@ -78,7 +78,8 @@ module _ (p : Program) (each : (name : List ℕ) → Contains p.names name → I
       let there = declared v (omega (arith, all, h)) in
       let unspaced = name_unspaced name (each name (declared_contains p.names name v there)) in
       outside (Cancel v) (is_line 39 _ (omega arith) (both 7 32 (codes "cancel ") name (word (codes "cancel ") refl) (name_there p.names each v)))
-      (is.step (codes "cancel") name (Cancel v) (ap (λ (r : List (List ℕ)). codes "cancel" ∷ r) (fields-last name unspaced)) (is.cancel v refl there)) has
+      (is.step (codes "cancel") name (Cancel v) (ap (λ (r : List (List ℕ)). codes "cancel" ∷ r) (fields-last name unspaced))
+      (is.cancel v refl there)) has
   step_said m k (Send v) all few h has =
       let name = name_text p.names v in
       let there = declared v (omega (arith, all, h)) in
@@ -95,7 +96,8 @@ module _ (p : Program) (each : (name : List ℕ) → Contains p.names name → I
       let small : ms < 2 ^ 64 = omega (arith, h) in
       outside (Tick ms) (is_line 25 _ (omega arith) (both 5 20 (codes "tick ") (decimal ms) (word (codes "tick ") refl) (number ms small)))
       (is.step (codes "tick") (decimal ms) (Tick ms)
-      (ap (λ (r : List (List ℕ)). codes "tick" ∷ r) (fields-last (decimal ms) (decimal_unspaced ms small))) (is.tick ms refl (is_number ms small))) has
+      (ap (λ (r : List (List ℕ)). codes "tick" ∷ r) (fields-last (decimal ms) (decimal_unspaced ms small)))
+      (is.tick ms refl (is_number ms small))) has
 
 -- ---- callbacks
 

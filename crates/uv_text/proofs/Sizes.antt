@@ -299,7 +299,8 @@ module _ (p : Program) (m k : ℕ) where
       (found_both (first_due s s.timers) _ _ (Stays m k)
       (λ t e. let u = stopped s t.0 t.1 in
       called (restarted u t.0 t.1) (record run { stage = Timers part Collecting }) callback.Handle t.1.name (seen.Call t.1.name t.0)
-      (restarts m k u t.0 t.1 (handled m k (taken_off s t.0 t.1) t.0 (records.stopped t.1) h)) (short s (t.0 ∷ []) t (due_front s s.timers t e) able h))
+      (restarts m k u t.0 t.1 (handled m k (taken_off s t.0 t.1) t.0 (records.stopped t.1) h))
+      (short s (t.0 ∷ []) t (due_front s s.timers t e) able h))
       (λ e. turned s run (Behind part) h))
       (found_both (first_due s s.timers) _ _ (Stays m k)
       (λ t e. (handled m k s t.0 (records.stopped t.1) h, tt)) (λ e. fired s run part able h))

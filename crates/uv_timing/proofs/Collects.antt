@@ -1,5 +1,5 @@
 -- The first timer is collected, if it is due.
-use Rattle.uv_timing.proofs.Names.{◌≡◌, ◌≢◌, ℕ, List, [], ◌∷◌, ◌++◌, map, drop, Some, refl, sym, ap, ◌∙◌, map-append, Id, HandleRecord, ListName, without_none, record_at, CollectUndo, Entry, IsCollected, cleared, id_in, Place, first_due, collected, members, State, IsReached, Content, Handle, Record, handle_of, By, moved_by, IsFit, Image, Held, timed_of, OnlyTimed, StandsFor, timer_in, slots_set, ids_kept, map_same, all_but_one, Listed, Collects, IsOn, held_handle, own_id, absent_active, start_is, time_is}
+use Rattle.uv_timing.proofs.Names.{◌≡◌, ◌≢◌, ℕ, List, [], ◌∷◌, ◌++◌, map, drop, Some, refl, sym, ap, ◌∙◌, map-append, Id, HandleRecord, ListName, without_none, record_at, CollectUndo, Entry, IsCollected, cleared, id_in, Place, collected, members, State, IsReached, Handle, Record, handle_of, By, moved_by, IsFit, Image, Held, timed_of, OnlyTimed, StandsFor, timer_in, slots_set, ids_kept, map_same, all_but_one, Listed, Collects, IsOn, held_handle, own_id, absent_active, start_is, time_is}
 use Rattle.uv_records.specs.declared.lists.ListName.TheVariants as name
 use Rattle.uv_records.specs.Handles as records
 use Rattle.uv_arena.specs.Image as arena

@@ -23,15 +23,29 @@ REAL(uv_handle_get_type)
 
 /* ---- what callbacks and watchers have in common */
 
-struct object *enter(void *handle, const char *what) {
+/* (libuv stops some watchers before their last callback: at the end of a stream, for a signal that comes once. The op belongs behind it,
+ * since who isn't active isn't called) */
+struct object *enter(void *handle, const char *what, const char *known) {
     lock();
     struct object *object = find(handle);
     if (object) {
-        settle_all(object->loop);
-        write_line(object->loop, 'B', "on %d %s", object->id, what);
+        settle_all(object->loop, object);
+        object->loop->begun++;
+        if (!object->watcher && strcmp(object->kind, "async") != 0) object->loop->away++;
+        write_line(object->loop, 'B', "on %d %s%s%s", object->id, what, *known ? " " : "", known);
     }
     unlock();
     return object;
+}
+
+/* Are there callbacks of I/O that libuv has put off to the section `pending`? (Its queue's first word leads to itself where it is empty.) */
+static const char *put_off(const struct loop *loop) {
+    const void *queue = &loop->uv->pending_queue;
+    return *(void *const *)queue == queue ? "" : " +";
+}
+
+void write_end(struct loop *loop, int id) {
+    if (loop->uv) write_line(loop, 'E', "%d%s", id, put_off(loop));
 }
 
 /* The handle may be gone by now, and another one have its address. */
@@ -40,7 +54,7 @@ void leave(struct loop *loop, void *handle, int id) {
     struct object *object = find(handle);
     if (object && object->id != id) object = NULL;
     if (object) settle(object);
-    write_line(loop, 'E', "%d", id);
+    write_end(loop, id);
     if (object && object->watcher && !object->is_unsettled) {
         object->is_unsettled = true;
         object->next_unsettled = loop->unsettled;
@@ -63,24 +77,25 @@ struct object *made(uv_loop_t *uv, void *handle, const char *kind, bool watcher)
     return object;
 }
 
-/* A watcher keeps the loop alive while it is active and referenced, or a request of its own is under way. */
+/* A request of a watcher that is under way keeps the loop alive, as a handle that is active and referenced does. */
 void settle(struct object *watcher) {
     if (!watcher || !watcher->watcher || CALL(uv_is_closing)(watcher->address)) return;
-    bool active = CALL(uv_is_active)(watcher->address) && CALL(uv_has_ref)(watcher->address);
-    bool counts = active || watcher->requests > 0;
-    if (counts == watcher->counts) return;
-    watcher->counts = counts;
-    write_op(watcher, counts ? "ref" : "unref", "", 0);
+    bool active = CALL(uv_is_active)(watcher->address) || watcher->requests > 0;
+    bool unreferenced = !CALL(uv_has_ref)(watcher->address) && watcher->requests == 0;
+    if (active != watcher->active) write_op(watcher, active ? "start" : "stop", "", 0);
+    if (unreferenced != watcher->unreferenced) write_op(watcher, unreferenced ? "unref" : "ref", "", 0);
+    watcher->active = active;
+    watcher->unreferenced = unreferenced;
 }
 
-/* libuv stops some watchers after their callback (a signal that comes once, the end of a stream): before the loop's next
- * event they are looked at once more. */
-void settle_all(struct loop *loop) {
+/* libuv stops some watchers after their callback: before the loop's next event they are looked at once more. (One whose callback begins
+ * is looked at as that ends.) */
+void settle_all(struct loop *loop, const struct object *but) {
     while (loop->unsettled) {
         struct object *watcher = loop->unsettled;
         loop->unsettled = watcher->next_unsettled;
         watcher->is_unsettled = false;
-        settle(watcher);
+        if (watcher != but) settle(watcher);
     }
 }
 
@@ -121,15 +136,22 @@ int uv_loop_close(uv_loop_t *uv) {
 static const char *const MODES[] = {"default", "once", "nowait"};
 static __thread struct loop *run_here; /* the loop that this thread runs */
 
+struct loop *running_here(void) {
+    return run_here;
+}
+
 int uv_run(uv_loop_t *uv, uv_run_mode mode) {
     if (INSIDE()) return CALL(uv_run)(uv, mode);
     lock();
     struct loop *loop = loop_of(uv), *outer = run_here;
+    uv_run_mode outer_mode = loop ? loop->mode : mode;
     if (loop) {
-        settle_all(loop);
+        settle_all(loop, NULL);
         loop->thread = pthread_self();
         loop->running++;
-        write_line(loop, 'R', "%s", (unsigned)mode < 3 ? MODES[mode] : "default");
+        loop->mode = mode;
+        loop->begun++, loop->away++;
+        write_line(loop, 'R', "%s%s", (unsigned)mode < 3 ? MODES[mode] : "default", put_off(loop));
     }
     run_here = loop;
     unlock();
@@ -137,8 +159,9 @@ int uv_run(uv_loop_t *uv, uv_run_mode mode) {
     lock();
     run_here = outer;
     if (loop) {
-        settle_all(loop);
+        settle_all(loop, NULL);
         loop->running--;
+        loop->mode = outer_mode;
         write_line(loop, 'r', "%d", alive != 0);
     }
     unlock();
@@ -192,12 +215,14 @@ static void on_closed(uv_handle_t *handle) {
     struct loop *loop = object->loop;
     uv_close_cb callback = object->closed;
     int id = object->id;
+    settle_all(loop, object);
+    loop->begun++, loop->away++;
     write_line(loop, 'B', "closed %d", id);
     drop(object); /* the callback may free the memory, or make a new handle there */
     unlock();
     if (callback) PROGRAM(callback(handle));
     lock();
-    write_line(loop, 'E', "%d", id);
+    write_end(loop, id);
     unlock();
 }
 
@@ -249,7 +274,7 @@ void uv_unref(uv_handle_t *handle) {
 
 #define CALLBACK(KIND)                                                       \
     static void on_##KIND(uv_##KIND##_t *handle) {                           \
-        struct object *object = enter(handle, #KIND);                        \
+        struct object *object = enter(handle, #KIND, "");                    \
         if (!object) return;                                                 \
         struct loop *loop = object->loop;                                    \
         int id = object->id;                                                 \
@@ -378,68 +403,4 @@ int uv_async_send(uv_async_t *handle) {
     if (own) write_op(object, "send", "", answer);
     unlock();
     return answer;
-}
-
-/* ---- all that a loop has, from time to time: a recording may begin there */
-
-enum { OFTEN = 4000, MANY = 8 };
-
-REAL(uv_timer_get_due_in)
-
-static void tell_one(struct object *it) {
-    uint64_t due = 0, repeat = 0, order = it->order;
-    bool active = false, referenced = it->counts, closing = false;
-    if (it->handle) {
-        uv_handle_t *handle = it->address;
-        active = CALL(uv_is_active)(handle);
-        closing = CALL(uv_is_closing)(handle);
-        if (!it->watcher) referenced = CALL(uv_has_ref)(handle);
-        if (strcmp(it->kind, "timer") == 0) {
-            due = CALL(uv_timer_get_due_in)((uv_timer_t *)handle);
-            repeat = CALL(uv_timer_get_repeat)((uv_timer_t *)handle);
-            order = ((uv_timer_t *)handle)->start_id;
-        }
-    }
-    write_line(it->loop, 'K', "%d %s %d %d %d %u %u %u", it->id, it->kind, active, referenced, closing, due, repeat, order);
-}
-
-static void tell_all(struct loop *loop) {
-    if (loop->lines - loop->counted < OFTEN + MANY * object_total()) return;
-    write_line(loop, 'K', "all");
-    each(loop, tell_one);
-    write_line(loop, 'K', "end");
-    loop->counted = loop->lines;
-}
-
-/* ---- the poll: what libuv asks of the system */
-
-#include <sys/epoll.h>
-
-REAL(uv_backend_fd)
-REAL(epoll_wait)
-REAL(epoll_pwait)
-
-static struct loop *polls(int descriptor, const void *caller) {
-    struct loop *loop = run_here;
-    if (off || !loop || !loop->uv || !is_from_libuv(caller)) return NULL;
-    return CALL(uv_backend_fd)(loop->uv) == descriptor ? loop : NULL;
-}
-
-static void note_poll(struct loop *loop, int timeout) {
-    if (!loop) return;
-    lock();
-    settle_all(loop);
-    tell_all(loop);
-    write_line(loop, 'P', "%d", timeout);
-    unlock();
-}
-
-int epoll_wait(int descriptor, struct epoll_event *events, int room, int timeout) {
-    note_poll(polls(descriptor, __builtin_return_address(0)), timeout);
-    return CALL(epoll_wait)(descriptor, events, room, timeout);
-}
-
-int epoll_pwait(int descriptor, struct epoll_event *events, int room, int timeout, const sigset_t *signals) {
-    note_poll(polls(descriptor, __builtin_return_address(0)), timeout);
-    return CALL(epoll_pwait)(descriptor, events, room, timeout, signals);
 }

@@ -2,6 +2,9 @@
 #define _GNU_SOURCE
 #include "recorder.h"
 
+#include <stdio.h>
+#include <string.h>
+
 /* ---- init */
 
 #define INIT(NAME, TYPE, KIND, PARAMETERS, WORDS)               \
@@ -27,11 +30,55 @@ INIT(uv_signal_init, uv_signal_t, "signal", (uv_loop_t * uv, uv_signal_t *handle
 INIT(uv_fs_event_init, uv_fs_event_t, "fs_event", (uv_loop_t * uv, uv_fs_event_t *handle), (uv, handle))
 INIT(uv_fs_poll_init, uv_fs_poll_t, "fs_poll", (uv_loop_t * uv, uv_fs_poll_t *handle), (uv, handle))
 
+/* ---- what came */
+
+/* A word or two of it, in the log's words: how many bytes, a status, .. */
+struct known {
+    char text[40];
+};
+
+static struct known status_known(int status) {
+    struct known known;
+    const char *text = answer_text(status);
+    snprintf(known.text, sizeof known.text, "%s", strchr(text, ' ') ? "EUNKNOWN" : text);
+    return known;
+}
+
+static struct known bytes_known(ssize_t length) {
+    struct known known;
+    if (length < 0) return status_known((int)length);
+    snprintf(known.text, sizeof known.text, "%zd", length);
+    return known;
+}
+
+/* (without a sender there is none) */
+static struct known datagram_known(ssize_t length, const void *from) {
+    struct known none = {"none"};
+    return length == 0 && !from ? none : bytes_known(length);
+}
+
+static struct known exit_known(int64_t status, int number) {
+    struct known known;
+    snprintf(known.text, sizeof known.text, "%d %d", (int)status, number);
+    return known;
+}
+
+/* The signs of those of these bits that are set. */
+static struct known bits_known(int status, int bits, const char *signs) {
+    struct known known;
+    size_t length = 0;
+    if (status < 0) return status_known(status);
+    for (; *signs; signs++, bits >>= 1)
+        if (bits & 1) known.text[length++] = *signs;
+    known.text[length] = 0;
+    return known;
+}
+
 /* ---- callbacks */
 
-#define CALLBACK(NAME, TYPE, FIELD, WHAT, PARAMETERS, WORDS)         \
+#define CALLBACK(NAME, TYPE, FIELD, WHAT, KNOWN, PARAMETERS, WORDS)  \
     static void NAME PARAMETERS {                                    \
-        struct object *object = enter(handle, WHAT);                 \
+        struct object *object = enter(handle, WHAT, (KNOWN).text);   \
         if (!object) return;                                         \
         struct loop *loop = object->loop;                            \
         int id = object->id;                                         \
@@ -39,17 +86,19 @@ INIT(uv_fs_poll_init, uv_fs_poll_t, "fs_poll", (uv_loop_t * uv, uv_fs_poll_t *ha
         leave(loop, handle, id);                                     \
     }
 
-CALLBACK(on_read, uv_read_cb, callback, "read", (uv_stream_t * handle, ssize_t length, const uv_buf_t *bytes),
+CALLBACK(on_read, uv_read_cb, callback, "read", bytes_known(length), (uv_stream_t * handle, ssize_t length, const uv_buf_t *bytes),
          (handle, length, bytes))
-CALLBACK(on_connection, uv_connection_cb, second, "connection", (uv_stream_t * handle, int status), (handle, status))
-CALLBACK(on_poll, uv_poll_cb, callback, "poll", (uv_poll_t * handle, int status, int events), (handle, status, events))
-CALLBACK(on_signal, uv_signal_cb, callback, "signal", (uv_signal_t * handle, int number), (handle, number))
-CALLBACK(on_exit_of, uv_exit_cb, callback, "exit", (uv_process_t * handle, int64_t status, int number), (handle, status, number))
-CALLBACK(on_fs_event, uv_fs_event_cb, callback, "fs_event", (uv_fs_event_t * handle, const char *name, int events, int status),
-         (handle, name, events, status))
-CALLBACK(on_fs_poll, uv_fs_poll_cb, callback, "fs_poll",
+CALLBACK(on_connection, uv_connection_cb, second, "connection", status_known(status), (uv_stream_t * handle, int status), (handle, status))
+CALLBACK(on_poll, uv_poll_cb, callback, "poll", bits_known(status, events, "rwdp"), (uv_poll_t * handle, int status, int events),
+         (handle, status, events))
+CALLBACK(on_signal, uv_signal_cb, callback, "signal", bytes_known(number), (uv_signal_t * handle, int number), (handle, number))
+CALLBACK(on_exit_of, uv_exit_cb, callback, "exit", exit_known(status, number), (uv_process_t * handle, int64_t status, int number),
+         (handle, status, number))
+CALLBACK(on_fs_event, uv_fs_event_cb, callback, "fs_event", bits_known(status, events, "rc"),
+         (uv_fs_event_t * handle, const char *name, int events, int status), (handle, name, events, status))
+CALLBACK(on_fs_poll, uv_fs_poll_cb, callback, "fs_poll", status_known(status),
          (uv_fs_poll_t * handle, int status, const uv_stat_t *before, const uv_stat_t *now), (handle, status, before, now))
-CALLBACK(on_receive, uv_udp_recv_cb, callback, "receive",
+CALLBACK(on_receive, uv_udp_recv_cb, callback, "receive", datagram_known(length, from),
          (uv_udp_t * handle, ssize_t length, const uv_buf_t *bytes, const struct sockaddr *from, unsigned flags),
          (handle, length, bytes, from, flags))
 
@@ -132,20 +181,20 @@ struct request {
     int id;
 };
 
-static struct request begin_request(void *address, const char *what) {
+static struct request begin_request(void *address, const char *what, int status) {
     lock();
     struct object *object = find(address);
     struct request request = {object->owner, object->loop, object->callback, object->owner->id};
     drop(object);
     request.stream->requests--;
-    enter(request.stream->address, what);
+    enter(request.stream->address, what, status_known(status).text);
     unlock();
     return request;
 }
 
 #define REQUEST(NAME, WHAT, REQUEST_TYPE, TYPE)                                     \
     static void NAME(REQUEST_TYPE *address, int status) {                           \
-        struct request request = begin_request(address, WHAT);                      \
+        struct request request = begin_request(address, WHAT, status);              \
         void *stream = request.stream->address;                                     \
         if (request.callback) PROGRAM(((TYPE)request.callback)(address, status));   \
         leave(request.loop, stream, request.id);                                    \
@@ -208,6 +257,12 @@ SENDS(uv_tcp_connect, CONNECT, "connect", on_connect,
 SENDS(uv_udp_send, WRITE, "send", on_send,
       (uv_udp_send_t * request, uv_udp_t *handle, const uv_buf_t buffers[], unsigned count, const struct sockaddr *address,
        uv_udp_send_cb callback), W_SEND)
+
+/* (from 1.46 on) */
+int uv_pipe_connect2(uv_connect_t *request, uv_pipe_t *handle, const char *name, size_t length, unsigned flags, uv_connect_cb callback);
+#define W_CONNECT2(x) (request, handle, name, length, flags, x)
+SENDS(uv_pipe_connect2, CONNECT, "connect", on_connect,
+      (uv_connect_t * request, uv_pipe_t *handle, const char *name, size_t length, unsigned flags, uv_connect_cb callback), W_CONNECT2)
 
 REAL(uv_pipe_connect)
 void uv_pipe_connect(uv_connect_t *request, uv_pipe_t *handle, const char *name, uv_connect_cb callback) {

@@ -101,7 +101,7 @@ static void write_head(void) {
     ssize_t length = readlink("/proc/self/exe", program, sizeof program - 1);
     first_workers = workers();
     program[length < 0 ? 0 : length] = 0;
-    int size = snprintf(text, sizeof text, "uvt-log 1 %s %d %d %s\n", CALL(uv_version_string)(), (int)getpid(),
+    int size = snprintf(text, sizeof text, "uvt-log 2 %s %d %d %s\n", CALL(uv_version_string)(), (int)getpid(),
                         first_workers, program);
     write_text(text, (size_t)size);
 }

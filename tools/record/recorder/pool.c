@@ -43,7 +43,8 @@ static struct after begin_after(void *request, bool cancelled) {
     lock();
     struct object *object = find(request);
     struct after after = {object->loop, object->callback, object->id};
-    settle_all(after.loop);
+    settle_all(after.loop, NULL);
+    after.loop->begun++;
     write_line(after.loop, 'B', "after %d %s", after.id, cancelled ? "ECANCELED" : "ok");
     drop(object);
     unlock();
@@ -52,7 +53,7 @@ static struct after begin_after(void *request, bool cancelled) {
 
 static void end_after(struct after after) {
     lock();
-    write_line(after.loop, 'E', "%d", after.id);
+    write_end(after.loop, after.id);
     unlock();
 }
 

@@ -23,6 +23,13 @@ struct loop {
     int running; /* how many uv_run are under way */
     struct object *unsettled; /* watchers whose callback has just ended: see settle() */
     long lines, counted; /* of it in the log; and how many there were as all of it was last written down */
+    uv_run_mode mode; /* of the uv_run that is under way */
+    long begun, away; /* how many callbacks and runs have begun, and how many of them in no poll */
+    struct poll {
+        long begun, away; /* the same as libuv asked for events */
+        int timeout, got; /* how long it waits, and how many events it got; negative where it was interrupted */
+        bool in_vain; /* none of these is for anybody */
+    } poll; /* the last time */
 };
 
 /* Which of its callbacks: a stream has several. */
@@ -37,7 +44,8 @@ struct object {
     uint64_t order; /* of an idle, prepare or check handle: the how-manieth start it was */
     bool handle;
     bool watcher; /* a handle of I/O, signals, files or processes */
-    bool counts; /* of a watcher: does it keep the loop alive, as the log has it */
+    bool active; /* of a watcher, as the log has it: it is active, or a request of its own is under way */
+    bool unreferenced; /* and it is unreferenced, and none is */
     int size; /* of its type: elements of an array lie so far apart */
     void *named[ROLES]; /* the callbacks that the log has of it */
     int requests; /* of a watcher: writes, connects, .. that are under way */
@@ -106,14 +114,20 @@ extern __thread const char *called;
 
 /* ---- callbacks and watchers (handles.c) */
 
-/* Around a handle's callback. `enter` answers its object, NULL if there is none. */
-struct object *enter(void *handle, const char *what);
+/* Around a handle's callback. `enter` answers its object, NULL if there is none. WHAT came, and what is known of it: how many bytes, an
+ * error, ..; "" where that is nothing. */
+struct object *enter(void *handle, const char *what, const char *known);
 void leave(struct loop *loop, void *handle, int id);
+/* The line at which a callback ends. */
+void write_end(struct loop *loop, int id);
+/* The loop that this thread runs, or NULL. */
+struct loop *running_here(void);
 /* The op `init`, of a handle that was made. */
 struct object *made(uv_loop_t *loop, void *handle, const char *kind, bool watcher);
-/* Says whether a watcher keeps the loop alive, where that has changed. */
+/* Says whether a watcher is active, and whether it is referenced, where that has changed. */
 void settle(struct object *watcher);
-void settle_all(struct loop *loop);
+/* The same of all whose callback has just ended, but for the one whose next callback begins (NULL: for none). */
+void settle_all(struct loop *loop, const struct object *but);
 
 /* Calls a callback of the program: what it asks of libuv are ops again. */
 #define PROGRAM(call)           \

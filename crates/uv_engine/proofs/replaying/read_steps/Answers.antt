@@ -1,4 +1,4 @@
-use Rattle.uv_engine.proofs.Names.{arith, refl, ap, sym, ◌∙◌, Program, accepts-nil, err_from_is_err_and}
+use Rattle.uv_engine.proofs.Names.{arith, refl, sym, ◌∙◌, accepts-nil, err_from_is_err_and}
 use Rattle.uv_engine.proofs.Replays.{steps_none, steps_more, steps_end, steps_bad}
 use Rattle.uv_engine.proofs.Faults.{no_read, no_memory}
 use Rattle.uv_engine.proofs.replaying.read_steps.Goals as goal

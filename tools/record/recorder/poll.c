@@ -1,0 +1,107 @@
+/* The poll: what libuv asks of the system, and, in front of it from time to time, all that a loop has. */
+#define _GNU_SOURCE
+#include "recorder.h"
+
+#include <poll.h>
+#include <string.h>
+#include <sys/epoll.h>
+
+REAL(uv_is_active)
+REAL(uv_is_closing)
+REAL(uv_has_ref)
+
+/* ---- all that a loop has, from time to time: a recording may begin there */
+
+enum { OFTEN = 4000, MANY = 8 };
+
+REAL(uv_timer_get_due_in)
+REAL(uv_timer_get_repeat)
+
+static void tell_one(struct object *it) {
+    uint64_t due = 0, repeat = 0, order = it->order;
+    bool active = it->active, referenced = it->watcher && !it->unreferenced, closing = false;
+    if (it->handle) {
+        uv_handle_t *handle = it->address;
+        closing = CALL(uv_is_closing)(handle);
+        if (!it->watcher) active = CALL(uv_is_active)(handle), referenced = CALL(uv_has_ref)(handle);
+        if (strcmp(it->kind, "timer") == 0) {
+            due = CALL(uv_timer_get_due_in)((uv_timer_t *)handle);
+            repeat = CALL(uv_timer_get_repeat)((uv_timer_t *)handle);
+            order = ((uv_timer_t *)handle)->start_id;
+        }
+    }
+    write_line(it->loop, 'K', "%d %s %d %d %d %u %u %u", it->id, it->kind, active, referenced, closing, due, repeat, order);
+}
+
+static void tell_all(struct loop *loop) {
+    if (loop->lines - loop->counted < OFTEN + MANY * object_total()) return;
+    write_line(loop, 'K', "all");
+    each(loop, tell_one);
+    write_line(loop, 'K', "end");
+    loop->counted = loop->lines;
+}
+
+/* ---- the poll: what libuv asks of the system */
+
+enum { ROOM = 1024 }; /* as many events libuv asks for */
+
+REAL(uv_backend_fd)
+REAL(uv_backend_timeout)
+REAL(epoll_wait)
+REAL(epoll_pwait)
+
+static struct loop *polls(int descriptor, const void *caller) {
+    struct loop *loop = running_here();
+    if (off || !loop || !loop->uv || !is_from_libuv(caller)) return NULL;
+    return CALL(uv_backend_fd)(loop->uv) == descriptor ? loop : NULL;
+}
+
+/* Is it the same poll still? libuv asks once more where it was interrupted, where nothing came for anybody, where it only looked before it
+ * waits (by the metrics of its idle time), and where there may be more events than it had room for. */
+static bool asks_again(const struct loop *loop) {
+    const struct poll *last = &loop->poll;
+    if (last->got == ROOM) return loop->away == last->away;
+    return loop->begun == last->begun && last->timeout != 0 && (last->got <= 0 || last->in_vain);
+}
+
+static void note_poll(struct loop *loop, int timeout) {
+    if (!loop) return;
+    lock();
+    bool again = asks_again(loop);
+    settle_all(loop, NULL);
+    if (!again) {
+        tell_all(loop);
+        /* (where it only looks, that is how long it will wait) */
+        if (timeout == 0 && loop->mode == UV_RUN_DEFAULT) timeout = CALL(uv_backend_timeout)(loop->uv);
+    }
+    write_line(loop, again ? 'p' : 'P', "%d", timeout);
+    loop->poll = (struct poll){.begun = loop->begun, .away = loop->away, .timeout = timeout};
+    unlock();
+}
+
+static bool is_for_somebody(const uv_loop_t *uv, const struct epoll_event *event) {
+    int file = event->data.fd;
+    const uv__io_t *watcher = file >= 0 && (unsigned)file < uv->nwatchers ? uv->watchers[file] : NULL;
+    return watcher && (event->events & (watcher->pevents | POLLERR | POLLHUP));
+}
+
+static int note_events(struct loop *loop, const struct epoll_event *events, int got) {
+    if (!loop) return got;
+    bool in_vain = true;
+    for (int at = 0; at < got && in_vain; at++) in_vain = !is_for_somebody(loop->uv, &events[at]);
+    loop->poll.got = got;
+    loop->poll.in_vain = in_vain;
+    return got;
+}
+
+int epoll_wait(int descriptor, struct epoll_event *events, int room, int timeout) {
+    struct loop *loop = polls(descriptor, __builtin_return_address(0));
+    note_poll(loop, timeout);
+    return note_events(loop, events, CALL(epoll_wait)(descriptor, events, room, timeout));
+}
+
+int epoll_pwait(int descriptor, struct epoll_event *events, int room, int timeout, const sigset_t *signals) {
+    struct loop *loop = polls(descriptor, __builtin_return_address(0));
+    note_poll(loop, timeout);
+    return note_events(loop, events, CALL(epoll_pwait)(descriptor, events, room, timeout, signals));
+}
