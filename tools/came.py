@@ -46,6 +46,11 @@ def behind(walk: Walk, wait: Wait) -> int:
     return walk.clock(it.step) - walk.clock(it.since) if it.poll else 0
 
 
+def left_by(walk: Walk, call: int) -> LeftByIo:
+    """The poll that this callback left."""
+    return walk.left_by_io[bisect.bisect_left(walk.left_by_io, call, key=lambda it: it.call)]
+
+
 def called_between(walk: Walk, first: int, last: int) -> list[str]:
     """Whose callbacks came from one step on, up to another one, in order, each once."""
     return list(dict.fromkeys(walk.calls[it][1] for it in range(first, last) if it in walk.calls))

@@ -105,6 +105,7 @@ class Overview:
     def unwoken(self) -> list[str]:
         """Whose callbacks waited for the next poll, since nobody had woken the one that a callback of I/O left."""
         found = [(it, others) for it in self.walk.left_by_io if (others := waited(self.walk, it))]
+        self.next += [(1, others[0]) for _, others in found[:1]]
         return [f"{few(others)}: the callback of {self.walk.calls[it.call][1]} left the poll of step {it.poll} at step {it.call}, and nobody had"
                 " woken it by then" for it, others in found[:LINES]]
 

@@ -62,7 +62,9 @@ class Look:
         return self.walk.state(min(self.step - 1, self.walk.length))
 
     def where(self) -> str:
-        return (read_place(self.state().place).where or "").split(" ")[0]
+        """The section; `polled` and `done unwoken` are none of those that call."""
+        where = read_place(self.state().place).where or ""
+        return where if where == "done unwoken" else where.split(" ")[0]
 
     def mode(self) -> str:
         return read_place(self.state().place).mode or ""
@@ -81,10 +83,21 @@ class Look:
         slots = [state.slot_of(it) for it in state.lists["timers"]]
         return [it for it in slots if it and int(it.values["due"]) <= max(state.numbers["now"], state.numbers["clock"])]
 
+    def has_to_poll(self) -> bool:
+        """Whether the loop hasn't polled, or not since a handle of I/O was started that is active."""
+        poll = self.walk.last_line(("poll",), self.step - 1)
+        active = [it.name for it in self.state().slots if it.kind == "io" and it.values["active"] == "1"]
+        return poll is None or any(f"start {it} = ok" in self.walk.lines[poll : self.step] for it in active)
+
     def is_last_section(self) -> bool:
         """Whether the run ends behind this section of timers."""
         behind = (it for it in self.walk.lines[self.step + 1 :] if it == "pending" or it.startswith("end "))
         return next(behind, "").startswith("end ")
+
+    def is_alive(self) -> bool:
+        """Whether the loop is alive before this step."""
+        slots = [it for it in self.state().slots if it.name]
+        return any(it.kind == "work" or it.values["closing"] == "1" or (it.values["active"], it.values["ref"]) == ("1", "1") for it in slots)
 
     def is_here(self) -> bool:
         """Whether this is the line at which they part."""
@@ -99,14 +112,14 @@ def asked_wrongly(look: Look) -> str | None:
     if not look.is_here() or not look.answer:
         return None
     op = look.words[0]
+    if op == "timeout" and look.there == "timeout = 0" and look.has_to_poll():
+        return POLLED
     if op in ("active", "alive", "timeout") and look.has("ready"):
         return SET_ASIDE
     if op == "due":
         return DUE
     if op in ("alive", "timeout") and look.has("closing-yet"):
         return CLOSED
-    if op == "timeout" and look.there == "timeout = 0" and not any(it.startswith("poll ") for it in look.walk.lines[: look.step]):
-        return POLLED
     if op == "timeout" and look.has("idle-yet"):
         return IDLE
     return None
@@ -192,7 +205,7 @@ def in_the_older_order(look: Look) -> str | None:
         return None
     mode = look.words[1] if look.words[0] == "run" else look.mode()
     if mode == "default":
-        return ORDER if look.line == "timers" and look.is_last_section() else None
+        return ORDER if look.line == "timers" and (look.is_last_section() or not look.is_alive()) else None
     return ORDER if look.words[0] == "run" or mode == "nowait" else None
 
 

@@ -6,7 +6,7 @@ reckoned here.
 
 from __future__ import annotations
 
-from came import BEHIND, LEFT, Came, behind, called_between, came, unwoken_between, waited
+from came import BEHIND, LEFT, Came, behind, called_between, came, left_by, unwoken_between, waited
 from conversation import State
 from places import read_place
 from waits import WATCHERS, History, Refusal, Wait, follow, kind_of_call
@@ -312,8 +312,7 @@ class Why:
 
     def of_poll(self, it: Came) -> list[str]:
         """Who waited since nobody had woken the poll that it left."""
-        left = next(at for at in self.walk.left_by_io if at.call == it.step)
-        others = waited(self.walk, left)
+        others = waited(self.walk, left_by(self.walk, it.step))
         return [f"nobody had woken that poll, so {few(others)} waited for the next one"] if others else []
 
     def unwoken(self, wait: Wait) -> list[str]:

@@ -7,8 +7,9 @@ from collections import Counter
 from dataclasses import dataclass, field
 
 from beside import Library, common, run_programs
-from model import SWITCHES, Model, Program, switches_of
+from model import SWITCHES, Model, switches_of
 from planted import obey
+from programs import Program
 
 SECONDS = 60
 

@@ -10,8 +10,9 @@ from beside import Library, run_programs
 from comparing import first_parting
 from conversation import Script
 from led import lead
-from model import SWITCHES, Model, Program, switches_of
+from model import SWITCHES, Model, switches_of
 from partings import Cause, parting
+from programs import Program
 from walk import Walk, longest_way
 
 
@@ -44,9 +45,11 @@ def wrong_words(library: Library, program: Program, real: list[str]) -> str | No
     there, causes = told(library, program, model.commands)
     # (the clock of a poll that waits longer is moved by the rest in a step of its own)
     ticks = at is not None and real[at].startswith("out tick ") and without[at].startswith("out tick ")
-    if there != at and not ticks:
+    # (and what I/O a poll brings comes at once by the tool, so it doesn't see that libuv was woken there for nobody)
+    brought = there is None and at is not None and any(it[0] == "io" for _, it in program.steps) and "wake" in needed(library, program, real, at)
+    if there != at and not ticks and not brought:
         return f"the tool finds the first difference at line {there}, and it is at line {at}"
-    if at is None:
+    if at is None or brought:
         return None
     switches = needed(library, program, real, at)
     headings = {heading for it in switches for heading in SWITCHES[it]}

@@ -7,7 +7,8 @@ those switches that it takes to come from the one to the other. Each switch is a
 from __future__ import annotations
 
 import bisect
-from dataclasses import dataclass, field
+
+from programs import WAKE, Program
 
 # What each switch is, by the headings of docs/LIBUV.md. `order` is libuv's before 1.45.
 SWITCHES = {
@@ -38,57 +39,12 @@ def switches_of(version: str) -> frozenset[str]:
     return frozenset(it for it in SWITCHES if it != "order" or is_before_145(version))
 
 
+def is_before(version: str, minor: int) -> bool:
+    return tuple(int(it) for it in version.split(".")[:2]) < (1, minor)
+
+
 def is_before_145(version: str) -> bool:
-    return tuple(int(it) for it in version.split(".")[:2]) < (1, 45)
-
-
-@dataclass
-class Program:
-    """A script, and behind its `begin` what is done from outside: as tools/libuv/run.c reads it."""
-
-    text: str
-    names: list[str] = field(default_factory=list)
-    main: list[list[str]] = field(default_factory=list)
-    bodies: dict[tuple[str, str], list[tuple[int, list[str]]]] = field(default_factory=dict)
-    slots: int = 1024
-    last_generation: int = 2**32 - 1
-    workers: int = 4
-    order: str = "1.45"
-    steps: list[tuple[int, list[str]]] = field(default_factory=list)
-    ways: list[str] = field(default_factory=list)
-    limit: int = 10**9
-
-    def __post_init__(self) -> None:
-        for line in self.text.split("\n"):
-            self.read(line.split(" "))
-
-    def read(self, words: list[str]) -> None:
-        match words:
-            case ["var", name]:
-                self.names.append(name)
-            case ["main", *op]:
-                self.main.append(op)
-            case ["slots", count, *last]:
-                self.slots = int(count)
-                self.last_generation = int(last[0]) if last else self.last_generation
-            case ["order", version]:
-                self.order = version
-            case ["workers", count]:
-                self.workers = int(count)
-            case ["on" | "after" | "closed" as body, name, *op]:
-                call = int(op.pop(0)[1:]) if op[0].startswith("@") else 0
-                self.bodies.setdefault((body, name), []).append((call, op))
-            case ["at", lines, _, *step]:
-                self.steps.append((int(lines), step))
-            case ["blocked", *ways]:
-                self.ways = ways
-            case ["limit", count]:
-                self.limit = int(count)
-
-    def script(self) -> list[str]:
-        """The lines that are a script of uvt."""
-        lines = self.text.split("\n")
-        return lines[: lines.index("begin")]
+    return is_before(version, 45)
 
 
 class Limit(Exception):
@@ -98,12 +54,15 @@ class Limit(Exception):
 class Item:
     """A handle or a request."""
 
-    __slots__ = ("name", "kind", "slot", "generation", "ref", "active", "closing", "begun", "due", "start", "repeat", "pending", "outcome")
+    __slots__ = (
+        "name", "kind", "slot", "generation", "ref", "active", "closing", "begun", "due", "start", "repeat", "pending", "outcome", "stops", "told")
 
     def __init__(self, name: str, kind: str, slot: int, generation: int) -> None:
         self.name, self.kind, self.slot, self.generation = name, kind, slot, generation
         self.ref, self.active, self.closing, self.begun, self.pending = True, False, False, False, False
-        self.due = self.start = self.repeat = 0
+        # of a handle of I/O that is active: whether libuv has told the system so, which it does as it polls
+        self.told = False
+        self.due = self.start = self.repeat = self.stops = 0
         self.outcome = ""
 
     def id(self) -> str:
@@ -138,6 +97,13 @@ class Model:
         self.mode, self.alive_at_entry, self.collecting = "", False, False
         self.body: list[list[str]] = []
         self.deadline: int | None = None
+        # for whom something comes in the poll under way or the next one, and what that poll brought and didn't call yet: those before and
+        # behind the after and async callbacks, each with how often it was stopped by then
+        self.came: list[str] = []
+        self.brought: list[tuple[Item, int]] = []
+        self.brought_behind: list[tuple[Item, int]] = []
+        # whether due timers are called straight from the heap
+        self.from_heap = is_before(version, 48) if "heap" in switches else program.heap
         # libuv's: the wake descriptor is written to, the pool's own async handle is pending, this poll reads the descriptor
         self.wake, self.pool_pending, self.reads = False, False, True
         self.polled = False
@@ -161,8 +127,11 @@ class Model:
     def do_next_step(self) -> bool:
         if self.next_step == len(self.program.steps):
             return False
-        word, what = self.program.steps[self.next_step][1]
+        word, what, *more = self.program.steps[self.next_step][1]
         self.next_step += 1
+        if word == "io":
+            self.came += [what, *more]
+            return True
         if word == "tick":
             self.tick(int(what))
         elif word == "take":
@@ -282,6 +251,9 @@ class Model:
             self.off_heap(item)
         elif item in self.ready:
             self.ready.remove(item)
+        elif item.kind == "io":
+            item.stops += 1
+            self.deactivate(item)
         elif item.kind != "timer" and item.active:
             for some in (self.lists[item.kind], self.yet[item.kind]):
                 if item in some:
@@ -350,7 +322,7 @@ class Model:
         return "EBUSY" if self.bound else "ok"
 
     def ask_timeout(self) -> str:
-        if "polled" in self.on and not self.polled:
+        if "polled" in self.on and not (self.polled and all(it.told for it in self.bound.values() if it.kind == "io" and it.active)):
             return "0"
         timeout = self.timeout()
         return "infinite" if timeout is None else str(timeout)
@@ -364,14 +336,17 @@ class Model:
         return "ok"
 
     def start_op(self, item: Item, op: list[str]) -> str:
-        if item.closing and (item.kind == "timer" or "closing" not in self.on):
+        if item.closing and (item.kind in ("timer", "io") or "closing" not in self.on):
             return "EINVAL"
         if item.kind == "timer":
             self.stop(item)
             self.start_timer(item, int(op[2]), int(op[3]))
         elif not item.active:
             self.activate(item)
-            self.lists[item.kind].insert(0, item)
+            if item.kind == "io":
+                item.told = False
+            else:
+                self.lists[item.kind].insert(0, item)
         return "ok"
 
     def stop_op(self, item: Item, _: list[str]) -> str:
@@ -510,7 +485,7 @@ class Model:
         return bool(self.heap) and self.heap[0][0] <= self.now
 
     def at_timers(self) -> None:
-        if "heap" in self.on:
+        if self.from_heap:
             if self.is_next_due():
                 item = self.by_start[self.heap[0][1]]
                 self.off_heap(item)
@@ -573,25 +548,73 @@ class Model:
     def begin_poll(self) -> None:
         timeout = self.poll_timeout()
         self.place, self.polled = "poll", True
+        for item in self.bound.values():
+            item.told = item.kind == "io"
         begins = self.clock if "poll" in self.on else self.now
         self.deadline = None if timeout is None else begins + timeout
         self.print(f"poll {'infinite' if timeout is None else timeout}")
 
+    def is_woken(self) -> bool:
+        return self.wake if "wake" in self.on else bool(self.lists["done"]) or any(it.pending for it in self.lists["async"])
+
     def at_poll(self) -> str | None:
         is_late = self.deadline is not None and self.clock >= self.deadline
-        is_woken = self.wake if "wake" in self.on else bool(self.lists["done"]) or any(it.pending for it in self.lists["async"])
-        if not is_late and not is_woken:
+        if not is_late and not self.is_woken():
             return BLOCKED
         self.reads = self.wake or "wake" not in self.on
-        self.wake = False
+        self.look()
+        self.at_polled()
+        return None
+
+    def at_polled(self) -> None:
+        """Behind the callbacks of I/O that left the poll: the after and async callbacks come, where somebody has woken it."""
+        if self.reads:
+            self.wake = False
         if self.reads and "made" in self.on:
             self.begin_walk("async")
         self.place = "done"
-        if "wake" not in self.on or (self.reads and self.pool_pending):
+        if self.reads and (self.pool_pending or "wake" not in self.on):
             self.pool_pending = False
             self.begin_walk("done")
-        self.look()
-        return None
+
+    # ---- callbacks of I/O
+
+    def do_io(self) -> bool:
+        """Calls the next one of those that the poll brought, where it may come; whether there was one."""
+        if self.body:
+            return False
+        if self.place == "poll" and self.came:
+            self.bring()
+        if self.place in ("poll", "polled"):
+            return self.call_io(self.brought)
+        return self.place == "async" and not self.yet["async"] and self.call_io(self.brought_behind)
+
+    def bring(self) -> None:
+        """The poll finds what came for handles that are active, all of it at once."""
+        at = self.came.index(WAKE) if WAKE in self.came and self.is_woken() else len(self.came)
+        items = [[(item, item.stops) for it in some if (item := self.waiting_for_io(it))] for some in (self.came[:at], self.came[at:])]
+        self.brought, self.brought_behind = items
+        self.came = []
+
+    def waiting_for_io(self, name: str) -> Item | None:
+        item = self.bound.get(name)
+        return item if item and item.kind == "io" and item.active else None
+
+    def call_io(self, brought: list[tuple[Item, int]]) -> bool:
+        while brought:
+            item, stops = brought.pop(0)
+            # (what came for one that was stopped since is gone, even if it was started again)
+            if item.active and item.stops == stops:
+                self.io(item)
+                return True
+        return False
+
+    def io(self, item: Item) -> None:
+        if self.place == "poll":
+            self.place, self.reads = "polled", self.is_woken()
+            self.look()
+        self.command(f"io {item.name}")
+        self.call(item)
 
     def at_done(self) -> None:
         if self.yet["done"]:
@@ -641,6 +664,8 @@ class Model:
     def run_on(self) -> str:
         self.do_due_steps()
         while True:
+            if self.do_io():
+                continue
             self.loops += 1
             refusal = self.step()
             if refusal == BLOCKED:
@@ -688,6 +713,7 @@ PLACES = {
     "prepare": "at_watchers",
     "check": "at_watchers",
     "poll": "at_poll",
+    "polled": "at_polled",
     "done": "at_done",
     "async": "at_async",
     "closing": "at_closing",
@@ -698,9 +724,9 @@ def fits(op: list[str], kind: str) -> bool:
     """Whether there is such an op of such a handle or request."""
     match op[0]:
         case "start":
-            return kind == "timer" if len(op) == 4 else kind in WATCHERS
+            return kind == "timer" if len(op) == 4 else kind in (*WATCHERS, "io")
         case "stop":
-            return kind == "timer" or kind in WATCHERS
+            return kind in ("timer", *WATCHERS, "io")
         case "again" | "repeat" | "due":
             return kind == "timer"
         case "send":

@@ -5,7 +5,8 @@ Each obeys the commands of `uvt debug` by which a script is run, as the program 
 
 from __future__ import annotations
 
-from model import Item, Model, Program
+from model import Item, Model
+from programs import Program
 
 
 class WatchersFromTheBack(Model):
@@ -14,7 +15,7 @@ class WatchersFromTheBack(Model):
     def start_op(self, item: Item, op: list[str]) -> str:
         was_active = item.active
         answer = super().start_op(item, op)
-        if answer == "ok" and not was_active and item.kind != "timer":
+        if answer == "ok" and not was_active and item.kind in self.lists:
             some = self.lists[item.kind]
             some.append(some.pop(0))
         return answer
@@ -38,8 +39,33 @@ class IdleWaits(Model):
         return name != "idle" and super().counts(name)
 
 
+class NobodyWoke(Model):
+    """The after and async callbacks come though nobody woke the poll that a callback of I/O left."""
+
+    def io(self, item: Item) -> None:
+        super().io(item)
+        self.reads = True
+
+
+class LooksAgain(Model):
+    """The loop looks at the clock behind the callbacks of I/O, too."""
+
+    def at_polled(self) -> None:
+        self.look()
+        super().at_polled()
+
+
+class SetAside(Model):
+    """Due timers are set aside whatever the script says."""
+
+    def at_timers(self) -> None:
+        self.from_heap = False
+        super().at_timers()
+
+
 # (with `nothing` the rules are right, and nothing may be noticed)
-PLANTED = {"nothing": Model, "watchers": WatchersFromTheBack, "closing": ClosingInTheirOrder, "idle": IdleWaits}
+PLANTED = {"nothing": Model, "watchers": WatchersFromTheBack, "closing": ClosingInTheirOrder, "idle": IdleWaits, "io": NobodyWoke,
+           "look": LooksAgain, "timers": SetAside}
 
 
 def obey(planted: str, text: str, commands: list[str]) -> list[str]:
@@ -55,6 +81,8 @@ def obey(planted: str, text: str, commands: list[str]) -> list[str]:
                 if refusal:
                     model.lines.append(refusal)
                     break
+        elif word == "io":
+            model.io(model.bound[what])
         elif word in ("tick", "take", "finish"):
             {"tick": model.tick, "take": model.take, "finish": model.finish}[word](int(what))
         else:

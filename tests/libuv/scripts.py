@@ -8,6 +8,8 @@ from __future__ import annotations
 import random
 from dataclasses import dataclass
 
+from programs import WAKE
+
 WATCHERS = ("idle", "prepare", "check")
 FAR = (2147483646, 2147483647, 2147483648, 2**32, 2**63 - 1, 2**64 - 2, 2**64 - 1)
 MOST_LINES = 150
@@ -33,7 +35,8 @@ FAMILIES = {
     "close": Family(["timer", "timer", "idle", "prepare", "check", "async", "work"], closes=0.3, closed=0.5, questions=2, bodies=30),
     "async": Family(["async"] * 4 + ["timer", "timer", "check", "idle"], steps=8),
     "work": Family(["work"] * 5 + ["timer", "async", "check", "idle"], steps=12),
-    "all": Family(["timer"] * 4 + ["idle", "prepare", "check", "async", "async"] + ["work"] * 3, steps=6, questions=2, bodies=20),
+    "io": Family(["io"] * 5 + ["async", "async", "timer", "check", "work"], steps=12, questions=3, bodies=30),
+    "all": Family(["timer"] * 4 + ["idle", "prepare", "check", "async", "async"] + ["work"] * 3 + ["io"] * 2, steps=6, questions=2, bodies=20),
 }
 
 
@@ -141,9 +144,19 @@ class Writer:
                 lines.append(f"on {name} @{self.draw.randint(1, 4)} close {name}")
         return lines
 
+    def comes(self) -> str:
+        """For whom something comes in a poll, some of it behind the after and async callbacks."""
+        names = [name for name in self.names if self.kinds[name] == "io"] or self.names
+        brought = [self.draw.choice(names) for _ in range(self.draw.choice([1, 1, 2, 3, 4]))]
+        if self.happens(0.6):
+            brought.insert(self.draw.randint(0, len(brought)), WAKE)
+        return "io " + " ".join(brought)
+
     def step(self) -> str:
         """A step from outside."""
         likely = ["tick", "send"] if "work" not in self.family.kinds else ["tick", "send", "take", "take", "finish", "finish", "cancel"]
+        if "io" in self.kinds.values() and self.happens(0.4):
+            return self.comes()
         match self.draw.choice(likely):
             case "tick":
                 return f"tick {self.draw.choice([1, 1, 2, 3, 5, 9])}"
@@ -155,15 +168,22 @@ class Writer:
     def outside(self) -> list[str]:
         """What is done from outside at which line, and where the poll waits."""
         places = sorted(self.draw.randint(0, 40) for _ in range(self.draw.randint(0, self.family.steps)))
-        lines = [f"at {place} 0 {self.step()}" for place in places]
+        lines = []
+        for place in places:
+            step = self.step()
+            lines.append(f"at {place} 0 {step}")
+            # (where the line of that number is a poll's, the clock goes on behind the callback)
+            if step.startswith("io ") and self.happens(0.6):
+                lines.append(f"at {place + 1} 0 tick {self.draw.choice([1, 2, 5])}")
         lines += [f"at {MOST_LINES} 0 send {self.draw.choice(self.names)}" for _ in range(self.draw.choice([0, 0, 1, 2, 4]))]
+        lines += [f"at {MOST_LINES} 0 {self.comes()}" for _ in range(self.draw.choice([1, 2, 4]) if "io" in self.kinds.values() else 0)]
         ways = [self.draw.choice(["jobs", "jobs-down"]), "jump"]
         if self.happens(0.3):
             ways.reverse()
         return ["undisturbed runs"] + lines + ["blocked " + " ".join(ways + ["steps"]), f"limit {MOST_LINES}"]
 
     def program(self) -> str:
-        head = [f"workers {self.workers}"]
+        head = [f"workers {self.workers}", *["io"] * ("io" in self.family.kinds), *["timers heap"] * self.happens(0.3)]
         if self.happens(0.05):
             head.append(f"slots {self.draw.randint(1, len(self.names))} {self.draw.randint(0, 2)}")
         script = [f"var {name}" for name in self.names] + [f"main {op}" for op in self.main()] + self.bodies()

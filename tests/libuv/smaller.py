@@ -4,13 +4,13 @@ from __future__ import annotations
 
 from beside import Library
 from comparing import Tested, see
-from model import Program
+from programs import Program
 
 
 def is_needed(lines: list[str], at: int) -> bool:
     """Whether the rest would be no script without this line."""
     words = lines[at].split(" ")
-    if words[0] in ("begin", "limit", "workers", "order", "undisturbed"):
+    if words[0] in ("begin", "limit", "workers", "order", "io", "undisturbed"):
         return True
     return words[0] == "var" and any(words[1] in it.split(" ")[1:] for it in lines[:at] + lines[at + 1 :])
 

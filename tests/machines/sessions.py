@@ -61,6 +61,9 @@ def op_of(draw, names):
             (1, lambda: 'now'), (1, lambda: 'alive'), (1, lambda: 'timeout')]
     if kind == 'timer':
         rows += [(4, lambda: 'again ' + name), (3, lambda: 'repeat %s %d' % (name, number(draw))), (3, lambda: 'due ' + name)]
+    if kind == 'io':
+        rows += [(2, lambda: 'again ' + name), (2, lambda: 'repeat %s %d' % (name, number(draw))), (2, lambda: 'due ' + name),
+                 (2, lambda: 'start %s %d 0' % (name, number(draw))), (2, lambda: 'unref ' + name), (3, lambda: 'hasref ' + name)]
     if kind in ('async', 'request'):
         rows += [(2, lambda: 'send ' + name), (2, lambda: 'cancel ' + name)]
     return draw.choices([row[1] for row in rows], [row[0] for row in rows])[0]()
@@ -77,6 +80,8 @@ def main_of(draw, names):
             lines.append(init(draw, name, kind))
             if draw.random() < 0.8:
                 lines.append(start(draw, name, kind) if kind != 'request' or draw.random() < 0.2 else op_of(draw, names))
+            if kind == 'io' and draw.random() < 0.2:
+                lines.append('unref ' + name)
             if kind != 'request' and draw.random() < 0.15:
                 lines.append('close ' + name)
         lines += [op_of(draw, names) for _ in range(draw.choice([0, 1, 1, 3]))]

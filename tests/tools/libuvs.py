@@ -16,6 +16,7 @@ sys.path.insert(0, str(ROOT / "tools"))
 
 from beside import installed  # noqa: E402
 from conversation import Fault  # noqa: E402
+from daps import BEFORE_SENDS, CONVERSATIONS  # noqa: E402
 
 EXAMPLES = ROOT / "crates" / "examples" / "data"
 TOOL = str(ROOT / "tools" / "uvt-libuv")
@@ -52,6 +53,36 @@ def try_scripts(check) -> None:
     check("uvt-libuv, a difference", ended.returncode == 3 and parted in ended.stdout and heading in ended.stdout, ended.stdout + ended.stderr)
 
 
+IO = "io\nvar r\nvar s\nvar a\nmain init r io\nmain init s io\nmain init a async\nmain start r\n"
+# Scripts whose I/O libuv can't be led along, and the beginning of the sentence that says so. By hand: the steps are counted along the sections.
+NOT_LED = [
+    ("in the section `pending`", IO + "main run nowait\nbegin\nloop 6\nio r\n", "step 7 is `io r` in the section `pending`: "),
+    ("behind a poll whose time was over", IO + "main run nowait\nbegin\nloop 10\nio r\n",
+     "step 11 is `io r` behind a poll that was left since its time was over: "),
+    ("started since the poll was left", IO + "main run once\non r start s\nbegin\nloop 9\nio r\nloop\nio s\n",
+     "step 12 is `io s`, and s was started or stopped since the end of that poll, at step 10: "),
+    ("stopped since the poll was left", IO + "main start s\nmain run once\non r stop s\non r start s\nbegin\nloop 10\nio r\nloop 2\nio s\n",
+     "step 14 is `io s`, and s was started or stopped since the end of that poll, at step 11: "),
+    ("between after callbacks", (CONVERSATIONS / "a-callback-of-i-o-between-two-after-callbacks.uvt").read_text(),
+     "step 17 is `io r` between the after and async callbacks of its poll: "),
+]
+
+
+def try_io(check) -> None:
+    """Scripts with I/O that libuv is led along, with the same lines; and what it isn't led along."""
+    for name in (BEFORE_SENDS, "callbacks-of-i-o-before-and-behind-the-others-of-a-poll-that-was-woken", "what-the-ops-answer-of-a-handle-of-i-o",
+                 "with-timers-from-the-heap-and-i-o-in-the-order-of-1-44"):
+        ended = ran(CONVERSATIONS / f"{name}.uvt")
+        check(f"uvt-libuv, {name}", ended.returncode == 0 and " and uvt: the same " in ended.stdout, ended.stdout + ended.stderr)
+    for what, text, told in NOT_LED:
+        with tempfile.NamedTemporaryFile("w", suffix=".uvt") as file:
+            file.write(text)
+            file.flush()
+            ended = ran(Path(file.name))
+        led = ended.returncode == 1 and not ended.stdout and ended.stderr.startswith(f"uvt-libuv: {told}") and ended.stderr.endswith("be led there\n")
+        check(f"uvt-libuv, I/O {what}", led and ended.stderr.count("\n") == 1, ended.stdout + ended.stderr)
+
+
 def try_libuv(tries) -> None:
     try_absence(tries.check)
     try:
@@ -60,3 +91,4 @@ def try_libuv(tries) -> None:
         print(f"tools: uvt-libuv: no script is tried: {fault}", flush=True)
         return
     try_scripts(tries.check)
+    try_io(tries.check)

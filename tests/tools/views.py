@@ -84,7 +84,7 @@ def try_io(check) -> None:
 
 
 def try_view(check) -> None:
-    for name in ("late-timer.uvt", "never-called.uvt", "stale-name.uvt", "sent-session.rec"):
+    for name in ("late-timer.uvt", "never-called.uvt", "stale-name.uvt", "io-before-sends.uvt", "sent-session.rec"):
         try_page(check, name)
     run = json.loads(VALUES.search(viewed([str(EXAMPLES / "late-timer.uvt")]).stdout)[1])
     # `ping` was due at 12 and `beat` at 15, and both were called at 50

@@ -76,6 +76,15 @@ WANTED: list[tuple[str, str, str | None, list[str]]] = [
     ("live-run-back.uvt", "p", "back 10", ["behind q, queued later and done earlier", "worker 1 ran it from step 9 to 12", "after callback 1"]),
     ("live-run-back.uvt", "q", None, ["behind p"]),
     ("loop-is-busy.uvt", "t", None, ["until then the loop had it: `closeloop` at step 3 answers EBUSY", "step 13, close callback 1"]),
+    ("io-before-sends.uvt", "wake", None, [
+        "step 23, call 1: an iteration later, for the send at step 11, in the same millisecond",
+        "the callback of reply left the poll of step 9 at step 10, and nobody had woken it by then: so its section `async` calls nobody",
+        "sent to at step 11 by line 12: on reply @1 send wake"]),
+    ("io-before-sends.uvt", "reply", None, ["step 10, call 1: it left the poll", "nobody had woken that poll, so wake waited for the next one",
+                                            "closed by line 14: on wake close reply"]),
+    ("io-behind-a-callback.uvt", "answer", None, ["step 15, call 1: something came, and it was called 40 ms behind the end of the poll, at step 12:"
+                                                  " the callback of upload took 40 ms, from step 12 to 14"]),
+    ("io-behind-a-callback.uvt", "upload", None, ["it left the poll: something came while the loop waited in the poll, 7 ms went by there, from step 10"]),
     ("image-heap.uvt", "b", None, ["no call: stopped by line", "not due yet"]),
     ("sent-session.rec", "job", None, ["`cancel job` answers EBUSY: it is done already, since step 9", "by line 13: on early cancel job"]),
 ]

@@ -6,7 +6,7 @@
 #include "pool.h"
 #include "run.h"
 
-static const char *const kinds[] = {"timer", "idle", "prepare", "check", "async"};
+static const char *const kinds[] = {"timer", "idle", "prepare", "check", "async", "io"};
 
 // ---- callbacks
 
@@ -19,33 +19,34 @@ static void do_body(int name, enum Body body) {
             do_op(&ops->items[at]);
 }
 
-static void called(Handle *handle) {
+void call_handle(Handle *handle) {
     print("call %s %zu.%u", run.script.names[handle->name].text, handle->slot, handle->generation);
     do_body(handle->name, ON);
 }
 
 static void timer_called(uv_timer_t *timer) {
-    called((Handle *)timer);
+    call_handle((Handle *)timer);
 }
 
 static void idle_called(uv_idle_t *idle) {
-    called((Handle *)idle);
+    call_handle((Handle *)idle);
 }
 
 static void prepare_called(uv_prepare_t *prepare) {
-    called((Handle *)prepare);
+    call_handle((Handle *)prepare);
 }
 
 static void check_called(uv_check_t *check) {
-    called((Handle *)check);
+    call_handle((Handle *)check);
 }
 
 static void async_called(uv_async_t *async) {
-    called((Handle *)async);
+    call_handle((Handle *)async);
 }
 
 static void closed(uv_handle_t *closing) {
     Handle *handle = (Handle *)closing;
+    close_io(handle);
     free_slot(handle);
     print("closed %s %zu.%u", run.script.names[handle->name].text, handle->slot, handle->generation);
     do_body(handle->name, CLOSED);
@@ -150,6 +151,9 @@ static void init_as(Handle *handle) {
     case ASYNC:
         uv_async_init(run.loop, &handle->is.async, async_called);
         break;
+    case IO:
+        open_io(handle);
+        break;
     case WORK:
         uv_queue_work(run.loop, &handle->is.work, do_work, after_work);
         break;
@@ -207,7 +211,7 @@ static bool do_timer_op(Handle *handle, const Op *op) {
     return true;
 }
 
-// ---- ops of an idle, a prepare, a check and an async handle
+// ---- ops of an idle, a prepare, a check, an async handle and one of I/O
 
 static int start_watcher(Handle *handle) {
     switch (handle->kind) {
@@ -238,6 +242,18 @@ static bool do_watcher_op(Handle *handle, const Op *op) {
         answer(op, code_of(start_watcher(handle)));
     else if (strcmp(op->word, "stop") == 0)
         answer(op, code_of(stop_watcher(handle)));
+    else
+        return false;
+    return true;
+}
+
+static bool do_io_op(Handle *handle, const Op *op) {
+    if (handle->kind != IO)
+        return false;
+    if (strcmp(op->word, "start") == 0 && op->fields == 2)
+        answer(op, code_of(start_io(handle)));
+    else if (strcmp(op->word, "stop") == 0)
+        answer(op, code_of(stop_io(handle)));
     else
         return false;
     return true;
@@ -304,6 +320,6 @@ void do_op(const Op *op) {
         answer(op, send_to(handle));
     else if (strcmp(op->word, "cancel") == 0)
         answer(op, cancel_work(handle));
-    else if (!do_timer_op(handle, op) && !do_watcher_op(handle, op) && !do_handle_op(handle, op))
+    else if (!do_timer_op(handle, op) && !do_watcher_op(handle, op) && !do_io_op(handle, op) && !do_handle_op(handle, op))
         answer(op, "EKIND");
 }

@@ -55,6 +55,8 @@ static void do_step(const Step *step) {
         take_work(step->number);
     } else if (strcmp(step->word, "finish") == 0) {
         finish_work(step->number);
+    } else if (strcmp(step->word, "io") == 0) {
+        let_come(step);
     } else if (step->name >= 0 && strcmp(step->word, "send") == 0) {
         send_from_outside(step->name);
     } else if (step->name >= 0 && strcmp(step->word, "cancel") == 0) {
@@ -120,18 +122,19 @@ static void unblock(bool has_deadline, uint64_t deadline) {
     longjmp(run.ending, BLOCKED);
 }
 
-static int look_for_events(int poll, struct epoll_event *events, int room) {
+int look_for_events(int poll, struct epoll_event *events, int room) {
     return (int)syscall(SYS_epoll_pwait, poll, events, room, 0, NULL, 8);
 }
 
 static int wait_for_events(int poll, struct epoll_event *events, int room, int timeout) {
     uint64_t deadline = timeout > 0 ? run.clock + (uint64_t)timeout : 0;
+    forget_what_came();
     if (timeout < 0)
         print("poll infinite");
     else
         print("poll %d", timeout);
     for (;;) {
-        int found = look_for_events(poll, events, room);
+        int found = run.came_count > 0 ? look_for_what_came(poll, events, room) : look_for_events(poll, events, room);
         if (found != 0 || timeout == 0 || (timeout > 0 && run.clock >= deadline))
             return found;
         unblock(timeout > 0, deadline);

@@ -1,8 +1,10 @@
 // Runs scripts on the installed libuv, each behind a line `### NAME` that is printed in front of its lines:
 //   libuv-run INPUT OUTPUT
 // UV_THREADPOOL_SIZE says how many workers there are; it has to be what each script says. What stands behind a script's `begin`:
-//   at LINES LOOKS STEP   the step from outside (tick MS, take K, finish K, send NAME, cancel NAME) is done as soon as so many
-//                         lines are printed, and the library has looked so many times at the clock since the last of them
+//   at LINES LOOKS STEP   the step from outside (tick MS, take K, finish K, send NAME, cancel NAME, io NAME ..) is done as soon as so
+//                         many lines are printed, and the library has looked so many times at the clock since the last of them. `io`
+//                         brings something for each of these handles, in this order, in the poll under way or the next one; a point in
+//                         place of a name says where among them the after and async callbacks come
 //   blocked WAY ..        what is tried where the poll waits: `jobs` (a worker takes, or finishes; `jobs-down` the last that can),
 //                         `jump` (to the poll's deadline), `steps` (the next step, though it isn't due)
 //   undisturbed runs      a step that is due behind the line of a run is done behind the next line
@@ -49,7 +51,7 @@ static void run_script(void) {
     run.loop = calloc(1, sizeof *run.loop);
     if (run.script.workers != run.workers)
         fail("a script asks for another number of workers than UV_THREADPOOL_SIZE says");
-    run.clock = run.lines = run.looks = 0;
+    run.clock = run.lines = run.looks = run.came_count = 0;
     run.quiet = true;
     watch(true);
     if (run.loop == NULL || uv_loop_init(run.loop) != 0)

@@ -85,17 +85,42 @@ static bool read_body(Script *script, enum Body body, const char *text) {
     return at >= 0 && read_op(script, &script->names[at].bodies[body], text, call);
 }
 
+// What comes: names, and a point for what woke the loop.
+static bool read_came(const Script *script, const char *text, Step *step) {
+    char what[WORD_ROOM];
+    int end = 0;
+    while (sscanf(text, "%39s %n", what, &end) == 1) {
+        int name = strcmp(what, ".") == 0 ? WAKE : name_of(script, what);
+        if (name == -1 || step->came_count == MOST_CAME)
+            return false;
+        step->came[step->came_count++] = name;
+        text += end;
+    }
+    return true;
+}
+
+// What a step is done with: those for whom something comes, a name, or a number.
+static bool read_rest(const Script *script, const char *text, Step *step) {
+    char what[WORD_ROOM];
+    if (strcmp(step->word, "io") == 0)
+        return read_came(script, text, step);
+    if (sscanf(text, "%39s", what) != 1)
+        return false;
+    if (strcmp(step->word, "send") == 0 || strcmp(step->word, "cancel") == 0)
+        step->name = name_of(script, what);
+    else
+        step->number = strtoull(what, NULL, 10);
+    return true;
+}
+
 // The line of a step: at LINES LOOKS and what it does.
 static bool read_step(Script *script, const char *text) {
-    char word[WORD_ROOM], what[WORD_ROOM];
+    int end = 0;
     Step step = {.name = -1};
-    if (sscanf(text, "%" SCNu64 " %" SCNu64 " %39s %39s", &step.lines, &step.looks, word, what) != 4)
+    if (sscanf(text, "%" SCNu64 " %" SCNu64 " %39s %n", &step.lines, &step.looks, step.word, &end) != 3)
         return false;
-    strcpy(step.word, word);
-    if (strcmp(word, "send") == 0 || strcmp(word, "cancel") == 0)
-        step.name = name_of(script, what);
-    else
-        step.number = strtoull(what, NULL, 10);
+    if (!read_rest(script, text + end, &step))
+        return false;
     script->steps = grown(script->steps, script->step_count, &script->step_room, sizeof *script->steps);
     script->steps[script->step_count++] = step;
     return true;
@@ -144,9 +169,11 @@ bool read_line(Script *script, const char *line) {
         return read_name(script, rest);
     if ((rest = behind(line, "workers")))
         return sscanf(rest, "%zu", &script->workers) == 1;
-    // (the library has its own order)
+    // (the library has its own order, and its own way with timers)
     if ((rest = behind(line, "order")))
         return strcmp(rest, "1.44") == 0 || strcmp(rest, "1.45") == 0;
+    if (strcmp(line, "io") == 0 || strcmp(line, "timers heap") == 0)
+        return true;
     if ((rest = behind(line, "slots")))
         return sscanf(rest, "%zu %" SCNu32, &script->slots, &script->last_generation) >= 1;
     if ((rest = behind(line, "main")))

@@ -7,7 +7,7 @@
 #include <stdint.h>
 #include <stdio.h>
 
-enum { LINE_ROOM = 300, WORD_ROOM = 40, MOST_WAYS = 4 };
+enum { LINE_ROOM = 300, WORD_ROOM = 40, MOST_WAYS = 4, MOST_CAME = 64 };
 
 typedef struct Handle Handle;
 
@@ -36,12 +36,17 @@ typedef struct {
     Handle *bound; // the handle or request that it stands for, NULL where its slot is free again
 } Name;
 
+// In place of a name, where what woke the loop stands among what came.
+enum { WAKE = -2 };
+
 // A step from outside: what is done, behind so many printed lines and so many looks at the clock since the last of them.
 typedef struct {
     uint64_t lines, looks;
     char word[WORD_ROOM];
     uint64_t number;
     int name;
+    int came[MOST_CAME]; // of `io`: for whom something comes, in this order
+    size_t came_count;
 } Step;
 
 // What is tried, in this order, where the poll waits.

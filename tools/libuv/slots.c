@@ -47,6 +47,8 @@ void free_slot(Handle *handle) {
 
 void clear_slots(void) {
     // the handles stay in memory: a loop that was left in the middle of a run still points at them
+    for (Handle *handle = run.last_made; handle != NULL; handle = handle->before)
+        close_io(handle);
     run.last_made = NULL;
     free(run.generations);
     free(run.free_slots);
