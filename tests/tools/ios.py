@@ -108,6 +108,33 @@ def try_ops(check) -> None:
     check("I/O, what is called as it closes", early.is_whole() and early.outcome.callbacks == 3, early)
 
 
+# What comes from other threads between the end of a poll and its callbacks, and what is sent to behind the place of async handles: all of
+# it is for the next poll, and a check handle is called before.
+QUEUED = ["O 0 queue %5 work = ok", "O 0 queue %6 work = ok"]
+TAKEN, THROUGH = ["T 0 0 5", "T 0 0 6"], ["F 0 0 5", "F 0 0 6"]
+AFTER = [["B 0 0 after 5 ok", "E 0 0 5"], ["B 0 0 after 6 ok", "E 0 0 6"]]
+LATE = {
+    "a send": run(["P 0 -1", "S 0 0 2 77"], came("read 5"), CHECK, ["P 0 -1"], ASYNC, CHECK),
+    "a send, and a request that is cancelled": run(
+        ["P 0 -1", "S 0 0 2 77", "B 0 0 on 1 read 5"], QUEUED[:1], ["O 0 cancel %5 = ok", "E 0 0 1"], CHECK,
+        ["P 0 -1", "B 0 0 after 5 ECANCELED", "E 0 0 5"], ASYNC, CHECK),
+    "two requests": [*MADE, *QUEUED, "R 0 default", *TAKEN, "P 0 -1", *THROUGH, *came("read 5"), *CHECK, "P 0 -1", *AFTER[0], *AFTER[1], *CHECK],
+    "a send by I/O behind an after callback": [
+        *MADE, *QUEUED[:1], "R 0 default", *TAKEN[:1], "P 0 -1", *THROUGH[:1], *AFTER[0], "B 0 0 on 1 read 5", "O 0 send %2 = ok", "E 0 0 1", *CHECK,
+        "P 0 -1", *ASYNC, *CHECK],
+    "a request that is cancelled behind a file that is through": [
+        *MADE, "O 0 queue %5 fs_stat = ok", "R 0 default", "P 0 -1", "B 0 0 on 1 read 5", QUEUED[1], "O 0 cancel %6 = ok", "E 0 0 1", *CHECK,
+        "P 0 -1", *AFTER[0], "B 0 0 after 6 ECANCELED", "E 0 0 6", *CHECK],
+}
+
+
+def try_late(check) -> None:
+    for what, lines in LATE.items():
+        it = made(lines)
+        check(f"I/O, {what} for the next poll", it.is_whole(), (where_it_stops(it), it.outcome.recording))
+        check(f"I/O, {what} for the next poll: both polls", it.polls.said().startswith("2 polls, as in the program"), it.polls.said())
+
+
 # By what it is: what the loop does, and what is said of its polls.
 POLLS = {
     "one that waits": (run(["P 0 -1"], came("read 5")), "1 poll, as in the program; the timeouts are the same"),
@@ -168,5 +195,6 @@ def try_io(check, folder: str) -> None:
     try_settings(check)
     try_old(check)
     try_ops(check)
+    try_late(check)
     try_polls(check)
     try_words(check, folder)

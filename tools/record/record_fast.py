@@ -1,16 +1,18 @@
 """Long logs: what a program does again and again is asked of `uvt debug` by the steps that led through it the first time.
 
 Between two callbacks the follower looks for the steps. Where the same items come once more, the same steps are asked at once, for many
-callbacks together, without waiting for an answer. Each line of the answers is compared with that of the first time; from the first
-one on that is another, the steps are taken back, and the follower looks for them again. So nothing is taken on trust.
+callbacks together, without waiting for an answer. The lines of each callback's steps are compared with those of the first time; from the
+first one on that went otherwise, the steps are taken back, and the follower looks for them again. So nothing is taken on trust.
 """
 
 from __future__ import annotations
 
 import bisect
+import itertools
 from dataclasses import dataclass
 from typing import TYPE_CHECKING
 
+from conversation import BAD
 from record_script import Item
 
 if TYPE_CHECKING:
@@ -19,6 +21,8 @@ if TYPE_CHECKING:
 # So many callbacks are asked together at the most.
 MOST = 256
 LONGEST = 24
+# No command, whose answer BAD stands behind those of each unit.
+NOTHING = "?"
 # Which time of an item: that of the loop, of the clock, or that to which the clock goes on as its callback ends.
 NOW, CLOCK, END = "now", "clock", "end"
 
@@ -47,6 +51,28 @@ class Way:
     parts: list[Tick | Step]
     where: str
     wakes: int
+
+
+@dataclass
+class Asked:
+    """A unit whose way is gone once more."""
+
+    end: int
+    way: Way
+    commands: list[str]
+    # how the line of each is to begin, `` where it is to have none
+    wanted: list[str]
+    # which of them, from 1, are ticks when no callback is under way
+    outside: list[int]
+    # behind it
+    clock: int
+
+    def lines(self, said: list[str]) -> list[str] | None:
+        """The line of each of its steps. None where it went otherwise."""
+        answers = iter(said)
+        lines = [next(answers, "") if it else "" for it in self.wanted]
+        right = all(line.startswith(want) and (want.endswith(" ") or line == want) for line, want in zip(lines, self.wanted))
+        return lines if right and next(answers, None) is None else None
 
 
 def alike(line: str) -> str:
@@ -139,62 +165,43 @@ class Ways:
             at, where = end, way.where
         return units
 
-    def asked(self, at: int, way: Way, clock: int, wanted: list[str], outside: list[int], steps: int) -> tuple[list[str], int]:
-        """The commands of a unit, and the clock behind it."""
-        commands = []
+    def asked(self, at: int, end: int, way: Way, clock: int) -> Asked:
+        unit = Asked(end, way, [], [], [], clock)
         for part in way.parts:
             if isinstance(part, Step):
-                commands.append(part.command)
-                wanted.append(part.line)
+                unit.commands.append(part.command)
+                unit.wanted.append(part.line)
                 continue
             time = self.follower.time_of(at + part.item, part.which)
-            if time > clock:
-                commands.append(f"tick {time - clock}")
-                wanted.append(f"out tick {time - clock}")
-                if part.outside:
-                    outside.append(steps + len(commands))
-                clock = time
-        return commands, clock
+            if time > unit.clock:
+                unit.commands.append(f"tick {time - unit.clock}")
+                unit.wanted.append(f"out tick {time - unit.clock}")
+                unit.outside += [len(unit.commands)] if part.outside else []
+                unit.clock = time
+        return unit
 
     def go(self, at: int, units: list[tuple[int, Way]]) -> int:
         """Asks these units together, and answers the item behind the last one that went as it was to."""
-        follower = self.follower
-        begin, clock, commands, marks = follower.talk.length, follower.clock, [], []
-        wanted: list[str] = []
-        outside: list[int] = []
-        first = at
+        follower, asked, first = self.follower, [], at
         for end, way in units:
-            more, clock = self.asked(first, way, clock, wanted, outside, begin + len(commands))
-            commands += more
-            marks.append((end, way, clock, begin + len(commands)))
+            asked.append(self.asked(first, end, way, asked[-1].clock if asked else follower.clock))
             first = end
-        lines = self.by_step(follower.talk.ask_all(commands), wanted)
-        right = self.how_many(lines, wanted)
-        done = [it for it in marks if it[3] - begin <= right] if follower.talk.length == begin + len(commands) or right < len(wanted) else []
-        self.many = min(MOST, 2 * self.many) if len(done) == len(marks) else max(1, len(done))
-        length = done[-1][3] if done else begin
-        follower.took(commands, lines, outside, length)
+        answers = iter(follower.talk.ask_all([command for it in asked for command in (*it.commands, NOTHING)]))
+        done: list[Asked] = []
+        for unit in asked:
+            lines = unit.lines(list(itertools.takewhile(lambda it: it != BAD, answers)))
+            if lines is None:
+                break
+            follower.took(unit.commands, lines, unit.outside)
+            done.append(unit)
+        follower.take_back()
+        self.many = min(MOST, 2 * self.many) if len(done) == len(asked) else max(1, len(done))
         if not done:
             self.slow_until = at + 1
             return at
-        follower.where, follower.clock = done[-1][1].where, done[-1][2]
+        follower.where, follower.clock = done[-1].way.where, done[-1].clock
         follower.outcome.callbacks += len(done)
-        follower.outcome.wakes += sum(it[1].wakes for it in done)
-        if len(done) < len(marks):
-            self.slow_until = done[-1][0] + 1
-        return done[-1][0]
-
-    @staticmethod
-    def by_step(lines: list[str], wanted: list[str]) -> list[str]:
-        """The line of each step. (One that is to have none has none; where there are more lines than that, the last one is wrong.)"""
-        answers = iter(lines)
-        found = [next(answers, "") if it else "" for it in wanted]
-        return found if next(answers, None) is None else found[:-1]
-
-    @staticmethod
-    def how_many(lines: list[str], wanted: list[str]) -> int:
-        """How many of the steps have the lines that they are to have."""
-        for number, (line, want) in enumerate(zip(lines, wanted)):
-            if want and (not line.startswith(want) or want[-1] != " " and line != want):
-                return number
-        return min(len(lines), len(wanted))
+        follower.outcome.wakes += sum(it.way.wakes for it in done)
+        if len(done) < len(asked):
+            self.slow_until = done[-1].end + 1
+        return done[-1].end

@@ -39,7 +39,8 @@ BEHIND = (POLLED, "done", "async")
 OUTSIDE = Item("", 0, 0, 0)
 # So many sends and finishes may be put off; and what is kept before each.
 CHECKS = 16
-KEPT = ("where", "clock", "in_call", "taken", "finished", "taken_at", "ready", "after_at", "senders", "sent_late", "kept", "kept_at", "trail")
+KEPT = ("where", "clock", "in_call", "queued", "taken", "finished", "taken_at", "ready", "later_on", "after_at", "senders", "sent_late", "kept", "kept_at",
+        "trail")
 
 
 class Stopped(Exception):
@@ -49,7 +50,7 @@ class Stopped(Exception):
         self.model = model
 
 
-CALLED = re.compile(r"has `(?:after|call) (\S+) ")
+CALLED = re.compile(r"(?:^|has `)(?:after|call) (\S+) ")
 
 
 class NeedsWake(Exception):
@@ -115,14 +116,23 @@ class Follower:
         self.at = 0
         # how many steps stood, and which item came next, when all was as in the log
         self.kept, self.kept_at = 0, 0
+        # the requests that are under way, and of these the ones that a worker has, and that are through
+        self.queued: set[str] = set()
         self.taken: dict[str, int] = {}
         self.finished: set[str] = set()
         # of a request the step at which it was taken; and the clock where its work was through
         self.taken_at: dict[str, int] = {}
         self.ready: dict[str, int] = {}
+        # of these the ones whose step is put off until the poll in which they call back
+        self.later_on: set[str] = set()
         self.outcome = Outcome([], 0, program.callbacks(), 0)
         self.senders = {op.split(" ")[1] for op in self.all_ops() if op.startswith("send ")}
         self.afters = [it.name for it in self.items if it.type == "call" and it.list == "after"]
+        # of each name its callbacks that have to be made ready
+        self.calls: dict[str, list[int]] = collections.defaultdict(list)
+        for at, it in enumerate(self.items):
+            if it.type == "call" and is_polled(it):
+                self.calls[it.name].append(at)
         self.after_at = 0
         # sends and finishes before which all was kept; those that are to come only where what they call does, and the clock of such sends
         self.checks: collections.deque[tuple[str, int, int, dict[str, object]]] = collections.deque(maxlen=CHECKS)
@@ -131,6 +141,7 @@ class Follower:
         # requests whose work begins and ends by a line of its own; what becomes of the others, and when, nobody sees
         self.ends = [at for at, it in enumerate(self.items) if it.type == "end"]
         self.seen = {it.name for it in self.items if it.type == "finish"}
+        self.polls = [at for at, it in enumerate(self.items) if it.type == "poll"]
 
     def all_ops(self) -> list[str]:
         return self.program.main + [op for body in self.program.bodies.values() for op in body]
@@ -183,15 +194,16 @@ class Follower:
             self.talk.ask(f"back {self.talk.length - length}")
             del self.did[length:], self.said[length:]
 
-    def took(self, commands: list[str], lines: list[str], outside: list[int], length: int) -> None:
-        """These steps were done, with these lines, and stand up to this length."""
-        begin = len(self.did)
+    def took(self, commands: list[str], lines: list[str], outside: list[int]) -> None:
+        """These steps were done, with these lines."""
+        self.outcome.outside.update(len(self.did) + it for it in outside)
         self.did += commands
         self.said += lines
-        self.move(length)
-        del self.did[length:], self.said[length:]
-        self.outcome.outside.update(it for it in outside if it <= length)
-        self.kept = max(self.kept, length) if length > begin else self.kept
+        self.kept = len(self.did)
+
+    def take_back(self) -> None:
+        """What was done behind those is taken back."""
+        self.move(len(self.did))
 
     def know(self, step: int, clock: int) -> None:
         """This step is one that the log has, by this clock."""
@@ -289,6 +301,9 @@ class Follower:
             if line.startswith("poll "):
                 return
             if line and line.split(" ")[0] not in SECTIONS:
+                if self.check_of(line):
+                    # (what calls it has come behind that poll of the program)
+                    raise Stopped(f"has `{line}` there")
                 break
         self.move(length)
         self.where, self.clock = where, clock
@@ -358,6 +373,7 @@ class Follower:
         while name not in self.taken:
             self.take()
         self.finished.add(name)
+        self.later_on.discard(name)
         worker = self.taken.pop(name)
         self.ask([f"finish {worker}"])
         if name in self.ready:
@@ -369,7 +385,7 @@ class Follower:
         if item.answer == "ok":
             before = list(itertools.takewhile(lambda it: it != name, self.coming()))
             for other in before if len(before) < len(self.afters) - self.after_at else []:
-                if other in self.taken:
+                if other in self.queued:
                     self.finish(other)
             self.finished.add(name)
         elif item.answer == "EBUSY":
@@ -387,6 +403,7 @@ class Follower:
             self.before_cancel(item)
         elif word == "queue":
             self.finished.discard(item.text.split(" ")[1])
+            self.queued.add(item.text.split(" ")[1])
         self.later("loop", f"{item.text} = ", item)
 
     def do_run(self, item: Item, at: int) -> None:
@@ -405,9 +422,19 @@ class Follower:
             if self.where != "poll":
                 self.until("poll ", at, "poll")
             self.at_poll(at)
+        elif self.where == "done" and not self.group(at):
+            self.pass_over_done()
         self.answer(item, at)
         self.in_call = True
         self.outcome.callbacks += 1
+
+    def pass_over_done(self) -> None:
+        """Behind the last after callback of a poll I/O comes behind those of async handles: who is sent to from now on is called with the
+        next poll."""
+        length = self.talk.length
+        if self.steps(1)[-1] != "async":
+            self.move(length)
+            self.where = "done"
 
     def answer(self, item: Item, at: int) -> None:
         """The step of such a callback. The one that leaves the poll makes the loop's time that of the clock: so what goes by before the
@@ -436,6 +463,7 @@ class Follower:
                 raise Stopped(f"has `{line}` there")
             self.after_at += 1
             self.finished.discard(item.name)
+            self.queued.discard(item.name)
             self.ready.pop(item.name, None)
             self.taken.pop(item.name, None)
         self.outcome.callbacks += 1
@@ -526,7 +554,7 @@ class Follower:
 
     def do_send(self, item: Item, at: int) -> None:
         self.senders.add(item.name)
-        if at in self.lazy:
+        if at in self.lazy or self.is_for_later(item.name, at):
             self.sent_late.setdefault(item.name, item.clock)
             return
         self.check(item.name, at)
@@ -537,14 +565,23 @@ class Follower:
     def do_finish(self, item: Item, at: int) -> None:
         """Work is through. Its step comes behind those of the requests that call back before it."""
         self.ready[item.name] = item.clock
-        if at in self.lazy:
+        if at in self.lazy or self.is_for_later(item.name, at):
+            self.later_on.add(item.name)
             return
         self.check(item.name, at)
         self.tick_within(item, at)
-        while (name := next((it for it in self.coming() if it not in self.finished), None)) in self.ready:
+        while (name := next((it for it in self.coming() if it not in self.finished), None)) in self.ready and name not in self.later_on:
             self.finish(name)
 
     # ---- a send or a finish that the loop saw later than it came
+
+    def is_for_later(self, name: str, at: int) -> bool:
+        """Is what was sent to or is through called by a later poll than this one, which wasn't left yet? Then it has come behind its end."""
+        if self.where != "poll":
+            return False
+        polls, calls = self.polls, self.calls[name]
+        poll, call = bisect.bisect_left(polls, at), bisect.bisect_left(calls, at)
+        return poll < len(polls) and call < len(calls) and polls[poll] < calls[call]
 
     def check(self, name: str, at: int) -> None:
         """All as it is before a send or a finish."""
@@ -553,11 +590,19 @@ class Follower:
         kept["outcome"].answers = list(self.outcome.answers)
         self.checks.append((name, at, self.talk.length, kept))
 
+    def check_of(self, line: str) -> tuple[str, int, int, dict[str, object]] | None:
+        """What was kept before the last send or finish whose callback that line has, if that hasn't come in the log since."""
+        called = CALLED.search(line)
+        found = next((it for it in reversed(self.checks) if called and it[0] == called[1]), None)
+        if not found:
+            return None
+        calls = self.calls[found[0]]
+        return found if bisect.bisect_left(calls, found[1]) == bisect.bisect_left(calls, self.at) else None
+
     def again_from(self, stopped: Stopped) -> int | None:
         """Where the loop calls what the program calls only later: it left its poll before the send or the finish. So that comes where
         its callback does. Answers the item from which to go on; None where that isn't it."""
-        called = CALLED.search(stopped.model)
-        found = next((it for it in reversed(self.checks) if called and it[0] == called[1]), None)
+        found = self.check_of(stopped.model)
         if not found:
             return None
         _, at, length, kept = found
