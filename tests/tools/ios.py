@@ -68,7 +68,8 @@ def try_places(check) -> None:
         it = made(lines)
         check(f"I/O, {what}", it.is_whole() == whole and it.verdict == "same" and it.agrees, (it.outcome.why, it.outcome.recording))
         if not whole:
-            check(f"I/O, {what}: it is said", f"`{IO}`" in where_it_stops(it), where_it_stops(it))
+            said = where_it_stops(it)
+            check(f"I/O, {what}: it is said", f"`{IO}`" in said and ("callback of async," in said or "callback of tcp (a tcp: " in said), said)
         recording = it.outcome.recording
         check(f"I/O, {what}: its version", recording[:4] == ["uvt 3", "order 1.44", "io", "timers heap"], recording[:4])
         check(f"I/O, {what}: its steps", recording.count("io tcp") == sum(line.startswith("call tcp ") for line in recording), recording)

@@ -4,6 +4,7 @@ from __future__ import annotations
 
 import re
 
+from notes import THINGS, sentence
 from record_follow import Outcome
 from record_log import WATCHERS
 from record_script import Item, Program, is_pool
@@ -18,12 +19,16 @@ ANY = "The loop goes another way"
 MADE = re.compile(r"`(?:call|after|closed) (\S+) ")
 
 
+def came(item: Item) -> str:
+    """What a handle of I/O is, and what came with this callback."""
+    return f" ({THINGS[item.kind]}: {sentence(':'.join([item.text, *item.known.split()]))})"
+
+
 def says(item: Item) -> str:
     """What the program did, in words."""
     match item.type:
         case "call" if item.list == "on":
-            what = f" ({' '.join(filter(None, (item.text, item.known)))})" if item.kind in WATCHERS else ""
-            return f"the program calls the callback of {item.name}{what}"
+            return f"the program calls the callback of {item.name}{came(item) if item.is_io() else ''}"
         case "call" if item.list == "after":
             return f"the program calls the after callback of {item.name} ({item.text})"
         case "call":

@@ -13,7 +13,6 @@ from dataclasses import dataclass
 from typing import TYPE_CHECKING
 
 from conversation import BAD
-from record_script import Item
 
 if TYPE_CHECKING:
     from record_follow import Follower

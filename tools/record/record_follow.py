@@ -13,7 +13,6 @@ in three ways:
 
 from __future__ import annotations
 
-import bisect
 import collections
 import copy
 import itertools
@@ -22,13 +21,13 @@ from dataclasses import dataclass, field
 from typing import Callable, Iterator
 
 from conversation import Conversation, Script
+from record_ahead import FAR, Ahead, is_polled
 from record_fast import CLOCK, END, NOW, Ways
 from record_log import NO_CLOCK
-from record_script import Item, Program, is_pool
+from record_script import Item, Program
 from record_where import NOWHERE, PENDING
 from said import SECTIONS
 
-FAR = 40
 MANY_WORKERS = 64
 PATIENCE = 5000
 CALLS = {"on": "call", "after": "after", "closed": "closed"}
@@ -39,8 +38,8 @@ BEHIND = (POLLED, "done", "async")
 OUTSIDE = Item("", 0, 0, 0)
 # So many sends and finishes may be put off; and what is kept before each.
 CHECKS = 16
-KEPT = ("where", "clock", "in_call", "queued", "taken", "finished", "taken_at", "ready", "later_on", "after_at", "senders", "sent_late", "kept", "kept_at",
-        "trail")
+KEPT = ("where", "clock", "in_call", "queued", "taken", "finished", "taken_at", "ready", "later_on", "after_at", "senders", "sent_late", "kept",
+        "kept_at", "trail")
 
 
 class Stopped(Exception):
@@ -91,11 +90,6 @@ def section_of(item: Item) -> str:
     return item.kind if item.kind in SECTIONS[1:] else "timers" if item.kind == "timer" else "async"
 
 
-def is_polled(item: Item) -> bool:
-    """Does it come with the poll, of what has to be made ready for it?"""
-    return item.list != "closed" and (item.kind == "async" or is_pool(item.kind))
-
-
 class Follower:
     """One way along a program's items."""
 
@@ -127,21 +121,13 @@ class Follower:
         self.later_on: set[str] = set()
         self.outcome = Outcome([], 0, program.callbacks(), 0)
         self.senders = {op.split(" ")[1] for op in self.all_ops() if op.startswith("send ")}
-        self.afters = [it.name for it in self.items if it.type == "call" and it.list == "after"]
-        # of each name its callbacks that have to be made ready
-        self.calls: dict[str, list[int]] = collections.defaultdict(list)
-        for at, it in enumerate(self.items):
-            if it.type == "call" and is_polled(it):
-                self.calls[it.name].append(at)
+        self.ahead = Ahead(self.items)
+        # how many of the after callbacks have come
         self.after_at = 0
         # sends and finishes before which all was kept; those that are to come only where what they call does, and the clock of such sends
         self.checks: collections.deque[tuple[str, int, int, dict[str, object]]] = collections.deque(maxlen=CHECKS)
         self.lazy: set[int] = set()
         self.sent_late: dict[str, int] = {}
-        # requests whose work begins and ends by a line of its own; what becomes of the others, and when, nobody sees
-        self.ends = [at for at, it in enumerate(self.items) if it.type == "end"]
-        self.seen = {it.name for it in self.items if it.type == "finish"}
-        self.polls = [at for at, it in enumerate(self.items) if it.type == "poll"]
 
     def all_ops(self) -> list[str]:
         return self.program.main + [op for body in self.program.bodies.values() for op in body]
@@ -359,11 +345,11 @@ class Follower:
 
     def coming(self) -> Iterator[str]:
         """The requests whose after callbacks come, in their order."""
-        return (self.afters[at] for at in range(self.after_at, len(self.afters)))
+        return (self.ahead.afters[at] for at in range(self.after_at, len(self.ahead.afters)))
 
     def next_through(self) -> str:
         """Whose worker is free first: of those whose end nobody sees the one that calls back first."""
-        return next((it for it in self.coming() if it in self.taken and (it not in self.seen or it in self.ready)),
+        return next((it for it in self.coming() if it in self.taken and (it not in self.ahead.seen or it in self.ready)),
                     next((it for it in self.coming() if it in self.taken), next(iter(self.taken))))
 
     def finish(self, name: str) -> None:
@@ -384,7 +370,7 @@ class Follower:
         name = item.text.split(" ")[1]
         if item.answer == "ok":
             before = list(itertools.takewhile(lambda it: it != name, self.coming()))
-            for other in before if len(before) < len(self.afters) - self.after_at else []:
+            for other in before if len(before) < len(self.ahead.afters) - self.after_at else []:
                 if other in self.queued:
                     self.finish(other)
             self.finished.add(name)
@@ -485,7 +471,7 @@ class Follower:
 
     def end_time(self, at: int) -> int:
         item, ahead = self.items[at], self.items[at + 1 : at + FAR]
-        if self.is_near_end(at) and self.starts_behind_end(item, ahead):
+        if self.ahead.has_end_near(at) and self.starts_behind_end(item, ahead):
             return NO_CLOCK
         later = (it.now for it in ahead if it.type in ("call", "poll", "run", "end") and it.now > item.now)
         return min(item.clock, next(later, item.clock))
@@ -509,11 +495,6 @@ class Follower:
             if ended and other.type == "op" and other.text.split(" ")[0] in ("start", "again"):
                 return True
         return False
-
-    def is_near_end(self, at: int) -> bool:
-        """Does a run end within the next items?"""
-        found = bisect.bisect_left(self.ends, at)
-        return found < len(self.ends) and self.ends[found] < at + FAR
 
     def do(self, item: Item, at: int) -> None:
         match item.type:
@@ -577,11 +558,7 @@ class Follower:
 
     def is_for_later(self, name: str, at: int) -> bool:
         """Is what was sent to or is through called by a later poll than this one, which wasn't left yet? Then it has come behind its end."""
-        if self.where != "poll":
-            return False
-        polls, calls = self.polls, self.calls[name]
-        poll, call = bisect.bisect_left(polls, at), bisect.bisect_left(calls, at)
-        return poll < len(polls) and call < len(calls) and polls[poll] < calls[call]
+        return self.where == "poll" and self.ahead.is_behind_poll(name, at)
 
     def check(self, name: str, at: int) -> None:
         """All as it is before a send or a finish."""
@@ -594,10 +571,7 @@ class Follower:
         """What was kept before the last send or finish whose callback that line has, if that hasn't come in the log since."""
         called = CALLED.search(line)
         found = next((it for it in reversed(self.checks) if called and it[0] == called[1]), None)
-        if not found:
-            return None
-        calls = self.calls[found[0]]
-        return found if bisect.bisect_left(calls, found[1]) == bisect.bisect_left(calls, self.at) else None
+        return found if found and not self.ahead.is_called(found[0], found[1], self.at) else None
 
     def again_from(self, stopped: Stopped) -> int | None:
         """Where the loop calls what the program calls only later: it left its poll before the send or the finish. So that comes where

@@ -1,0 +1,49 @@
+"""What the log of a program has ahead of a place in it: its polls, the ends of its runs, and the callbacks that are made ready for a poll."""
+
+from __future__ import annotations
+
+import bisect
+import collections
+
+from record_script import Item, is_pool
+
+# So many items ahead are near.
+FAR = 40
+
+
+def is_polled(item: Item) -> bool:
+    """Does it come with the poll, of what has to be made ready for it?"""
+    return item.list != "closed" and (item.kind == "async" or is_pool(item.kind))
+
+
+class Ahead:
+    """Of a program's items, by their numbers."""
+
+    def __init__(self, items: list[Item]) -> None:
+        self.ends = [at for at, it in enumerate(items) if it.type == "end"]
+        self.polls = [at for at, it in enumerate(items) if it.type == "poll"]
+        # the requests whose after callbacks come, in their order
+        self.afters = [it.name for it in items if it.type == "call" and it.list == "after"]
+        # requests whose work begins and ends by a line of its own; what becomes of the others, and when, nobody sees
+        self.seen = {it.name for it in items if it.type == "finish"}
+        # of each name its callbacks that have to be made ready
+        self.calls: dict[str, list[int]] = collections.defaultdict(list)
+        for at, it in enumerate(items):
+            if it.type == "call" and is_polled(it):
+                self.calls[it.name].append(at)
+
+    def has_end_near(self, at: int) -> bool:
+        """Does a run end within the next items?"""
+        found = bisect.bisect_left(self.ends, at)
+        return found < len(self.ends) and self.ends[found] < at + FAR
+
+    def is_behind_poll(self, name: str, at: int) -> bool:
+        """Does the next poll come before the next callback of that name?"""
+        polls, calls = self.polls, self.calls[name]
+        poll, call = bisect.bisect_left(polls, at), bisect.bisect_left(calls, at)
+        return poll < len(polls) and call < len(calls) and polls[poll] < calls[call]
+
+    def is_called(self, name: str, first: int, last: int) -> bool:
+        """Does a callback of that name come from one item on, up to another one?"""
+        calls = self.calls[name]
+        return bisect.bisect_left(calls, first) < bisect.bisect_left(calls, last)
