@@ -9,6 +9,8 @@ from __future__ import annotations
 import bisect
 from dataclasses import dataclass
 
+from conversation import State
+from notes import Notes
 from waits import Wait
 from walk import LeftByIo, Walk
 
@@ -28,6 +30,13 @@ class Came:
     poll: int | None
     # the step behind which it may have been called: the end of that poll, or its start or last call where that came later
     since: int
+
+
+def what_came(notes: Notes, step: str, state: State) -> str:
+    """What came with this step, by the notes of a recording; `` where these don't say it, and of any other step. The state is that behind it."""
+    word, _, name = step.partition(" ")
+    told = notes.came(name, state.counts[name][0]) if word == "io" and name in state.counts else ""
+    return f"{notes.kind(name)}: {told}" if told else ""
 
 
 def came(walk: Walk, wait: Wait) -> Came:

@@ -10,6 +10,7 @@ from collections import deque
 from pathlib import Path
 from typing import Callable
 
+from came import what_came
 from conversation import Conversation, Fault, Script, State, read_input
 from dap_breaks import More, Unknown, more_of
 from places import Place, next_line, read_place
@@ -102,7 +103,8 @@ class Adapter:
         self.talk: Conversation | None = None
         self.path = ""
         self.script = Script([])
-        # the steps of what was launched: these are done again before the loop goes on by itself
+        # the steps of what was launched, and those that are done again before the loop goes on by itself: they part where somebody does another
+        self.launched: list[str] = []
         self.steps: list[str] = []
         # what the client counts lines and columns from
         self.base = [1, 1]
@@ -186,7 +188,7 @@ class Adapter:
         if self.talk:
             self.talk.stop()
             self.talk = None
-        self.steps = longest_way(self.script, commands)
+        self.launched = self.steps = longest_way(self.script, commands)
         self.top = 0
         self.talk = Conversation(self.script)
         self.later.append(lambda: self.event("initialized"))
@@ -269,11 +271,14 @@ class Adapter:
     def one(self) -> list[str] | None:
         """The next step: of what was launched, else of the loop. What it prints; None where it is refused, and that is said."""
         at = self.talk.length
-        lines = self.talk.ask(self.steps[at] if at < len(self.steps) else "loop")
+        step = self.steps[at] if at < len(self.steps) else "loop"
+        lines = self.talk.ask(step)
         if self.talk.length > at:
             self.top = self.talk.length
         for line in lines:
             self.event("output", category="stdout" if self.talk.length > at else "console", output=f"{line}\n")
+        if step.startswith("io ") and self.steps is self.launched and (told := what_came(self.script.notes, step, self.talk.state())):
+            self.event("output", category="console", output=f"    {told}\n")
         return lines if self.talk.length > at else None
 
     def matched(self, lines: list[str]) -> str | None:

@@ -11,7 +11,7 @@ from came import LEFT, behind, came, waited
 from places import read_place
 from waits import Wait
 from walk import Took, Walk
-from why import KINDS, MANY, STANDING, Why, few, named, times
+from why import KINDS, MANY, Why, few, named, times
 
 # How many lines each part has at the most.
 LINES = 5
@@ -83,7 +83,7 @@ class Overview:
         """Nobody knows when something came. What is known is how long the loop hadn't looked, and what it did behind the poll first."""
         found = []
         for name, it in self.called("async"):
-            if it.asked in self.walk.notes.guessed and self.walk.notes.kind(name) in STANDING:
+            if it.asked in self.walk.notes.guessed and self.walk.notes.is_io(name):
                 found.append(Late(name, self.whys[name].unseen_for(it), it))
         for name, it in self.called("io"):
             left = came(self.walk, it).where == LEFT

@@ -5,6 +5,7 @@ from __future__ import annotations
 import difflib
 from typing import Callable
 
+from came import what_came
 from conversation import BAD, Conversation, State
 from places import Place, next_line, read_place
 from said import CODES, SECTIONS
@@ -192,7 +193,10 @@ class Shell:
         if step == "loop" and most > 1:
             end = next((it for it in range(at, min(at + most, len(self.steps))) if self.steps[it] != "loop"), at + most)
             step = f"loop {end - at}"
-        return self.own(step)
+        lines = self.own(step)
+        if step.startswith("io ") and self.steps is self.recorded and (told := what_came(self.talk.script.notes, step, self.talk.state())):
+            self.write(f"    {told}")
+        return lines
 
     def is_over(self, lines: list[str]) -> bool:
         """Was the step refused, or did it match a break of the program?"""

@@ -205,8 +205,13 @@ class Page:
             "clock": self.walk.clocks, "lanes": [{"name": it.name, "what": it.what, "parts": it.parts} for it in lanes],
             "late": late, "why": whys, "heaps": self.heaps, "long": self.long(), "part": "\n".join(self.walk.notes.loud()),
             "from": RED_RECORDED if self.walk.notes.names else RED, "kinds": {name: kind for name, (kind, _) in self.walk.notes.names.items()},
-            "meant": MEANT, "texts": self.texts.rows,
+            "meant": MEANT, "came": self.came(), "texts": self.texts.rows,
         }
+
+    def came(self) -> list[list[object]]:
+        """The callbacks of I/O: their steps, whose, and what came, where the notes say that."""
+        calls = [(step, *self.walk.calls[step][1:]) for step in range(1, self.walk.length + 1) if self.walk.steps[step - 1].startswith("io ")]
+        return [[step, name, self.walk.notes.came(name, call)] for step, name, call in calls]
 
     def long(self) -> list[list[object]]:
         """The callbacks that took long: their first and last step, whose, and how many ms."""

@@ -17,8 +17,6 @@ KINDS = {"timer": "a timer", "idle": "an idle handle", "prepare": "a prepare han
 CALLS = {"call": "call", "after": "after callback", "closed": "close callback"}
 ASKED = {"timer": "started", "async": "sent to", "work": "queued", "close": "closed"}
 SECTIONS = {"work": "done", "close": "closing", "async": "async", "timer": "timers"}
-# What a recording has a handle of I/O for; one of before, an async handle.
-STANDING = ("tcp", "udp", "pipe", "tty", "poll", "signal", "fs_event", "fs_poll", "process")
 # How many names or steps a sentence has at the most.
 MANY = 8
 
@@ -76,7 +74,8 @@ class Why:
         lines = []
         if self.name in self.notes.names:
             kind, origin = self.notes.names[self.name]
-            stands = f"{kind}, which stands as {KINDS[self.history.kind() or 'io']}: " if kind in STANDING else ""
+            # (in a recording of before it is an async handle)
+            stands = f"{kind}, which stands as {KINDS[self.history.kind() or 'io']}: " if self.notes.is_io(self.name) else ""
             lines.append(f"    {stands}{origin}{self.functions()}")
         if self.notes.part:
             lines.append(f"    THE RECORDING IS A PART: {self.notes.part}")
@@ -245,9 +244,9 @@ class Why:
         return f"{end - begin} ms later: {self.delay(begin, end)}" if end > begin else "in the same millisecond"
 
     def something_came(self, wait: Wait) -> str:
-        """That it came, with the kind that it has in a program."""
-        if self.notes.kind(self.name) in STANDING:
-            return f"{self.notes.kind(self.name)}: something came"
+        """That it came, or what it was; with the kind that it has in a program."""
+        if self.notes.is_io(self.name):
+            return f"{self.notes.kind(self.name)}: {self.notes.came(self.name, wait.call) or 'something came'}"
         return "something came" if wait.what == "io" else "somebody sent to it"
 
     def unseen(self, wait: Wait) -> tuple[str, list[str]]:

@@ -88,8 +88,10 @@ QUESTIONS = [
     Question("files", ALL, [r"the longest callbacks\n    1\d ms: the after callback of reading, on_read \(files\.c:\d+\)"]),
     Question("child", "output", ["pipe, which stands as a handle of I/O", "it left the poll: pipe: .*, and when nobody knows"], ["same millisecond"]),
     Question("crowd", "slow", ["it left the poll: pipe: .*, and when nobody knows"], [r"\d ms behind"]),
-    Question("crowd", "quick", [r"30 ms behind the end of the poll, .*: the callback of slow, on_slow \(crowd\.c:8\), took 30 ms"], ["nobody knows"]),
-    Question("crowd", "ended", [r"30 ms behind the end of the poll, .*: the callback of slow, on_slow \(crowd\.c:8\), took 30 ms"], ["nobody knows"]),
+    Question("crowd", "quick", ["pipe: 5 bytes were read, and it was called",
+                                r"30 ms behind the end of the poll, .*: the callback of slow, on_slow \(crowd\.c:8\), took 30 ms"], ["nobody knows"]),
+    Question("crowd", "ended", ["pipe: the end of the stream, and it was called",
+                                r"30 ms behind the end of the poll, .*: the callback of slow, on_slow \(crowd\.c:8\), took 30 ms"], ["nobody knows"]),
     Question("crowd", ALL, [r"the longest callbacks\n    30 ms: the callback of slow, on_slow \(crowd\.c:8\)", r"I/O\n    quick, .*30 ms behind"]),
     Question("child", "kill_it", [r"call 1: (on time|late by \d ms: the poll, .* the system ended it)"], ["callback of output"]),
 ]

@@ -79,6 +79,7 @@ def try_io(check) -> None:
     behind = [[17, "fast", 30, "30 ms behind the end of the poll, at step 14"], [20, "slow", 32, "32 ms behind its last call, at step 14"],
               [29, "fast", 9, "9 ms behind its last call, at step 17"]]
     check("the callbacks of I/O that came behind others", run["late"] == behind, run["late"])
+    check("what came", run["came"] == [[14, "slow", ""], [17, "fast", ""], [20, "slow", ""], [29, "fast", ""]], run["came"])
     came = [(it["name"], it["args"]["step"]) for it in events if it["ph"] == "i"]
     check("trace events of what came", came == [("io slow", 14), ("io fast", 17), ("io slow", 20), ("io fast", 29)], came)
 

@@ -84,8 +84,8 @@ WANTED: list[tuple[str, str, str | None, list[str]]] = [
                                             "closed by line 14: on wake close reply"]),
     ("io-behind-a-callback.uvt", "answer", None, ["step 15, call 1: something came, and it was called 40 ms behind the end of the poll, at step 12:"
                                                   " the callback of upload took 40 ms, from step 12 to 14"]),
-    ("io-behind-a-callback.uvt", "upload", None,
-     ["it left the poll: something came while the loop waited in the poll, 7 ms went by there, from step 10"]),
+    ("io-behind-a-callback.uvt", "upload", None, [
+        "it left the poll: something came while the loop waited in the poll, 7 ms went by there, from step 10"]),
     ("image-heap.uvt", "b", None, ["no call: stopped by line", "not due yet"]),
     ("sent-session.rec", "job", None, ["`cancel job` answers EBUSY: it is done already, since step 9", "by line 13: on early cancel job"]),
 ]
