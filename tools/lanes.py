@@ -16,6 +16,8 @@ from crates import BY_JOBS, IN_A_ROW, Crate, chains
 from progress import Progress
 
 PARTS = ('src', 'specs', 'proofs')
+# A crate whose proof takes so many seconds takes long.
+LONG = 100
 # What rt says of each function that it proved, and of how far it is: nobody who looks for a fault reads it.
 ROUTINE = re.compile(r'(fn|enum|struct|trait|impl) .*: proved$|(library|crate) \S+: modules |(statements|logic|by-macro:) |so far: |rt: chose ')
 
@@ -128,7 +130,7 @@ class Lanes:
     def start_ready(self, left: List[str]) -> None:
         """Starts those that only stand on what is done, as `chosen` has them."""
         running = {name: jobs for name, (_, _, jobs) in self.running.items()}
-        for name, jobs in chosen(self.crates, self.chains, self.progress.done, running, left, self.processors)[:len(self.free)]:
+        for name, jobs in chosen(self.crates, self.progress.done, running, left, self.processors)[:len(self.free)]:
             lane = self.lane_for(name)
             left.remove(name)
             self.progress.begins(name)
@@ -171,21 +173,16 @@ def hear(command: Command, line: str, progress: Progress) -> None:
         progress.say(line)
 
 
-def chosen(crates: Dict[str, Crate], chains: Dict[str, int], done: Container[str], running: Dict[str, int], left: List[str],
-           processors: int) -> List[Tuple[str, int]]:
-    """The crates to be started now, each with its number of processors: those that only stand on what is done, those with the longest chain
-    above them first. A crate gets the processors that no other one waits for, four at most. The first of the longest chain gets two, where
-    that chain takes longer than all that is left does on all processors: then it is what the build waits for."""
-    undone = [name for name in crates if name not in done]
-    rest = sum(crates[name].weight for name in undone)
-    longest = max(chains[name] for name in undone)
+def chosen(crates: Dict[str, Crate], done: Container[str], running: Dict[str, int], left: List[str], processors: int) -> List[Tuple[str, int]]:
+    """The crates to be started now, each with its number of processors: those of `left` that only stand on what is done, in the order of
+    `left`. A crate gets the processors that no other one waits for, four at most. One that takes long gets two where there are two, also
+    if another one has to wait then: those above it, of which some are on the longest chain, would wait longer."""
     ready = [name for name in left if all(below in done for below in crates[name].below)]
     idle, found = processors - sum(running.values()), []
     for at, name in enumerate(ready):
         if idle > 0:
             spare = min(4, idle // (len(ready) - at))
-            wanted = 2 if chains[name] == longest and longest * processors > rest else 1
-            jobs = min(idle, max(spare, wanted))
+            jobs = min(idle, max(spare, 2 if crates[name].weight >= LONG else 1))
             idle -= jobs
             found.append((name, jobs))
     return found
@@ -199,7 +196,7 @@ def expected(crates: Dict[str, Crate], processors: int) -> float:
     left = sorted(crates, key=lambda name: -longest[name])
     ends: Dict[str, float] = {}
     while left or running:
-        for name, jobs in chosen(crates, longest, done, running, left, processors):
+        for name, jobs in chosen(crates, done, running, left, processors):
             left.remove(name)
             running[name] = jobs
             ends[name] = now + crates[name].weight * (1 if name in IN_A_ROW else BY_JOBS[jobs])

@@ -14,16 +14,13 @@ use std::sync::Wait;
 use std::thread::Threads;
 use uv_engine::{Sink, Source, converse, replay};
 use uv_ids::Fault;
-use uv_loop::ArenaLoop;
+use uv_model::Machine;
 use uv_words::{Job, NoJob, read_words};
-
-/// The machine of the program, by whatever words it is called.
-type ProgramLoop = ArenaLoop;
 
 /// Does what the words say, of which the first is the program's own, and gives the exit status: 0 where it is done, 2 for a
 /// bad command line, a bad script or a bad recording, 3 where a recording's verdict isn't `same`, 4 for any other fault. A fault
-/// is a line on the errors, `uvt: ` and its text.
-pub fn run<H: Threads + Wait + Sync, R: Source, W: Sink, E: Write>(
+/// is a line on the errors, `uvt: ` and its text. Whatever the words ask for is done over the same machine.
+pub fn run<M: Machine, H: Threads + Wait + Sync, R: Source, W: Sink, E: Write>(
     rt: &H,
     alloc: Global,
     words: &[&str],
@@ -48,15 +45,15 @@ pub fn run<H: Threads + Wait + Sync, R: Source, W: Sink, E: Write>(
     ensures writer { result ≡ 0 → W.failures writer.new ≡ W.failures writer.old }
 {
     match read_words(alloc, words) {
-        Ok(Job::Debug) => debug(alloc, reader, writer, errors),
-        Ok(Job::Replay) => rerun(alloc, reader, writer, errors),
-        Ok(Job::Live(workers)) => live(rt, alloc, workers, reader, writer, errors),
+        Ok(Job::Debug) => debug::<M, _, _, _>(alloc, reader, writer, errors),
+        Ok(Job::Replay) => rerun::<M, _, _, _>(alloc, reader, writer, errors),
+        Ok(Job::Live(workers)) => live::<M, _, _, _, _>(rt, alloc, workers, reader, writer, errors),
         Err(NoJob::BadWords) => bad_words(errors),
         Err(NoJob::Memory) => fail(Fault::Memory, errors),
     }
 }
 
-fn debug<R: Source, W: Sink, E: Write>(
+fn debug<M: Machine, R: Source, W: Sink, E: Write>(
     alloc: Global,
     reader: &mut R,
     writer: &mut W,
@@ -68,13 +65,13 @@ fn debug<R: Source, W: Sink, E: Write>(
     ensures reader { result ≡ 0 → R.failures reader.new ≡ R.failures reader.old }
     ensures writer { result ≡ 0 → W.failures writer.new ≡ W.failures writer.old }
 {
-    match converse::<ProgramLoop, _, _>(alloc, reader, writer) {
+    match converse::<M, _, _>(alloc, reader, writer) {
         Ok(_) => 0,
         Err(fault) => fail(fault, errors),
     }
 }
 
-fn rerun<R: Source, W: Sink, E: Write>(
+fn rerun<M: Machine, R: Source, W: Sink, E: Write>(
     alloc: Global,
     reader: &mut R,
     writer: &mut W,
@@ -86,13 +83,13 @@ fn rerun<R: Source, W: Sink, E: Write>(
     ensures reader { result ≡ 0 → R.failures reader.new ≡ R.failures reader.old }
     ensures writer { result ≡ 0 → W.failures writer.new ≡ W.failures writer.old }
 {
-    match replay::<ProgramLoop, _, _>(alloc, reader, writer) {
+    match replay::<M, _, _>(alloc, reader, writer) {
         Ok(()) => 0,
         Err(fault) => fail(fault, errors),
     }
 }
 
-fn live<H: Threads + Wait + Sync, R: Source, W: Sink, E: Write>(
+fn live<M: Machine, H: Threads + Wait + Sync, R: Source, W: Sink, E: Write>(
     rt: &H,
     alloc: Global,
     workers: Option<u16>,
@@ -107,7 +104,7 @@ fn live<H: Threads + Wait + Sync, R: Source, W: Sink, E: Write>(
     ensures reader { result ≡ 0 → R.failures reader.new ≡ R.failures reader.old }
     ensures writer { result ≡ 0 → W.failures writer.new ≡ W.failures writer.old }
 {
-    match run_live::<ProgramLoop, _, _, _>(rt, alloc, workers, reader, writer) {
+    match run_live::<M, _, _, _>(rt, alloc, workers, reader, writer) {
         Ok(()) => 0,
         Err(NoRecording::BadScript(line)) => {
             report(Fault::Script { line }, errors);
