@@ -54,12 +54,20 @@ is_built() {
 }
 
 drop_lists() {
+    [ -z "$summing" ] || wait "$summing"
+    summing=''
     rm -f "$kept/stats.$$" "$kept/sums.$$"
 }
 
 # Lists the sources as they are now, in files of this call's own. The lists are made before a build: a file that changes
 # meanwhile differs from them at the next call.
 list_sources() {
+    begin_lists
+    end_lists
+}
+
+# Begins to list them: the sums are made in the background, by the process $summing.
+begin_lists() {
     mkdir -p "$kept" || fail "cannot write to $kept"
     find_crates
     sources=crates.txt
@@ -68,10 +76,19 @@ list_sources() {
     done
     true >"$kept/stats.$$" || fail "cannot write to $kept"
     stats >"$kept/stats.$$"
-    sums >"$kept/sums.$$"
+    sums >"$kept/sums.$$" 9>&- &
+    summing=$!
+}
+
+# Waits for the sums. They are of the sources as the other list has them where no file was changed meanwhile; else they are of no use.
+end_lists() {
+    [ -n "$summing" ] || return 0
+    wait "$summing"
+    summing=''
     if [ "$(wc -l <"$kept/stats.$$")" -lt 2 ] || [ ! -s "$kept/sums.$$" ]; then
         fail "cannot list the sources: this needs the commands find (GNU) and sha256sum"
     fi
+    stats | cmp -s - "$kept/stats.$$" || true >"$kept/sums.$$"
 }
 
 # Sets $crates to the crates of crates.txt that the program stands on, each after those that it stands on
@@ -158,10 +175,10 @@ build_changed() {
     make "$root/crates/$crate/out/$crate" build.py "$root" "$kept" $crates || return 70
 }
 
-# The same for the program before its proofs.
+# The same for the program before its proofs, which is compiled while the sums are made.
 compile_changed() {
     is_built && return
-    list_sources
+    begin_lists
     make "$kept/compiled" unproved.py "$root" "$crate" "$kept/compiled" && rm -f "$kept/compiled"
 }
 
@@ -184,6 +201,7 @@ make() {
     done
     trap - INT HUP TERM
     if [ "$status" = 0 ]; then
+        end_lists
         keep "$made"
     else
         drop_lists

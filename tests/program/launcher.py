@@ -406,8 +406,18 @@ def try_first_call(check: Check, kit: StandIn) -> None:
     source = os.path.join(kit.folder, 'crates', 'uv_cli', 'src', 'lib.rt')
     with open(source, 'ab') as file:
         file.write(b'// changed before a build\n')
-    same(check, 'a first call behind a change', kit.call(['debug'], SCRIPT)[:2], (0, b'init t timer = 0.0\n'))
+    kit.write('took', '2')
+    call = subprocess.Popen([kit.uvt(), 'debug'], env=kit.env(), stdin=subprocess.PIPE, stdout=subprocess.PIPE, stderr=subprocess.DEVNULL)
+    until = time.monotonic() + SECONDS
+    while len(kit.log()) < 2 and time.monotonic() < until:
+        time.sleep(0.05)
+    with open(source, 'ab') as file:
+        file.write(b'// changed while it is compiled\n')
+    same(check, 'a first call behind a change', (call.communicate(SCRIPT, timeout=SECONDS)[0], call.returncode), (b'init t timer = 0.0\n', 0))
     same(check, 'it compiles anew', [line[0] for line in kit.log()], ['tries', 'tries'])
+    kit.write('took', '0.05')
+    same(check, 'a call behind a change while it was compiled', kit.call(['debug'], SCRIPT)[:2], (0, b'init t timer = 0.0\n'))
+    same(check, 'it compiles anew again', [line[0] for line in kit.log()], ['tries', 'tries', 'tries'])
 
 
 def order_faults(log: List[List[str]], below: 'dict[str, List[str]]') -> List[str]:
