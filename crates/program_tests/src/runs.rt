@@ -7,6 +7,7 @@ use std::test::Fail;
 use std::thread::Threads;
 use uv_cli::run;
 use uv_engine::{Reader, Writer};
+use uv_loop::ArenaLoop;
 
 /// Whether a text is this one.
 fn is(text: VecDeque<u8>, other: &[u8]) -> bool {
@@ -25,7 +26,7 @@ fn is(text: VecDeque<u8>, other: &[u8]) -> bool {
 fn ends_so<H: Threads + Wait + Sync>(rt: &H, alloc: Global, call: Call) -> bool {
     let mut output = VecDeque::new(alloc);
     let mut errors = VecDeque::new(alloc);
-    let status = run(
+    let status = run::<ArenaLoop, _, _, _, _>(
         rt,
         alloc,
         call.words,
