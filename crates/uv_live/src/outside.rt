@@ -130,7 +130,8 @@ impl OwnNames {
     /// Adds the name of one more line.
     fn note(&mut self, line: ThreadLine) -> Result<(), AllocError>
         ensures count { OnOk result (length self.new ≡ length self.old) }
-        ensures noted { OnOk result ((k : ℕ) → k < length self.old → slice_index_or self.new k [] ≡ slice_index_or self.old k [] ++ names_by k (line ∷ [])) }
+        ensures noted { OnOk result ((k : ℕ) → k < length self.old
+            → slice_index_or self.new k [] ≡ slice_index_or self.old k [] ++ names_by k (line ∷ [])) }
     {
         let thread = line.thread as usize;
         if thread < self.lists.len() {
