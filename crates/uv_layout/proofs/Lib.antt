@@ -2,3 +2,4 @@ pub mod Lies
 mod Names
 pub mod Same
 pub mod Walked
+pub mod Workers

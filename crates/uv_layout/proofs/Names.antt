@@ -1,5 +1,5 @@
 -- The names that proofs of this crate bring in.
-pub use Rattle.std.proofs.Common.{IfNone, IfSome, List, None, Option, Some, [], ap, arith, inl, inr, length, length-append, map, refl, slice_get, subst, suc, sym, take, zero, ℕ, ◌++◌, ◌+◌, ◌-◌, ◌<◌, ◌∙◌, ◌∷◌, ◌≡◌, ◌≤◌, ◌⊎◌}
+pub use Rattle.std.proofs.Common.{Bool, IfNone, IfSome, List, None, Option, Some, [], ap, arith, false, inl, inr, length, length-append, map, refl, slice_get, subst, suc, sym, take, true, true≢false, zero, ℕ, ◌++◌, ◌+◌, ◌-◌, ◌<◌, ◌∙◌, ◌∷◌, ◌≡◌, ◌≤◌, ◌⊎◌}
 pub use Rattle.std.proofs.lemmas.Bool.Decides.{eqb_tells}
 pub use Rattle.std.proofs.lemmas.List.{append_assoc, length-map}
 pub use Rattle.std.proofs.lemmas.Option.{slice_get_past, slice_get_within}
@@ -8,7 +8,7 @@ pub use Rattle.uv_arena.proofs.Memories.{get-links}
 pub use Rattle.uv_arena.proofs.Names.{number_apart, number_below}
 pub use Rattle.uv_arena.specs.Calls.{IsFirst, IsLast}
 pub use Rattle.uv_arena.specs.Chains.{IsSegment, link, loose}
-pub use Rattle.uv_arena.specs.Image.{IsSound, chain, chains, links_at, links_in, name_at, plain_slots, slot_at, slot_in}
+pub use Rattle.uv_arena.specs.Image.{IsSound, chain, chains, links_at, links_in, name_at, on_list, plain_slots, slot_at, slot_in}
 pub use Rattle.uv_arena.specs.declared.links.Cell.{Cell}
 pub use Rattle.uv_arena.specs.declared.links.Links.{Links}
 pub use Rattle.uv_arena.specs.declared.links.TheConstants.{CHAIN_COUNT, FREE}
@@ -18,7 +18,7 @@ pub use Rattle.uv_heap.specs.declared.entry.Entry.{Entry}
 pub use Rattle.uv_ids.specs.declared.id.Id.{Id}
 pub use Rattle.uv_layout.specs.Laid.{ShowsAll, ShowsSlot, ShowsSlots, shown_ends}
 pub use Rattle.uv_model.specs.Layout.{AreWalked, HasNeighbours, LiesFor, entry_of, generation_in, id_now, slots_on, with_ends}
-pub use Rattle.uv_model.specs.Queries.{members}
+pub use Rattle.uv_model.specs.Queries.{members, runner_from, worker_of}
 pub use Rattle.uv_model.specs.State.{State}
 pub use Rattle.uv_model.specs.declared.layout.LaidSlot.{LaidSlot}
 pub use Rattle.uv_model.specs.declared.layout.Layout.{Layout}
@@ -39,4 +39,6 @@ pub use Rattle.uv_stands.proofs.Walked.{IsWalked, begins_with, walk_goes}
 pub use Rattle.uv_stands.specs.Stands.{StandsFor, timer_in}
 pub use Rattle.uv_step.specs.Fit.{IsFit}
 pub use Rattle.uv_step.specs.Image.{Image, image_of}
+pub use Rattle.uv_work.proofs.Replays.{same_when}
+pub use Rattle.uv_work.specs.Ids.{same_id}
 pub use Rattle.uv_work.specs.declared.content.Content.{Content}

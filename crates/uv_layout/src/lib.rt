@@ -7,4 +7,4 @@ mod showing;
 
 pub use laying::layout_of;
 pub use listing::{free_slots, listed_ids};
-pub use showing::{run_at, shown, shown_name, shown_slot};
+pub use showing::{run_at, shown, shown_name, shown_slot, shown_worker};

@@ -2,11 +2,12 @@
 ghost use Rattle.std.specs.Prelude.{◌≡◌, option_and_then, slice_get};
 ghost use Rattle.uv_records.specs.Slots.{held};
 ghost use Rattle.uv_model.specs.State.{State, named};
+ghost use Rattle.uv_model.specs.Queries.{worker_of};
 ghost use Rattle.uv_step.specs.Image.{held as held_by};
 ghost use Rattle.uv_stands.specs.Stands.{StandsFor};
 
 use uv_ids::{Id, Var};
-use uv_model::Place;
+use uv_model::{Place, runner_of};
 use uv_records::{Named, Slot};
 use uv_step::Memory;
 use uv_work::Content;
@@ -41,4 +42,16 @@ pub fn run_at(running: &[Option<Id>], worker: usize) -> Option<Id>
     ensures { result ≡ option_and_then (λ run. run) (slice_get running.now worker) }
 {
     *running.get(worker)?
+}
+
+/// The first of the workers that runs a request. What is on a list none of them runs, so that none is looked at for those that wait or are
+/// done.
+pub fn shown_worker(memory: &Memory<Place>, id: Id) -> Option<usize>
+    ensures { (s : State) → StandsFor (held_by memory.now).image s → worker_of s id ≡ result }
+{
+    memory.is_fit();
+    if memory.slots().on_list(id) {
+        return None;
+    }
+    runner_of(memory.requests().workers(), id)
 }

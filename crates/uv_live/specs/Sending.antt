@@ -1,5 +1,5 @@
 -- What the senders' threads send, and what the loop absorbs of it and joins.
-use Rattle.std.specs.Prelude.{◌≡◌, ◌==◌, ◌+◌, ◌⊎◌, ℕ, suc, zero, List, [], ◌∷◌, Bool, Some, map, filter, cond, slice_get}
+use Rattle.std.specs.Prelude.{◌≡◌, ◌==◌, ◌+◌, ◌<◌, ◌≤◌, ◌⊎◌, ℕ, suc, zero, List, [], ◌∷◌, Bool, Some, length, map, filter, cond, slice_get, slice_index_or}
 use Rattle.std.specs.List.{list_any}
 use Rattle.uv_ids.specs.declared.event.Event.TheVariants as step
 use Rattle.uv_ids.specs.declared.id.Var.{Var}
@@ -15,6 +15,11 @@ is_by thread line = line.thread == thread
 -- the names of a thread's lines, in their order
 abbrev pub names_by : ℕ → List ThreadLine → List Var
 names_by thread lines = map (λ (l : ThreadLine). l.name) (filter (is_by thread) lines)
+
+-- for each of the 64 thread numbers, from this one on, the names of its lines
+pub record HasOwn (number : ℕ) (lines : List ThreadLine) (own : List (List Var)) : Type 0 where
+  pub count : length own ≡ 64
+  pub names : (k : ℕ) → number ≤ k → k < 64 → slice_index_or own k [] ≡ names_by k lines
 
 -- the names of sends
 abbrev pub names_in : List Ticket → List Var

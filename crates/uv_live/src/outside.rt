@@ -1,13 +1,15 @@
 //! What comes to the loop from outside the thread pool: the sends of the senders' threads.
-ghost use Rattle.std.specs.Prelude.{◌≡◌, ◌<◌, ◌+◌, ◌-◌, ◌++◌, ◌∷◌, ◌⊎◌, ℕ, [], Some, true, false, cond, All, OnOk, IfErr, vec_len};
+ghost use Rattle.std.specs.Prelude.{◌≡◌, ◌<◌, ◌+◌, ◌-◌, ◌++◌, ◌∷◌, ◌⊎◌, ℕ, [], Some, true, false, cond, length, slice_index_or, slice_set, All, OnOk, IfOk, IfErr, vec_len};
 ghost use Rattle.std.specs.List.{list_any};
 ghost use Rattle.uv_ids.specs.declared.fault.Fault.TheVariants as fault;
 ghost use Rattle.uv_wake.specs.Seats.{names_of, AllCarried, AllJoined};
 ghost use Rattle.uv_live.specs.Course.{AreNamed};
-ghost use Rattle.uv_live.specs.Sending.{Absorbs, AreCarried, Records, is_by, names_by, names_in, threads_below};
+ghost use Rattle.uv_live.specs.Sending.{Absorbs, AreCarried, HasOwn, Records, is_by, names_by, names_in, threads_below};
 
 use crate::follower::Follower;
-use std::alloc::Global;
+use std::alloc::{AllocError, Global};
+use std::marker::Model;
+use std::mem;
 use std::sync::atomic::{AtomicU64, Ordering};
 use std::thread::{Promise, PromisedHandle, Scope, Threads};
 use uv_ids::{Fault, MOST_SENDERS, ThreadLine, Var};
@@ -54,46 +56,99 @@ pub(crate) struct Outside<'a> {
     pub ghost rests: { (n : ℕ) → absorbed ≡ Some n → AreCarried seat.knows names.items },
 }
 
-/// Sends by a line, if it is the thread's, and notes behind it that a send was made.
-fn send_line(board: &Board, seat: &mut SenderSeat, sent: &AtomicU64, thread: u8, line: ThreadLine)
+/// Sends to a name, and notes behind it that a send was made.
+fn send_one(board: &Board, seat: &mut SenderSeat, sent: &AtomicU64, name: Var)
     requires seat { seat.old.board ≡ board.now.board }
-    requires name { line.name.0 < names_of board.now.board }
+    requires name { name.0 < names_of board.now.board }
     ensures board { seat.new.board ≡ seat.old.board }
-    ensures sent { names_in seat.new.knows.tickets ≡ names_in seat.old.knows.tickets ++ names_by thread (line ∷ []) }
+    ensures sent { names_in seat.new.knows.tickets ≡ names_in seat.old.knows.tickets ++ name ∷ [] }
 {
-    if line.thread == thread {
-        board.send(seat, line.name);
-        sent.fetch_add(1, Ordering::SeqCst);
-    }
+    board.send(seat, name);
+    sent.fetch_add(1, Ordering::SeqCst);
 }
 
-/// What the thread of a sender does: the sends of its lines, in their order.
+/// What the thread of a sender does: the sends to these names, in their order.
 fn send_all<G: Gate>(
     board: &Board,
     seat: SenderSeat,
     sent: &AtomicU64,
     gate: &G,
     thread: u8,
-    lines: &[ThreadLine],
+    names: Vec<Var>,
 ) -> SenderSeat
     requires seat { seat.board ≡ board.now.board }
-    requires names { AreNamed (names_of board.now.board) lines.now }
+    requires names { All (λ v. v.0 < names_of board.now.board) names.items }
     ensures board { result.board ≡ board.now.board }
-    ensures sent { names_in result.knows.tickets ≡ names_in seat.knows.tickets ++ names_by thread lines.now }
+    ensures sent { names_in result.knows.tickets ≡ names_in seat.knows.tickets ++ names.items }
 {
     let mut seat = seat;
     gate.sending(thread);
-    'lines: for n in 0..lines.len() {
-        send_line(board, &mut seat, sent, thread, lines[n]);
+    'own: for n in 0..names.len() {
+        send_one(board, &mut seat, sent, names[n]);
     }
     seat
 }
 
-/// Whether some line is of the sender thread of that number.
-fn has_line(lines: &[ThreadLine], thread: u8) -> bool
-    ensures { result ≡ list_any (is_by thread) lines.now }
-{
-    lines.iter().any(|line| line.thread == thread)
+/// For each sender number the names of its lines, in their order.
+#[derive(Drop)]
+struct OwnNames {
+    lists: Vec<Vec<Var>>,
+}
+
+impl Model for OwnNames {
+    ghost use Rattle.std.specs.Prelude.{List, map};
+    ghost use Rattle.uv_ids.specs.declared.id.Var.{Var};
+
+    ghost Value = { List (List Var) };
+
+    ghost view = { λ own. map (λ names. names.items) own.lists.items };
+}
+
+impl OwnNames {
+    /// No line.
+    fn new(alloc: Global) -> Result<OwnNames, AllocError>
+        ensures { IfOk result (HasOwn 0 []) }
+    {
+        let mut lists = Vec::new(alloc);
+        'empty: for _ in 0..MOST_SENDERS {
+            lists.push(Vec::new(alloc))?;
+        }
+        Ok(OwnNames { lists })
+    }
+
+    /// Those of these lines. Each line is looked at once, for all threads.
+    fn of(alloc: Global, lines: &[ThreadLine]) -> Result<OwnNames, AllocError>
+        ensures { IfOk result (HasOwn 0 lines.now) }
+    {
+        let mut own = OwnNames::new(alloc)?;
+        'lines: for n in 0..lines.len() {
+            own.note(lines[n])?;
+        }
+        Ok(own)
+    }
+
+    /// Adds the name of one more line.
+    fn note(&mut self, line: ThreadLine) -> Result<(), AllocError>
+        ensures count { OnOk result (length self.new ≡ length self.old) }
+        ensures noted { OnOk result ((k : ℕ) → k < length self.old
+            → slice_index_or self.new k [] ≡ slice_index_or self.old k [] ++ names_by k (line ∷ [])) }
+    {
+        let thread = line.thread as usize;
+        if thread < self.lists.len() {
+            self.lists[thread].push(line.name)?;
+        }
+        Ok(())
+    }
+
+    /// Takes the names of a thread.
+    fn take(&mut self, thread: u8) -> Vec<Var>
+        requires { thread < length self.old }
+        ensures names { result.items ≡ slice_index_or self.old thread [] }
+        ensures rest { self.new ≡ slice_set self.old thread [] }
+    {
+        let none = Vec::new(*self.lists.allocator());
+        mem::replace(&mut self.lists[thread as usize], none)
+    }
 }
 
 /// Absorbs the word of a name, and records a send if one stood in it.
@@ -212,29 +267,55 @@ impl<'a> Outside<'a> {
         ensures threads { OnOk result (self.new.seat.knows.splits ≡ self.old.seat.knows.splits + threads_below 64 lines.now) }
         ensures err { IfErr result (λ f. (f ≡ fault.Memory) ⊎ (f ≡ fault.Limit)) }
     {
+        let mut own = match OwnNames::of(*self.names.allocator(), lines) {
+            Ok(own) => own,
+            Err(_) => return Err(Fault::Memory),
+        };
         'threads: for thread in 0..MOST_SENDERS {
-            self.start_one(scope, gate, thread, lines)?;
+            let names = own.take(thread);
+            self.start_one(scope, gate, thread, lines, names)?;
         }
         Ok(())
     }
 
-    /// Starts the thread of that number, if it has a line. Room comes first, so each thread that was started is joined.
+    /// Starts the thread of that number, if it has a line.
     fn start_one<E, G: Gate + Sync>(
         &mut self,
         scope: &Scope<'a, E>,
         gate: &'a G,
         thread: u8,
         lines: &'a [ThreadLine],
+        names: Vec<Var>,
     ) -> Result<(), Fault>
-        requires { AreNamed (names_of self.old.board.now.board) lines.now }
+        requires own { names.items ≡ names_by thread lines.now }
+        requires known { All (λ v. v.0 < names_of self.old.board.now.board) names.items }
         ensures board { self.new.board.now.board ≡ self.old.board.now.board }
         ensures lost { OnOk result (self.new.lost ≡ self.old.lost) }
         ensures threads { OnOk result (self.new.seat.knows.splits ≡ self.old.seat.knows.splits + cond (list_any (is_by thread) lines.now) 1 0) }
         ensures err { IfErr result (λ f. (f ≡ fault.Memory) ⊎ (f ≡ fault.Limit)) }
     {
-        if !has_line(lines, thread) {
+        if names.is_empty() {
             return Ok(());
         }
+        self.start_sender(scope, gate, thread, lines, names)
+    }
+
+    /// Starts a thread for sends to these names. Room comes first, so each thread that was started is joined.
+    fn start_sender<E, G: Gate + Sync>(
+        &mut self,
+        scope: &Scope<'a, E>,
+        gate: &'a G,
+        thread: u8,
+        lines: &'a [ThreadLine],
+        names: Vec<Var>,
+    ) -> Result<(), Fault>
+        requires own { names.items ≡ names_by thread lines.now }
+        requires known { All (λ v. v.0 < names_of self.old.board.now.board) names.items }
+        ensures board { self.new.board.now.board ≡ self.old.board.now.board }
+        ensures lost { OnOk result (self.new.lost ≡ self.old.lost) }
+        ensures threads { OnOk result (self.new.seat.knows.splits ≡ self.old.seat.knows.splits + 1) }
+        ensures err { IfErr result (λ f. (f ≡ fault.Memory) ⊎ (f ≡ fault.Limit)) }
+    {
         self.absorbed = None;
         match self.senders.reserve(1) {
             Ok(()) => {}
@@ -244,9 +325,9 @@ impl<'a> Outside<'a> {
         let sent = self.sent;
         let given = board.split(&mut self.seat)?;
         let sending = move || -> SenderSeat
-            requires { (given.board ≡ board.now.board) × (given.knows.tickets ≡ []) × AreNamed (names_of board.now.board) lines.now }
-            ensures { (result.board ≡ board.entry.now.board) × (names_in result.knows.tickets ≡ names_by thread lines.entry.now) }
-        { send_all(board, given, sent, gate, thread, lines) };
+            requires { (given.board ≡ board.now.board) × (given.knows.tickets ≡ []) × All (λ v. v.0 < names_of board.now.board) names.items }
+            ensures { (result.board ≡ board.entry.now.board) × (names_in result.knows.tickets ≡ names.items) }
+        { send_all(board, given, sent, gate, thread, names) };
         let promise = Sends {
             board,
             thread,

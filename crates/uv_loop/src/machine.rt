@@ -15,8 +15,10 @@ use crate::refusals::refusal;
 use crate::steps::Steps;
 use std::alloc::Global;
 use uv_ids::{Event, Fault, Id, Seen, Var, Why};
-use uv_layout::{free_slots, layout_of, listed_ids, run_at, shown, shown_name, shown_slot};
-use uv_model::{Layout, Machine, Numbers, Outcome, Place, STEPS, runner_of};
+use uv_layout::{
+    free_slots, layout_of, listed_ids, run_at, shown, shown_name, shown_slot, shown_worker,
+};
+use uv_model::{Layout, Machine, Numbers, Outcome, Place, STEPS};
 use uv_records::{ListName, Named, Slot};
 use uv_script::Script;
 use uv_timing::timer_ids;
@@ -188,7 +190,7 @@ impl Machine for ArenaLoop {
     }
 
     fn worker_of(&self, id: Id) -> Option<usize> {
-        runner_of(self.memory.requests().workers(), id)
+        shown_worker(&self.memory, id)
     }
 
     fn members(&self, list: ListName) -> Result<Vec<Id>, Fault> {

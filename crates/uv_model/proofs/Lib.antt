@@ -5,7 +5,6 @@ pub mod Fires
 pub mod Found
 pub mod Freeing
 pub mod Kept
-pub mod Lines
 pub mod Lists
 mod Names
 pub mod Order

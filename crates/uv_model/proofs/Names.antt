@@ -35,7 +35,7 @@ pub use Rattle.uv_model.specs.Content.{handle_in, request_in}
 pub use Rattle.uv_model.specs.Found.{found_or}
 pub use Rattle.uv_model.specs.Handing.{AnswersResult, RefusesResult}
 pub use Rattle.uv_model.specs.Ids.{same_id, without_id}
-pub use Rattle.uv_model.specs.Next.{Moves, Next, Refuses, after_walk, begin_done, begin_walk, body_from, body_step, call_due, call_io, calls, io, io_handle, io_run, leave_polled, stage_polled, takes_io, time_polled, cancels, close_front, collect_request, collected, ends, finish, fire, first_due, front_moved, goes, goes_by, idled_at, idled_then, loop_step, main_step, may_leave, next_line, next_work, refreshes, run_step, sent_to, stage_step, tick, time_at, timers, turns, walk, walk_async, way, work_of}
+pub use Rattle.uv_model.specs.Next.{Moves, Next, Refuses, after_walk, begin_done, begin_walk, body_from, body_step, call_due, call_io, calls, io, io_handle, io_run, leave_polled, stage_polled, takes_io, time_polled, cancels, close_front, collect_request, collected, ends, finish, fire, first_due, front_moved, goes, goes_by, idled_at, idled_then, loop_step, main_step, may_leave, next_work, refreshes, run_step, sent_to, stage_step, tick, time_at, timers, turns, walk, walk_async, way, work_of}
 pub use Rattle.uv_model.specs.Ops.{do_op, refuses}
 pub use Rattle.uv_model.specs.Queries.{runner_from, timer_ids}
 pub use Rattle.uv_model.specs.State.{State, Watchers, as_handle, as_request, fresh, front, front_request, handle, live, live_handle, live_id, live_request, named, refreshed, request, those_of, watched, with_handle, with_id, with_named, with_request, with_those_of, with_watched}
@@ -66,7 +66,7 @@ pub use Rattle.uv_records.specs.declared.lists.WatcherKind.{WatcherKind}
 pub use Rattle.uv_records.specs.declared.named.Calls.{Calls}
 pub use Rattle.uv_records.specs.declared.named.Named.{Named}
 pub use Rattle.uv_records.specs.declared.slot.Slot.{Slot}
-pub use Rattle.uv_script.specs.Program.{Program, arena_size, from_heap, has_io, is_for, lines_in, order_of}
+pub use Rattle.uv_script.specs.Program.{Program, arena_size, from_heap, has_io, lines_in, order_of}
 pub use Rattle.uv_script.specs.declared.op.CallbackLine.{CallbackLine}
 pub use Rattle.uv_script.specs.declared.op.MainOp.{MainOp}
 pub use Rattle.uv_script.specs.declared.op.Op.{Op}

@@ -22,7 +22,8 @@ use Rattle.uv_ids.specs.declared.fault.Why.TheVariants.{Blocked, Ended, NoWork, 
 use Rattle.uv_script.specs.declared.op.MainOp.{MainOp}
 use Rattle.uv_script.specs.declared.op.MainOp.TheVariants as main
 use Rattle.uv_script.specs.declared.op.CallbackLine.{CallbackLine}
-use Rattle.uv_script.specs.Program.{Program, arena_size, order_of, has_io, from_heap, lines_in, is_for}
+use Rattle.uv_script.specs.Program.{Program, arena_size, order_of, has_io, from_heap, lines_in}
+pub use Rattle.uv_script.specs.Program.{next_line}
 use Rattle.uv_work.specs.Tasks.{text_of}
 use Rattle.uv_model.specs.Limits.{LATEST}
 use Rattle.uv_model.specs.declared.place.Body.{Body}
@@ -64,11 +65,6 @@ pub data Next : Type 0 where
   Refuses : Why → Next
 
 -- ---- the callbacks' bodies
-
--- the first line for this call among these, the first of which has this number
-abbrev pub next_line : ℕ → ℕ → List CallbackLine → Option ℕ
-next_line call number [] = None
-next_line call number (line ∷ lines) = if is_for call line.call then Some number else next_line call (number + 1) lines
 
 -- the body of a call, if it has a line from this one on
 abbrev pub body_at : Callback → Var → ℕ → Option ℕ → Option Body

@@ -4,6 +4,7 @@ pub mod Checks
 pub mod Cuts
 pub mod Exact
 pub mod Fresh
+pub mod Indexed
 pub mod Kept
 pub mod KindWords
 pub mod Older

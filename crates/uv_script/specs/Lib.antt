@@ -1,5 +1,6 @@
 pub mod Limits
 pub mod Program
+pub mod Index
 pub mod Lines
 pub mod Fields
 pub mod Words

@@ -1,5 +1,5 @@
 -- A script, as its parts.
-use Rattle.std.specs.Prelude.{◌≡◌, ℕ, ◌+◌, ◌<◌, ◌≤◌, ◌==◌, Bool, true, false, List, [], ◌∷◌, ◌++◌, Option, Some, None, option_map, unwrap_or, slice_get, length, sum_by, All}
+use Rattle.std.specs.Prelude.{◌≡◌, ℕ, ◌+◌, ◌<◌, ◌≤◌, ◌==◌, Bool, true, false, List, [], ◌∷◌, ◌++◌, Option, Some, None, option_map, unwrap_or, slice_get, length, sum_by, All, if◌then◌else◌}
 use Rattle.uv_ids.specs.declared.id.Var.{Var}
 use Rattle.uv_ids.specs.declared.order.Order.{Order}
 use Rattle.uv_ids.specs.declared.order.Order.TheVariants as orders
@@ -88,6 +88,11 @@ makes_io _ = false
 abbrev pub is_for : ℕ → Option ℕ → Bool
 is_for call None = true
 is_for call (Some k) = k == call
+
+-- the first line for this call among these, the first of which has this number
+abbrev pub next_line : ℕ → ℕ → List CallbackLine → Option ℕ
+next_line call number [] = None
+next_line call number (line ∷ lines) = if is_for call line.call then Some number else next_line call (number + 1) lines
 
 abbrev pub callback_count : Callbacks → ℕ
 callback_count c = length c.handle + length c.after + length c.close

@@ -1,6 +1,7 @@
 //! Scripts: what a person writes to say which handles there are, what the main program does, and what the callbacks do.
 #![tactic(auto)]
 
+mod callback_lines;
 mod limits;
 mod lines;
 mod names;

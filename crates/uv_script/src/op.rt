@@ -1,8 +1,9 @@
 //! What a script's lines do.
 
-ghost use Rattle.std.specs.Prelude.{◌≡◌, OnOk, OnErr};
-ghost use Rattle.uv_script.specs.Program.{no_callbacks, lines_of, makes_io, with_line};
+ghost use Rattle.std.specs.Prelude.{◌≡◌, drop, OnOk, OnErr};
+ghost use Rattle.uv_script.specs.Program.{no_callbacks, lines_of, makes_io, next_line, with_line};
 
+use crate::callback_lines::CallbackLines;
 use std::alloc::{AllocError, Global};
 use std::marker::Model;
 use uv_ids::{Callback, Kind, Mode, Var};
@@ -79,9 +80,9 @@ pub enum MainOp {
 /// The lines of a name's callbacks.
 #[derive(Drop)]
 pub struct Callbacks {
-    handle: Vec<CallbackLine>,
-    after: Vec<CallbackLine>,
-    close: Vec<CallbackLine>,
+    handle: CallbackLines,
+    after: CallbackLines,
+    close: CallbackLines,
 }
 
 impl Model for Callbacks {
@@ -89,7 +90,7 @@ impl Model for Callbacks {
 
     ghost Value = { parts.Callbacks };
 
-    ghost view = { λ a. record { handle = a.handle.items; after = a.after.items; close = a.close.items } };
+    ghost view = { λ a. record { handle = a.handle; after = a.after; close = a.close } };
 }
 
 impl Callbacks {
@@ -98,14 +99,14 @@ impl Callbacks {
         ensures { result ≡ no_callbacks }
     {
         Callbacks {
-            handle: Vec::new(alloc),
-            after: Vec::new(alloc),
-            close: Vec::new(alloc),
+            handle: CallbackLines::new(alloc),
+            after: CallbackLines::new(alloc),
+            close: CallbackLines::new(alloc),
         }
     }
 
-    /// The lines of one of the callbacks.
-    pub(crate) fn lines(&self, kind: Callback) -> &[CallbackLine]
+    /// The lines of one of the callbacks, with their index.
+    fn of(&self, kind: Callback) -> &CallbackLines
         ensures { result.now ≡ lines_of kind self.now }
     {
         match kind {
@@ -113,6 +114,20 @@ impl Callbacks {
             Callback::After => &self.after,
             Callback::Close => &self.close,
         }
+    }
+
+    /// The lines of one of the callbacks.
+    pub(crate) fn lines(&self, kind: Callback) -> &[CallbackLine]
+        ensures { result.now ≡ lines_of kind self.now }
+    {
+        self.of(kind).as_slice()
+    }
+
+    /// The first line of one of the callbacks, from this one on, that is for a call.
+    pub(crate) fn next_line(&self, kind: Callback, call: u32, from: usize) -> Option<usize>
+        ensures { result ≡ next_line call from (drop from (lines_of kind self.now)) }
+    {
+        self.of(kind).next_line(call, from)
     }
 
     /// Adds a line to one of the callbacks. Without memory nothing changes.

@@ -1,9 +1,9 @@
 //! A script's parts.
-ghost use Rattle.std.specs.Prelude.{◌≡◌, slice_get, length, OnOk, All};
+ghost use Rattle.std.specs.Prelude.{◌≡◌, drop, slice_get, length, OnOk, All};
 ghost use Rattle.uv_script.specs.Grammar.{Declares, InMain, InCallback, InThread, Sizes, HasRoom, WasRead, with_statement, blank};
 ghost use Rattle.uv_script.specs.Reading.{has_room, may_make, IsSound, IsSaid};
 ghost use Rattle.uv_script.specs.Said.{said};
-ghost use Rattle.uv_script.specs.Program.{lines_in, op_at, arena_size, worker_count, order_of, has_io, from_heap, with_workers, IsWorkerCount, IsThreadLine, IsWhole};
+ghost use Rattle.uv_script.specs.Program.{lines_in, next_line, op_at, arena_size, worker_count, order_of, has_io, from_heap, with_workers, IsWorkerCount, IsThreadLine, IsWhole};
 
 use crate::limits::{MOST_LINES, MOST_NAMES};
 use crate::names::Names;
@@ -297,5 +297,13 @@ impl Script {
             Some(callbacks) => callbacks.lines(kind),
             None => &[],
         }
+    }
+
+    /// The first line of a name's callback, from this one on, that is for a call of it.
+    pub fn next_line(&self, kind: Callback, name: Var, call: u32, from: usize) -> Option<usize>
+        ensures { result ≡ next_line call from (drop from (lines_in self.now kind name)) }
+    {
+        let callbacks = self.callbacks.get(name.0 as usize)?;
+        callbacks.next_line(kind, call, from)
     }
 }

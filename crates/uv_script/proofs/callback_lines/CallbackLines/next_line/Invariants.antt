@@ -1,5 +1,5 @@
-use Rattle.uv_model.proofs.Names.{◌≡◌, drop, next_line}
-use Rattle.uv_model.proofs.bodies.body_from.Given as goal
+use Rattle.uv_script.proofs.ProofNames.{◌≡◌, drop, next_line}
+use Rattle.uv_script.proofs.callback_lines.CallbackLines.next_line.Given as goal
 
 -- the first line for the call is among those that are left
 abbrev pub invariant-loop-next : goal.invariant-loop-next
