@@ -31,7 +31,20 @@ pub fn push_seen(text: &mut Vec<u8>, script: &Script, seen: Seen) -> Result<(), 
 }
 
 /// Puts a trace line behind a text, without a line feed.
+#[inline(always)]
 pub fn push_line(text: &mut Vec<u8>, script: &Script, seen: Seen) -> Result<(), AllocError>
+    ensures { OnOk result (text.new.items ≡ text.old.items ++ line_text script.now seen) }
+{
+    match seen {
+        Seen::Call(name, id) => push_handle(text, script, b"call ", name, id),
+        Seen::Section(phase) => text.extend_from_slice(phase.word().as_bytes()),
+        _ => push_any_line(text, script, seen),
+    }
+}
+
+/// The same, whatever line it is: `push_line` tells those that come most often from the others.
+#[inline(never)]
+fn push_any_line(text: &mut Vec<u8>, script: &Script, seen: Seen) -> Result<(), AllocError>
     ensures { OnOk result (text.new.items ≡ text.old.items ++ line_text script.now seen) }
 {
     match seen {
