@@ -1,3 +1,4 @@
+mod Ahead
 pub mod Buffers
 pub mod Faults
 pub mod Fronts

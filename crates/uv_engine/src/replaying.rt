@@ -70,10 +70,10 @@ fn is_calls(line: &[u8]) -> bool
     line == b"calls".as_slice()
 }
 
-/// Compares the callbacks that a recording has, up to the line `end`.
+/// Compares the callbacks that a recording has, up to the line `end`. There is room for the text of each.
 fn read_calls<M: Machine, R: Source>(
     rerun: &mut Rerun<M>,
-    alloc: Global,
+    room: &mut Vec<u8>,
     input: &mut Numbered,
     reader: &mut R,
 ) -> Result<(), Fault>
@@ -107,7 +107,7 @@ fn read_calls<M: Machine, R: Source>(
         if !is_callback_line(line.text.as_slice()) {
             return Err(input.bad());
         }
-        rerun.meet(alloc, line.text.as_slice())?;
+        rerun.meet(room, line.text.as_slice())?;
         input.input.reuse(line);
     }
 }
@@ -142,7 +142,8 @@ fn judge<M: Machine, R: Source>(alloc: Global, limit: u64, reader: &mut R) -> Re
         parted: None,
     };
     read_steps(&mut rerun, &mut input, reader)?;
-    read_calls(&mut rerun, alloc, &mut input, reader)?;
+    let mut room = Vec::new(alloc);
+    read_calls(&mut rerun, &mut room, &mut input, reader)?;
     input.expect_end(reader)?;
     Ok(rerun.verdict())
 }

@@ -33,6 +33,7 @@ fn push_at(text: &mut Vec<u8>, length: usize) -> Result<(), AllocError>
 }
 
 /// One step, and what it prints. Says whether one more may follow.
+#[inline(always)]
 #[tactic(auto, using(crate::proofs::Replies::replies))]
 pub(crate) fn tell<M: Machine>(
     session: &mut Session<M>,

@@ -8,7 +8,7 @@ ghost use Rattle.uv_engine.specs.Rerun.{RanSo, MetSo, Met, called_from};
 ghost use Rattle.uv_engine.specs.Verdict.{IsVerdict};
 
 use crate::verdict::Verdict;
-use std::alloc::{AllocError, Global};
+use std::alloc::AllocError;
 use uv_ids::{Event, Fault, Seen};
 use uv_model::Machine;
 use uv_script::Script;
@@ -28,14 +28,19 @@ pub(crate) struct Rerun<M: Machine> {
     pub(crate) parted: Option<usize>,
 }
 
-/// Whether this is the text of a trace line.
-fn is_text_of(alloc: Global, script: &Script, seen: Seen, text: &[u8]) -> Result<bool, AllocError>
+/// Whether this is the text of a trace line, which is written to the room for one.
+fn is_text_of(
+    room: &mut Vec<u8>,
+    script: &Script,
+    seen: Seen,
+    text: &[u8],
+) -> Result<bool, AllocError>
     ensures same { IfOk result (λ same. same ≡ true → text.now ≡ line_text script.now seen) }
     ensures other { IfOk result (λ same. text.now ≡ line_text script.now seen → same ≡ true) }
 {
-    let mut line = Vec::new(alloc);
-    push_line(&mut line, script, seen)?;
-    Ok(line.as_slice() == text)
+    room.clear();
+    push_line(room, script, seen)?;
+    Ok(room.as_slice() == text)
 }
 
 impl<M: Machine> Rerun<M> {
@@ -95,7 +100,7 @@ impl<M: Machine> Rerun<M> {
 
     /// Compares the line of one more recorded callback, unless a step was not taken or a line before it differs.
     #[tactic(auto, using(crate::proofs::Reruns::meeting))]
-    pub(crate) fn meet(&mut self, alloc: Global, line: &[u8]) -> Result<(), AllocError>
+    pub(crate) fn meet(&mut self, room: &mut Vec<u8>, line: &[u8]) -> Result<(), AllocError>
         requires looked { self.old.looked ≤ length (M.standing self.old.machine) }
         requires few { self.old.count < 2 ^ 64 - 1 }
         ensures met { OnOk result ((called : List (List ℕ)) → Met (M.program self.old.machine) (M.standing self.old.machine) self.old.halted
@@ -112,7 +117,7 @@ impl<M: Machine> Rerun<M> {
         }
         self.count += 1;
         let is_next = match self.next_called() {
-            Some(seen) => is_text_of(alloc, self.machine.script(), seen, line)?,
+            Some(seen) => is_text_of(room, self.machine.script(), seen, line)?,
             None => false,
         };
         if !is_next {

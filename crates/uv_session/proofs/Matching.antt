@@ -1,5 +1,5 @@
 -- The sets of breaks with one break more, and what a line matches by them.
-use Rattle.uv_session.proofs.Names.{◌≡◌, ◌∙◌, ◌==◌, ◌||◌, ℕ, List, [], ◌∷◌, ◌++◌, Bool, true, false, Option, Some, None, Result, Ok, Err, OnOk, AllocError, refl, ap, ap₂, sym, list_any, list_any-append, get_or, Code, Phase, Mode, Var, Id, Answer, Site, Seen, Break, matches, is_code, same_code, same_phase, AreSets, is_of_name, is_of_code, is_of_section, is_of_poll}
+use Rattle.uv_session.proofs.Names.{◌≡◌, ◌∙◌, ◌==◌, ◌||◌, ℕ, List, length, arith, [], ◌∷◌, ◌++◌, Bool, true, false, Option, Some, None, Result, Ok, Err, OnOk, AllocError, refl, ap, ap₂, sym, list_any, list_any-append, get_or, Code, Phase, Mode, Var, Id, Answer, Site, Seen, Break, matches, stops, is_code, same_code, same_phase, AreSets, is_of_name, is_of_code, is_of_section, is_of_poll}
 use Rattle.uv_ids.specs.declared.code.Code.TheVariants as code
 use Rattle.uv_ids.specs.declared.seen.Seen.TheVariants as seen
 use Rattle.uv_session.specs.declared.breaks.Break.TheVariants as at
@@ -160,3 +160,9 @@ op_matches_none site a bs none = none_matches (seen.Op site a) bs (λ v. refl) n
 
 pub cancel_matches_none : (v : Var) (a : Answer) (bs : List Break) → IsNoCode a → false ≡ list_any (λ (b : Break). matches b (seen.Cancel v a)) bs
 cancel_matches_none v a bs none = none_matches (seen.Cancel v a) bs (λ v. refl) none (λ x. refl) refl
+
+-- where there are no breaks no step matches one
+pub none_stop : (bs : List Break) (seen : Option Seen) → (length bs == 0) ≡ true → false ≡ stops bs seen
+none_stop [] None none = refl
+none_stop [] (Some l) none = refl
+none_stop (b ∷ bs) seen none = grind arith

@@ -144,10 +144,14 @@ impl Breaks {
         Ok(())
     }
 
-    /// Whether a step matches one of them.
+    /// Whether a step matches one of them. Where there is none, the line isn't looked at.
+    #[inline(always)]
     pub(crate) fn stop(&self, seen: Option<Seen>) -> bool
         ensures { result ≡ stops self.now.listed.items seen }
     {
+        if self.is_empty() {
+            return false;
+        }
         match seen {
             None => false,
             Some(line) => self.match_line(line),

@@ -72,6 +72,7 @@ impl<M: Machine> Session<M> {
     }
 
     /// Does one step. An accepted one discards what was taken back; after an error all is as before.
+    #[inline(always)]
     #[tactic(auto, using(uv_model::proofs::Runs::accepting))]
     pub fn do_event(&mut self, event: Event) -> Result<Outcome, Fault>
         ensures { TakesEvent self.old event result self.new }

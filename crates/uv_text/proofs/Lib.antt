@@ -1,4 +1,5 @@
 pub mod Commands
+mod Digits
 mod Names
 pub mod Pieces
 pub mod Played

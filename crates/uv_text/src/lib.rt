@@ -7,6 +7,7 @@ mod image;
 mod parts;
 mod recorded;
 mod recording;
+mod room;
 mod state;
 mod trace;
 mod traced;

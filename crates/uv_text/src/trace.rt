@@ -1,9 +1,11 @@
 //! The text of a trace.
-ghost use Rattle.std.specs.Prelude.{◌≡◌, ◌++◌, IfOk, IfErr, OnOk, codes};
+ghost use Rattle.std.specs.Prelude.{◌≡◌, ◌≤◌, ◌++◌, length, IfOk, IfErr, OnOk, codes};
 ghost use Rattle.uv_ids.specs.declared.fault.Fault.TheVariants.{Memory};
+ghost use Rattle.uv_ids.specs.declared.seen.Seen.TheVariants.{Op, After};
 ghost use Rattle.hex.specs.Hex.{encode_lower};
 ghost use Rattle.uv_text.specs.Trace.{id_text, handle_text, timeout_text, answer_text, end_text, worker_text, outside_text, site_text, line_text, seen_text};
 
+use crate::room::{ID, put, put_id};
 use std::alloc::{AllocError, Global};
 use uv_ids::{Answer, Code, Fault, Id, Seen, Site, Var};
 use uv_script::{Script, push_number};
@@ -19,6 +21,7 @@ pub fn seen_text(alloc: Global, script: &Script, seen: Seen) -> Result<Vec<u8>, 
 }
 
 /// Puts a trace line with its line feed behind a text.
+#[inline(always)]
 pub fn push_seen(text: &mut Vec<u8>, script: &Script, seen: Seen) -> Result<(), AllocError>
     ensures { OnOk result (text.new.items ≡ text.old.items ++ seen_text script.now seen) }
 {
@@ -28,15 +31,24 @@ pub fn push_seen(text: &mut Vec<u8>, script: &Script, seen: Seen) -> Result<(), 
 }
 
 /// Puts a trace line behind a text, without a line feed.
+#[inline(always)]
 pub fn push_line(text: &mut Vec<u8>, script: &Script, seen: Seen) -> Result<(), AllocError>
     ensures { OnOk result (text.new.items ≡ text.old.items ++ line_text script.now seen) }
 {
     match seen {
-        Seen::Op(site, answer) => {
-            push_site(text, script, site)?;
-            text.extend_from_slice(b" = ")?;
-            push_answer(text, answer)
-        }
+        Seen::Call(name, id) => push_handle(text, script, b"call ", name, id),
+        Seen::Section(phase) => text.extend_from_slice(phase.word().as_bytes()),
+        _ => push_any_line(text, script, seen),
+    }
+}
+
+/// The same, whatever line it is: `push_line` tells those that come most often from the others.
+#[inline(never)]
+fn push_any_line(text: &mut Vec<u8>, script: &Script, seen: Seen) -> Result<(), AllocError>
+    ensures { OnOk result (text.new.items ≡ text.old.items ++ line_text script.now seen) }
+{
+    match seen {
+        Seen::Op(site, answer) => push_op(text, script, site, answer),
         Seen::Run(mode) => {
             text.extend_from_slice(b"run ")?;
             text.extend_from_slice(mode.word().as_bytes())
@@ -48,11 +60,7 @@ pub fn push_line(text: &mut Vec<u8>, script: &Script, seen: Seen) -> Result<(), 
         }
         Seen::Call(name, id) => push_handle(text, script, b"call ", name, id),
         Seen::Io(name, id) => push_handle(text, script, b"call ", name, id),
-        Seen::After(digest, name, id) => {
-            push_handle(text, script, b"after ", name, id)?;
-            text.push(b' ')?;
-            push_end(text, digest)
-        }
+        Seen::After(digest, name, id) => push_after(text, script, digest, name, id),
         Seen::Closed(name, id) => push_handle(text, script, b"closed ", name, id),
         Seen::End(true) => text.extend_from_slice(b"end 1"),
         Seen::End(false) => text.extend_from_slice(b"end 0"),
@@ -65,6 +73,37 @@ pub fn push_line(text: &mut Vec<u8>, script: &Script, seen: Seen) -> Result<(), 
             push_number(text, ms)
         }
     }
+}
+
+/// An op, and what it answered.
+#[inline(never)]
+fn push_op(
+    text: &mut Vec<u8>,
+    script: &Script,
+    site: Site,
+    answer: Answer,
+) -> Result<(), AllocError>
+    ensures { OnOk result (text.new.items ≡ text.old.items ++ line_text script.now (Op site answer)) }
+{
+    push_site(text, script, site)?;
+    text.extend_from_slice(b" = ")?;
+    push_answer(text, answer)
+}
+
+/// The after callback of a request, and how the request ended.
+#[inline(never)]
+fn push_after(
+    text: &mut Vec<u8>,
+    script: &Script,
+    digest: Option<[u8; 32]>,
+    name: Var,
+    id: Id,
+) -> Result<(), AllocError>
+    ensures { OnOk result (text.new.items ≡ text.old.items ++ line_text script.now (After digest name id)) }
+{
+    push_handle(text, script, b"after ", name, id)?;
+    text.push(b' ')?;
+    push_end(text, digest)
 }
 
 /// How a request ended.
@@ -91,6 +130,7 @@ fn push_digest(text: &mut Vec<u8>, digest: [u8; 32]) -> Result<(), AllocError>
 }
 
 /// What a worker did, by its word, and the request that it did it with.
+#[inline(never)]
 fn push_worker(
     text: &mut Vec<u8>,
     script: &Script,
@@ -108,6 +148,7 @@ fn push_worker(
 }
 
 /// A step from outside, by its word, with the name that it is of and what was answered.
+#[inline(never)]
 fn push_outside(
     text: &mut Vec<u8>,
     script: &Script,
@@ -125,6 +166,7 @@ fn push_outside(
 }
 
 /// A word, and a handle or a request by its name and its id.
+#[inline(always)]
 fn push_handle(
     text: &mut Vec<u8>,
     script: &Script,
@@ -132,12 +174,19 @@ fn push_handle(
     name: Var,
     id: Id,
 ) -> Result<(), AllocError>
+    requires { length word.now ≤ 7 }
     ensures { OnOk result (text.new.items ≡ text.old.items ++ word.now ++ handle_text script.now name id) }
 {
-    text.extend_from_slice(word)?;
-    script.names().push_name(text, name)?;
-    text.push(b' ')?;
-    push_id(text, id)
+    let name = match script.names().get(name) {
+        Some(bytes) => bytes,
+        None => &[],
+    };
+    text.reserve(word.len() + name.len() + 1 + ID)?;
+    put(text, word);
+    put(text, name);
+    text.push_reserved(b' ');
+    put_id(text, id);
+    Ok(())
 }
 
 /// The op at a place of the script.
@@ -167,9 +216,9 @@ fn push_answer(text: &mut Vec<u8>, answer: Answer) -> Result<(), AllocError>
 pub(crate) fn push_id(text: &mut Vec<u8>, id: Id) -> Result<(), AllocError>
     ensures { OnOk result (text.new.items ≡ text.old.items ++ id_text id) }
 {
-    push_number(text, u64::from(id.slot))?;
-    text.push(b'.')?;
-    push_number(text, u64::from(id.generation))
+    text.reserve(ID)?;
+    put_id(text, id);
+    Ok(())
 }
 
 pub(crate) fn push_timeout(text: &mut Vec<u8>, timeout: Option<u64>) -> Result<(), AllocError>

@@ -49,6 +49,7 @@ fn push_trace_part<M: Machine>(
 }
 
 /// Puts what a step appended behind a text, with a line feed: a line, or nothing.
+#[inline(always)]
 pub fn push_appended(
     text: &mut Vec<u8>,
     script: &Script,
