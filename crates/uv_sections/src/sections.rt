@@ -70,34 +70,34 @@ fn after_walk(memory: &mut Memory<Place>, run: Run, kind: WatcherKind) -> Seen
 }
 
 /// Goes on in the section of the idle, prepare or check handles: the front of those that are yet to run is called, or the next part begins.
-fn in_plain(memory: &mut Memory<Place>, script: &Script, run: Run, kind: WatcherKind) -> Seen
+fn in_plain(memory: &mut Memory<Place>, script: &Script, run: &Run, kind: WatcherKind) -> Seen
     requires ready { IsReady (held memory.old) }
     requires other { kind ≢ async }
     requires empty { IsClearAfter kind (held memory.old).image.arena }
     ensures returns { Returns memory.new.step_record (held memory.old) (held memory.new) }
-    ensures goes { Goes (λ s. walk script.now s run kind)
+    ensures goes { Goes (λ s. walk script.now s run.now kind)
         (held memory.old).image (held memory.new).image (Some result) }
     ensures pieces { memory.new.slots.room ≡ memory.old.slots.room }
 {
     match walk(memory, script, run, kind) {
         Some(called) => called,
-        None => after_walk(memory, run, kind),
+        None => after_walk(memory, *run, kind),
     }
 }
 
 /// Goes on in the async section: the front of the async handles that are yet to run is called or passed by, or the check handles
 /// begin.
-fn in_async(memory: &mut Memory<Place>, script: &Script, run: Run) -> Option<Seen>
+fn in_async(memory: &mut Memory<Place>, script: &Script, run: &Run) -> Option<Seen>
     requires ready { IsReady (held memory.old) }
     requires empty { IsClearAfter async (held memory.old).image.arena }
     ensures returns { Returns memory.new.step_record (held memory.old) (held memory.new) }
-    ensures goes { Goes (λ s. walk_async script.now s run)
+    ensures goes { Goes (λ s. walk_async script.now s run.now)
         (held memory.old).image (held memory.new).image result }
     ensures pieces { memory.new.slots.room ≡ memory.old.slots.room }
 {
     match walk_async(memory, script, run) {
         Some(passed) => passed,
-        None => Some(after_walk(memory, run, WatcherKind::Async)),
+        None => Some(after_walk(memory, *run, WatcherKind::Async)),
     }
 }
 
@@ -116,9 +116,9 @@ pub fn in_walk(
     ensures pieces { memory.new.slots.room ≡ memory.old.slots.room }
 {
     match kind {
-        WatcherKind::Idle => Some(in_plain(memory, script, run, kind)),
-        WatcherKind::Prepare => Some(in_plain(memory, script, run, kind)),
-        WatcherKind::Check => Some(in_plain(memory, script, run, kind)),
-        WatcherKind::Async => in_async(memory, script, run),
+        WatcherKind::Idle => Some(in_plain(memory, script, &run, kind)),
+        WatcherKind::Prepare => Some(in_plain(memory, script, &run, kind)),
+        WatcherKind::Check => Some(in_plain(memory, script, &run, kind)),
+        WatcherKind::Async => in_async(memory, script, &run),
     }
 }
