@@ -23,9 +23,7 @@ stage_of (kept.Timers part timing) = stage.Timers part timing
 
 abbrev pub place_of : KeptPlace → Place
 place_of (place.Main line) = Main line
-place_of (place.Between mode s line) = Running (record { mode = mode; line = line; stage = stage_of s; body = None })
-place_of (place.Waiting mode line deadline) =
-    Running (record { mode = mode; line = line; stage = stage.Poll (Some deadline); body = None })
+place_of (place.Between mode line s) = Running (record { mode = mode; line = line; stage = s; body = None })
 place_of (place.Within mode s line body) = Running (record { mode = mode; line = line; stage = stage_of s; body = Some body })
 place_of (place.WithinPoll mode callback line name call next deadline) = Running (record {
   mode = mode;

@@ -8,7 +8,7 @@ use uv_ids::{Callback, Mode, Var};
 use uv_model::{Body, Place, Run, Stage, TimersOf, Timing};
 use uv_records::WatcherKind;
 
-/// A stage that has no number.
+/// A stage that has no number, as it is kept beside a body.
 #[derive(Clone, Copy)]
 pub(crate) enum KeptStage {
     Entry,
@@ -60,14 +60,12 @@ impl KeptStage {
     }
 }
 
-/// Where the loop stood: in five words, as it holds none that its place has no need of.
+/// Where the loop stood: in five words, as a body that isn't under way takes none.
 #[derive(Clone, Copy)]
 pub(crate) enum KeptPlace {
     Main(usize),
     /// In a run of a line, with no body under way.
-    Between(Mode, KeptStage, usize),
-    /// The same, in a poll with this deadline in ms.
-    Waiting(Mode, usize, u64),
+    Between(Mode, usize, Stage),
     /// In a body of a run of a line.
     Within(Mode, KeptStage, usize, Body),
     /// The same, in a poll with a deadline. (As a struct the body would take a word more.)
@@ -99,18 +97,19 @@ impl KeptPlace {
     fn of_run(run: Run) -> KeptPlace
         ensures { place_of result ≡ running run }
     {
-        match (run.body, KeptStage::of(run.stage)) {
-            (None, Ok(stage)) => KeptPlace::Between(run.mode, stage, run.line),
-            (None, Err(deadline)) => KeptPlace::Waiting(run.mode, run.line, deadline),
-            (Some(body), Ok(stage)) => KeptPlace::Within(run.mode, stage, run.line, body),
-            (Some(body), Err(deadline)) => KeptPlace::WithinPoll {
-                mode: run.mode,
-                callback: body.callback,
-                line: run.line,
-                name: body.name,
-                call: body.call,
-                next: body.next,
-                deadline,
+        match run.body {
+            None => KeptPlace::Between(run.mode, run.line, run.stage),
+            Some(body) => match KeptStage::of(run.stage) {
+                Ok(stage) => KeptPlace::Within(run.mode, stage, run.line, body),
+                Err(deadline) => KeptPlace::WithinPoll {
+                    mode: run.mode,
+                    callback: body.callback,
+                    line: run.line,
+                    name: body.name,
+                    call: body.call,
+                    next: body.next,
+                    deadline,
+                },
             },
         }
     }
@@ -121,16 +120,10 @@ impl KeptPlace {
     {
         match self {
             KeptPlace::Main(line) => Place::Main(line),
-            KeptPlace::Between(mode, stage, line) => Place::Running(Run {
+            KeptPlace::Between(mode, line, stage) => Place::Running(Run {
                 mode,
                 line,
-                stage: stage.stage(),
-                body: None,
-            }),
-            KeptPlace::Waiting(mode, line, deadline) => Place::Running(Run {
-                mode,
-                line,
-                stage: Stage::Poll(Some(deadline)),
+                stage,
                 body: None,
             }),
             KeptPlace::Within(mode, stage, line, body) => Place::Running(Run {

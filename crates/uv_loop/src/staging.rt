@@ -31,7 +31,7 @@ pub(crate) fn in_stage(memory: &mut Memory<Place>, script: &Script, run: &Run) -
     match run.stage {
         Stage::Entry => Some(turn(memory, script, *run, Turn::AtEntry)),
         Stage::Pending => Some(begin_walk(memory, *run, WatcherKind::Idle)),
-        Stage::Walking(kind) => in_walk(memory, script, *run, kind),
+        Stage::Walking(kind) => in_walk(memory, script, run, kind),
         Stage::Poll(_) => Some(leave_poll(memory, *run)),
         Stage::Polled(woken) => Some(leave_polled(memory, *run, woken)),
         Stage::Done => Some(in_done(memory, script, *run)),

@@ -54,18 +54,18 @@ pub fn in_closing(memory: &mut Memory<Place>, script: &Script, run: Run) -> Seen
 }
 
 /// Goes on behind the section of a kind.
-fn after_walk(memory: &mut Memory<Place>, run: Run, kind: WatcherKind) -> Seen
+fn after_walk(memory: &mut Memory<Place>, run: &Run, kind: WatcherKind) -> Seen
     requires ready { IsReady (held memory.old) }
     requires empty { IsClearAfter kind (held memory.old).image.arena }
     ensures returns { Returns memory.new.step_record (held memory.old) (held memory.new) }
-    ensures goes { Goes (λ s. after_walk s run kind) (held memory.old).image (held memory.new).image (Some result) }
+    ensures goes { Goes (λ s. after_walk s run.now kind) (held memory.old).image (held memory.new).image (Some result) }
     ensures pieces { memory.new.slots.room ≡ memory.old.slots.room }
 {
     match kind {
-        WatcherKind::Idle => begin_walk(memory, run, WatcherKind::Prepare),
-        WatcherKind::Prepare => begin_poll(memory, run),
-        WatcherKind::Check => begin_closing(memory, run),
-        WatcherKind::Async => begin_walk(memory, run, WatcherKind::Check),
+        WatcherKind::Idle => begin_walk(memory, *run, WatcherKind::Prepare),
+        WatcherKind::Prepare => begin_poll(memory, *run),
+        WatcherKind::Check => begin_closing(memory, *run),
+        WatcherKind::Async => begin_walk(memory, *run, WatcherKind::Check),
     }
 }
 
@@ -81,7 +81,7 @@ fn in_plain(memory: &mut Memory<Place>, script: &Script, run: &Run, kind: Watche
 {
     match walk(memory, script, run, kind) {
         Some(called) => called,
-        None => after_walk(memory, *run, kind),
+        None => after_walk(memory, run, kind),
     }
 }
 
@@ -97,7 +97,7 @@ fn in_async(memory: &mut Memory<Place>, script: &Script, run: &Run) -> Option<Se
 {
     match walk_async(memory, script, run) {
         Some(passed) => passed,
-        None => Some(after_walk(memory, *run, WatcherKind::Async)),
+        None => Some(after_walk(memory, run, WatcherKind::Async)),
     }
 }
 
@@ -105,20 +105,20 @@ fn in_async(memory: &mut Memory<Place>, script: &Script, run: &Run) -> Option<Se
 pub fn in_walk(
     memory: &mut Memory<Place>,
     script: &Script,
-    run: Run,
+    run: &Run,
     kind: WatcherKind,
 ) -> Option<Seen>
     requires ready { IsReady (held memory.old) }
     requires empty { IsClearAfter kind (held memory.old).image.arena }
     ensures returns { Returns memory.new.step_record (held memory.old) (held memory.new) }
-    ensures goes { Goes (λ s. in_walk script.now s run kind)
+    ensures goes { Goes (λ s. in_walk script.now s run.now kind)
         (held memory.old).image (held memory.new).image result }
     ensures pieces { memory.new.slots.room ≡ memory.old.slots.room }
 {
     match kind {
-        WatcherKind::Idle => Some(in_plain(memory, script, &run, kind)),
-        WatcherKind::Prepare => Some(in_plain(memory, script, &run, kind)),
-        WatcherKind::Check => Some(in_plain(memory, script, &run, kind)),
-        WatcherKind::Async => in_async(memory, script, &run),
+        WatcherKind::Idle => Some(in_plain(memory, script, run, kind)),
+        WatcherKind::Prepare => Some(in_plain(memory, script, run, kind)),
+        WatcherKind::Check => Some(in_plain(memory, script, run, kind)),
+        WatcherKind::Async => in_async(memory, script, run),
     }
 }
