@@ -4,10 +4,10 @@ pub mod Courses
 pub mod Events
 pub mod Finishes
 pub mod KeptLines
+pub mod KeptRecords
 pub mod Lasts
 pub mod Lines
 mod Names
-mod Popped
 pub mod Ready
 pub mod Refusing
 pub mod Simulation

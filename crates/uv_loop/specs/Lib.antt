@@ -5,3 +5,4 @@ pub mod LineRows
 pub mod Taken
 pub mod Pooling
 pub mod Acting
+pub mod KeptPlaces

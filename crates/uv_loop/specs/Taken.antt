@@ -4,6 +4,7 @@ use Rattle.uv_ids.specs.declared.event.Event.{Event}
 use Rattle.uv_ids.specs.declared.event.Event.TheVariants.{Loop, Take, Finish, Cancel, Send, Io, Tick}
 use Rattle.uv_ids.specs.declared.seen.Seen.{Seen}
 use Rattle.uv_ids.specs.declared.seen.Seen.TheVariants as seen
+use Rattle.uv_model.specs.declared.place.Place.{Place}
 use Rattle.uv_step.specs.Record.{Record}
 use Rattle.uv_loop.specs.declared.steps.Steps.{Steps}
 
@@ -20,18 +21,17 @@ event_of other = Loop
 abbrev pub events_of : List (Option Seen) → List Event
 events_of lines = map event_of lines
 
-module _ {P : Type 0} where
-  -- there is memory for one step more
-  pub record HasRoom (steps : Steps P) : Type 0 where
-    pub seen : 0 < steps.seen.room
-    pub records : 0 < steps.trail.room
+-- there is memory for one step more
+pub record HasRoom (steps : Steps) : Type 0 where
+  pub seen : 0 < steps.seen.room
+  pub records : 0 < steps.trail.room
 
-  -- the same steps
-  pub record AreSame (old new : Steps P) : Type 0 where
-    pub seen : new.seen.items ≡ old.seen.items
-    pub records : new.trail.records ≡ old.trail.records
+-- the same steps
+pub record AreSame (old new : Steps) : Type 0 where
+  pub seen : new.seen.items ≡ old.seen.items
+  pub records : new.trail.records ≡ old.trail.records
 
-  -- one step more
-  pub record IsOneMore (old new : Steps P) (line : Option Seen) (step_record : Record P) : Type 0 where
-    pub seen : new.seen.items ≡ old.seen.items ++ line ∷ []
-    pub records : new.trail.records ≡ old.trail.records ++ step_record ∷ []
+-- one step more
+pub record IsOneMore (old new : Steps) (line : Option Seen) (step_record : Record Place) : Type 0 where
+  pub seen : new.seen.items ≡ old.seen.items ++ line ∷ []
+  pub records : new.trail.records ≡ old.trail.records ++ step_record ∷ []

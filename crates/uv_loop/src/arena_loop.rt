@@ -41,7 +41,7 @@ pub struct ArenaLoop {
     pub(crate) alloc: Global,
     pub(crate) script: Script,
     pub(crate) memory: Memory<Place>,
-    pub(crate) steps: Steps<Place>,
+    pub(crate) steps: Steps,
 }
 
 impl Model for ArenaLoop {

@@ -31,14 +31,14 @@ fn perform_at(memory: &mut Memory<Place>, op: Op, place: Place) -> Result<Answer
 }
 
 /// The body under way is over.
-fn leave_body(memory: &mut Memory<Place>, run: Run)
+fn leave_body(memory: &mut Memory<Place>, run: &Run)
     requires ready { IsReady (held memory.old) }
-    ensures turns { (p : Program) → (body : Body) → Turns (λ s. body_step p s run body None)
+    ensures turns { (p : Program) → (body : Body) → Turns (λ s. body_step p s run.now body None)
         memory.new.step_record (held memory.old) (held memory.new) None }
     ensures pieces { memory.new.slots.room ≡ memory.old.slots.room }
 {
     memory.pass();
-    let place = Place::Running(Run { body: None, ..run });
+    let place = Place::Running(Run { body: None, ..*run });
     stand_at(memory, place);
 }
 
@@ -55,12 +55,12 @@ fn line_of(script: &Script, body: Body) -> Option<CallbackLine>
 pub(crate) fn in_body(
     memory: &mut Memory<Place>,
     script: &Script,
-    run: Run,
+    run: &Run,
     body: Body,
 ) -> Result<Option<Seen>, AllocError>
     requires ready { IsReady (held memory.old) }
     ensures turns { IfOk result (λ line. Turns
-        (λ s. body_step script.now s run body (slice_get (lines_in script.now body.callback body.name) body.next))
+        (λ s. body_step script.now s run.now body (slice_get (lines_in script.now body.callback body.name) body.next))
         memory.new.step_record (held memory.old) (held memory.new) line) }
     ensures memory { IfErr result (λ _. WantsPiece memory.old memory.new) }
     ensures pieces { memory.old.slots.room ≤ memory.new.slots.room }
@@ -72,7 +72,7 @@ pub(crate) fn in_body(
         }
         Some(line) => {
             let rest = body_from(script, body.callback, body.name, body.call, body.next + 1);
-            let place = Place::Running(Run { body: rest, ..run });
+            let place = Place::Running(Run { body: rest, ..*run });
             let answer = perform_at(memory, line.op, place)?;
             let site = Site::In(body.callback, body.name, body.next);
             Ok(Some(Seen::Op(site, answer)))

@@ -28,20 +28,25 @@ pub(crate) fn turn(memory: &mut Memory<Place>, script: &Script) -> Result<Option
     ensures memory { IfErr result (λ _. WantsPiece memory.old memory.new) }
     ensures pieces { memory.old.slots.room ≤ memory.new.slots.room }
 {
-    match memory.place() {
-        Place::Main(line) => in_main(memory, script, line),
+    let place = memory.place();
+    match &place {
+        Place::Main(line) => in_main(memory, script, *line),
         Place::Running(run) => in_run(memory, script, run),
     }
 }
 
 /// The run under way goes on.
-fn in_run(memory: &mut Memory<Place>, script: &Script, run: Run) -> Result<Option<Seen>, AllocError>
+fn in_run(
+    memory: &mut Memory<Place>,
+    script: &Script,
+    run: &Run,
+) -> Result<Option<Seen>, AllocError>
     requires ready { IsReady (held memory.old) }
     requires last { (held memory.old).image.arena.last ≡ (arena_size script.now).last_generation }
-    requires line { run.line < 2 ^ 63 }
-    requires clear { IsClearIn run.body run.stage (held memory.old).image.arena }
-    requires may { MayIn run.body run.stage (held memory.old).image }
-    ensures turns { IfOk result (λ line. Turns (λ s. run_step script.now s run run.body)
+    requires line { run.now.line < 2 ^ 63 }
+    requires clear { IsClearIn run.now.body run.now.stage (held memory.old).image.arena }
+    requires may { MayIn run.now.body run.now.stage (held memory.old).image }
+    ensures turns { IfOk result (λ line. Turns (λ s. run_step script.now s run.now run.now.body)
         memory.new.step_record (held memory.old) (held memory.new) line) }
     ensures memory { IfErr result (λ _. WantsPiece memory.old memory.new) }
     ensures pieces { memory.old.slots.room ≤ memory.new.slots.room }

@@ -19,24 +19,24 @@ use uv_sections::{
 use uv_step::Memory;
 
 /// What the run does next where no body is under way.
-pub(crate) fn in_stage(memory: &mut Memory<Place>, script: &Script, run: Run) -> Option<Seen>
+pub(crate) fn in_stage(memory: &mut Memory<Place>, script: &Script, run: &Run) -> Option<Seen>
     requires ready { IsReady (held memory.old) }
     requires last { (held memory.old).image.arena.last ≡ (arena_size script.now).last_generation }
-    requires line { run.line < 2 ^ 63 }
-    requires clear { IsClearBehind run.stage (held memory.old).image.arena }
-    requires may { MayBehind run.stage (held memory.old).image }
-    ensures turns { Turns (λ s. stage_step script.now s run run.stage) memory.new.step_record (held memory.old) (held memory.new) result }
+    requires line { run.now.line < 2 ^ 63 }
+    requires clear { IsClearBehind run.now.stage (held memory.old).image.arena }
+    requires may { MayBehind run.now.stage (held memory.old).image }
+    ensures turns { Turns (λ s. stage_step script.now s run.now run.now.stage) memory.new.step_record (held memory.old) (held memory.new) result }
     ensures pieces { memory.new.slots.room ≡ memory.old.slots.room }
 {
     match run.stage {
-        Stage::Entry => Some(turn(memory, script, run, Turn::AtEntry)),
-        Stage::Pending => Some(begin_walk(memory, run, WatcherKind::Idle)),
+        Stage::Entry => Some(turn(memory, script, *run, Turn::AtEntry)),
+        Stage::Pending => Some(begin_walk(memory, *run, WatcherKind::Idle)),
         Stage::Walking(kind) => in_walk(memory, script, run, kind),
-        Stage::Poll(_) => Some(leave_poll(memory, run)),
-        Stage::Polled(woken) => Some(leave_polled(memory, run, woken)),
-        Stage::Done => Some(in_done(memory, script, run)),
-        Stage::DoneUnwoken => Some(begin_unwoken_async(memory, run)),
-        Stage::Closing => Some(in_closing(memory, script, run)),
-        Stage::Timers(part, timing) => in_timers(memory, script, run, part, timing),
+        Stage::Poll(_) => Some(leave_poll(memory, *run)),
+        Stage::Polled(woken) => Some(leave_polled(memory, *run, woken)),
+        Stage::Done => Some(in_done(memory, script, *run)),
+        Stage::DoneUnwoken => Some(begin_unwoken_async(memory, *run)),
+        Stage::Closing => Some(in_closing(memory, script, *run)),
+        Stage::Timers(part, timing) => in_timers(memory, script, *run, part, timing),
     }
 }

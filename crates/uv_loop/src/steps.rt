@@ -3,25 +3,27 @@ ghost use Rattle.std.specs.Prelude.{◌≡◌, ◌<◌, ◌++◌, ◌∷◌, [],
 ghost use Rattle.uv_loop.specs.Taken.{HasRoom, AreSame, IsOneMore};
 
 use crate::line_row::LineRow;
+use crate::record_row::RecordRow;
 use std::alloc::{AllocError, Global};
 use uv_ids::Seen;
-use uv_step::{LastStep, Trail};
+use uv_model::Place;
+use uv_step::LastStep;
 
 /// The steps that stand: what each appended to the trace, which tells its event, and what takes it back.
 #[derive(Drop)]
-pub(crate) struct Steps<P: Copy> {
+pub(crate) struct Steps {
     pub(crate) seen: LineRow,
-    pub(crate) trail: Trail<P>,
+    pub(crate) trail: RecordRow,
 }
 
-impl<P: Copy> Steps<P> {
-    pub(crate) fn new(alloc: Global) -> Steps<P>
+impl Steps {
+    pub(crate) fn new(alloc: Global) -> Steps
         ensures seen { result.seen.items ≡ [] }
         ensures records { result.trail.records ≡ [] }
     {
         Steps {
             seen: LineRow::new(alloc),
-            trail: Trail::new(alloc),
+            trail: RecordRow::new(alloc),
         }
     }
 
@@ -37,7 +39,7 @@ impl<P: Copy> Steps<P> {
     }
 
     /// One more. It takes no memory.
-    pub(crate) fn push(&mut self, line: Option<Seen>, last: &LastStep<P>)
+    pub(crate) fn push(&mut self, line: Option<Seen>, last: &LastStep<Place>)
         requires { HasRoom self.old }
         ensures { IsOneMore self.old self.new line last.now }
     {
@@ -53,7 +55,7 @@ impl<P: Copy> Steps<P> {
     }
 
     /// The last one of some goes: this takes it back.
-    pub(crate) fn pop(&mut self, last: &mut LastStep<P>)
+    pub(crate) fn pop(&mut self, last: &mut LastStep<Place>)
         requires some { 0 < length self.old.trail.records }
         requires each { length self.old.seen.items ≡ length self.old.trail.records }
         ensures records { self.old.trail.records ≡ self.new.trail.records ++ last.new ∷ [] }

@@ -1,5 +1,5 @@
 -- A callback begins behind a change: of what was freed, or of what moved on.
-use Rattle.uv_sections.proofs.Names.{◌≡◌, ◌≢◌, ℕ, Bool, true, if◌then◌else◌, List, Option, None, ◌<◌, ◌^◌, drop, Some, sym, ap, ◌∙◌, subst, Id, Var, Seen, Callback, HandleRecord, WatcherKind, woken, Request, Program, arena_size, Run, Walking, Timers, TimersOf, Collecting, Firing, restarted, stopped, Fires, CallsFirst, OfEach, Goes, Place, State, with_handle, digest_in, Moves, calls, close_front, collect_request, walk, walk_async, call, call_due, stage_polled, time_polled, at, fire, front_moved, named, count_of, Record, Recorded, Image, Held, IsReady, StandsFor, RequestGone, HandleGone, HandleMoved, moved_state}
+use Rattle.uv_sections.proofs.Names.{◌≡◌, ◌≢◌, ℕ, Bool, true, if◌then◌else◌, List, Option, None, ◌<◌, ◌^◌, drop, Some, sym, ap, ◌∙◌, subst, Id, Var, Seen, Callback, HandleRecord, WatcherKind, woken, Request, Program, arena_size, Run, Walking, Timers, TimersOf, Collecting, Firing, restarted, stopped, Fires, CallsFirst, OfEach, Goes, Place, State, with_handle, digest_in, Moves, calls, close_front, collect_request, walk, walk_async, call, call_due, stage_polled, time_polled, at, fire, front_moved, named, count_of, Record, Recorded, Image, Held, IsReady, StandsFor, RequestGone, HandleGone, NamedMoved, moved_state}
 use Rattle.uv_ids.specs.declared.seen.Seen.TheVariants as seen
 use Rattle.uv_ids.specs.declared.seen.Callback.TheVariants as callback
 use Rattle.uv_records.specs.declared.lists.WatcherKind.TheVariants as watcher
@@ -33,27 +33,33 @@ collect_goes p run j k s id r digest gone told begins =
     (b.0, rw (gone.front, sym told) b.1, b.2)
 
 -- that of a watcher that moved on
-pub walk_goes : (p : Program) (run : Run) (j k : Image Place) (s : State) (w : WatcherKind) (id : Id) (r : HandleRecord) (pending : Bool)
-    → HandleMoved w j s id r pending → w ≢ watcher.Async → Begins p run callback.Handle r.name j k
-    → (t : State) × (walk p s run w ≡ Moves t (Some (seen.Call r.name id))) × StandsFor k t
-walk_goes p run j k s w id r pending moved other begins =
+pub walk_goes : (p : Program) (run : Run) (j k : Image Place) (s : State) (w : WatcherKind) (id : Id) (v : Var) (pending : Bool)
+    → NamedMoved w j s id v pending → w ≢ watcher.Async → Begins p run callback.Handle v j k
+    → (t : State) × (walk p s run w ≡ Moves t (Some (seen.Call v id))) × StandsFor k t
+walk_goes p run j k s w id v pending m other begins =
+    let r = m.handle in
     let stands : StandsFor j (front_moved s w id) =
-    subst (λ b. StandsFor j (moved_state b s w id r)) (moved.was ∙ calls_all w r other) moved.stands in
-    let b = begins _ stands (seen.Call r.name id) in
-    (b.0, rw moved.front b.1, b.2)
+    subst (λ b. StandsFor j (moved_state b s w id r)) (m.moved.was ∙ calls_all w r other) m.moved.stands in
+    let b = begins _ stands (seen.Call v id) in
+    (b.0, rw m.moved.front ((λ l. calls p (front_moved s w id) run callback.Handle (m.name l) (seen.Call (m.name l) id)) ∙ b.1), b.2)
 
 -- that of an async handle that was sent to
-pub async_goes : (p : Program) (run : Run) (j k : Image Place) (s : State) (id : Id) (r : HandleRecord) (pending : Bool)
-    → HandleMoved watcher.Async j s id r pending → pending ≡ true → Begins p run callback.Handle r.name j k
-    → (t : State) × (walk_async p s run ≡ Moves t (Some (seen.Call r.name id))) × StandsFor k t
-async_goes p run j k s id r pending moved on begins =
+pub async_goes : (p : Program) (run : Run) (j k : Image Place) (s : State) (id : Id) (v : Var) (pending : Bool)
+    → NamedMoved watcher.Async j s id v pending → pending ≡ true → Begins p run callback.Handle v j k
+    → (t : State) × (walk_async p s run ≡ Moves t (Some (seen.Call v id))) × StandsFor k t
+async_goes p run j k s id v pending moved on begins =
+    let r = moved.handle in
     let stands : StandsFor j (moved_state true s watcher.Async id r) =
-    subst (λ b. StandsFor j (moved_state b s watcher.Async id r)) on moved.stands in
-    let b = begins _ stands (seen.Call r.name id) in
-    let waits : r.pending ≡ true = sym moved.was ∙ on in
+    subst (λ b. StandsFor j (moved_state b s watcher.Async id r)) on moved.moved.stands in
+    let b = begins _ stands (seen.Call v id) in
+    let waits : r.pending ≡ true = sym moved.moved.was ∙ on in
     let m = front_moved s watcher.Async id in
-    let called = ap (λ x. if x then call p (with_handle m id (woken r)) run id r.name else Moves (at m run (Walking watcher.Async)) None) waits in
-    (b.0, rw moved.front (called ∙ b.1), b.2)
+    let called = ap (λ x. if x then call p (with_handle m id (woken r)) run id r.name else Moves (at m run (Walking watcher.Async)) None) waits in (
+      b.0,
+      rw moved.moved.front (called
+          ∙ (λ l. calls p (with_handle m id (woken r)) run callback.Handle (moved.name l) (seen.Call (moved.name l) id)) ∙ b.1),
+      b.2,
+    )
 
 -- that of a timer that was set aside
 pub fire_goes : (p : Program) (run : Run) (part : TimersOf) (i j k : Image Place) (id : Id) (v : Var) → Fires i j id v

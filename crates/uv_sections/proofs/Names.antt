@@ -50,7 +50,7 @@ pub use Rattle.uv_requests.specs.Working.{Working, id_in}
 pub use Rattle.uv_requests.specs.declared.undo.CollectWorkUndo.{CollectWorkUndo}
 pub use Rattle.uv_script.specs.Program.{Program, arena_size, order_of}
 pub use Rattle.uv_sections.specs.Gone.{HandleGone, RequestGone}
-pub use Rattle.uv_sections.specs.Moved.{HandleMoved, moved_state}
+pub use Rattle.uv_sections.specs.Moved.{HandleMoved, NamedMoved, moved_state}
 pub use Rattle.uv_stands.proofs.Holding.{ids_kept, map_same, slot_by, slot_or, slots_set, state_handle}
 pub use Rattle.uv_stands.proofs.Lists.{Listed, all_but_two, beside_lists, list_is}
 pub use Rattle.uv_stands.proofs.Pools.{asked_there, first_one, front_there, ids_moved}

@@ -1,6 +1,7 @@
 -- The front of those that a section has yet to run, which moves to the end of its list: what the old memory and the new one stand for.
 use Rattle.std.specs.Prelude.{◌≡◌, Bool, true, false, Some}
 use Rattle.uv_ids.specs.declared.id.Id.{Id}
+use Rattle.uv_ids.specs.declared.id.Var.{Var}
 use Rattle.uv_records.specs.declared.handle.HandleRecord.{HandleRecord}
 use Rattle.uv_records.specs.declared.lists.WatcherKind.{WatcherKind}
 use Rattle.uv_records.specs.Handles.{woken}
@@ -20,3 +21,9 @@ pub record HandleMoved (kind : WatcherKind) (new : Image Place) (s : State) (id 
   pub front : front s (watched s kind).yet ≡ Some (id, r)
   pub was : pending ≡ pending_of kind (Some r)
   pub stands : StandsFor new (moved_state pending s kind id r)
+
+-- so did one of this name
+pub record NamedMoved (kind : WatcherKind) (new : Image Place) (s : State) (id : Id) (v : Var) (pending : Bool) : Type 0 where
+  pub handle : HandleRecord
+  pub name : handle.name ≡ v
+  pub moved : HandleMoved kind new s id handle pending

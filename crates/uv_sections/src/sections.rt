@@ -54,28 +54,28 @@ pub fn in_closing(memory: &mut Memory<Place>, script: &Script, run: Run) -> Seen
 }
 
 /// Goes on behind the section of a kind.
-fn after_walk(memory: &mut Memory<Place>, run: Run, kind: WatcherKind) -> Seen
+fn after_walk(memory: &mut Memory<Place>, run: &Run, kind: WatcherKind) -> Seen
     requires ready { IsReady (held memory.old) }
     requires empty { IsClearAfter kind (held memory.old).image.arena }
     ensures returns { Returns memory.new.step_record (held memory.old) (held memory.new) }
-    ensures goes { Goes (λ s. after_walk s run kind) (held memory.old).image (held memory.new).image (Some result) }
+    ensures goes { Goes (λ s. after_walk s run.now kind) (held memory.old).image (held memory.new).image (Some result) }
     ensures pieces { memory.new.slots.room ≡ memory.old.slots.room }
 {
     match kind {
-        WatcherKind::Idle => begin_walk(memory, run, WatcherKind::Prepare),
-        WatcherKind::Prepare => begin_poll(memory, run),
-        WatcherKind::Check => begin_closing(memory, run),
-        WatcherKind::Async => begin_walk(memory, run, WatcherKind::Check),
+        WatcherKind::Idle => begin_walk(memory, *run, WatcherKind::Prepare),
+        WatcherKind::Prepare => begin_poll(memory, *run),
+        WatcherKind::Check => begin_closing(memory, *run),
+        WatcherKind::Async => begin_walk(memory, *run, WatcherKind::Check),
     }
 }
 
 /// Goes on in the section of the idle, prepare or check handles: the front of those that are yet to run is called, or the next part begins.
-fn in_plain(memory: &mut Memory<Place>, script: &Script, run: Run, kind: WatcherKind) -> Seen
+fn in_plain(memory: &mut Memory<Place>, script: &Script, run: &Run, kind: WatcherKind) -> Seen
     requires ready { IsReady (held memory.old) }
     requires other { kind ≢ async }
     requires empty { IsClearAfter kind (held memory.old).image.arena }
     ensures returns { Returns memory.new.step_record (held memory.old) (held memory.new) }
-    ensures goes { Goes (λ s. walk script.now s run kind)
+    ensures goes { Goes (λ s. walk script.now s run.now kind)
         (held memory.old).image (held memory.new).image (Some result) }
     ensures pieces { memory.new.slots.room ≡ memory.old.slots.room }
 {
@@ -87,11 +87,11 @@ fn in_plain(memory: &mut Memory<Place>, script: &Script, run: Run, kind: Watcher
 
 /// Goes on in the async section: the front of the async handles that are yet to run is called or passed by, or the check handles
 /// begin.
-fn in_async(memory: &mut Memory<Place>, script: &Script, run: Run) -> Option<Seen>
+fn in_async(memory: &mut Memory<Place>, script: &Script, run: &Run) -> Option<Seen>
     requires ready { IsReady (held memory.old) }
     requires empty { IsClearAfter async (held memory.old).image.arena }
     ensures returns { Returns memory.new.step_record (held memory.old) (held memory.new) }
-    ensures goes { Goes (λ s. walk_async script.now s run)
+    ensures goes { Goes (λ s. walk_async script.now s run.now)
         (held memory.old).image (held memory.new).image result }
     ensures pieces { memory.new.slots.room ≡ memory.old.slots.room }
 {
@@ -105,13 +105,13 @@ fn in_async(memory: &mut Memory<Place>, script: &Script, run: Run) -> Option<See
 pub fn in_walk(
     memory: &mut Memory<Place>,
     script: &Script,
-    run: Run,
+    run: &Run,
     kind: WatcherKind,
 ) -> Option<Seen>
     requires ready { IsReady (held memory.old) }
     requires empty { IsClearAfter kind (held memory.old).image.arena }
     ensures returns { Returns memory.new.step_record (held memory.old) (held memory.new) }
-    ensures goes { Goes (λ s. in_walk script.now s run kind)
+    ensures goes { Goes (λ s. in_walk script.now s run.now kind)
         (held memory.old).image (held memory.new).image result }
     ensures pieces { memory.new.slots.room ≡ memory.old.slots.room }
 {

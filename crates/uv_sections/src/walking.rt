@@ -7,29 +7,29 @@ ghost use Rattle.uv_step.specs.Image.{held};
 ghost use Rattle.uv_step.specs.Undo.{Recorded};
 ghost use Rattle.uv_stands.specs.Doing.{OfEach, Returns, Goes};
 ghost use Rattle.uv_stands.specs.Ready.{IsReady};
-ghost use Rattle.uv_sections.specs.Moved.{HandleMoved};
+ghost use Rattle.uv_sections.specs.Moved.{NamedMoved};
 
 use crate::calling::begin_body;
 use crate::standing::stand_in;
-use uv_ids::{Callback, Id, Seen};
+use uv_ids::{Callback, Id, Seen, Var};
 use uv_model::{Place, Run, Stage};
-use uv_records::{HandleRecord, WatcherKind};
+use uv_records::WatcherKind;
 use uv_script::Script;
 use uv_step::Memory;
 
-/// Moves the front of those that are yet to run to the end of its list: whether a callback of it was pending, which then isn't any
-/// more. None, and nothing changed, where there is none.
-fn move_on(memory: &mut Memory<Place>, kind: WatcherKind) -> Option<(Id, HandleRecord, bool)>
+/// Moves the front of those that are yet to run to the end of its list: its name, and whether a callback of it was pending, which then
+/// isn't any more. None, and nothing changed, where there is none.
+fn move_on(memory: &mut Memory<Place>, kind: WatcherKind) -> Option<(Id, Var, bool)>
     ensures recorded { IfSome result (λ _. Recorded memory.new.step_record (held memory.old) (held memory.new)) }
     ensures moved { IfSome result (λ r. OfEach (held memory.old).image
-        (λ s. HandleMoved kind (held memory.new).image s r.0 r.1 r.2)) }
+        (λ s. NamedMoved kind (held memory.new).image s r.0 r.1 r.2)) }
     ensures same { IfNone result (held memory.new ≡ held memory.old) }
     ensures none { IfNone result (OfEach (held memory.old).image (λ s. front s (watched s kind).yet ≡ None)) }
     ensures pieces { memory.new.slots.room ≡ memory.old.slots.room }
 {
     match memory.walk(kind) {
         None => None,
-        Some((id, handle, pending)) => Some((id, handle, pending)),
+        Some((id, handle, pending)) => Some((id, handle.name, pending)),
     }
 }
 
@@ -37,13 +37,13 @@ fn move_on(memory: &mut Memory<Place>, kind: WatcherKind) -> Option<(Id, HandleR
 pub(crate) fn walk(
     memory: &mut Memory<Place>,
     script: &Script,
-    run: Run,
+    run: &Run,
     kind: WatcherKind,
 ) -> Option<Seen>
     requires ready { IsReady (held memory.old) }
     requires other { kind ≢ async }
     ensures returns { IfSome result (λ _. Returns memory.new.step_record (held memory.old) (held memory.new)) }
-    ensures goes { IfSome result (λ line. Goes (λ s. walk script.now s run kind)
+    ensures goes { IfSome result (λ line. Goes (λ s. walk script.now s run.now kind)
         (held memory.old).image (held memory.new).image (Some line)) }
     ensures same { IfNone result (held memory.new ≡ held memory.old) }
     ensures none { IfNone result (OfEach (held memory.old).image (λ s. front s (watched s kind).yet ≡ None)) }
@@ -51,9 +51,8 @@ pub(crate) fn walk(
 {
     match move_on(memory, kind) {
         None => None,
-        Some((id, handle, _)) => {
-            let name = handle.name;
-            begin_body(memory, script, run, Callback::Handle, name);
+        Some((id, name, _)) => {
+            begin_body(memory, script, *run, Callback::Handle, name);
             Some(Seen::Call(name, id))
         }
     }
@@ -64,11 +63,11 @@ pub(crate) fn walk(
 pub(crate) fn walk_async(
     memory: &mut Memory<Place>,
     script: &Script,
-    run: Run,
+    run: &Run,
 ) -> Option<Option<Seen>>
     requires ready { IsReady (held memory.old) }
     ensures returns { IfSome result (λ _. Returns memory.new.step_record (held memory.old) (held memory.new)) }
-    ensures goes { IfSome result (λ line. Goes (λ s. walk_async script.now s run)
+    ensures goes { IfSome result (λ line. Goes (λ s. walk_async script.now s run.now)
         (held memory.old).image (held memory.new).image line) }
     ensures same { IfNone result (held memory.new ≡ held memory.old) }
     ensures none { IfNone result (OfEach (held memory.old).image (λ s. front s s.watchers.async.yet ≡ None)) }
@@ -76,13 +75,12 @@ pub(crate) fn walk_async(
 {
     match move_on(memory, WatcherKind::Async) {
         None => None,
-        Some((id, handle, pending)) => {
+        Some((id, name, pending)) => {
             if pending {
-                let name = handle.name;
-                begin_body(memory, script, run, Callback::Handle, name);
+                begin_body(memory, script, *run, Callback::Handle, name);
                 Some(Some(Seen::Call(name, id)))
             } else {
-                stand_in(memory, run, Stage::Walking(WatcherKind::Async));
+                stand_in(memory, *run, Stage::Walking(WatcherKind::Async));
                 Some(None)
             }
         }

@@ -1,7 +1,6 @@
 -- Records over rows that get longer.
-use Rattle.uv_step.proofs.Names.{◌≡◌, suc, List, [], ◌∷◌, ◌++◌, ◌+◌, length, refl, sym, ap, ◌∙◌, arith, length-append, append-nil, Record, Fits, smalls_of, mediums_of, larges_of, of_small, of_medium, of_large, records_of, Entry, Small, Medium, Large, change_in, record_of, KeptRecord, Row}
-use Rattle.uv_step.specs.declared.kept.Form.TheVariants as form
-use Rattle.uv_step.specs.declared.trail.Row.TheVariants as row
+use Rattle.uv_step.proofs.Names.{◌≡◌, suc, List, [], ◌∷◌, ◌++◌, ◌+◌, length, refl, sym, ap, ◌∙◌, arith, length-append, append-nil, Record, at_place, Fits, smalls_of, mediums_of, larges_of, of_small, of_medium, of_large, records_of, Entry, Small, Medium, Large, smaller, change_of, larger, Naming, Row}
+use Rattle.uv_step.specs.declared.row.Row.TheVariants as row
 
 pub smalls_more : (xs ys : List Row) → smalls_of (xs ++ ys) ≡ smalls_of xs + smalls_of ys
 smalls_more [] ys = omega arith
@@ -155,15 +154,14 @@ module _ {P : Type 0} where
       (λ (t : List (Entry P Small)). records_of (xs ++ row.Smalls ∷ []) t ms ks) f
       ∙ small_more xs ss ms ks x k ∙ ap (λ q. records_of xs ss ms ks ++ q ∷ []) same
 
-  -- a record and its entry
-  pub small_kept : (k : KeptRecord P) (e : Entry P Small) (c : Small) (r : Record P) → e ≡ record { place = k.place; naming = k.naming; change = c }
-      → k.form ≡ form.Small c → record_of k ≡ r → of_small e ≡ r
-  small_kept k e c r a b d =
-      ap of_small a ∙ ap (λ f. record { place = k.place; naming = k.naming; change = change_in f }) (sym b) ∙ d
+  -- a record and its entry, where the place is kept as this
+  pub small_kept : {Q : Type 0} (q : P) (n : Naming) (c : Small) (e : Entry P Small) (r : Record Q)
+      → e ≡ record { place = q; naming = n; change = c } → n ≡ r.naming → r.change ≡ smaller c → of_small e ≡ at_place q r
+  small_kept q n c e r is named made = ap of_small is ∙ (λ l. record { place = q; naming = named l; change = sym made l })
 
-  pub small_taken : (e : Entry P Small) (k : KeptRecord P) (r : Record P)
-      → k ≡ record { place = e.place; naming = e.naming; form = form.Small e.change } → r ≡ record_of k → of_small e ≡ r
-  small_taken e k r a b = sym (b ∙ ap record_of a)
+  pub small_taken : {Q : Type 0} (e : Entry P Small) (r s t : Record Q) → s ≡ record r { naming = e.naming }
+      → t ≡ record s { change = smaller e.change } → of_small e ≡ at_place e.place t
+  small_taken {Q = Q} e r s t named made = ap (at_place e.place) (sym (made ∙ ap (λ (z : Record Q). record z { change = smaller e.change }) named))
 
   -- ---- the row of mediums
 
@@ -191,16 +189,14 @@ module _ {P : Type 0} where
       (λ (t : List (Entry P Medium)). records_of (xs ++ row.Mediums ∷ []) ss t ks) f
       ∙ medium_more xs ss ms ks x k ∙ ap (λ q. records_of xs ss ms ks ++ q ∷ []) same
 
-  -- a record and its entry
-  pub medium_kept : (k : KeptRecord P) (e : Entry P Medium) (c : Medium) (r : Record P) → e ≡ record
-      { place = k.place; naming = k.naming; change = c }
-      → k.form ≡ form.Medium c → record_of k ≡ r → of_medium e ≡ r
-  medium_kept k e c r a b d =
-      ap of_medium a ∙ ap (λ f. record { place = k.place; naming = k.naming; change = change_in f }) (sym b) ∙ d
+  -- a record and its entry, where the place is kept as this
+  pub medium_kept : {Q : Type 0} (q : P) (n : Naming) (c : Medium) (e : Entry P Medium) (r : Record Q)
+      → e ≡ record { place = q; naming = n; change = c } → n ≡ r.naming → r.change ≡ change_of c → of_medium e ≡ at_place q r
+  medium_kept q n c e r is named made = ap of_medium is ∙ (λ l. record { place = q; naming = named l; change = sym made l })
 
-  pub medium_taken : (e : Entry P Medium) (k : KeptRecord P) (r : Record P)
-      → k ≡ record { place = e.place; naming = e.naming; form = form.Medium e.change } → r ≡ record_of k → of_medium e ≡ r
-  medium_taken e k r a b = sym (b ∙ ap record_of a)
+  pub medium_taken : {Q : Type 0} (e : Entry P Medium) (r s t : Record Q) → s ≡ record r { naming = e.naming }
+      → t ≡ record s { change = change_of e.change } → of_medium e ≡ at_place e.place t
+  medium_taken {Q = Q} e r s t named made = ap (at_place e.place) (sym (made ∙ ap (λ (z : Record Q). record z { change = change_of e.change }) named))
 
   -- ---- the row of larges
 
@@ -228,12 +224,11 @@ module _ {P : Type 0} where
       (λ (t : List (Entry P Large)). records_of (xs ++ row.Larges ∷ []) ss ms t) f
       ∙ large_more xs ss ms ks x k ∙ ap (λ q. records_of xs ss ms ks ++ q ∷ []) same
 
-  -- a record and its entry
-  pub large_kept : (k : KeptRecord P) (e : Entry P Large) (c : Large) (r : Record P) → e ≡ record { place = k.place; naming = k.naming; change = c }
-      → k.form ≡ form.Large c → record_of k ≡ r → of_large e ≡ r
-  large_kept k e c r a b d =
-      ap of_large a ∙ ap (λ f. record { place = k.place; naming = k.naming; change = change_in f }) (sym b) ∙ d
+  -- a record and its entry, where the place is kept as this
+  pub large_kept : {Q : Type 0} (q : P) (n : Naming) (c : Large) (e : Entry P Large) (r : Record Q)
+      → e ≡ record { place = q; naming = n; change = c } → n ≡ r.naming → r.change ≡ larger c → of_large e ≡ at_place q r
+  large_kept q n c e r is named made = ap of_large is ∙ (λ l. record { place = q; naming = named l; change = sym made l })
 
-  pub large_taken : (e : Entry P Large) (k : KeptRecord P) (r : Record P)
-      → k ≡ record { place = e.place; naming = e.naming; form = form.Large e.change } → r ≡ record_of k → of_large e ≡ r
-  large_taken e k r a b = sym (b ∙ ap record_of a)
+  pub large_taken : {Q : Type 0} (e : Entry P Large) (r s t : Record Q) → s ≡ record r { naming = e.naming }
+      → t ≡ record s { change = larger e.change } → of_large e ≡ at_place e.place t
+  large_taken {Q = Q} e r s t named made = ap (at_place e.place) (sym (made ∙ ap (λ (z : Record Q). record z { change = larger e.change }) named))

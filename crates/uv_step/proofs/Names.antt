@@ -53,21 +53,20 @@ pub use Rattle.uv_requests.specs.declared.undo.TakeWorkUndo.{TakeWorkUndo}
 pub use Rattle.uv_step.specs.Change.{Change}
 pub use Rattle.uv_step.specs.Does.{By, FirstIs, changed, closed_by, ended_by, moved_by}
 pub use Rattle.uv_step.specs.Fit.{IsFit}
-pub use Rattle.uv_step.specs.Forms.{change_in, record_of}
+pub use Rattle.uv_step.specs.Forms.{change_of, larger, smaller}
 pub use Rattle.uv_step.specs.Image.{Held, Image, counted_of, image_of, standing, timed_of, with_counted, with_timed, with_working}
 pub use Rattle.uv_step.specs.Parts.{Bound, Part, PutOn, Stood, TakenOff, change_parts, edit_parts, naming_parts, off_parts, put_parts, removed_parts, set_parts, timer_parts, undo, unwind, unwind_parts, was_bound, woken_parts}
-pub use Rattle.uv_step.specs.Record.{Record}
+pub use Rattle.uv_step.specs.Record.{Record, at_place}
 pub use Rattle.uv_step.specs.Rows.{Fits, larges_of, mediums_of, of_large, of_medium, of_small, records_of, smalls_of}
 pub use Rattle.uv_step.specs.Trail.{AddEach, AddsAll, AreSteps, CanGoBack, Walk, unwound}
 pub use Rattle.uv_step.specs.Undo.{CanRename, CanUndo, CanUnwind, Extended, Recorded, off_if}
 pub use Rattle.uv_step.specs.View.{kept}
 pub use Rattle.uv_step.specs.declared.entry.Entry.{Entry}
-pub use Rattle.uv_step.specs.declared.kept.KeptRecord.{KeptRecord}
 pub use Rattle.uv_step.specs.declared.large.Large.{Large}
 pub use Rattle.uv_step.specs.declared.medium.Medium.{Medium}
 pub use Rattle.uv_step.specs.declared.record.Naming.{Naming}
 pub use Rattle.uv_step.specs.declared.small.Small.{Small}
-pub use Rattle.uv_step.specs.declared.trail.Row.{Row}
+pub use Rattle.uv_step.specs.declared.row.Row.{Row}
 pub use Rattle.uv_timer.specs.Changes.{becoming}
 pub use Rattle.uv_timer.specs.Timed.{CanPutBack, CanUndoCollect, CanUndoTimer, Timed, collect_undone, timed, timer_undone}
 pub use Rattle.uv_timer.specs.Timers.{IsCollected, IsFired, IsRescheduled}

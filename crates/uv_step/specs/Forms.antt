@@ -11,6 +11,8 @@ use Rattle.uv_step.specs.declared.medium.Medium.{Medium}
 use Rattle.uv_step.specs.declared.medium.Medium.TheVariants as medium
 use Rattle.uv_step.specs.declared.large.Large.{Large}
 use Rattle.uv_step.specs.declared.large.Large.TheVariants as large
+use Rattle.uv_step.specs.declared.row.Row.{Row}
+use Rattle.uv_step.specs.declared.row.Row.TheVariants as row
 use Rattle.uv_step.specs.declared.kept.Form.{Form}
 use Rattle.uv_step.specs.declared.kept.Form.TheVariants as form
 use Rattle.uv_step.specs.declared.kept.KeptRecord.{KeptRecord}
@@ -56,6 +58,12 @@ abbrev pub larger : Large → Change
 larger (large.Timer u) = change.Timer u
 larger (large.Moved put u) = change.Moved put u
 larger (large.Ended u r) = change.Ended u r
+
+-- that of these three which lies in its row
+abbrev pub change_at : Row → Small → Medium → Large → Change
+change_at row.Smalls s m l = smaller s
+change_at row.Mediums s m l = change_of m
+change_at row.Larges s m l = larger l
 
 -- the change of any form
 abbrev pub change_in : Form → Change

@@ -11,3 +11,4 @@ pub mod Kept
 pub mod Rows
 pub mod Change
 pub mod Record
+pub mod Lies

@@ -7,3 +7,7 @@ pub record Record (P : Type 0) : Type 0 where
   pub place : P
   pub naming : Naming
   pub change : Change
+
+-- the same, where the loop stood elsewhere
+abbrev pub at_place : {P Q : Type 0} → Q → Record P → Record Q
+at_place place r = record { place = place; naming = r.naming; change = r.change }

@@ -6,8 +6,8 @@ use Rattle.uv_step.specs.declared.entry.Entry.{Entry}
 use Rattle.uv_step.specs.declared.small.Small.{Small}
 use Rattle.uv_step.specs.declared.medium.Medium.{Medium}
 use Rattle.uv_step.specs.declared.large.Large.{Large}
-use Rattle.uv_step.specs.declared.trail.Row.{Row}
-use Rattle.uv_step.specs.declared.trail.Row.TheVariants as row
+use Rattle.uv_step.specs.declared.row.Row.{Row}
+use Rattle.uv_step.specs.declared.row.Row.TheVariants as row
 
 -- how many of the steps lie in each row
 abbrev pub smalls_of : List Row → ℕ

@@ -2,7 +2,6 @@
 
 ghost use Rattle.std.specs.Prelude.{◌≡◌};
 
-use crate::kept::{Form, KeptRecord};
 use crate::record::Naming;
 
 /// Where the loop stood, what became of a name, and the change of the rest, which has the form of its row.
@@ -14,14 +13,13 @@ pub struct Entry<P: Copy, C: Copy> {
 }
 
 impl<P: Copy, C: Copy> Entry<P, C> {
-    /// The record, whose change has this form.
-    pub(crate) fn record(&self, form: Form) -> KeptRecord<P>
-        ensures { result ≡ record { place = self.now.place; naming = self.now.naming; form = form } }
+    pub(crate) fn new(place: P, naming: Naming, change: C) -> Entry<P, C>
+        ensures { result ≡ record { place = place; naming = naming; change = change } }
     {
-        KeptRecord {
-            place: self.place,
-            naming: self.naming,
-            form,
+        Entry {
+            place,
+            naming,
+            change,
         }
     }
 }

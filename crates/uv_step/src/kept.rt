@@ -1,8 +1,5 @@
 //! What takes one step back, as it is kept.
 
-ghost use Rattle.std.specs.Prelude.{◌≡◌};
-
-use crate::entry::Entry;
 use crate::large::Large;
 use crate::medium::Medium;
 use crate::record::Naming;
@@ -27,16 +24,3 @@ pub enum Form {
 
 // A record has at most 32 words of 64 bits where a place has at most 10.
 const _: () = prove!(std::mem::size_of::<KeptRecord<[u64; 10]>>() <= 256);
-
-impl<P: Copy> KeptRecord<P> {
-    /// As the row has it that holds its change.
-    pub(crate) fn entry<C: Copy>(&self, change: C) -> Entry<P, C>
-        ensures { result ≡ record { place = self.now.place; naming = self.now.naming; change = change } }
-    {
-        Entry {
-            place: self.place,
-            naming: self.naming,
-            change,
-        }
-    }
-}

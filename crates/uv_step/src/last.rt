@@ -2,31 +2,52 @@
 ghost use Rattle.std.specs.Prelude.{◌≡◌};
 ghost use Rattle.uv_step.specs.Change as change;
 ghost use Rattle.uv_step.specs.Does.{changed};
-ghost use Rattle.uv_step.specs.Forms.{smaller, change_of, larger, change_in, record_of};
+ghost use Rattle.uv_step.specs.declared.record.Naming.TheVariants.{Same as same};
+ghost use Rattle.uv_step.specs.Record.{at_place};
+ghost use Rattle.uv_step.specs.Forms.{smaller, change_of, larger, record_of};
+ghost use Rattle.uv_step.specs.Lies.{lain};
 
 use crate::kept::{Form, KeptRecord};
 use crate::large::Large;
 use crate::medium::Medium;
 use crate::record::Naming;
+use crate::row::Row;
 use crate::small::Small;
 use std::marker::Model;
 use uv_arena::PushUndo;
+use uv_handle::{DelistUndo, RecordUndo};
+use uv_ids::{Kind, Var};
+use uv_records::HandleRecord;
 use uv_timer::TimerUndo;
 use uv_watch::WalkUndo;
 
-/// What takes the last step back. Callers see the record.
+/// What takes the last step back. Callers see the record. Its change lies in the field of its row, and what the other two hold says
+/// nothing: so a step writes no more words than its change has, where an enum of the three would be written whole.
 #[derive(Drop)]
 pub struct LastStep<P: Copy> {
-    kept: KeptRecord<P>,
+    place: P,
+    naming: Naming,
+    row: Row,
+    small: Small,
+    medium: Medium,
+    large: Large,
+}
+
+/// A change, where it lies.
+#[derive(Clone, Copy)]
+pub(crate) enum Lying<'a> {
+    Small(&'a Small),
+    Medium(&'a Medium),
+    Large(&'a Large),
 }
 
 impl<P: Copy> Model for LastStep<P> {
     ghost use Rattle.uv_step.specs.Record.{Record};
-    ghost use Rattle.uv_step.specs.Forms.{record_of};
+    ghost use Rattle.uv_step.specs.Forms.{change_at};
 
     ghost Value = { Record P };
 
-    ghost view = { λ l. record_of l.kept };
+    ghost view = { λ l. record { place = l.place; naming = l.naming; change = change_at l.row l.small l.medium l.large } };
 }
 
 impl<P: Copy> LastStep<P> {
@@ -34,30 +55,65 @@ impl<P: Copy> LastStep<P> {
     pub fn new(place: P) -> LastStep<P>
         ensures { result ≡ changed place change.Nothing }
     {
-        LastStep {
-            kept: KeptRecord {
-                place,
-                naming: Naming::Same,
-                form: Form::Small(Small::Nothing),
+        let delisted = DelistUndo {
+            unlinked: None,
+            changed: RecordUndo {
+                slot: 0,
+                active: 0,
+                old: HandleRecord::new(Var(0), Kind::Idle),
             },
+        };
+        LastStep {
+            place,
+            naming: Naming::Same,
+            row: Row::Smalls,
+            small: Small::Nothing,
+            medium: Medium::Delisted(delisted),
+            large: Large::Timer(TimerUndo {
+                removed: None,
+                delisted,
+                set: None,
+            }),
         }
     }
 
-    /// The record that was kept so.
-    pub fn of(kept: KeptRecord<P>) -> LastStep<P>
-        ensures { result ≡ record_of kept }
+    /// The loop stood here, and nothing became of a name.
+    fn begin(&mut self, place: P)
+        ensures { self.new ≡ record self.old { place = place; naming = same } }
     {
-        LastStep { kept }
+        self.place = place;
+        self.naming = Naming::Same;
     }
 
-    fn note(&mut self, place: P, form: Form)
-        ensures { self.new ≡ changed place (change_in form) }
+    /// The change is this small one.
+    pub(crate) fn set_small(&mut self, change: Small)
+        ensures { self.new ≡ record self.old { change = smaller change } }
     {
-        self.kept = KeptRecord {
-            place,
-            naming: Naming::Same,
-            form,
-        };
+        self.row = Row::Smalls;
+        self.small = change;
+    }
+
+    /// The change is this medium one.
+    pub(crate) fn set_medium(&mut self, change: Medium)
+        ensures { self.new ≡ record self.old { change = change_of change } }
+    {
+        self.row = Row::Mediums;
+        self.medium = change;
+    }
+
+    /// The change is this large one.
+    pub(crate) fn set_large(&mut self, change: Large)
+        ensures { self.new ≡ record self.old { change = larger change } }
+    {
+        self.row = Row::Larges;
+        self.large = change;
+    }
+
+    /// The loop stood here.
+    pub fn stand_at(&mut self, place: P)
+        ensures { self.new ≡ at_place place self.old }
+    {
+        self.place = place;
     }
 
     /// The loop stood here, and nothing was changed.
@@ -71,21 +127,24 @@ impl<P: Copy> LastStep<P> {
     pub fn note_small(&mut self, place: P, change: Small)
         ensures { self.new ≡ changed place (smaller change) }
     {
-        self.note(place, Form::Small(change));
+        self.begin(place);
+        self.set_small(change);
     }
 
     /// The loop stood here, and a medium change was made.
     pub fn note_medium(&mut self, place: P, change: Medium)
         ensures { self.new ≡ changed place (change_of change) }
     {
-        self.note(place, Form::Medium(change));
+        self.begin(place);
+        self.set_medium(change);
     }
 
     /// The loop stood here, and a large change was made.
     pub fn note_large(&mut self, place: P, change: Large)
         ensures { self.new ≡ changed place (larger change) }
     {
-        self.note(place, Form::Large(change));
+        self.begin(place);
+        self.set_large(change);
     }
 
     /// The loop stood here, and a timer was started, stopped or called.
@@ -124,34 +183,47 @@ impl<P: Copy> LastStep<P> {
     pub fn rename(&mut self, naming: Naming)
         ensures { self.new ≡ record self.old { naming = naming } }
     {
-        self.kept.naming = naming;
+        self.naming = naming;
     }
 
     /// Where the loop stood.
     pub fn place(&self) -> P
         ensures { result ≡ self.now.place }
     {
-        self.kept.place
+        self.place
     }
 
     /// What became of a name.
     pub fn naming(&self) -> Naming
         ensures { result ≡ self.now.naming }
     {
-        self.kept.naming
+        self.naming
     }
 
     /// The change.
-    pub(crate) fn form(&self) -> &Form
-        ensures { self.now.change ≡ change_in result.now }
+    pub(crate) fn lying(&self) -> Lying<'_>
+        ensures { self.now.change ≡ lain result }
     {
-        &self.kept.form
+        match self.row {
+            Row::Smalls => Lying::Small(&self.small),
+            Row::Mediums => Lying::Medium(&self.medium),
+            Row::Larges => Lying::Large(&self.large),
+        }
     }
 
-    /// All of it, as it is kept.
-    pub fn kept(&self) -> &KeptRecord<P>
-        ensures { record_of result.now ≡ self.now }
+    /// All of it, in one value.
+    pub fn kept(&self) -> KeptRecord<P>
+        ensures { record_of result ≡ self.now }
     {
-        &self.kept
+        let form = match self.row {
+            Row::Smalls => Form::Small(self.small),
+            Row::Mediums => Form::Medium(self.medium),
+            Row::Larges => Form::Large(self.large),
+        };
+        KeptRecord {
+            place: self.place,
+            naming: self.naming,
+            form,
+        }
     }
 }

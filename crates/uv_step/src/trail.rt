@@ -1,22 +1,15 @@
 //! The records of the steps that stand.
-ghost use Rattle.std.specs.Prelude.{◌≡◌, ◌<◌, ◌≤◌, ◌+◌, ◌++◌, ◌∷◌, [], OnOk, OnErr, IsFalse, length, if◌then◌else◌};
+ghost use Rattle.std.specs.Prelude.{◌≡◌, ◌<◌, ◌≤◌, ◌+◌, ◌++◌, ◌∷◌, [], OnOk, OnErr, IfSome, IfNone, IsFalse, length, if◌then◌else◌};
+ghost use Rattle.uv_step.specs.Record.{at_place};
 
 use crate::entry::Entry;
-use crate::kept::{Form, KeptRecord};
 use crate::large::Large;
-use crate::last::LastStep;
+use crate::last::{LastStep, Lying};
 use crate::medium::Medium;
+use crate::row::Row;
 use crate::small::Small;
 use std::alloc::{AllocError, Global};
 use std::marker::Model;
-
-/// In which row a step lies.
-#[derive(Clone, Copy)]
-pub enum Row {
-    Smalls,
-    Mediums,
-    Larges,
-}
 
 /// The records of steps in a row, the first step's first. Each lies in one of three rows, by the size of its change, and takes no more
 /// words than that needs.
@@ -93,19 +86,31 @@ impl<P: Copy> Trail<P> {
         ensures records { self.new.records ≡ self.old.records ++ last.now ∷ [] }
         ensures room { self.old.room ≤ self.new.room + 1 }
     {
-        let record = last.kept();
-        match &record.form {
-            Form::Small(change) => {
+        self.push_at(last.place(), last);
+    }
+
+    /// One more, which is as this but for where the loop stood. It takes no memory.
+    pub fn push_at<Q: Copy>(&mut self, place: P, last: &LastStep<Q>)
+        requires { 0 < self.old.room }
+        ensures records { self.new.records ≡ self.old.records ++ at_place place last.now ∷ [] }
+        ensures room { self.old.room ≤ self.new.room + 1 }
+    {
+        let naming = last.naming();
+        match last.lying() {
+            Lying::Small(change) => {
                 self.rows.push_reserved(Row::Smalls);
-                self.smalls.push_reserved(record.entry(*change));
+                self.smalls
+                    .push_reserved(Entry::new(place, naming, *change));
             }
-            Form::Medium(change) => {
+            Lying::Medium(change) => {
                 self.rows.push_reserved(Row::Mediums);
-                self.mediums.push_reserved(record.entry(*change));
+                self.mediums
+                    .push_reserved(Entry::new(place, naming, *change));
             }
-            Form::Large(change) => {
+            Lying::Large(change) => {
                 self.rows.push_reserved(Row::Larges);
-                self.larges.push_reserved(record.entry(*change));
+                self.larges
+                    .push_reserved(Entry::new(place, naming, *change));
             }
         }
     }
@@ -116,23 +121,46 @@ impl<P: Copy> Trail<P> {
         ensures none { IsFalse result → (self.old.records ≡ []) × (last.new ≡ last.old) }
         ensures room { self.old.room ≤ self.new.room }
     {
-        let Some(row) = self.rows.pop() else {
-            return false;
-        };
-        match row {
+        match self.pop_at(last) {
+            None => false,
+            Some(place) => {
+                last.stand_at(place);
+                true
+            }
+        }
+    }
+
+    /// The last one goes, if there is one, and is this but for where the loop stood, which is answered.
+    pub fn pop_at<Q: Copy>(&mut self, last: &mut LastStep<Q>) -> Option<P>
+        ensures some { IfSome result (λ place. self.old.records ≡ self.new.records ++ at_place place last.new ∷ []) }
+        ensures none { IfNone result ((self.old.records ≡ []) × (self.new.records ≡ []) × (last.new ≡ last.old)) }
+        ensures room { self.old.room ≤ self.new.room }
+    {
+        match self.rows.pop()? {
             Row::Smalls => match self.smalls.pop() {
-                Some(step) => *last = LastStep::of(step.record(Form::Small(step.change))),
+                Some(step) => {
+                    last.rename(step.naming);
+                    last.set_small(step.change);
+                    Some(step.place)
+                }
                 None => unreachable!(),
             },
             Row::Mediums => match self.mediums.pop() {
-                Some(step) => *last = LastStep::of(step.record(Form::Medium(step.change))),
+                Some(step) => {
+                    last.rename(step.naming);
+                    last.set_medium(step.change);
+                    Some(step.place)
+                }
                 None => unreachable!(),
             },
             Row::Larges => match self.larges.pop() {
-                Some(step) => *last = LastStep::of(step.record(Form::Large(step.change))),
+                Some(step) => {
+                    last.rename(step.naming);
+                    last.set_large(step.change);
+                    Some(step.place)
+                }
                 None => unreachable!(),
             },
         }
-        true
     }
 }

@@ -7,14 +7,15 @@ ghost use Rattle.uv_step.specs.Fit.{IsFit};
 ghost use Rattle.uv_step.specs.Undo.{CanUnwind, CanRename, CanUndo};
 ghost use Rattle.uv_step.specs.Does.{moved_by};
 ghost use Rattle.uv_step.specs.Forms.{smaller, change_of, larger, taken_off};
+ghost use Rattle.uv_step.specs.declared.small.Small.TheVariants.{Passed as passed};
 
-use crate::kept::Form;
 use crate::large::Large;
+use crate::last::Lying;
 use crate::medium::Medium;
 use crate::memory::Memory;
 use crate::record::{Added, Naming};
 use crate::small::Small;
-use uv_arena::PushUndo;
+use uv_arena::{ChainPlace, PushUndo};
 use uv_handle::{DelistUndo, RecordUndo};
 use uv_heap::HeapRemoveUndo;
 use uv_ids::{Id, Var};
@@ -81,16 +82,16 @@ impl<P: Copy> Memory<P> {
         ensures room { (held self.new).room ≡ (held self.old).room }
         ensures pieces { self.new.slots.room ≡ self.old.slots.room }
     {
-        match self.step_record.form() {
-            Form::Small(small) => {
+        match self.step_record.lying() {
+            Lying::Small(small) => {
                 let small = *small;
                 self.undo_small(small);
             }
-            Form::Medium(medium) => {
+            Lying::Medium(medium) => {
                 let medium = *medium;
                 self.undo_medium(medium);
             }
-            Form::Large(large) => {
+            Lying::Large(large) => {
                 let large = *large;
                 self.undo_large(large);
             }
@@ -121,11 +122,7 @@ impl<P: Copy> Memory<P> {
                 self.slots.undo_splice(undo.spliced);
                 self.times.time = undo.time;
             }
-            Small::Passed(pushed, unlinked) => self.undo_walked(WalkUndo {
-                unlinked,
-                pushed,
-                woken: None,
-            }),
+            Small::Passed(pushed, unlinked) => self.undo_passed(pushed, unlinked),
             Small::Queued(undo) => self.requests.undo_queue(&mut self.slots, undo),
             Small::Taken(undo) => self.requests.undo_take(&mut self.slots, undo),
             Small::Finished(undo) => self.requests.undo_finish(&mut self.slots, undo),
@@ -250,6 +247,18 @@ impl<P: Copy> Memory<P> {
             },
             undo,
         );
+    }
+
+    /// Of a watcher that no send had woken the slot alone is put back.
+    fn undo_passed(&mut self, pushed: PushUndo, unlinked: ChainPlace)
+        requires can { CanUndo (held self.old).room (smaller (passed pushed unlinked)) (held self.old).image }
+        requires fit { IsFit (unwind_parts (change_parts (smaller (passed pushed unlinked))) (held self.old).image) }
+        ensures image { (held self.new).image ≡ unwind_parts (change_parts (smaller (passed pushed unlinked))) (held self.old).image }
+        ensures room { (held self.new).room ≡ (held self.old).room }
+        ensures pieces { self.new.slots.room ≡ self.old.slots.room }
+    {
+        self.slots.undo_push(pushed);
+        self.slots.undo_unlink(unlinked);
     }
 
     fn undo_walked(&mut self, undo: WalkUndo)

@@ -5,9 +5,9 @@ use Rattle.uv_sections.proofs.walking.walk_async.Goals as goal
 pub begin_body-requires-clause-few : goal.begin_body-requires-clause-few
 begin_body-requires-clause-few c =
     few_calls c.move_on.new.memory.step_record (held c.args.memory.now) (held c.move_on.new.memory) c.requires.ready c.in-Some.ensures.recorded Handle
-    c.in-Some.handle.name
+    c.in-Some.name
 
 pub returns-then-pending-clause-goes : goal.returns-then-pending-clause-goes
 returns-then-pending-clause-goes c s h reached =
-    async_goes c.args.script.now c.args.run (image_of c.move_on.new.memory) (image_of c.begin_body.new.memory) s c.in-Some.id
-    c.in-Some.handle c.in-Some.pending (c.in-Some.ensures.moved s h reached) c.if-pending.true c.begin_body.ensures.calls
+    async_goes c.args.script.now c.args.run.now (image_of c.move_on.new.memory) (image_of c.begin_body.new.memory) s c.in-Some.id
+    c.in-Some.name c.in-Some.pending (c.in-Some.ensures.moved s h reached) c.if-pending.true c.begin_body.ensures.calls

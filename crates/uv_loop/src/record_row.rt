@@ -1,0 +1,68 @@
+//! What takes the steps that stand back.
+ghost use Rattle.std.specs.Prelude.{◌≡◌, ◌<◌, ◌++◌, ◌∷◌, [], OnOk, length};
+
+use crate::kept_place::KeptPlace;
+use std::alloc::{AllocError, Global};
+use std::marker::Model;
+use uv_model::Place;
+use uv_step::{LastStep, Trail};
+
+/// The records of the steps that stand, the first step's first.
+#[derive(Drop)]
+pub(crate) struct RecordRow {
+    trail: Trail<KeptPlace>,
+}
+
+impl Model for RecordRow {
+    ghost use Rattle.uv_model.specs.declared.place.Place.{Place};
+    ghost use Rattle.uv_step.specs.Kept.{Kept};
+    ghost use Rattle.uv_loop.specs.KeptPlaces.{records_of};
+
+    ghost Value = { Kept Place };
+
+    ghost view = { λ r. record { records = records_of r.trail.records; room = r.trail.room } };
+}
+
+impl RecordRow {
+    pub(crate) fn new(alloc: Global) -> RecordRow
+        ensures { result.records ≡ [] }
+    {
+        RecordRow {
+            trail: Trail::new(alloc),
+        }
+    }
+
+    pub(crate) fn len(&self) -> usize
+        ensures { result ≡ length self.now.records }
+    {
+        self.trail.len()
+    }
+
+    /// Makes room for one more.
+    pub(crate) fn reserve(&mut self) -> Result<(), AllocError>
+        ensures same { self.new.records ≡ self.old.records }
+        ensures ok { OnOk result (0 < self.new.room) }
+    {
+        self.trail.reserve()
+    }
+
+    /// One more. It takes no memory.
+    pub(crate) fn push(&mut self, last: &LastStep<Place>)
+        requires { 0 < self.old.room }
+        ensures { self.new.records ≡ self.old.records ++ last.now ∷ [] }
+    {
+        let place = KeptPlace::of(last.place());
+        self.trail.push_at(place, last);
+    }
+
+    /// The last one of some goes, and is this.
+    pub(crate) fn pop(&mut self, last: &mut LastStep<Place>)
+        requires { 0 < length self.old.records }
+        ensures { self.old.records ≡ self.new.records ++ last.new ∷ [] }
+    {
+        match self.trail.pop_at(last) {
+            None => unreachable!(),
+            Some(place) => last.stand_at(place.place()),
+        }
+    }
+}
