@@ -10,6 +10,7 @@ pub mod Places
 pub mod Pushes
 pub mod Puts
 pub mod Freed
+pub mod Held
 pub mod Readings
 pub mod Relinking
 pub mod Removals

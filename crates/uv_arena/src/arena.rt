@@ -1,10 +1,11 @@
 //! The arena: slots for what is held under ids.
 ghost use Rattle.std.specs.Prelude.{◌≡◌, ◌≢◌, ◌<◌, ◌≤◌, ℕ, length, Option, None, Some, IfOk, IfErr, IfSome, IfNone, OnOk, OnErr, ◌++◌, ◌∷◌, [], false, is_some};
+ghost use Rattle.std.specs.List.{list_any};
 ghost use Rattle.uv_ids.specs.declared.id.Id.{Id};
 ghost use Rattle.uv_records.specs.declared.lists.TheConstants.{LIST_COUNT};
 ghost use Rattle.uv_records.specs.Lists.{number};
 ghost use Rattle.uv_arena.specs.declared.links.TheConstants.{CHAIN_COUNT, FREE};
-ghost use Rattle.uv_arena.specs.Image.{fresh_arena, IsWithin, put_in, taken_out, edited, grown, shrunk, links_at, slot_at, head_at, tail_at, place_at, front_place, back_place, name_at, in_memory, IsSound, plain_slots, held, on_list};
+ghost use Rattle.uv_arena.specs.Image.{fresh_arena, IsWithin, put_in, taken_out, edited, grown, shrunk, links_at, slot_at, head_at, tail_at, place_at, front_place, back_place, name_at, in_memory, IsSound, plain_slots, held_slots, held, on_list};
 ghost use Rattle.uv_arena.specs.Undo.{set_undone};
 ghost use Rattle.uv_arena.specs.Calls.{IsInserted, IsRemoved, IsSet, RefusesInsert, room_after, room_with_next};
 
@@ -12,6 +13,7 @@ mod lists;
 mod readers;
 mod undos;
 
+use crate::cells::Cells;
 use crate::links::{CHAIN_COUNT, ChainPlace, FREE, Links};
 use crate::memory::Memory;
 use crate::undo::{InsertUndo, RemoveUndo};
@@ -64,7 +66,10 @@ impl<T: Copy> Slots<T> {
             tail: None,
         }; CHAIN_COUNT];
         Ok(Slots {
-            memory: Memory { row, ends },
+            memory: Memory {
+                row: Cells::new(row),
+                ends,
+            },
             names: [0, 1, 2, 3, 4, 5, 6, 7, 8, 9, 10, 11, 12, 13],
             last_generation,
         })
@@ -247,6 +252,13 @@ impl<T: Copy> Slots<T> {
         ensures within { result ≤ self.now.image.memory.row.capacity }
     {
         self.memory.row.len() as u32
+    }
+
+    /// Whether some slot holds something. It takes no look at the slots.
+    pub fn holds_any(&self) -> bool
+        ensures { result ≡ list_any (λ slot. is_some slot.content) (held_slots self.now.image.memory) }
+    {
+        self.memory.row.holds_any()
     }
 
     /// How many slots there are.

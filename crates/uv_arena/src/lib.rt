@@ -3,6 +3,7 @@
 #![tactic(auto)]
 
 mod arena;
+mod cells;
 mod links;
 mod memory;
 mod undo;

@@ -5,15 +5,15 @@ ghost use Rattle.uv_arena.specs.declared.links.TheConstants.{CHAIN_COUNT};
 ghost use Rattle.uv_arena.specs.Chains.{each, is_at, none_or, link, loose};
 ghost use Rattle.uv_arena.specs.Image.{memory_of, with_links, with_cells, with_ends, relinked_memory, IsBelow, IsWithin, put_in, taken_out, edited, links_at, slot_at, head_at, tail_at, place_at, grown, shrunk};
 
+use crate::cells::Cells;
 use crate::links::{CHAIN_COUNT, Cell, ChainPlace, LOOSE, Links};
 use std::alloc::AllocError;
-use uv_raw::Pieces;
 use uv_records::{Ends, Slot};
 
 /// The slots that were ever used with their links, and the ends of the chains.
 #[derive(Drop)]
 pub(crate) struct Memory<T: Copy> {
-    pub(crate) row: Pieces<Cell<T>>,
+    pub(crate) row: Cells<T>,
     pub(crate) ends: [Ends; CHAIN_COUNT],
 }
 
@@ -145,7 +145,7 @@ impl<T: Copy> Memory<T> {
         ensures room { self.new.row.room ≡ self.old.row.room }
     {
         let cell = self.row.get(at as usize);
-        self.row.set(at as usize, Cell { slot, ..cell });
+        self.row.put(at as usize, Cell { slot, ..cell });
     }
 
     /// The links of a slot.

@@ -5,7 +5,6 @@ mod ask;
 mod names;
 mod pending;
 mod queries;
-mod used;
 
 pub use ask::Ask;
 pub use names::{allowed, bind_name, bound_id, call_name, is_live, live_handle};

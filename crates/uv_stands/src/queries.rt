@@ -9,7 +9,6 @@ ghost use Rattle.uv_step.specs.Image.{held};
 ghost use Rattle.uv_stands.specs.Doing.{OfEach};
 
 use crate::pending::any_pending;
-use crate::used::any_used;
 use uv_ids::Mode;
 use uv_model::{LONGEST_POLL, Place};
 use uv_records::ListName;
@@ -82,7 +81,7 @@ fn has_passed(clock: u64, deadline: Option<u64>) -> bool
 pub fn is_in_use(memory: &Memory<Place>) -> bool
     ensures { OfEach (held memory.now).image (λ s. is_in_use s ≡ result) }
 {
-    any_used(memory)
+    memory.slots().holds_any()
 }
 
 /// In how many ms the first timer is due; none is infinite.

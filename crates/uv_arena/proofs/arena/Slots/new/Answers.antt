@@ -1,4 +1,4 @@
-use Rattle.std.proofs.Common.{sym, subst, arith}
+use Rattle.std.proofs.Common.{sym, subst, arith, ◌∙◌}
 use Rattle.uv_raw.specs.Pieced.{Pieced}
 use Rattle.uv_arena.specs.declared.links.Cell.{Cell}
 use Rattle.uv_arena.specs.Image.{fresh_image, IsSound}
@@ -14,4 +14,4 @@ invariant_of-result g c =
       last =
           start.last;
     }))
-    (sym c.in_ok-row.ensures) (fresh_sound c.args.capacity c.args.last_generation (omega arith) (omega arith))
+    (sym (c.new-2.ensures ∙ c.in_ok-row.ensures)) (fresh_sound c.args.capacity c.args.last_generation (omega arith) (omega arith))

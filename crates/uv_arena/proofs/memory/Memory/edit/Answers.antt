@@ -10,7 +10,7 @@ returns-clause-memory g c =
     let m : Memory g.row.T.Denot = c.args.self.now in
     let f : Bool → Cell g.row.T.Denot → Cell g.row.T.Denot = λ u z. cond u (record { slot = c.args.slot; links = z.links }) z in
     λ i. record {
-      row = (c.set.ensures.new
+      row = (c.put.ensures.new
           ∙ ap (λ l. row l m.row.row.capacity) (put_at m.row.row.items c.args.at c.get-cell.result c.get-cell.ensures f (λ y. refl))) i;
       ends = m.ends;
     }
