@@ -10,7 +10,7 @@ use std::collections::BTreeSet;
 use std::marker::Model;
 
 /// How many lines are looked at one by one before the index is asked. Most callbacks have no more, and then nothing is in their index.
-const LOOKED_AT: usize = 8;
+const LOOKED_AT: usize = 16;
 
 /// Where a line stands: the call that it is for, none where it is for every call, and its place among the lines.
 type Spot = (Option<u32>, usize);

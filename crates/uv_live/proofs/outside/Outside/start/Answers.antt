@@ -1,5 +1,4 @@
-use Rattle.uv_live.proofs.Names.{◌≡◌, ◌+◌, ℕ, List, All, sym, ◌∙◌, subst, arith, Var, threads_below}
-use Rattle.uv_wake.specs.Seats.{names_of}
+use Rattle.uv_live.proofs.Names.{◌≡◌, ◌+◌, ℕ, ◌∙◌, subst, arith, threads_below}
 use Rattle.uv_live.proofs.Own.{own_named}
 use Rattle.uv_live.proofs.outside.Outside.start.Goals as goal
 

@@ -1,4 +1,4 @@
-use Rattle.uv_live.proofs.Names.{◌<◌, ℕ, List, [], ◌∷◌, ◌++◌, length, get_or, set, sym, ap, ◌∙◌, arith, length-map, map-set, Var}
+use Rattle.uv_live.proofs.Names.{◌<◌, List, [], ◌∷◌, ◌++◌, length, get_or, set, sym, ap, ◌∙◌, arith, length-map, map-set, Var}
 use Rattle.uv_live.proofs.Own.{line_noted, map_there}
 use Rattle.uv_live.proofs.outside.OwnNames.note.Goals as goal
 

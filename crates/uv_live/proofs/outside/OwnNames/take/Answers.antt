@@ -1,4 +1,4 @@
-use Rattle.uv_live.proofs.Names.{[], ap, ◌∙◌, set, map-set}
+use Rattle.uv_live.proofs.Names.{ap, ◌∙◌, set, map-set}
 use Rattle.uv_live.proofs.outside.OwnNames.take.Goals as goal
 
 pub returns-clause-rest : goal.returns-clause-rest

@@ -1,4 +1,4 @@
-use Rattle.uv_script.proofs.ProofNames.{Some, None, drop, sym, ap₂, ◌∙◌, earlier}
+use Rattle.uv_script.proofs.ProofNames.{drop, sym, ap₂, ◌∙◌, earlier}
 use Rattle.uv_script.proofs.Indexed.{first_of_both}
 use Rattle.uv_script.proofs.callback_lines.CallbackLines.by_index.Goals as goal
 

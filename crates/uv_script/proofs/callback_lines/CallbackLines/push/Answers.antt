@@ -1,4 +1,4 @@
-use Rattle.uv_script.proofs.ProofNames.{◌≡◌, ℕ, List, [], ◌∷◌, ◌++◌, length, sym, ap, ◌∙◌, subst, rules, CallbackLine, IsIndex, IsNoted}
+use Rattle.uv_script.proofs.ProofNames.{◌≡◌, ℕ, List, [], ◌∷◌, ◌++◌, length, sym, subst, rules, CallbackLine, IsIndex, IsNoted}
 use Rattle.uv_script.proofs.Indexed.{index_more}
 use Rattle.uv_script.proofs.callback_lines.CallbackLines.push.Goals as goal
 
