@@ -146,6 +146,7 @@ impl Breaks {
 
     /// Whether a step matches one of them. Where there is none, the line isn't looked at.
     #[inline(always)]
+    #[tactic(auto, using(crate::proofs::Matching::none_stop))]
     pub(crate) fn stop(&self, seen: Option<Seen>) -> bool
         ensures { result ≡ stops self.now.listed.items seen }
     {

@@ -20,6 +20,37 @@ pub(crate) fn put(text: &mut Vec<u8>, bytes: &[u8])
     };
 }
 
+/// The most letters of a name that are put one by one: to copy these all at once costs no less.
+const FEW: usize = 4;
+
+/// Puts letters behind a text, one by one.
+#[inline(always)]
+fn put_each(text: &mut Vec<u8>, letters: &[u8])
+    requires { vec_len text.old + length letters.now ≤ vec_capacity text.old }
+    ensures items { text.new.items ≡ text.old.items ++ letters.now }
+    ensures len { vec_len text.new ≡ vec_len text.old + length letters.now }
+    ensures room { vec_capacity text.old ≤ vec_capacity text.new }
+{
+    for letter in letters {
+        text.push_reserved(*letter);
+    }
+}
+
+/// Puts a name behind a text.
+#[inline(always)]
+pub(crate) fn put_name(text: &mut Vec<u8>, name: &[u8])
+    requires { vec_len text.old + length name.now ≤ vec_capacity text.old }
+    ensures items { text.new.items ≡ text.old.items ++ name.now }
+    ensures len { vec_len text.new ≡ vec_len text.old + length name.now }
+    ensures room { vec_capacity text.old ≤ vec_capacity text.new }
+{
+    if name.len() <= FEW {
+        put_each(text, name);
+    } else {
+        put(text, name);
+    }
+}
+
 /// Puts a number behind a text, in decimal digits: those before the last one, and that.
 #[tactic(auto, using(std::proofs::lemmas::Fmt::decimal_digit))]
 fn put_digits(text: &mut Vec<u8>, number: u32)

@@ -5,7 +5,7 @@ ghost use Rattle.uv_ids.specs.declared.seen.Seen.TheVariants.{Op, After};
 ghost use Rattle.hex.specs.Hex.{encode_lower};
 ghost use Rattle.uv_text.specs.Trace.{id_text, handle_text, timeout_text, answer_text, end_text, worker_text, outside_text, site_text, line_text, seen_text};
 
-use crate::room::{ID, put, put_id};
+use crate::room::{ID, put, put_id, put_name};
 use std::alloc::{AllocError, Global};
 use uv_ids::{Answer, Code, Fault, Id, Seen, Site, Var};
 use uv_script::{Script, push_number};
@@ -183,7 +183,7 @@ fn push_handle(
     };
     text.reserve(word.len() + name.len() + 1 + ID)?;
     put(text, word);
-    put(text, name);
+    put_name(text, name);
     text.push_reserved(b' ');
     put_id(text, id);
     Ok(())
