@@ -139,6 +139,7 @@ impl LineRow {
     }
 
     /// One more. It takes no memory.
+    #[inline(always)]
     pub(crate) fn push(&mut self, line: Option<Seen>)
         requires { 0 < self.old.room }
         ensures { self.new.items ≡ self.old.items ++ line ∷ [] }

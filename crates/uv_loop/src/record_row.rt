@@ -47,6 +47,7 @@ impl RecordRow {
     }
 
     /// One more. It takes no memory.
+    #[inline(always)]
     pub(crate) fn push(&mut self, last: &LastStep<Place>)
         requires { 0 < self.old.room }
         ensures { self.new.records ≡ self.old.records ++ last.now ∷ [] }

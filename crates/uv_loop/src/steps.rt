@@ -28,6 +28,7 @@ impl Steps {
     }
 
     /// Makes room for one more.
+    #[inline(always)]
     pub(crate) fn reserve(&mut self) -> Result<(), AllocError>
         ensures same { AreSame self.old self.new }
         ensures ok { OnOk result (HasRoom self.new) }
@@ -39,6 +40,7 @@ impl Steps {
     }
 
     /// One more. It takes no memory.
+    #[inline(always)]
     pub(crate) fn push(&mut self, line: Option<Seen>, last: &LastStep<Place>)
         requires { HasRoom self.old }
         ensures { IsOneMore self.old self.new line last.now }

@@ -70,6 +70,7 @@ fn after_walk(memory: &mut Memory<Place>, run: &Run, kind: WatcherKind) -> Seen
 }
 
 /// Goes on in the section of the idle, prepare or check handles: the front of those that are yet to run is called, or the next part begins.
+#[inline(always)]
 fn in_plain(memory: &mut Memory<Place>, script: &Script, run: &Run, kind: WatcherKind) -> Seen
     requires ready { IsReady (held memory.old) }
     requires other { kind ≢ async }

@@ -34,6 +34,7 @@ fn move_on(memory: &mut Memory<Place>, kind: WatcherKind) -> Option<(Id, Var, bo
 }
 
 /// Calls the front of the idle, prepare or check handles that are yet to run. None, and nothing changed, where there is none.
+#[inline(always)]
 pub(crate) fn walk(
     memory: &mut Memory<Place>,
     script: &Script,
