@@ -21,7 +21,8 @@ pub returns-else-number-lt10-clause-items : goal.returns-else-number-lt10-clause
 returns-else-number-lt10-clause-items t c =
     let some : 10 ≤ c.args.number = c.if-number-lt10.false in
     let small : c.args.number < 2 ^ 64 = omega (arith, c.ranges.number) in
-    rw (c.push_reserved-else-number-lt10.ensures.items, c.put_digits.ensures.items, decimal_step c.args.number some small) (append_assoc c.args.text.now.items (decimal (c.args.number / 10)) ((48 + c.args.number % 10) ∷ []))
+    rw (c.push_reserved-else-number-lt10.ensures.items, c.put_digits.ensures.items, decimal_step c.args.number some small) (append_assoc
+    c.args.text.now.items (decimal (c.args.number / 10)) ((48 + c.args.number % 10) ∷ []))
 
 pub returns-else-number-lt10-clause-len : goal.returns-else-number-lt10-clause-len
 returns-else-number-lt10-clause-len t c =

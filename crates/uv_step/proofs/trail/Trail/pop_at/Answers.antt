@@ -3,7 +3,8 @@ use Rattle.uv_step.proofs.Longer.{small_popped, small_there, small_records, smal
 use Rattle.uv_step.proofs.trail.Trail.pop_at.Goals as goal
 
 pub invariant_of-self-in-Smalls : goal.invariant_of-self-in-Smalls
-invariant_of-self-in-Smalls g c = small_popped c.pop.new.self.items c.self.inside.rows.items c.pop-in-Smalls.new.self.items c.self.inside.mediums.items
+invariant_of-self-in-Smalls g c = small_popped c.pop.new.self.items c.self.inside.rows.items c.pop-in-Smalls.new.self.items
+    c.self.inside.mediums.items
     c.self.inside.larges.items c.self.inside.smalls.items c.in-Some.step c.in_ok-pop.field-0 c.in_ok-pop.ensures.items
     c.in-Smalls.is c.in-Some.ensures.items c.self.invariant
 
@@ -23,7 +24,8 @@ returns-in-Some-clause-some g c = ap (λ t. t.records) (sym c.self.view_is) ∙ 
     c.in-Smalls.is c.in-Some.ensures.items c.self.invariant)
 
 pub invariant_of-self-in-Mediums : goal.invariant_of-self-in-Mediums
-invariant_of-self-in-Mediums g c = medium_popped c.pop.new.self.items c.self.inside.rows.items c.self.inside.smalls.items c.pop-in-Mediums.new.self.items
+invariant_of-self-in-Mediums g c = medium_popped c.pop.new.self.items c.self.inside.rows.items c.self.inside.smalls.items
+    c.pop-in-Mediums.new.self.items
     c.self.inside.larges.items c.self.inside.mediums.items c.in-Some-pop.step c.in_ok-pop.field-0 c.in_ok-pop.ensures.items
     c.in-Mediums.is c.in-Some-pop.ensures.items c.self.invariant
 
@@ -37,7 +39,8 @@ pub returns-in-Some-pop-clause-some : goal.returns-in-Some-pop-clause-some
 returns-in-Some-pop-clause-some g c = ap (λ t. t.records) (sym c.self.view_is) ∙ medium_records c.pop.new.self.items c.self.inside.rows.items
     c.self.inside.smalls.items c.pop-in-Mediums.new.self.items c.self.inside.larges.items c.self.inside.mediums.items
     c.in-Some-pop.step c.in_ok-pop.field-0 _ c.in_ok-pop.ensures.items c.in-Mediums.is c.in-Some-pop.ensures.items
-    (medium_taken c.in-Some-pop.step c.args.last.now c.rename-in-Some-pop.new.self c.set_medium.new.self c.rename-in-Some-pop.ensures c.set_medium.ensures)
+    (medium_taken c.in-Some-pop.step c.args.last.now c.rename-in-Some-pop.new.self c.set_medium.new.self c.rename-in-Some-pop.ensures
+    c.set_medium.ensures)
     (medium_popped c.pop.new.self.items c.self.inside.rows.items c.self.inside.smalls.items c.pop-in-Mediums.new.self.items
     c.self.inside.larges.items c.self.inside.mediums.items c.in-Some-pop.step c.in_ok-pop.field-0 c.in_ok-pop.ensures.items
     c.in-Mediums.is c.in-Some-pop.ensures.items c.self.invariant)
@@ -57,7 +60,8 @@ pub returns-in-Some-pop-2-clause-some : goal.returns-in-Some-pop-2-clause-some
 returns-in-Some-pop-2-clause-some g c = ap (λ t. t.records) (sym c.self.view_is) ∙ large_records c.pop.new.self.items c.self.inside.rows.items
     c.self.inside.smalls.items c.self.inside.mediums.items c.pop-in-Larges.new.self.items c.self.inside.larges.items
     c.in-Some-pop-2.step c.in_ok-pop.field-0 _ c.in_ok-pop.ensures.items c.in-Larges.is c.in-Some-pop-2.ensures.items
-    (large_taken c.in-Some-pop-2.step c.args.last.now c.rename-in-Some-pop-2.new.self c.set_large.new.self c.rename-in-Some-pop-2.ensures c.set_large.ensures)
+    (large_taken c.in-Some-pop-2.step c.args.last.now c.rename-in-Some-pop-2.new.self c.set_large.new.self c.rename-in-Some-pop-2.ensures
+    c.set_large.ensures)
     (large_popped c.pop.new.self.items c.self.inside.rows.items c.self.inside.smalls.items c.self.inside.mediums.items
     c.pop-in-Larges.new.self.items c.self.inside.larges.items c.in-Some-pop-2.step c.in_ok-pop.field-0 c.in_ok-pop.ensures.items
     c.in-Larges.is c.in-Some-pop-2.ensures.items c.self.invariant)

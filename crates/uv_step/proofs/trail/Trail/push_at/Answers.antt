@@ -21,27 +21,31 @@ returns-in-Small-clause-records g c =
 pub invariant_of-self-in-Medium : goal.invariant_of-self-in-Medium
 invariant_of-self-in-Medium g c = medium_pushed c.self.inside.rows.items c.push_reserved-in-Medium.new.self.items c.self.inside.smalls.items
     c.self.inside.mediums.items c.self.inside.larges.items
-    c.push_reserved-in-Medium-2.new.self.items c.new-in-Medium.result c.push_reserved-in-Medium.ensures.items c.push_reserved-in-Medium-2.ensures.items c.self.invariant
+    c.push_reserved-in-Medium-2.new.self.items c.new-in-Medium.result c.push_reserved-in-Medium.ensures.items
+    c.push_reserved-in-Medium-2.ensures.items c.self.invariant
 
 pub returns-in-Medium-clause-records : goal.returns-in-Medium-clause-records
 returns-in-Medium-clause-records g c =
     medium_records c.self.inside.rows.items c.push_reserved-in-Medium.new.self.items c.self.inside.smalls.items c.self.inside.mediums.items
     c.self.inside.larges.items c.push_reserved-in-Medium-2.new.self.items c.new-in-Medium.result row.Mediums (at_place c.args.place c.args.last.now)
     c.push_reserved-in-Medium.ensures.items refl c.push_reserved-in-Medium-2.ensures.items
-    (medium_kept c.args.place c.naming-naming.result c.in-Medium.change.now c.new-in-Medium.result c.args.last.now c.new-in-Medium.ensures c.naming-naming.ensures
+    (medium_kept c.args.place c.naming-naming.result c.in-Medium.change.now c.new-in-Medium.result c.args.last.now c.new-in-Medium.ensures
+    c.naming-naming.ensures
     c.in-Medium.ensures)
     c.self.invariant ∙ ap (λ t. t.records ++ at_place c.args.place c.args.last.now ∷ []) c.self.view_is
 
 pub invariant_of-self-in-Large : goal.invariant_of-self-in-Large
 invariant_of-self-in-Large g c = large_pushed c.self.inside.rows.items c.push_reserved-in-Large.new.self.items c.self.inside.smalls.items
     c.self.inside.mediums.items c.self.inside.larges.items
-    c.push_reserved-in-Large-2.new.self.items c.new-in-Large.result c.push_reserved-in-Large.ensures.items c.push_reserved-in-Large-2.ensures.items c.self.invariant
+    c.push_reserved-in-Large-2.new.self.items c.new-in-Large.result c.push_reserved-in-Large.ensures.items
+    c.push_reserved-in-Large-2.ensures.items c.self.invariant
 
 pub returns-in-Large-clause-records : goal.returns-in-Large-clause-records
 returns-in-Large-clause-records g c =
     large_records c.self.inside.rows.items c.push_reserved-in-Large.new.self.items c.self.inside.smalls.items c.self.inside.mediums.items
     c.self.inside.larges.items c.push_reserved-in-Large-2.new.self.items c.new-in-Large.result row.Larges (at_place c.args.place c.args.last.now)
     c.push_reserved-in-Large.ensures.items refl c.push_reserved-in-Large-2.ensures.items
-    (large_kept c.args.place c.naming-naming.result c.in-Large.change.now c.new-in-Large.result c.args.last.now c.new-in-Large.ensures c.naming-naming.ensures
+    (large_kept c.args.place c.naming-naming.result c.in-Large.change.now c.new-in-Large.result c.args.last.now c.new-in-Large.ensures
+    c.naming-naming.ensures
     c.in-Large.ensures)
     c.self.invariant ∙ ap (λ t. t.records ++ at_place c.args.place c.args.last.now ∷ []) c.self.view_is
