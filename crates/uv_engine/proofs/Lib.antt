@@ -1,4 +1,3 @@
-mod Ahead
 pub mod Buffers
 pub mod Faults
 pub mod Fronts

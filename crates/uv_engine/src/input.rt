@@ -7,7 +7,6 @@ ghost use Rattle.uv_engine.specs.Input.{Buffered, pending, left, EndIsSeen, size
 ghost use Rattle.uv_engine.specs.Taking.{TakesAhead, TakesNext, SameReader, SpendsBudget, SpendsGiven, IsReadFault};
 
 use crate::source::Source;
-use memchr::memchr;
 use std::alloc::{AllocError, Global};
 use std::marker::Model;
 use std::mem;
@@ -52,7 +51,7 @@ fn cut(text: &[u8]) -> Option<(&[u8], &[u8])>
     ensures some { IfSome result (λ parts. IsCut 10 text.now parts.0.now parts.1.now) }
     ensures none { IfNone result (All (λ b. (b == 10) ≡ false) text.now) }
 {
-    match memchr(b'\n', text) {
+    match text.iter().position(|b| *b == b'\n') {
         Some(end) => Some((&text[..end], &text[end + 1..])),
         None => None,
     }
@@ -80,7 +79,7 @@ impl Input {
     pub fn has_line(&self) -> bool
         ensures { result ≡ list_any (λ b. b == 10) self.now.ahead }
     {
-        cut(&self.ahead[self.at..]).is_some()
+        self.ahead[self.at..].contains(&b'\n')
     }
 
     fn take_part(&mut self) -> Vec<u8>
