@@ -1,5 +1,5 @@
 -- Where the loop stood, from how the record of a step keeps it.
-use Rattle.std.specs.Prelude.{ℕ, List, map, Some, None}
+use Rattle.std.specs.Prelude.{List, map, Some, None}
 use Rattle.uv_model.specs.declared.place.Place.{Place}
 use Rattle.uv_model.specs.declared.place.Place.TheVariants.{Main, Running}
 use Rattle.uv_model.specs.declared.place.Stage.{Stage}
