@@ -13,7 +13,7 @@ from pathlib import Path
 
 WORD = re.compile(r"[^\W\d][\w-]*(?:\.[^\W\d][\w-]*)*")
 HEAD = re.compile(r"^(?:(?:abbrev|unfoldable|pub|record|data) )*([^\W\d][\w-]*) (?:[:({]|where)")
-USE = re.compile(r"^\s*(?:ghost |pub )*use Rattle\.([\w.]+?)(?:\.\{([^}]*)\}|\.(\w+))?(?: as (\w+))?;?$")
+USE = re.compile(r"^\s*(?:ghost |pub |unfoldable )*use Rattle\.([\w.]+?)(?:\.\{([^}]*)\}|\.(\w+))?(?: as (\w+))?;?$")
 
 
 @dataclass(frozen=True)
@@ -121,6 +121,19 @@ class Specs:
         for path in sorted((root / "crates").glob("*/specs/*.antt")):
             if path.stem != "Lib":
                 self.read(path)
+        for names in self.names.values():
+            self.settle(names)
+
+    def settle(self, names: Names) -> None:
+        """Has each name mean the definition itself, where it is brought in by way of a module that passes it on."""
+        for name, at in names.single.items():
+            while at not in self.found and at[1] in self.passed(at[0]):
+                at = self.passed(at[0])[at[1]]
+            names.single[name] = at
+
+    def passed(self, file: str) -> dict[str, tuple[str, str]]:
+        """What a file brings in."""
+        return self.names[file].single if file in self.names else {}
 
     def read(self, path: Path) -> None:
         """Takes in a file of definitions. Within a `module` they stand two columns in."""
@@ -212,6 +225,7 @@ def page(root: Path) -> str:
         roots: list[tuple[str, str]] = []
         for clause in claim.clauses:
             text, names, _ = clause_text(root, clause)
+            specs.settle(names)
             roots += [it for it in (names.meant(word, None) for word in WORD.findall(text)) if it and it in specs.found]
         if not roots:
             raise Fault(f"no definition stands behind the claim: {claim.sentence}")

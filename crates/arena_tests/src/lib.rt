@@ -1,5 +1,4 @@
-//! Tests of the arena, of its parts and of what stands on it, by their public calls: each once with ample memory, and worked examples. The calls of
-//! timers and of requests are tried by the program `calls`, against lists and maps.
+//! Tests of the arena, of its parts and of what stands on it, by their public calls: each once with ample memory, and worked examples.
 #![tactic(auto)]
 
 #[cfg(test)]
@@ -20,6 +19,8 @@ mod look;
 mod names;
 #[cfg(test)]
 mod raw;
+#[cfg(test)]
+mod timers;
 #[cfg(test)]
 mod trail;
 #[cfg(test)]

@@ -108,15 +108,15 @@ fn round(
     watch.start(clock);
     sends(board, sender, count);
     watch.turn(clock);
-    measured.send.note(watch.end(clock).change, count);
+    measured.send.note(watch.end(clock).first, count);
     let _ = absorb(watch, board, seat);
     watch.start(clock);
     absorbs(watch, board, seat, count);
     watch.turn(clock);
     pairs(watch, board, seat, sender, count);
     let lap = watch.end(clock);
-    measured.none.note(lap.change, count);
-    measured.pair.note(lap.undo, count);
+    measured.none.note(lap.first, count);
+    measured.pair.note(lap.second, count);
 }
 
 fn rounds(

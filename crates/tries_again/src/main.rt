@@ -1,9 +1,10 @@
 //! Takes the steps of a session where memory may run out: a step that wanted it is taken again, and behind a want of memory all is as before.
 //! Then all steps are taken back, while none is granted; and the pool's book notes an entry for which it has made room, while none is
-//! granted either. Before that, if it is asked for, so many handles are made that their slots need a second piece of memory, and all of it
-//! is taken back and run again while none is granted. `tests/refused-allocations/run` runs it so.
+//! granted either. Before that, if it is asked for, an arena goes on in its second piece, and so many handles are made that their slots need
+//! one, and all of it is taken back and run again while none is granted. `tests/refused-allocations/run` runs it so.
 #![tactic(auto)]
 
+mod arena;
 mod book;
 mod pieces;
 mod session;
@@ -47,6 +48,11 @@ fn tried<M: Machine, I: Read, R: Print>(
     }
 }
 
+/// The arena that needs a second piece, if it is wanted.
+fn arena_tried<I: Read, R: Print>(rt: &R, alloc: Global, turns: &mut Turns<I>) -> io::Result<bool> {
+    Ok(!turns.asks(rt, "arena?")? || arena::tried(rt, alloc, turns)?)
+}
+
 /// The session that needs a second piece, if it is wanted.
 fn pieces_tried<I: Read, R: Print>(
     rt: &R,
@@ -59,7 +65,8 @@ fn pieces_tried<I: Read, R: Print>(
 fn main(rt: HostRuntime) -> io::Result<()> {
     let mut turns = Turns::new(rt.stdin());
     let alloc = rt.alloc();
-    let is_right = pieces_tried(&rt, alloc, &mut turns)?
+    let is_right = arena_tried(&rt, alloc, &mut turns)?
+        && pieces_tried(&rt, alloc, &mut turns)?
         && tried::<ArenaLoop, _, _>(&rt, alloc, &mut turns)?
         && book::tried::<Brand, _, _>(&rt, alloc, Blank::new(3), &mut turns)?;
     let verdict = if is_right {
