@@ -1,2 +1,3 @@
+pub mod Limits
 pub mod Words
 pub mod Due

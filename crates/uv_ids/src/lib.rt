@@ -18,7 +18,7 @@ pub use due::Due;
 pub use event::Event;
 pub use fault::{Fault, Why};
 pub use id::{Id, Var};
-pub use limits::{LONGEST_TEXT, MOST_ROUNDS, MOST_SENDERS};
+pub use limits::{LONGEST_TEXT, MOST_ROUNDS, MOST_SENDERS, MOST_STEPS, MOST_WORKERS};
 pub use order::Order;
 pub use phase::{Kind, Mode, Phase};
 pub use seen::{Callback, Seen, Site};

@@ -1,5 +1,6 @@
 -- With room made, an event that may follow the log is entered: no call refuses it.
 use Rattle.uv_live.proofs.Names.{◌≡◌, ◌∙◌, ◌||◌, ◌<◌, List, [], ◌∷◌, ◌++◌, Bool, true, false, Option, Some, None, Result, Ok, Err, length, map, cond, refl, sym, ap, subst, arith, Id, Code, Fault, same_id, Job, Pool, IsLegal, has, waits, then_event, collected_from, PoolEvent, replay_more, same_when, Contents, pool_of, member, Hold, IsReplay, Submits, Cancels, CollectsNext, WantsMemory, IsFull, Collected}
+use Rattle.uv_ids.specs.Limits.{MOST_STEPS}
 use Rattle.uv_ids.specs.declared.code.Code.TheVariants as code
 use Rattle.uv_ids.specs.declared.fault.Fault.TheVariants as fault
 use Rattle.uv_ids.specs.declared.fault.Why.TheVariants as why
@@ -8,7 +9,7 @@ use Rattle.uv_work.specs.declared.event.PoolEvent.TheVariants as event
 -- there is room for an event, which may follow the log
 pub record IsNext (s : Hold) (e : PoolEvent) : Type 0 where
   pub room : s.room ≡ true
-  pub less : length s.contents.log < 16777216
+  pub less : length s.contents.log < MOST_STEPS
   pub replay : IsReplay s.contents
   pub legal : IsLegal (length s.contents.running) (s.contents.log ++ e ∷ [])
 

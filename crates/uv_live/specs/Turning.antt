@@ -1,5 +1,6 @@
 -- A step of the loop, and its entry in the book.
 use Rattle.std.specs.Prelude.{◌≡◌, ◌<◌, ◌≤◌, ◌⊎◌, List, Option, Some, None, Result, Ok, Err, length}
+use Rattle.uv_ids.specs.Limits.{MOST_STEPS}
 use Rattle.uv_ids.specs.declared.event.Event.TheVariants as step
 use Rattle.uv_ids.specs.declared.fault.Fault.{Fault}
 use Rattle.uv_ids.specs.declared.fault.Fault.TheVariants as fault
@@ -32,10 +33,10 @@ abbrev pub Turns : List PoolEvent → Course → Result (List PoolEvent) Fault �
 Turns log s (Ok events) log' t =
     MayTake (length log) log s.events × (t ≡ stepped step.Loop events (taken (length log) log s)) × (log' ≡ t.events)
 Turns log s (Err (fault.Torn at)) log' t = (log' ≡ log) × TearsAt at log s t
-Turns log s (Err (fault.Refused w)) log' t = (log' ≡ log) × (length log < 16777216) × TakesAll log s t
+Turns log s (Err (fault.Refused w)) log' t = (log' ≡ log) × (length log < MOST_STEPS) × TakesAll log s t
 Turns log s (Err fault.Memory) log' t = (log' ≡ log) × TakesSome log s t
-Turns log s (Err fault.StepsFull) log' t = (log' ≡ log) × (TakesFew log s t ⊎ ((length log < 16777216) × TakesAll log s t))
-Turns log s (Err fault.Limit) log' t = (log' ≡ log) × (16777216 ≤ length log) × TakesAll log s t
+Turns log s (Err fault.StepsFull) log' t = (log' ≡ log) × (TakesFew log s t ⊎ ((length log < MOST_STEPS) × TakesAll log s t))
+Turns log s (Err fault.Limit) log' t = (log' ≡ log) × (MOST_STEPS ≤ length log) × TakesAll log s t
 Turns log s (Err _) log' t = ⊥
 
 -- where it answers a refusal, the loop's next step is refused for just that

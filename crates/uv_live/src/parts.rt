@@ -1,17 +1,19 @@
 //! Whether each shift is the log's part for its worker: the log is gone over once, for all of them together.
 ghost use Rattle.std.specs.Prelude.{◌≡◌, ◌==◌, ◌<◌, ◌≤◌, ◌∷◌, ◌↔◌, ℕ, List, IfSome, IfNone, map, length, slice_index, false, []};
 ghost use Rattle.std.specs.Bool.{MatchBool};
+ghost use Rattle.uv_ids.specs.Limits.{MOST_WORKERS};
 ghost use Rattle.uv_work.specs.declared.event.PoolEvent.{PoolEvent};
 ghost use Rattle.uv_live.specs.Following.{Decides};
 ghost use Rattle.uv_live.specs.Settling.{worked, is_of, AreLeft, AreParts, AreShifts, IsByWorker};
 
 use crate::following::is_same;
 use std::sync::ledger::Ledger;
+use uv_ids::MOST_WORKERS;
 use uv_pool::Shift;
 use uv_work::PoolEvent;
 
-/// The most shifts: a pool has no more workers (libuv: UV_THREADPOOL_SIZE is at most 1024).
-const MOST_SHIFTS: usize = 1024;
+/// The most shifts: a pool has no more workers.
+const MOST_SHIFTS: usize = MOST_WORKERS as usize;
 
 /// The worker whose event it is, if it is a worker's.
 fn worker_of(event: PoolEvent) -> Option<u16>
@@ -56,7 +58,7 @@ fn meets<L: Ledger>(entry: PoolEvent, shifts: &[Shift<L>], met: &mut [usize]) ->
 
 /// None is met yet.
 fn none_met() -> [usize; MOST_SHIFTS]
-    ensures length { length result ≡ 1024 }
+    ensures length { length result ≡ MOST_WORKERS }
     ensures none { (k : ℕ) → slice_index result k ≡ 0 }
 {
     [0; MOST_SHIFTS]
@@ -64,7 +66,7 @@ fn none_met() -> [usize; MOST_SHIFTS]
 
 /// Whether the log is made of the events of all shifts, each in its order, and of entries that are no worker's.
 fn are_parts<L: Ledger>(log: &[PoolEvent], shifts: &[Shift<L>]) -> bool
-    requires { length shifts.now ≤ 1024 }
+    requires { length shifts.now ≤ MOST_WORKERS }
     ensures { Decides result (AreParts log.now (map (λ s. worked s.worker s.events.items s.share.amount) shifts.now)) }
 {
     let mut met = none_met();
@@ -101,7 +103,7 @@ fn is_by_worker<L: Ledger>(k: usize, shift: &Shift<L>) -> bool
 
 /// Whether the shifts are those of the workers 0, 1, .. in order.
 pub(crate) fn are_shifts<L: Ledger>(log: &[PoolEvent], shifts: &[Shift<L>]) -> bool
-    requires { length shifts.now ≤ 1024 }
+    requires { length shifts.now ≤ MOST_WORKERS }
     ensures { Decides result (AreShifts log.now (map (λ s. worked s.worker s.events.items s.share.amount) shifts.now)) }
 {
     if !are_parts(log, shifts) {

@@ -1,5 +1,6 @@
 //! One turn of the loop, with its entry in the book.
 ghost use Rattle.std.specs.Prelude.{◌≡◌, ◌<◌, ◌≤◌, ◌++◌, ◌∷◌, [], true, length};
+ghost use Rattle.uv_ids.specs.Limits.{MOST_STEPS};
 ghost use Rattle.uv_work.specs.Pool.{IsLegal};
 ghost use Rattle.uv_work.specs.declared.event.PoolEvent.TheVariants as event;
 ghost use Rattle.uv_live.specs.Course.{events_of};
@@ -15,7 +16,7 @@ use uv_work::Job;
 
 fn enter_queue<L: Ledger>(book: &mut PoolBook<L>, job: Job)
     requires room { book.old.hold.room ≡ true }
-    requires less { length book.old.hold.contents.log < 16777216 }
+    requires less { length book.old.hold.contents.log < MOST_STEPS }
     ensures log { IsLegal (length book.old.hold.contents.running) (book.old.hold.contents.log ++ event.Queue job.req ∷ [])
         → book.new.hold.contents.log ≡ book.old.hold.contents.log ++ event.Queue job.req ∷ [] }
     ensures rest { book.new.rest ≡ book.old.rest }
@@ -26,7 +27,7 @@ fn enter_queue<L: Ledger>(book: &mut PoolBook<L>, job: Job)
 
 fn enter_cancel<L: Ledger>(book: &mut PoolBook<L>, id: Id)
     requires room { book.old.hold.room ≡ true }
-    requires less { length book.old.hold.contents.log < 16777216 }
+    requires less { length book.old.hold.contents.log < MOST_STEPS }
     ensures log { IsLegal (length book.old.hold.contents.running) (book.old.hold.contents.log ++ event.Cancel id ∷ [])
         → book.new.hold.contents.log ≡ book.old.hold.contents.log ++ event.Cancel id ∷ [] }
     ensures rest { book.new.rest ≡ book.old.rest }
@@ -37,7 +38,7 @@ fn enter_cancel<L: Ledger>(book: &mut PoolBook<L>, id: Id)
 
 fn enter_collect<L: Ledger>(book: &mut PoolBook<L>, id: Id)
     requires room { book.old.hold.room ≡ true }
-    requires less { length book.old.hold.contents.log < 16777216 }
+    requires less { length book.old.hold.contents.log < MOST_STEPS }
     ensures log { IsLegal (length book.old.hold.contents.running) (book.old.hold.contents.log ++ event.Collect id ∷ [])
         → book.new.hold.contents.log ≡ book.old.hold.contents.log ++ event.Collect id ∷ [] }
     ensures rest { book.new.rest ≡ book.old.rest }
@@ -49,7 +50,7 @@ fn enter_collect<L: Ledger>(book: &mut PoolBook<L>, id: Id)
 /// Enters what a step of the loop did. With room, an event that may follow the log can't be refused.
 fn enter<L: Ledger>(book: &mut PoolBook<L>, did: Did)
     requires room { book.old.hold.room ≡ true }
-    requires less { length book.old.hold.contents.log < 16777216 }
+    requires less { length book.old.hold.contents.log < MOST_STEPS }
     ensures log { IsLegal (length book.old.hold.contents.running) (book.old.hold.contents.log ++ events_of did)
         → book.new.hold.contents.log ≡ book.old.hold.contents.log ++ events_of did }
     ensures rest { book.new.rest ≡ book.old.rest }

@@ -1,6 +1,7 @@
 -- A list of events, one step after another.
 use Rattle.std.specs.Prelude.{◌≡◌, ℕ, List, [], ◌∷◌, ◌++◌, ◌<◌, ◌≤◌, ◌-◌, length, take, Bool, true, false, Option, Some, None, Result, Ok, Err, option_to_list}
 use Rattle.std.specs.List.{flat_map}
+use Rattle.uv_ids.specs.Limits.{MOST_STEPS}
 use Rattle.uv_ids.specs.declared.event.Event.{Event}
 use Rattle.uv_ids.specs.declared.seen.Seen.{Seen}
 use Rattle.uv_ids.specs.declared.fault.Fault.{Fault}
@@ -59,7 +60,7 @@ Accepts p es = AcceptsFrom p (fresh p) es
 
 -- the most steps that a machine takes
 abbrev pub STEPS : ℕ
-STEPS = 16777216
+STEPS = MOST_STEPS
 
 -- why a step is refused, if it is
 abbrev pub refusal_of : Next → Option Why

@@ -8,13 +8,13 @@ use crate::layout::Layout;
 use crate::numbers::Numbers;
 use crate::place::Place;
 use std::alloc::Global;
-use uv_ids::{Event, Fault, Id, Seen, Var};
+use uv_ids::{Event, Fault, Id, MOST_STEPS, Seen, Var};
 use uv_records::{ListName, Named, Slot};
 use uv_script::Script;
 use uv_work::{Content, WorkResult};
 
 /// The most steps that a machine takes (own).
-pub const STEPS: usize = 16_777_216;
+pub const STEPS: usize = MOST_STEPS;
 
 /// What an accepted step did.
 #[derive(Clone, Copy, PartialEq, Eq)]

@@ -1,6 +1,7 @@
 -- What callers see of the pool's book.
 use Rattle.std.specs.Prelude.{◌≡◌, ◌+◌, ◌<◌, ◌≤◌, ℕ, List, Bool, true, false, Some, length, cond, slice_get}
 use Rattle.std.specs.List.{count_by}
+use Rattle.uv_ids.specs.Limits.{MOST_WORKERS}
 use Rattle.uv_work.specs.Pool.{replay}
 use Rattle.uv_work.specs.declared.event.PoolEvent.{PoolEvent}
 use Rattle.uv_work.specs.declared.event.PoolEvent.TheVariants as event
@@ -43,4 +44,4 @@ pub record IsCounted (c : Contents) (total own spare : ℕ) : Type 0 where
   pub count : total ≡ finish_count c.log
   pub parts : own ≡ spare
   pub some : 0 < spare
-  pub workers : length c.running ≤ 1024
+  pub workers : length c.running ≤ MOST_WORKERS

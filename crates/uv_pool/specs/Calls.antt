@@ -1,5 +1,6 @@
 -- What each call of the book answers, and what it leaves.
 use Rattle.std.specs.Prelude.{◌≡◌, ◌+◌, ◌-◌, ◌<◌, ◌≤◌, ◌⊎◌, ℕ, [], ◌∷◌, true, false, Option, Some, None, Result, Ok, Err, length, slice_get}
+use Rattle.uv_ids.specs.Limits.{MOST_STEPS, MOST_WORKERS}
 use Rattle.uv_ids.specs.declared.id.Id.{Id}
 use Rattle.uv_ids.specs.declared.code.Code.{Code}
 use Rattle.uv_ids.specs.declared.code.Code.TheVariants as code
@@ -16,15 +17,15 @@ use Rattle.uv_pool.specs.Book.{Standing}
 
 -- memory was wanted, since no room was reserved; the contents are as before
 abbrev pub WantsMemory : Hold → Hold → Type 0
-WantsMemory s t = (s.room ≡ false) × (length s.contents.log < 16777216) × (t.contents ≡ s.contents)
+WantsMemory s t = (s.room ≡ false) × (length s.contents.log < MOST_STEPS) × (t.contents ≡ s.contents)
 
 -- the log is as long as it may be; the contents are as before
 abbrev pub IsFull : Hold → Hold → Type 0
-IsFull s t = (16777216 ≤ length s.contents.log) × (t.contents ≡ s.contents)
+IsFull s t = (MOST_STEPS ≤ length s.contents.log) × (t.contents ≡ s.contents)
 
 -- room for one more entry
 abbrev pub Reserves : Hold → Result (Unit {0}) Fault → Hold → Type 0
-Reserves s (Ok _) t = (t.contents ≡ s.contents) × (t.room ≡ true) × (length s.contents.log < 16777216)
+Reserves s (Ok _) t = (t.contents ≡ s.contents) × (t.room ≡ true) × (length s.contents.log < MOST_STEPS)
 Reserves s (Err fault.Memory) t = WantsMemory s t
 Reserves s (Err fault.Limit) t = IsFull s t
 Reserves s (Err _) t = ⊥
@@ -64,7 +65,7 @@ Finishes s k r (Err _) t = ⊥
 
 -- why a worker's result isn't taken: the worker doesn't run its job, no room was reserved, or the log is full
 abbrev pub RefusesFinish : Hold → ℕ → WorkResult → Type 0
-RefusesFinish s k r = (run_at s k ≡ Some (Some r.job) → ⊥) ⊎ (s.room ≡ false) ⊎ (16777216 ≤ length s.contents.log)
+RefusesFinish s k r = (run_at s k ≡ Some (Some r.job) → ⊥) ⊎ (s.room ≡ false) ⊎ (MOST_STEPS ≤ length s.contents.log)
 
 -- a request that waits is cancelled; EBUSY where it runs or is done, ESTALE where it isn't in the pool
 abbrev pub Cancels : Hold → Id → Result Code Fault → Hold → Type 0
@@ -100,7 +101,7 @@ EnrolsAt s k (Err _) t = ⊥
 
 -- a book with an empty log; Range just outside 1 to 1024 workers
 abbrev pub Opens : ℕ → Result Standing Fault → Type 0
-Opens w (Ok b) = (0 < w) × (w ≤ 1024) × (b.hold.contents ≡ fresh w) × (b.rest ≡ record { closed = false; own = 0; spare = w + 1 })
-Opens w (Err (fault.Refused why.Range)) = (w ≡ 0) ⊎ (1024 < w)
-Opens w (Err fault.Memory) = (0 < w) × (w ≤ 1024)
+Opens w (Ok b) = (0 < w) × (w ≤ MOST_WORKERS) × (b.hold.contents ≡ fresh w) × (b.rest ≡ record { closed = false; own = 0; spare = w + 1 })
+Opens w (Err (fault.Refused why.Range)) = (w ≡ 0) ⊎ (MOST_WORKERS < w)
+Opens w (Err fault.Memory) = (0 < w) × (w ≤ MOST_WORKERS)
 Opens w (Err _) = ⊥

@@ -2,6 +2,7 @@
 use Rattle.std.specs.Prelude.{◌≡◌, ◌+◌, ◌≤◌, ◌&&◌, Bool, true, false, Option, Some, None, length, nat_lt, vec_len, vec_capacity}
 use Rattle.std.specs.VecDeque.{deque_len, deque_capacity}
 use Rattle.std.specs.HashMap.{get, spare}
+use Rattle.uv_ids.specs.Limits.{MOST_STEPS}
 use Rattle.uv_ids.specs.declared.id.Id.{Id}
 use Rattle.uv_work.specs.Ids.{same_id}
 use Rattle.uv_work.specs.Pool.{has, waits}
@@ -19,7 +20,7 @@ contents_of h = record { log = h.log.items; waiting = jobs_of h.waiting.places.i
 -- the log is below its limit, and there is room for one more entry and for all that its call grows
 abbrev pub has_room : Held → Bool
 has_room h =
-    nat_lt (vec_len h.log) 16777216
+    nat_lt (vec_len h.log) MOST_STEPS
     && (nat_lt (vec_len h.log) (vec_capacity h.log)
     && (nat_lt (deque_len h.waiting.places) (deque_capacity h.waiting.places)
     && (nat_lt (deque_len h.done) (deque_capacity h.done) && nat_lt 0 (spare h.places))))

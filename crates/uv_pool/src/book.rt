@@ -1,16 +1,14 @@
 //! The pool's book.
 ghost use Rattle.std.specs.Prelude.{◌≡◌, ◌+◌, ◌<◌, ◌≤◌, true, Some, is_ok, cond, IfOk, IfErr, OnOk, length};
+ghost use Rattle.uv_ids.specs.Limits.{MOST_WORKERS};
 
 use crate::held::Held;
 use crate::places::Collected;
 use std::alloc::Global;
 use std::marker::Model;
 use std::sync::ledger::{Blank, Book, Ledger, Share};
-use uv_ids::{Code, Fault, Id, Why};
+use uv_ids::{Code, Fault, Id, MOST_WORKERS, Why};
 use uv_work::{Job, PoolEvent, WorkResult};
-
-/// The most workers of a pool (libuv: UV_THREADPOOL_SIZE is at most 1024).
-const MOST_WORKERS: u16 = 1024;
 
 /// The pool's book: its log, and the pool, which is the replay of that log (own). It is what the pool's lock guards.
 ///
@@ -119,7 +117,7 @@ impl<L: Ledger> PoolBook<L> {
     /// How many workers there are.
     pub fn workers(&self) -> u16
         ensures number { result ≡ length self.now.hold.contents.running }
-        ensures within { result ≤ 1024 }
+        ensures within { result ≤ MOST_WORKERS }
     {
         self.held.running.len() as u16
     }

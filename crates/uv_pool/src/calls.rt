@@ -3,11 +3,8 @@ ghost use Rattle.std.specs.Prelude.{◌≡◌, IfOk, OnOk, Some};
 
 use crate::held::Held;
 use crate::places::{Collected, Place};
-use uv_ids::{Code, Fault, Id, Why};
+use uv_ids::{Code, Fault, Id, MOST_STEPS, Why};
 use uv_work::{Job, WorkResult};
-
-/// As many entries as a log may have.
-const LOG_LIMIT: usize = 16_777_216;
 
 impl Held {
     ghost use Rattle.uv_pool.specs.Contents.{result_in};
@@ -22,7 +19,7 @@ impl Held {
         ensures rows { rows_of self.new ≡ rows_of self.old }
         ensures kept { IsKept self.new }
     {
-        if self.log.len() >= LOG_LIMIT {
+        if self.log.len() >= MOST_STEPS {
             return Err(Fault::Limit);
         }
         match self.reserve() {

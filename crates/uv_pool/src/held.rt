@@ -1,5 +1,6 @@
 //! What the book holds, without its rule.
 ghost use Rattle.std.specs.Prelude.{◌≡◌, ◌<◌, ◌≤◌, true, false, Some, None, IfOk, OnOk, OnErr, length, slice_get};
+ghost use Rattle.uv_ids.specs.Limits.{MOST_STEPS};
 
 use crate::places::{Collected, Place, forget, note};
 use crate::queue::{Queue, at_number};
@@ -105,7 +106,7 @@ impl Held {
     /// Makes room for one more entry.
     pub(crate) fn reserve(&mut self) -> Result<(), AllocError>
         requires kept { IsKept self.old }
-        requires limit { length self.old.log.items < 16777216 }
+        requires limit { length self.old.log.items < MOST_STEPS }
         ensures contents { contents_of self.new ≡ contents_of self.old }
         ensures rows { rows_of self.new ≡ rows_of self.old }
         ensures kept { IsKept self.new }

@@ -1,5 +1,6 @@
 -- A script, as its parts.
 use Rattle.std.specs.Prelude.{◌≡◌, ℕ, ◌+◌, ◌<◌, ◌≤◌, ◌==◌, Bool, true, false, List, [], ◌∷◌, ◌++◌, Option, Some, None, option_map, unwrap_or, slice_get, length, sum_by, All, if◌then◌else◌}
+use Rattle.uv_ids.specs.Limits.{MOST_WORKERS}
 use Rattle.uv_ids.specs.declared.id.Var.{Var}
 use Rattle.uv_ids.specs.declared.order.Order.{Order}
 use Rattle.uv_ids.specs.declared.order.Order.TheVariants as orders
@@ -121,9 +122,9 @@ DEFAULT_WORKERS = 4
 abbrev pub worker_count : Program → ℕ
 worker_count p = p.workers
 
--- a thread pool has 1 to 1024 workers, as in libuv
+-- how many workers a thread pool may have
 abbrev pub IsWorkerCount : ℕ → Type 0
-IsWorkerCount n = (1 ≤ n) × (n ≤ 1024)
+IsWorkerCount n = (1 ≤ n) × (n ≤ MOST_WORKERS)
 
 -- the script with this number of workers
 abbrev pub with_workers : ℕ → Program → Program

@@ -2,6 +2,7 @@
 use Rattle.std.specs.Prelude.{◌≡◌, ℕ, ◌&&◌, ◌||◌, ◌==◌, ◌<◌, Bool, true, not, nat_le, nat_lt, List, [], ◌∷◌, length, Contains, Option, Some, None, Result, Ok, Err, option_and_then, option_map, is_none, codes, if◌then◌else◌}
 use Rattle.std.specs.List.{position}
 use Rattle.std.specs.Str.{bytes_eq}
+use Rattle.uv_ids.specs.Limits.{MOST_WORKERS}
 use Rattle.uv_ids.specs.declared.id.Var.{Var}
 use Rattle.uv_ids.specs.declared.phase.Kind.{Kind}
 use Rattle.uv_ids.specs.declared.phase.Kind.TheVariants as kind
@@ -265,7 +266,7 @@ workers_of fields = do
   number ← first_of fields
   n ← number_of number.0
   end ← none_left number.1
-  if nat_le 1 n && nat_le n 1024 then Some (HasWorkers n) else None
+  if nat_le 1 n && nat_le n MOST_WORKERS then Some (HasWorkers n) else None
 
 -- what stands behind `order`
 unfoldable pub orders_of : List (List ℕ) → Option Statement

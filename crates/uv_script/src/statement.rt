@@ -12,7 +12,9 @@ use crate::names::Names;
 use crate::op::{CallbackLine, MainOp, Op};
 use crate::size::ArenaSize;
 use crate::words::{is_name, number};
-use uv_ids::{Callback, Kind, MOST_ROUNDS, MOST_SENDERS, Mode, Order, ThreadLine, Var, is};
+use uv_ids::{
+    Callback, Kind, MOST_ROUNDS, MOST_SENDERS, MOST_WORKERS, Mode, Order, ThreadLine, Var, is,
+};
 use uv_work::Task;
 
 /// What a line says.
@@ -434,7 +436,7 @@ fn workers<'a>(mut fields: Fields<'a>) -> Option<Statement<'a>>
 {
     let workers = number(fields.next()?)?;
     none_left(fields)?;
-    if 1 <= workers && workers <= 1024 {
+    if 1 <= workers && workers <= u64::from(MOST_WORKERS) {
         Some(Statement::HasWorkers(workers as u16))
     } else {
         None

@@ -1,6 +1,7 @@
 -- What the words of a command line ask for, by clap's rules of words (`fault_of`, `subcommand_of`).
 use Rattle.std.specs.Prelude.{ℕ, List, [], ◌∷◌, ◌&&◌, nat_le, true, Option, Some, None, IfSome, option_map, option_and_then, codes, if◌then◌else◌}
 use Rattle.std.specs.Str.{bytes_eq}
+use Rattle.uv_ids.specs.Limits.{MOST_WORKERS}
 use Rattle.clap.specs.Kinds.{Kinds}
 use Rattle.clap.specs.Words.{App, Row, Rule, Text, new_app, new_rule, with_rule, with_subcommand, first_of, subcommand_of, fault_of}
 use Rattle.clap.specs.declared.builder.action.ArgAction.TheVariants.{Set}
@@ -35,7 +36,7 @@ uvt_app = with_subcommand two_app (with_rule (job_app (codes "live")) workers_ru
 
 -- how many workers there may be
 abbrev pub count_of : ℕ → Option ℕ
-count_of n = if nat_le 1 n && nat_le n 1024 then Some n else None
+count_of n = if nat_le 1 n && nat_le n MOST_WORKERS then Some n else None
 
 -- the number of workers that a word says
 abbrev pub count_in : Text → Option ℕ

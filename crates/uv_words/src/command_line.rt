@@ -9,6 +9,7 @@ ghost use Rattle.uv_words.specs.Words.{uvt_app, two_app, job_app, workers_rule, 
 use clap::error::ErrorKind;
 use clap::{Arg, ArgAction, ArgMatches, Command};
 use std::alloc::{AllocError, Global};
+use uv_ids::MOST_WORKERS;
 use uv_script::number;
 
 /// What the program is to do.
@@ -77,7 +78,7 @@ fn worker_count(word: &str) -> Option<u16>
     ensures within { IfSome result IsWorkerCount }
 {
     let count = number(word.as_bytes())?;
-    if 1 <= count && count <= 1024 {
+    if 1 <= count && count <= u64::from(MOST_WORKERS) {
         Some(count as u16)
     } else {
         None
