@@ -45,10 +45,7 @@ fits : (xs : List Entry) (i : ℕ) → HasHole xs i → FitsAbove xs i → FitsB
 fits xs i h above below = λ k l. at k l (cases_eq k i) (cases_eq (parent k) i) (cases_lt 0 k) where
   at : (k : ℕ) → k < length xs → (k ≡ i) ⊎ (k ≡ i → ⊥) → (parent k ≡ i) ⊎ (parent k ≡ i → ⊥) → (0 < k) ⊎ (k ≤ 0)
       → is_before (entry_at xs k) (entry_at xs (parent k)) ≡ false
-  at k l e f (inr z) = itself_at xs k (parent k) (omega arith)
-  at k l (inl e) f (inl p) = by _ _ _ _ (ap (entry_at xs) e) (ap (λ (j : ℕ). entry_at xs (parent j)) e) (below.parent_first (omega arith))
-  at k l (inr e) (inl f) (inl p) = second_is xs k i (parent k) (sym f) (above.children k l p f)
-  at k l (inr e) (inr f) (inl p) = h.others k l e f
+  at k l e2 e3 e4 = grind arith
 
 -- ---- up
 module _ (xs : List Entry) (i : ℕ) (p : 0 < i) (l : i < length xs) (less : is_before (entry_at xs i) (entry_at xs (parent i)) ≡ true)
@@ -102,14 +99,10 @@ heap_from_up (suc n) xs i q l h above = if_when (λ (m : Moved). IsHeap m.array)
     let less = (and_parts (ltb 0 i) _ e).1 in
     let long = length-swap xs i (parent i) in
     heap_from_up n (swap xs i (parent i)) (parent i) (omega arith) (omega arith) (hole_up xs i p l less h) (above_up xs i p l less h))
-    (λ e. fits xs i h above (record {
-      parent_first = λ p. stays p
-          (and_cases (ltb 0 i) (is_before (entry_at xs i) (entry_at xs (parent i))) e);
-    })) where
+    (λ e. fits xs i h above (grind arith)) where
       stays : 0 < i → (ltb 0 i ≡ false) ⊎ (is_before (entry_at xs i) (entry_at xs (parent i)) ≡ false)
           → is_before (entry_at xs i) (entry_at xs (parent i)) ≡ false
-      stays p (inl e) = absurd (omega (arith, ltb-false 0 i e))
-      stays p (inr e) = e
+      stays p e1 = grind arith
 
 -- ---- down
 -- no child comes before the lesser one
@@ -192,41 +185,20 @@ heap_settled xs i l h = if_when (λ (m : Moved). IsHeap m.array) (must_rise xs i
       children = λ k m z f. chain xs k (parent i) i (h.across k m p f)
           (one_way xs i (parent i) less);
     }))
-    (λ e. heap_from_down (length xs) xs i (omega arith) l h
-    (record { parent_first = λ p. stays p (and_cases (ltb 0 i) (is_before (entry_at xs i) (entry_at xs (parent i))) e) })) where
+    (λ e. grind (arith, heap_from_down, and_cases)) where
       stays : 0 < i → (ltb 0 i ≡ false) ⊎ (is_before (entry_at xs i) (entry_at xs (parent i)) ≡ false)
           → is_before (entry_at xs i) (entry_at xs (parent i)) ≡ false
-      stays p (inl e) = absurd (omega (arith, ltb-false 0 i e))
-      stays p (inr e) = e
+      stays p e1 = grind arith
 
 pub heap_pushed : (xs : List Entry) (e : Entry) → IsHeap xs → IsHeap (pushed xs e).array
 unfolding pushed
-heap_pushed xs e h =
-    let n = length_push xs e in
-    heap_from_up (length xs) (xs ++ e ∷ []) (length xs) (omega arith) (omega arith)
-    (record { others = λ k l f g. old k (omega arith); across = λ k l z f. absurd (omega arith) })
-    (record { children = λ k l z f. absurd (omega arith) })
-  where
-    old : (k : ℕ) → k < length xs → is_before (entry_at (xs ++ e ∷ []) k) (entry_at (xs ++ e ∷ []) (parent k)) ≡ false
-    old k l = by _ _ _ _ (get_or_append_left xs (e ∷ []) no_entry k l) (get_or_append_left xs (e ∷ []) no_entry (parent k) (omega arith)) (h k l)
+heap_pushed xs e h = grind (arith, length_push, heap_from_up, by, get_or_append_left)
 
 heap_taken : (xs : List Entry) (n : ℕ) → n ≤ length xs → IsHeap xs → IsHeap (take n xs)
-heap_taken xs n p h = λ k l.
-    let short = length-take-le n xs p in
-    by _ _ _ _ (get_or-take n xs k no_entry (omega arith)) (get_or-take n xs (parent k) no_entry (omega arith)) (h k (omega arith))
+heap_taken xs n p h = grind (arith, length-take-le, by, get_or-take)
 
 hole_put : (xs : List Entry) (i n : ℕ) (x : Entry) → n ≤ length xs → i < n → IsHeap xs → HasHole (set (take n xs) i x) i
-hole_put xs i n x p l h =
-    let short = length-take-le n xs p in
-    let long = length-set (take n xs) i x in
-    record {
-      others = λ k m e f. by _ _ _ _ (old k (omega arith) e) (old (parent k) (omega arith) f) (h k (omega arith));
-      across = λ k m z e. by _ _ _ _ (old k (omega arith) (omega arith)) (old (parent i) (omega arith) (omega arith))
-          (chain xs k i (parent i) (second_is xs k (parent k) i e (h k (omega arith))) (h i (omega arith)));
-    }
-  where
-    old : (k : ℕ) → k < n → (k ≡ i → ⊥) → entry_at (set (take n xs) i x) k ≡ entry_at xs k
-    old k m e = get_or-set_other (take n xs) i k x no_entry e ∙ get_or-take n xs k no_entry m
+hole_put xs i n x p l h = grind (arith, length-take-le, length-set, by, chain, second_is, get_or-set_other, get_or-take)
 
 pub heap_removed : (xs : List Entry) (i : ℕ) → i < length xs → IsHeap xs → IsHeap (removed xs i).array
 unfolding removed
@@ -241,8 +213,4 @@ heap_removed xs i l h = if_when (λ (m : Moved). IsHeap m.array) (eqb i (length 
 -- the root comes before no other
 pub root_first : (xs : List Entry) → IsHeap xs → (n k : ℕ) → k ≤ n → k < length xs → is_before (entry_at xs k) (entry_at xs 0) ≡ false
 root_first xs h zero k p l = itself_at xs k 0 (omega arith)
-root_first xs h (suc n) k p l = at (cases_lt 0 k) (root_first xs h n (parent k)) where
-  at : (0 < k) ⊎ (k ≤ 0) → (parent k ≤ n → parent k < length xs → is_before (entry_at xs (parent k)) (entry_at xs 0) ≡ false)
-      → is_before (entry_at xs k) (entry_at xs 0) ≡ false
-  at (inl z) on = chain xs k (parent k) 0 (h k l) (on (omega arith) (omega arith))
-  at (inr z) on = itself_at xs k 0 (omega arith)
+root_first xs h (suc n) k p l = grind (arith, cases_lt, chain, itself_at, (root_first xs h n (parent k)))

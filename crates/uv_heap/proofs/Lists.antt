@@ -16,20 +16,12 @@ swap-swap xs a b p q =
     at : (i : ℕ) → Swapped (λ k. entry_at xs k) (λ k. entry_at (swap xs a b) k) a b
         → Swapped (λ k. entry_at (swap xs a b) k) (λ k. entry_at (swap (swap xs a b) b a) k) b a → (i ≡ a) ⊎ (i ≡ a → ⊥) → (i ≡ b) ⊎ (i ≡ b → ⊥)
         → entry_at (swap (swap xs a b) b a) i ≡ entry_at xs i
-    at i s t (inl e) f = ap (entry_at (swap (swap xs a b) b a)) e ∙ t.1 ∙ s.1 ∙ ap (entry_at xs) (sym e)
-    at i s t (inr e) (inl f) = ap (entry_at (swap (swap xs a b) b a)) f ∙ t.0 ∙ s.0 ∙ ap (entry_at xs) (sym f)
-    at i s t (inr e) (inr f) = t.2 i f e ∙ s.2 i e f
+    at i s t e3 e4 = grind arith
 
 -- a place of a list with one more is one of the list, or the last
 pub at_push : (xs : List Entry) (e : Entry) (i : ℕ) → i < length (xs ++ e ∷ [])
     → ((i < length xs) × (entry_at (xs ++ e ∷ []) i ≡ entry_at xs i)) ⊎ ((i ≡ length xs) × (entry_at (xs ++ e ∷ []) i ≡ e))
-at_push xs e i l =
-    let n = length_push xs e in
-    at (cases_lt i (length xs)) n where
-      at : (i < length xs) ⊎ (length xs ≤ i) → length (xs ++ e ∷ []) ≡ length xs + 1
-          → ((i < length xs) × (entry_at (xs ++ e ∷ []) i ≡ entry_at xs i)) ⊎ ((i ≡ length xs) × (entry_at (xs ++ e ∷ []) i ≡ e))
-      at (inl p) n = inl (p, get_or_append_left xs (e ∷ []) no_entry i p)
-      at (inr p) n = let is : length xs ≡ i = omega arith in inr (omega arith, get_or_push xs e no_entry i is)
+at_push xs e i l = grind (arith, length_push, cases_lt, get_or_append_left, get_or_push)
 
 -- the last entry put at a place, as when the two change places and the last one goes
 pub take-swap : (xs : List Entry) (i n : ℕ) → n + 1 ≡ length xs → i < n → take n (swap xs i n) ≡ set (take n xs) i (entry_at xs n)
@@ -44,10 +36,7 @@ take-swap xs i n e p =
   where
     at : (k : ℕ) → Swapped (λ j. entry_at xs j) (λ j. entry_at (swap xs i n) j) i n → k < n → i < length (take n xs) → (k ≡ i) ⊎ (k ≡ i → ⊥)
         → entry_at (take n (swap xs i n)) k ≡ entry_at (set (take n xs) i (entry_at xs n)) k
-    at k s l m (inl e) = get_or-take n (swap xs i n) k no_entry l ∙ ap (entry_at (swap xs i n)) e ∙ s.0
-        ∙ sym (ap (entry_at (set (take n xs) i (entry_at xs n))) e ∙ get_or-set_same (take n xs) i (entry_at xs n) no_entry m)
-    at k s l m (inr e) = get_or-take n (swap xs i n) k no_entry l ∙ s.2 k e (omega arith)
-        ∙ sym (get_or-set_other (take n xs) i k (entry_at xs n) no_entry e ∙ get_or-take n xs k no_entry l)
+    at k s l m e4 = grind (arith, get_or-take, get_or-set_same, get_or-set_other)
 
 -- an entry put last and then in the place of another, which goes last
 pub swap-push : (ys : List Entry) (i : ℕ) (e : Entry) → i < length ys → swap (ys ++ e ∷ []) i (length ys) ≡ set ys i e ++ entry_at ys i ∷ []
@@ -63,14 +52,7 @@ swap-push ys i e p =
     at : (k : ℕ) → Swapped (λ j. entry_at (ys ++ e ∷ []) j) (λ j. entry_at (swap (ys ++ e ∷ []) i (length ys)) j) i (length ys) → k ≤ length ys
         → length (set ys i e) ≡ length ys → (k ≡ i) ⊎ (k ≡ i → ⊥) → (k < length ys) ⊎ (length ys ≤ k)
         → entry_at (swap (ys ++ e ∷ []) i (length ys)) k ≡ entry_at (set ys i e ++ entry_at ys i ∷ []) k
-    at k s l put (inl f) _ = ap (entry_at (swap (ys ++ e ∷ []) i (length ys))) f ∙ s.0 ∙ get_or_push ys e no_entry (length ys) refl
-        ∙ sym (ap (entry_at (set ys i e ++ entry_at ys i ∷ [])) f ∙ get_or_append_left (set ys i e) (entry_at ys i ∷ []) no_entry i (omega arith)
-        ∙ get_or-set_same ys i e no_entry p)
-    at k s l put (inr f) (inl g) = s.2 k f (omega arith) ∙ get_or_append_left ys (e ∷ []) no_entry k g
-        ∙ sym (get_or_append_left (set ys i e) (entry_at ys i ∷ []) no_entry k (omega arith) ∙ get_or-set_other ys i k e no_entry f)
-    at k s l put (inr f) (inr g) = let is : k ≡ length ys = omega arith in
-        ap (entry_at (swap (ys ++ e ∷ []) i (length ys))) is ∙ s.1 ∙ get_or_append_left ys (e ∷ []) no_entry i p
-        ∙ sym (get_or_push (set ys i e) (entry_at ys i) no_entry k (omega arith))
+    at k s l put e4 e5 = grind (arith, get_or_push, get_or_append_left, get_or-set_same, get_or-set_other)
 
 -- an entry that changes places with itself
 pub swap_same : (xs : List Entry) (a : ℕ) → a < length xs → swap xs a a ≡ xs
@@ -79,5 +61,4 @@ swap_same xs a p =
     ext_get_or no_entry (swap xs a a) xs (length-swap xs a a) (λ i _. at i s (cases_eq i a))
   where
     at : (i : ℕ) → Swapped (λ k. entry_at xs k) (λ k. entry_at (swap xs a a) k) a a → (i ≡ a) ⊎ (i ≡ a → ⊥) → entry_at (swap xs a a) i ≡ entry_at xs i
-    at i s (inl e) = ap (entry_at (swap xs a a)) e ∙ s.0 ∙ ap (entry_at xs) (sym e)
-    at i s (inr e) = s.2 i e e
+    at i s e2 = grind arith

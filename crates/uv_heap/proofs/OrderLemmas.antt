@@ -35,14 +35,11 @@ count_by-moved_down p (suc n) xs i l = if_when (λ (m : Moved). count_by p m.arr
 
 count_by-settled : (p : Entry → Bool) (xs : List Entry) (i : ℕ) → i < length xs → count_by p (settled xs i).array ≡ count_by p xs
 unfolding settled
-count_by-settled p xs i l = if_when (λ (m : Moved). count_by p m.array ≡ count_by p xs) (must_rise xs i) _ _
-    (λ _. count_by-moved_up p i xs i l) (λ _. count_by-moved_down p (length xs) xs i l)
+count_by-settled p xs i l = grind (arith, if_when, count_by-moved_up, count_by-moved_down)
 
 pub count_by-pushed : (p : Entry → Bool) (xs : List Entry) (e : Entry) → count_by p (pushed xs e).array ≡ one p e + count_by p xs
 unfolding pushed
-count_by-pushed p xs e =
-    let n = length_push xs e in
-    count_by-moved_up p (length xs) (xs ++ e ∷ []) (length xs) (omega arith) ∙ omega (arith, sum_by_push (one p) xs e)
+count_by-pushed p xs e = grind (arith, length_push, count_by-moved_up, sum_by_push)
 
 -- what a list has, but for its last entry
 count_by-taken : (p : Entry → Bool) (xs : List Entry) (n : ℕ) → n + 1 ≡ length xs → count_by p (take n xs) + one p (entry_at xs n) ≡ count_by p xs
@@ -54,8 +51,7 @@ pub count_by-removed : (p : Entry → Bool) (xs : List Entry) (i : ℕ) → i < 
     → count_by p (removed xs i).array + one p (entry_at xs i) ≡ count_by p xs
 unfolding removed
 count_by-removed p xs i l = if_when (λ (m : Moved). count_by p m.array + one p (entry_at xs i) ≡ count_by p xs) (eqb i (length xs - 1)) _ _
-    (λ e. let last = eqb-true i (length xs - 1) e in
-    ap (λ (k : ℕ). count_by p (take (length xs - 1) xs) + one p (entry_at xs k)) last ∙ count_by-taken p xs (length xs - 1) (omega arith))
+    (λ e. grind (arith, eqb-true, count_by-taken))
     (λ e. elsewhere (eqb-false i (length xs - 1) e))
   where
     elsewhere : (i ≡ length xs - 1 → ⊥) → count_by p (settled (set (take (length xs - 1) xs) i (entry_at xs (length xs - 1))) i).array + one p
@@ -67,11 +63,7 @@ count_by-removed p xs i l = if_when (λ (m : Moved). count_by p m.array + one p 
         let short : length (set (take (length xs - 1) xs) i (entry_at xs (length xs - 1))) ≡ length xs - 1 = ap length (sym put)
         ∙ length-take-le (length xs - 1) (swap xs i (length xs - 1)) (omega arith) in
         let last = swapped_at xs i (length xs - 1) l (omega arith) in
-        ap (λ (k : ℕ). k + one p (entry_at xs i))
-        (count_by-settled p (set (take (length xs - 1) xs) i (entry_at xs (length xs - 1))) i (omega arith) ∙ ap (count_by p) (sym put))
-        ∙ ap (λ (x : Entry). count_by p (take (length xs - 1) (swap xs i (length xs - 1))) + one p x) (sym last.1)
-        ∙ count_by-taken p (swap xs i (length xs - 1)) (length xs - 1) (omega arith)
-        ∙ count_by-swap p xs i (length xs - 1) l (omega arith)
+        grind (arith, count_by-settled, count_by-taken, count_by-swap)
 
 -- ---- the list in order
 pub none_before_all : (a b : Entry) (xs : List Entry) → NoneBefore a xs → is_before a b ≡ false → NoneBefore b xs
@@ -112,9 +104,7 @@ count_by-without e f (x ∷ xs) = if_when (λ (ys : List Entry). count_by (is_sa
           → (is_same e f ≡ true) ⊎ (is_same e f ≡ false) → (is_same e x ≡ true) ⊎ (is_same e x ≡ false)
           → count_by (is_same e) (x ∷ without f xs) ≡ count_by (is_same e) (x ∷ xs) - one (is_same e) f
       kept t on (inl p) (inl q) = absurd (false≢true (sym t ∙ ap (λ (y : Entry). is_same y x) (sym (same_is e f p)) ∙ q))
-      kept t on (inl p) (inr q) =
-          let no : one (is_same e) x ≡ 0 = if_false _ _ _ q in
-          omega (arith, no, on, count_by-cons (is_same e) x (without f xs), count_by-cons (is_same e) x xs)
+      kept t on (inl p) (inr q) = cc
       kept t on (inr p) q =
           let no : one (is_same e) f ≡ 0 = if_false _ _ _ p in
           omega (arith, no, on, count_by-cons (is_same e) x (without f xs), count_by-cons (is_same e) x xs)

@@ -13,10 +13,7 @@ place ps s = get_or ps s None
 -- a place that is written, and another
 get_or-set : (ps : List (Option ℕ)) (s t : ℕ) (v : Option ℕ) → s < length ps
     → ((t ≡ s) × (place (set ps s v) t ≡ v)) ⊎ ((t ≡ s → ⊥) × (place (set ps s v) t ≡ place ps t))
-get_or-set ps s t v l = at (cases_eq t s) where
-  at : (t ≡ s) ⊎ (t ≡ s → ⊥) → ((t ≡ s) × (place (set ps s v) t ≡ v)) ⊎ ((t ≡ s → ⊥) × (place (set ps s v) t ≡ place ps t))
-  at (inl e) = inl (e, ap (place (set ps s v)) e ∙ get_or-set_same ps s v None l)
-  at (inr e) = inr (e, get_or-set_other ps s t v None e)
+get_or-set ps s t v l = grind (arith, cases_eq, get_or-set_same, get_or-set_other)
 
 -- how many places there are after one is written
 count_by-set : (ps : List (Option ℕ)) (s : ℕ) (v w : Option ℕ) → s < length ps → place ps s ≡ w
@@ -50,29 +47,12 @@ places_pushed xs ps memory e h l absent = record {
 
   right : (i : ℕ) → ((i < length xs) × (entry_at (xs ++ e ∷ []) i ≡ entry_at xs i)) ⊎ ((i ≡ length xs) × (entry_at (xs ++ e ∷ []) i ≡ e))
       → place (set ps e.slot (Some (length xs))) (entry_at (xs ++ e ∷ []) i).slot ≡ Some i
-  right i (inl a) = ap (λ (x : Entry). place (set ps e.slot (Some (length xs))) x.slot) a.1
-      ∙ old (h.right i a.0) (get_or-set ps e.slot (entry_at xs i).slot (Some (length xs)) l) where
-        old : place ps (entry_at xs i).slot ≡ Some i
-            → (((entry_at xs i).slot ≡ e.slot) × (place (set ps e.slot (Some (length xs))) (entry_at xs i).slot ≡ Some (length xs))) ⊎
-            (((entry_at xs i).slot ≡ e.slot → ⊥) × (place (set ps e.slot (Some (length xs))) (entry_at xs i).slot ≡ place ps (entry_at xs i).slot))
-            → place (set ps e.slot (Some (length xs))) (entry_at xs i).slot ≡ Some i
-        old was (inl b) = let here : place ps (entry_at xs i).slot ≡ place ps e.slot = ap (place ps) b.0 in cc
-        old was (inr b) = b.1 ∙ was
-  right i (inr a) = ap (λ (x : Entry). place (set ps e.slot (Some (length xs))) x.slot) a.1 ∙ get_or-set_same ps e.slot (Some (length xs)) None l
-      ∙ ap Some (sym a.0)
+  right i e1 = grind (arith, get_or-set, get_or-set_same)
 
   only : (s i : ℕ) → ((s ≡ e.slot) × (place (set ps e.slot (Some (length xs))) s ≡ Some (length xs))) ⊎
       ((s ≡ e.slot → ⊥) × (place (set ps e.slot (Some (length xs))) s ≡ place ps s)) → place (set ps e.slot (Some (length xs))) s ≡ Some i
       → (i < length (xs ++ e ∷ [])) × ((entry_at (xs ++ e ∷ []) i).slot ≡ s)
-  only s i (inl a) b =
-      let is : i ≡ length xs = cc in
-      let one_more = length_push xs e in
-      let last = at_push xs e i (omega arith) in
-      (omega arith, at last is) where
-        at : ((i < length xs) × (entry_at (xs ++ e ∷ []) i ≡ entry_at xs i)) ⊎ ((i ≡ length xs) × (entry_at (xs ++ e ∷ []) i ≡ e)) → i ≡ length xs
-            → (entry_at (xs ++ e ∷ []) i).slot ≡ s
-        at (inl x) is = absurd (omega (arith, x.0))
-        at (inr x) is = ap (λ (y : Entry). y.slot) x.1 ∙ sym a.0
+  only s i (inl a) b = grind (arith, length_push, at_push)
   only s i (inr a) b =
       let was = h.only s i (sym a.1 ∙ b) in
       let one_more = length_push xs e in
@@ -80,8 +60,7 @@ places_pushed xs ps memory e h l absent = record {
       (omega arith, at there was) where
         at : ((i < length xs) × (entry_at (xs ++ e ∷ []) i ≡ entry_at xs i)) ⊎ ((i ≡ length xs) × (entry_at (xs ++ e ∷ []) i ≡ e))
             → (i < length xs) × ((entry_at xs i).slot ≡ s) → (entry_at (xs ++ e ∷ []) i).slot ≡ s
-        at (inl x) was = ap (λ (y : Entry). y.slot) x.1 ∙ was.1
-        at (inr x) was = absurd (omega (arith, x.0, was.0))
+        at e0 was = grind arith
 
 -- the last entry goes
 pub places_popped : (xs : List Entry) (ps : List (Option ℕ)) (memory : ℕ) (e : Entry) → ArePlaces (xs ++ e ∷ []) ps memory
@@ -110,11 +89,7 @@ places_popped xs ps memory e h =
         → (((entry_at xs i).slot ≡ e.slot) × (place (set ps e.slot None) (entry_at xs i).slot ≡ None)) ⊎
         (((entry_at xs i).slot ≡ e.slot → ⊥) × (place (set ps e.slot None) (entry_at xs i).slot ≡ place ps (entry_at xs i).slot))
         → place (set ps e.slot None) (entry_at xs i).slot ≡ Some i
-    right i p placed was (inl b) =
-        let here : place ps (entry_at xs i).slot ≡ place ps e.slot = ap (place ps) b.0 in
-        let is : i ≡ length xs = cc in
-        absurd (omega arith)
-    right i p placed was (inr b) = b.1 ∙ was
+    right i p placed was e4 = grind arith
 
     only : (s i : ℕ) → (entry_at (xs ++ e ∷ []) (length xs)).slot ≡ e.slot
         → ((s ≡ e.slot) × (place (set ps e.slot None) s ≡ None)) ⊎ ((s ≡ e.slot → ⊥) × (place (set ps e.slot None) s ≡ place ps s))
@@ -140,16 +115,7 @@ data Written (ps : List (Option ℕ)) (first second a b t : ℕ) : Type 0 where
   elsewhere : (t ≡ first → ⊥) → (t ≡ second → ⊥) → place (both ps first second a b) t ≡ place ps t → Written ps first second a b t
 
 written : (ps : List (Option ℕ)) (first second a b t : ℕ) → first < length ps → second < length ps → Written ps first second a b t
-written ps first second a b t p q =
-    let width = length-set ps second (Some a) in
-    at (get_or-set (set ps second (Some a)) first t (Some b) (omega arith)) (get_or-set ps second t (Some a) q) where
-      at : ((t ≡ first) × (place (both ps first second a b) t ≡ Some b)) ⊎
-          ((t ≡ first → ⊥) × (place (both ps first second a b) t ≡ place (set ps second (Some a)) t))
-          → ((t ≡ second) × (place (set ps second (Some a)) t ≡ Some a)) ⊎ ((t ≡ second → ⊥) × (place (set ps second (Some a)) t ≡ place ps t))
-          → Written ps first second a b t
-      at (inl e) _ = at_first e.0 e.1
-      at (inr e) (inl f) = at_second f.0 (e.1 ∙ f.1)
-      at (inr e) (inr f) = elsewhere e.0 f.0 (e.1 ∙ f.1)
+written ps first second a b t p q = grind (arith, length-set, get_or-set)
 
 -- two entries change places
 pub places_swapped : (xs : List Entry) (ps : List (Option ℕ)) (memory a b : ℕ) → a < length xs → b < length xs → ArePlaces xs ps memory
@@ -194,31 +160,11 @@ places_swapped xs ps memory a b p q h =
     now_at : (i j : ℕ) → j < length xs → Some i ≡ Some i → ((j ≡ a → i ≡ b) × (j ≡ b → i ≡ a)) × ((j ≡ a → ⊥) → (j ≡ b → ⊥) → i ≡ j)
         → Written ps (entry_at xs a).slot (entry_at xs b).slot a b (entry_at xs j).slot
         → place (both ps (entry_at xs a).slot (entry_at xs b).slot a b) (entry_at xs j).slot ≡ Some i
-    now_at i j l _ r (at_first e w) =
-        let is : Some j ≡ Some a = sym (h.right j l) ∙ ap (place ps) e ∙ h.right a p in
-        let here : j ≡ a = cc in
-        w ∙ ap Some (sym (r.0.0 here))
-    now_at i j l _ r (at_second e w) =
-        let is : Some j ≡ Some b = sym (h.right j l) ∙ ap (place ps) e ∙ h.right b q in
-        let here : j ≡ b = cc in
-        w ∙ ap Some (sym (r.0.1 here))
-    now_at i j l _ r (elsewhere e f w) =
-        w ∙ h.right j l ∙ ap Some (sym (r.1 (λ g. e (ap (λ (k : ℕ). (entry_at xs k).slot) g)) (λ g. f (ap (λ (k : ℕ). (entry_at xs k).slot) g))))
+    now_at i j l e3 r e5 = grind arith
 
     right : (i : ℕ) → Swapped (λ k. entry_at xs k) (λ k. entry_at (swap xs a b) k) a b → i < length xs → (i ≡ a) ⊎ (i ≡ a → ⊥) → (i ≡ b) ⊎ (i ≡ b → ⊥)
         → place (both ps (entry_at xs a).slot (entry_at xs b).slot a b) (entry_at (swap xs a b) i).slot ≡ Some i
-    right i s l (inl e) f =
-        ap (λ (x : Entry). place (both ps (entry_at xs a).slot (entry_at xs b).slot a b) x.slot) (ap (entry_at (swap xs a b)) e ∙ s.0)
-        ∙ now_at i b q refl ((λ g. e ∙ sym g, λ _. e), λ _ g. absurd (g refl))
-        (written ps (entry_at xs a).slot (entry_at xs b).slot a b (entry_at xs b).slot (h.known a p) (h.known b q))
-    right i s l (inr e) (inl f) =
-        ap (λ (x : Entry). place (both ps (entry_at xs a).slot (entry_at xs b).slot a b) x.slot) (ap (entry_at (swap xs a b)) f ∙ s.1)
-        ∙ now_at i a p refl ((λ _. f, λ g. f ∙ sym g), λ g _. absurd (g refl))
-        (written ps (entry_at xs a).slot (entry_at xs b).slot a b (entry_at xs a).slot (h.known a p) (h.known b q))
-    right i s l (inr e) (inr f) =
-        ap (λ (x : Entry). place (both ps (entry_at xs a).slot (entry_at xs b).slot a b) x.slot) (s.2 i e f)
-        ∙ now_at i i l refl ((λ g. absurd (e g), λ g. absurd (f g)), λ _ _. refl)
-        (written ps (entry_at xs a).slot (entry_at xs b).slot a b (entry_at xs i).slot (h.known a p) (h.known b q))
+    right i s l e3 e4 = grind (arith, written)
 
     only : (t i : ℕ) → Swapped (λ k. entry_at xs k) (λ k. entry_at (swap xs a b) k) a b → length (swap xs a b) ≡ length xs
         → Written ps (entry_at xs a).slot (entry_at xs b).slot a b t → place (both ps (entry_at xs a).slot (entry_at xs b).slot a b) t ≡ Some i
@@ -230,12 +176,7 @@ places_swapped xs ps memory a b p q h =
         let is : i ≡ a = cc in
         (omega arith, ap (λ (x : Entry). x.slot) (ap (entry_at (swap xs a b)) is ∙ s.0) ∙ sym e)
     only t i s n (elsewhere e f w) r =
-        let was = h.only t i (sym w ∙ r) in (
-          omega (arith, was.0),
-          ap (λ (x : Entry). x.slot)
-              (s.2 i (λ g. e (sym was.1 ∙ ap (λ (k : ℕ). (entry_at xs k).slot) g)) (λ g. f (sym was.1 ∙ ap (λ (k : ℕ). (entry_at xs k).slot) g)))
-              ∙ was.1,
-        )
+        let was = h.only t i (sym w ∙ r) in (grind arith)
 
 -- what the places say is where the array has the slot
 pub place_in_is : (xs : List Entry) (ps : List (Option ℕ)) (memory s : ℕ) → ArePlaces xs ps memory → place_in xs s ≡ place ps s
@@ -250,15 +191,11 @@ place_in_is xs ps memory s h = at (place ps s) refl where
       ∙ ap (λ (b : Bool). cond b (Some (length xs)) None) (le-ltb (length xs) (length xs) (omega arith))
   at (Some i) e =
       let was = h.only s i e in
-      found i (position_or_len_is (λ (x : Entry). eqb x.slot s) xs i no_entry (omega (arith, was.0))
-      (λ k l. ne_eqb _ _ (λ g. let no : Some k ≡ Some i = sym (h.right k (omega (arith, was.0))) ∙ ap (place ps) g
-      ∙ e in let is : k ≡ i = cc in absurd (omega arith))) (λ l. eq-eqb _ _ was.1))
-      ∙ ap (λ (b : Bool). cond b (Some i) None) (lt-ltb i (length xs) was.0)
+      grind (arith, position_or_len_is, ne_eqb, eq-eqb, lt-ltb)
 
 none_there : (n k : ℕ) → place (replicate n None) k ≡ None
-none_there zero k = refl
-none_there (suc n) zero = refl
 none_there (suc n) (suc k) = none_there n k
+none_there each e1 = assumption
 
 none_counted : (n : ℕ) → count_by is_some (replicate {A = Option ℕ} n None) ≡ 0
 none_counted zero = refl
@@ -280,16 +217,14 @@ places_grown xs ps memory more n k h enough fits narrow = rw (take_all k ps enou
   long = omega (arith, length-append ps (replicate n None), length-replicate {A = Option ℕ} n None)
 
   at : (s : ℕ) → (s < length ps) ⊎ (length ps ≤ s) → place (ps ++ replicate n None) s ≡ place ps s
-  at s (inl l) = get_or_append_left ps (replicate n None) None s l
-  at s (inr l) = get_or-append_right ps (replicate n None) (length ps) s None refl l ∙ none_there n (s - length ps) ∙ sym (get_or_past ps s None l)
+  at s e1 = grind (arith, get_or_append_left, get_or-append_right, none_there, get_or_past)
 
   same : (s : ℕ) → place (ps ++ replicate n None) s ≡ place ps s
   same s = at s (cases_lt s (length ps))
 
 -- more memory
 pub places_kept : (xs : List Entry) (ps : List (Option ℕ)) (memory more : ℕ) → ArePlaces xs ps memory → memory ≤ more → ArePlaces xs ps more
-places_kept xs ps memory more h l =
-    record { known = h.known; right = h.right; only = h.only; counted = h.counted; fits = omega (arith, h.fits); narrow = h.narrow }
+places_kept xs ps memory more h l = grind arith
 
 -- a stored place is one of the array, and has the slot
 pub stored_within : (xs : List Entry) (ps : List (Option ℕ)) (memory s : ℕ) (o : Option ℕ) → ArePlaces xs ps memory → o ≡ place ps s
@@ -299,5 +234,4 @@ stored_within xs ps memory s (Some i) h e = (h.only s i (sym e)).0
 
 pub stored_slot : (xs : List Entry) (ps : List (Option ℕ)) (memory s : ℕ) (o : Option ℕ) → ArePlaces xs ps memory → o ≡ place ps s
     → IfSome o (λ i. (entry_at xs i).slot ≡ s)
-stored_slot xs ps memory s None h e = tt
-stored_slot xs ps memory s (Some i) h e = (h.only s i (sym e)).1
+stored_slot xs ps memory s o h e = grind arith

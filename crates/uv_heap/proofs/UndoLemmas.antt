@@ -16,9 +16,7 @@ swap_comm xs a b p q =
   where
     at : (i : ℕ) → Swapped (λ k. entry_at xs k) (λ k. entry_at (swap xs a b) k) a b → Swapped (λ k. entry_at xs k) (λ k. entry_at (swap xs b a) k) b a
         → (i ≡ a) ⊎ (i ≡ a → ⊥) → (i ≡ b) ⊎ (i ≡ b → ⊥) → entry_at (swap xs a b) i ≡ entry_at (swap xs b a) i
-    at i s t (inl e) f = ap (entry_at (swap xs a b)) e ∙ s.0 ∙ sym t.1 ∙ ap (entry_at (swap xs b a)) (sym e)
-    at i s t (inr e) (inl f) = ap (entry_at (swap xs a b)) f ∙ s.1 ∙ sym t.0 ∙ ap (entry_at (swap xs b a)) (sym f)
-    at i s t (inr e) (inr f) = s.2 i e f ∙ sym (t.2 i f e)
+    at i s t e3 e4 = grind arith
 
 -- ---- the push
 pub length-pushed : (xs : List Entry) (e : Entry) → length (pushed xs e).array ≡ length xs + 1
@@ -105,14 +103,7 @@ pub removal_undone-removed : (xs : List Entry) (undo : HeapRemoveUndo) → undo.
 unfolding removed removal_undone
 removal_undone-removed xs undo l rest entry = at (cases_eq undo.place (length xs - 1)) where
   at : (undo.place ≡ length xs - 1) ⊎ (undo.place ≡ length xs - 1 → ⊥) → removal_undone (removed xs undo.place).array undo ≡ xs
-  at (inl e) =
-      let short = length-take-le (length xs - 1) xs (omega arith) in
-      let is : (removed xs undo.place).array ≡ take (length xs - 1) xs = ap (λ (m : Moved). m.array)
-      (MoveLemmas.if_true _ _ _ (eq-eqb undo.place (length xs - 1) e)) in
-      ap (λ (ys : List Entry). removal_undone ys undo) is
-      ∙ MoveLemmas.if_true _ _ _ (eq-eqb undo.place (length (take (length xs - 1) xs)) (omega arith))
-      ∙ ap (λ (x : Entry). take (length xs - 1) xs ++ x ∷ []) (entry ∙ ap (entry_at xs) e)
-      ∙ sym (take_more xs (length xs - 1) no_entry (omega arith)) ∙ take_all (length xs - 1 + 1) xs (omega arith)
+  at (inl e) = grind (arith, length-take-le, eq-eqb, take_more, take_all)
   at (inr f) =
       let moved : removed xs undo.place ≡ settled (put xs undo.place) undo.place = MoveLemmas.if_false _ _ _ (ne_eqb undo.place (length xs - 1) f) in
       let short = length-put xs undo.place in
@@ -120,11 +111,7 @@ removal_undone-removed xs undo l rest entry = at (cases_eq undo.place (length xs
       let back : returned (settled (put xs undo.place) undo.place).array undo.rest undo.place ≡ put xs undo.place =
       ap (λ (k : ℕ). returned (settled (put xs undo.place) undo.place).array k undo.place) (rest ∙ ap (λ (m : Moved). m.place) moved)
       ∙ returned-settled (put xs undo.place) undo.place (omega arith) in
-      ap (λ (m : Moved). removal_undone m.array undo) moved
-      ∙ MoveLemmas.if_false _ _ _ (ne_eqb undo.place (length (settled (put xs undo.place) undo.place).array) (λ g. f (omega arith)))
-      ∙ ap (λ (ys : List Entry). set ys undo.place undo.entry ++ entry_at ys undo.place ∷ []) back
-      ∙ ap (λ (x : Entry). set (put xs undo.place) undo.place x ++ entry_at (put xs undo.place) undo.place ∷ []) entry
-      ∙ unput xs undo.place (omega arith)
+      grind (arith, ne_eqb, unput)
 
 -- ---- a slot that is on no entry
 -- no entry has the slot
@@ -132,14 +119,7 @@ pub record Avoids (xs : List Entry) (slot : ℕ) : Type 0 where
   pub none : (k : ℕ) → k < length xs → (entry_at xs k).slot ≡ slot → ⊥
 
 pub avoids_from : (xs : List Entry) (slot : ℕ) → place_in xs slot ≡ None → Avoids xs slot
-avoids_from xs slot e = record { none = λ k l f. at (cases_lt (position_or_len (λ (x : Entry). eqb x.slot slot) xs) (length xs)) k l f } where
-  at : (position_or_len (λ (x : Entry). eqb x.slot slot) xs < length xs) ⊎ (length xs ≤ position_or_len (λ (x : Entry). eqb x.slot slot) xs) → (k : ℕ)
-      → k < length xs → (entry_at xs k).slot ≡ slot → ⊥
-  at (inl p) k l f =
-      let there : place_in xs slot ≡ Some (position_or_len (λ (x : Entry). eqb x.slot slot) xs) = MoveLemmas.if_true _ _ _ (lt-ltb _ (length xs) p) in
-      let no : Some (position_or_len (λ (x : Entry). eqb x.slot slot) xs) ≡ None = sym there ∙ e in
-      cc
-  at (inr p) k l f = eqb-false (entry_at xs k).slot slot (fails_before_first (λ (x : Entry). eqb x.slot slot) xs k no_entry (omega arith)) f
+avoids_from xs slot e = grind (arith, cases_lt, lt-ltb, eqb-false, fails_before_first)
 
 pub avoids_is : (xs : List Entry) (slot : ℕ) → Avoids xs slot → place_in xs slot ≡ None
 avoids_is xs slot h =
@@ -156,9 +136,7 @@ avoids_swap xs a b slot p q h =
   where
     at : (k : ℕ) → Swapped (λ j. entry_at xs j) (λ j. entry_at (swap xs a b) j) a b → k < length xs → (entry_at (swap xs a b) k).slot ≡ slot
         → (k ≡ a) ⊎ (k ≡ a → ⊥) → (k ≡ b) ⊎ (k ≡ b → ⊥) → ⊥
-    at k s l e (inl f) g = h.none b q (ap (λ (x : Entry). x.slot) (sym s.0) ∙ ap (λ (j : ℕ). (entry_at (swap xs a b) j).slot) (sym f) ∙ e)
-    at k s l e (inr f) (inl g) = h.none a p (ap (λ (x : Entry). x.slot) (sym s.1) ∙ ap (λ (j : ℕ). (entry_at (swap xs a b) j).slot) (sym g) ∙ e)
-    at k s l e (inr f) (inr g) = h.none k l (ap (λ (x : Entry). x.slot) (sym (s.2 k f g)) ∙ e)
+    at k s l e e4 e5 = grind arith
 
 avoids_raised : (n : ℕ) (xs : List Entry) (from to slot : ℕ) → from < length xs → Avoids xs slot → Avoids (raised n xs from to) slot
 unfolding raised
@@ -178,8 +156,7 @@ avoids_lowered (suc n) xs from to slot l h = MoveLemmas.if_when (λ (ys : List E
 
 pub avoids_returned : (xs : List Entry) (rest place slot : ℕ) → rest < length xs → place < length xs → Avoids xs slot
     → Avoids (returned xs rest place) slot
-avoids_returned xs rest place slot l m h = MoveLemmas.if_when (λ (ys : List Entry). Avoids ys slot) (leb rest place) _ _
-    (λ _. avoids_lowered place xs rest place slot m h) (λ _. avoids_raised rest xs rest place slot l h)
+avoids_returned xs rest place slot l m h = grind (arith, avoids_lowered, avoids_raised)
 
 pub length-returned : (xs : List Entry) (rest place : ℕ) → length (returned xs rest place) ≡ length xs
 length-returned xs rest place = MoveLemmas.if_when (λ (ys : List Entry). length ys ≡ length xs) (leb rest place) _ _
@@ -196,16 +173,11 @@ push_undone_is xs place last e = ap (λ (n : ℕ). take n (lowered n xs place n)
 
 pub removed_last : (xs : List Entry) (i : ℕ) → i < length xs → i ≡ length xs - 1 → record { array = take i (swap xs i i); place = i } ≡ removed xs i
 unfolding removed
-removed_last xs i l e =
-    let same : take i (swap xs i i) ≡ take (length xs - 1) xs = ap (take i) (swap_same xs i l) ∙ ap (λ (n : ℕ). take n xs) e in
-    ap (λ (ys : List Entry). record { array = ys; place = i }) same ∙ sym (MoveLemmas.if_true _ _ _ (eq-eqb i (length xs - 1) e))
+removed_last xs i l e = grind (arith, swap_same, eq-eqb)
 
 pub removed_inner : (xs : List Entry) (i n : ℕ) → n + 1 ≡ length xs → i < n → settled (take n (swap xs i n)) i ≡ removed xs i
 unfolding removed
-removed_inner xs i n e l =
-    let last : n ≡ length xs - 1 = omega arith in
-    ap (λ (ys : List Entry). settled ys i) (take-swap xs i n e l ∙ ap (λ (k : ℕ). set (take k xs) i (entry_at xs k)) last)
-    ∙ sym (MoveLemmas.if_false _ _ _ (ne_eqb i (length xs - 1) (omega arith)))
+removed_inner xs i n e l = grind (arith, take-swap, ne_eqb)
 
 pub removal_undone_last : (xs : List Entry) (undo : HeapRemoveUndo) → undo.place ≡ length xs → xs ++ undo.entry ∷ [] ≡ removal_undone xs undo
 unfolding removal_undone
@@ -214,11 +186,7 @@ removal_undone_last xs undo e = sym (MoveLemmas.if_true _ _ _ (eq-eqb undo.place
 pub removal_undone_inner : (xs : List Entry) (undo : HeapRemoveUndo) → undo.place < length xs
     → swap (returned xs undo.rest undo.place ++ undo.entry ∷ []) undo.place (length xs) ≡ removal_undone xs undo
 unfolding removal_undone
-removal_undone_inner xs undo l =
-    let long = length-returned xs undo.rest undo.place in
-    ap (swap (returned xs undo.rest undo.place ++ undo.entry ∷ []) undo.place) (sym long)
-    ∙ swap-push (returned xs undo.rest undo.place) undo.place undo.entry (omega arith)
-    ∙ sym (MoveLemmas.if_false _ _ _ (ne_eqb undo.place (length xs) (omega arith)))
+removal_undone_inner xs undo l = grind (arith, length-returned, swap-push, ne_eqb)
 
 -- ---- the slot of a removed entry is on no entry
 avoids_moved_up : (n : ℕ) (xs : List Entry) (i slot : ℕ) → i < length xs → Avoids xs slot → Avoids (moved_up n xs i).array slot
@@ -239,8 +207,7 @@ avoids_moved_down (suc n) xs i slot l h = MoveLemmas.if_when (λ (m : Moved). Av
 
 avoids_settled : (xs : List Entry) (i slot : ℕ) → i < length xs → Avoids xs slot → Avoids (settled xs i).array slot
 unfolding settled
-avoids_settled xs i slot l h = MoveLemmas.if_when (λ (m : Moved). Avoids m.array slot) (must_rise xs i) _ _
-    (λ _. avoids_moved_up i xs i slot l h) (λ _. avoids_moved_down (length xs) xs i slot l h)
+avoids_settled xs i slot l h = grind (arith, avoids_moved_up, avoids_moved_down)
 
 -- the entry changed places with the last one, and went
 avoids_left : (xs : List Entry) (i n : ℕ) → n + 1 ≡ length xs → i ≤ n → SlotsDiffer xs → Avoids (take n (swap xs i n)) (entry_at xs i).slot
@@ -249,17 +216,12 @@ avoids_left xs i n e l differ =
     let short = length-take-le n (swap xs i n) (omega arith) in
     let s = swapped_at xs i n (omega arith) (omega arith) in
     record {
-      none = λ k m f. at k s (omega arith) (ap (λ (x : Entry). x.slot) (sym (get_or-take n (swap xs i n) k no_entry (omega arith))) ∙ f)
-          (cases_eq k i);
+      none = grind (arith, get_or-take, cases_eq);
     }
   where
     at : (k : ℕ) → Swapped (λ j. entry_at xs j) (λ j. entry_at (swap xs i n) j) i n → k < n → (entry_at (swap xs i n) k).slot ≡ (entry_at xs i).slot
         → (k ≡ i) ⊎ (k ≡ i → ⊥) → ⊥
-    at k s m f (inl g) =
-        let same = differ n i (omega arith) (omega arith)
-        (ap (λ (x : Entry). x.slot) (sym s.0) ∙ ap (λ (j : ℕ). (entry_at (swap xs i n) j).slot) (sym g) ∙ f) in
-        omega arith
-    at k s m f (inr g) = g (differ k i (omega arith) (omega arith) (ap (λ (x : Entry). x.slot) (sym (s.2 k g (omega arith))) ∙ f))
+    at k s m f e4 = grind arith
 
 pub avoids_removed : (xs : List Entry) (i : ℕ) → i < length xs → SlotsDiffer xs → Avoids (removed xs i).array (entry_at xs i).slot
 avoids_removed xs i l differ = at (cases_eq i (length xs - 1)) where
@@ -270,5 +232,4 @@ avoids_removed xs i l differ = at (cases_eq i (length xs - 1)) where
       let long = length-swap xs i (length xs - 1) in
       let short = length-take-le (length xs - 1) (swap xs i (length xs - 1)) (omega arith) in
       rw (← removed_inner xs i (length xs - 1) n (omega arith))
-      (avoids_settled (take (length xs - 1) (swap xs i (length xs - 1))) i (entry_at xs i).slot (omega arith)
-      (avoids_left xs i (length xs - 1) n (omega arith) differ))
+      (grind (arith, avoids_settled, avoids_left))

@@ -6,25 +6,13 @@ use Rattle.uv_heap.proofs.changes.remove.Goals as goal
 
 -- what is left once the two have changed places and the last one went
 left : (xs ys zs : List Entry) (i n : ℕ) → ys ≡ swap xs i n → zs ≡ take (length ys - 1) ys → n ≡ length xs - 1 → zs ≡ take n (swap xs i n)
-left xs ys zs i n e f g =
-    f ∙ ap (λ (l : List Entry). take (length l - 1) l) e ∙ ap (λ (k : ℕ). take (k - 1) (swap xs i n)) (length-swap xs i n)
-    ∙ ap (λ (k : ℕ). take k (swap xs i n)) (sym g)
+left xs ys zs i n e f g = grind (arith, length-swap)
 
 pub returns-then-place-last-clause-array : goal.returns-then-place-last-clause-array
-returns-then-place-last-clause-array c =
-    let xs = c.args.entries.now.array in
-    let long = ap length c.as_slice.ensures.array in
-    let last : c.args.place ≡ length xs - 1 = omega arith in
-    let same : length c.as_slice.result.now - 1 ≡ c.args.place = omega arith in
-    left xs c.swap.new.self.array c.pop.new.self.array c.args.place (length c.as_slice.result.now - 1) c.swap.ensures.array c.pop.ensures.array
-    (omega arith)
-    ∙ ap (λ (n : ℕ). take n (swap xs c.args.place n)) same
-    ∙ ap (λ (m : Moved). m.array) (removed_last xs c.args.place c.requires last)
+returns-then-place-last-clause-array c = grind (arith, left, removed_last)
 
 pub returns-then-place-last-clause-rest : goal.returns-then-place-last-clause-rest
-returns-then-place-last-clause-rest c =
-    let long = ap length c.as_slice.ensures.array in
-    ap (λ (m : Moved). m.place) (removed_last c.args.entries.now.array c.args.place c.requires (omega arith))
+returns-then-place-last-clause-rest c = grind (arith, removed_last)
 
 pub returns-clause-array : goal.returns-clause-array
 returns-clause-array c =
@@ -59,9 +47,4 @@ returns-clause-absent c =
     (avoids_is (removed xs c.args.place).array (entry_at xs c.args.place).slot (avoids_removed xs c.args.place c.requires c.as_slice.ensures.slots))
 
 pub overflow_cast-rest : goal.overflow_cast-rest
-overflow_cast-rest c =
-    let long = ap length c.as_slice.ensures.array in
-    let short = ap length c.pop.ensures.array in
-    let swapped = ap length c.swap.ensures.array ∙ length-swap c.args.entries.now.array c.args.place (length c.as_slice.result.now - 1) in
-    let cut = length-take-le (length c.swap.new.self.array - 1) c.swap.new.self.array (omega arith) in
-    omega (arith, c.settle-rest.ensures.place, settled_within c.pop.new.self.array c.args.place (omega arith), c.as_slice.ensures.narrow)
+overflow_cast-rest c = grind (arith, length-swap, length-take-le, settled_within)

@@ -3,9 +3,7 @@ use Rattle.uv_heap.proofs.UndoLemmas.{removal_undone_last, removal_undone_inner,
 use Rattle.uv_heap.proofs.changes.undo_remove.Goals as goal
 
 pub returns-then-place-last-clause-array : goal.returns-then-place-last-clause-array
-returns-then-place-last-clause-array c =
-    let long = ap length c.as_slice-last.ensures.array in
-    c.push.ensures.array ∙ removal_undone_last c.args.entries.now.array c.args.undo (omega arith)
+returns-then-place-last-clause-array c = grind (arith, removal_undone_last)
 
 pub push-requires-2-clause-absent : goal.push-requires-2-clause-absent
 push-requires-2-clause-absent c =
@@ -19,9 +17,7 @@ push-requires-2-clause-absent c =
 
 -- the length after the entry is there again
 long_after : (xs ys zs : List Entry) (rest place : ℕ) (e : Entry) → ys ≡ returned xs rest place → zs ≡ ys ++ e ∷ [] → length xs < length zs
-long_after xs ys zs rest place e p q =
-    let n = ap length (q ∙ ap (λ (l : List Entry). l ++ e ∷ []) p) in
-    omega (arith, n, length_push (returned xs rest place) e, length-returned xs rest place)
+long_after xs ys zs rest place e p q = grind (arith, length_push, length-returned)
 
 pub swap-requires-clause-a_within : goal.swap-requires-clause-a_within
 swap-requires-clause-a_within c =
@@ -42,11 +38,4 @@ swap-requires-clause-b_within c =
     )
 
 pub returns-clause-array : goal.returns-clause-array
-returns-clause-array c =
-    let long = ap length c.as_slice-last.ensures.array in
-    let within : c.args.undo.place < length c.args.entries.now.array = omega (arith, c.requires.place_within) in
-    c.swap.ensures.array
-    ∙ ap (λ (ys : List Entry). swap ys c.args.undo.place (length c.as_slice-last.result.now))
-    (c.push-2.ensures.array ∙ ap (λ (ys : List Entry). ys ++ c.args.undo.entry ∷ []) c.go_back.ensures.array)
-    ∙ ap (swap (returned c.args.entries.now.array c.args.undo.rest c.args.undo.place ++ c.args.undo.entry ∷ []) c.args.undo.place) long
-    ∙ removal_undone_inner c.args.entries.now.array c.args.undo within
+returns-clause-array c = grind (arith, removal_undone_inner)

@@ -17,8 +17,7 @@ swap-requires-clause-b_within t c = rw c.lower.ensures.array
     (omega (arith, c.requires, length-lowered c.parent-above.result c.args.entries.now.array c.args.from c.parent-above.result))
 
 pub returns-then-from-to-clause-array : goal.returns-then-from-to-clause-array
-returns-then-from-to-clause-array t c = rw (c.swap.ensures.array, c.lower.ensures.array, c.parent-above.ensures)
-    (sym (lowered_more c.args.entries.now.array c.args.from c.args.to (omega arith)))
+returns-then-from-to-clause-array t c = grind (arith, lowered_more)
 
 pub returns-else-from-to-clause-array : goal.returns-else-from-to-clause-array
 returns-else-from-to-clause-array t c = sym (lowered_end c.args.entries.now.array c.args.from c.args.to (omega arith))

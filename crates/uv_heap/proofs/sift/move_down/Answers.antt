@@ -11,21 +11,10 @@ loop-child-smaller c =
     smaller
 
 pub loop-child-preserved : goal.loop-child-preserved
-loop-child-preserved c =
-    let greater = c.in-Some.ensures.greater.0 refl in
-    let within = child_within c.loop-child.entries.array c.loop-child.place greater in
-    record {
-      within = rw (c.swap.ensures.array, length-swap c.loop-child.entries.array c.loop-child.place c.in-Some.child, c.in-Some.ensures.child) within;
-      rest = rw (c.swap.ensures.array, c.in-Some.ensures.child)
-          (sym (moved_down_more c.loop-child.entries.array c.loop-child.place greater) ∙ c.loop-child.invariant.rest);
-      room = c.swap.ensures.room ∙ c.loop-child.invariant.room;
-    }
+loop-child-preserved c = grind (arith, child_within, length-swap, moved_down_more)
 
 pub returns-clause-array : goal.returns-clause-array
-returns-clause-array c =
-    let stays : must_sink c.loop-child.entries.array c.loop-child.place ≡ false =
-    false_from_ne_true _ (λ e. false≢true (c.in_default.ensures.greater.1 e)) in
-    ap (λ (m : Moved). m.array) (sym (moved_down_end c.loop-child.entries.array c.loop-child.place stays) ∙ c.loop-child.invariant.rest)
+returns-clause-array c = grind (arith, false_from_ne_true, false≢true, moved_down_end)
 
 pub returns-clause-place : goal.returns-clause-place
 returns-clause-place c =

@@ -19,17 +19,7 @@ undone : (xs ys : List Entry) (e : Entry) (place : ℕ) → ys ≡ (pushed xs e)
 undone xs ys e place p q = (λ i. push_undone (p i) (q i)) ∙ push_undone-pushed xs e
 
 pub returns-clause-can_undo : goal.returns-clause-can_undo
-returns-clause-can_undo c =
-    let xs = c.self.inside.entries.array in
-    let long = ap length c.push-place.ensures.array in
-    record {
-      within = omega (arith, long, length-pushed xs c.args.entry, place-pushed xs c.args.entry, c.push-place.ensures.place);
-      heap_before = rw (undone xs c.push-place.new.entries.array c.args.entry c.push-place.result c.push-place.ensures.array
-          c.push-place.ensures.place) c.self.invariant;
-    }
+returns-clause-can_undo c = grind (arith, length-pushed, place-pushed, undone)
 
 pub returns-clause-undone : goal.returns-clause-undone
-returns-clause-undone c =
-    undone c.self.inside.entries.array c.push-place.new.entries.array c.args.entry c.push-place.result c.push-place.ensures.array
-    c.push-place.ensures.place
-    ∙ ap (λ (heap : Heap). heap.array) c.self.view_is
+returns-clause-undone c = grind (arith, undone)
