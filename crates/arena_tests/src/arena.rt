@@ -7,10 +7,24 @@ use std::process::Abort;
 use std::test::Fail;
 use uv_arena::Slots;
 use uv_ids::Id;
-use uv_records::ListName;
+use uv_records::{ListName, Pends};
+
+/// What a slot holds here. An odd one pends.
+#[derive(Clone, Copy, PartialEq)]
+struct Number(u64);
+
+impl Pends for Number {
+    ghost use Rattle.std.specs.Prelude.{◌%◌, ◌==◌};
+
+    ghost is_pending = { λ n. n.0 % 2 == 1 };
+
+    fn pends(&self) -> bool {
+        self.0 % 2 == 1
+    }
+}
 
 /// Whether these are the members of a list, read from its front.
-fn has_members(slots: &Slots<u64>, list: ListName, members: &[u32]) -> bool {
+fn has_members(slots: &Slots<Number>, list: ListName, members: &[u32]) -> bool {
     let mut next = slots.first(list);
     for slot in members {
         let Some(id) = next else {
@@ -25,7 +39,7 @@ fn has_members(slots: &Slots<u64>, list: ListName, members: &[u32]) -> bool {
 }
 
 /// Whether these are the members of a list, read from its back.
-fn has_turned(slots: &Slots<u64>, list: ListName, members: &[u32]) -> bool {
+fn has_turned(slots: &Slots<Number>, list: ListName, members: &[u32]) -> bool {
     let mut next = slots.last(list);
     for slot in members {
         let Some(id) = next else {
@@ -40,7 +54,7 @@ fn has_turned(slots: &Slots<u64>, list: ListName, members: &[u32]) -> bool {
 }
 
 /// Puts a slot on a list, if it may be put there.
-fn push(slots: &mut Slots<u64>, list: ListName, id: Id, front: bool) {
+fn push(slots: &mut Slots<Number>, list: ListName, id: Id, front: bool) {
     if slots.get(id).is_none() || slots.on_list(id) {
         return;
     }
@@ -52,10 +66,10 @@ fn push(slots: &mut Slots<u64>, list: ListName, id: Id, front: bool) {
 }
 
 /// Four slots on the idle list: 2, 0, 1, 3.
-fn listed(alloc: Global) -> Result<Slots<u64>, AllocError> {
+fn listed(alloc: Global) -> Result<Slots<Number>, AllocError> {
     let mut slots = Slots::new(alloc, 4, 9)?;
     for content in 0u64..4 {
-        let Ok((id, _)) = slots.insert(content) else {
+        let Ok((id, _)) = slots.insert(Number(content)) else {
             break;
         };
         push(&mut slots, ListName::Idle, id, id.slot % 2 == 0);
@@ -64,27 +78,27 @@ fn listed(alloc: Global) -> Result<Slots<u64>, AllocError> {
 }
 
 /// Takes a slot off its list, and puts it back between its neighbours.
-fn unlink_and_back(slots: &mut Slots<u64>, id: Id) {
+fn unlink_and_back(slots: &mut Slots<Number>, id: Id) {
     if slots.on_list(id) {
         let place = slots.unlink(id);
         slots.undo_unlink(place);
     }
 }
 
-fn splice(slots: &mut Slots<u64>, from: ListName, to: ListName) {
+fn splice(slots: &mut Slots<Number>, from: ListName, to: ListName) {
     if slots.first(to).is_none() {
         slots.splice(from, to);
     }
 }
 
 /// Frees a slot, takes it again, and takes both back: what it held, and the id that it had in between.
-fn there_and_back(slots: &mut Slots<u64>, id: Id, content: u64) -> Option<(u64, Id)>
+fn there_and_back(slots: &mut Slots<Number>, id: Id, content: u64) -> Option<(u64, Id)>
     requires { on_list slots.old.image id ≡ false }
     ensures { slots.new.image ≡ slots.old.image }
 {
     match slots.remove(id) {
         None => None,
-        Some(freed) => match slots.insert(content) {
+        Some(freed) => match slots.insert(Number(content)) {
             Err(_) => {
                 slots.undo_remove(freed.1, freed.0);
                 None
@@ -92,7 +106,7 @@ fn there_and_back(slots: &mut Slots<u64>, id: Id, content: u64) -> Option<(u64, 
             Ok(taken) => {
                 slots.undo_insert(taken.1);
                 slots.undo_remove(freed.1, freed.0);
-                Some((freed.0, taken.0))
+                Some((freed.0.0, taken.0))
             }
         },
     }
@@ -117,19 +131,19 @@ const AGAIN: Id = Id {
 };
 
 /// Two slots are taken, and no third one is left.
-fn fill<R: Abort>(rt: &R, slots: &mut Slots<u64>) {
-    assert!(rt; slots.insert(70).ok().map(|made| made.0) == Some(FIRST));
-    assert!(rt; slots.insert(71).ok().map(|made| made.0) == Some(live(1)));
-    assert!(rt; slots.insert(72).is_err());
+fn fill<R: Abort>(rt: &R, slots: &mut Slots<Number>) {
+    assert!(rt; slots.insert(Number(70)).ok().map(|made| made.0) == Some(FIRST));
+    assert!(rt; slots.insert(Number(71)).ok().map(|made| made.0) == Some(live(1)));
+    assert!(rt; slots.insert(Number(72)).is_err());
 }
 
 /// The first slot is freed and taken again, and both are taken back.
-fn reuse<R: Abort>(rt: &R, slots: &mut Slots<u64>) {
+fn reuse<R: Abort>(rt: &R, slots: &mut Slots<Number>) {
     assert!(rt;
         !slots.on_list(FIRST) && slots.next(FIRST).is_none() && slots.prev(FIRST).is_none()
     );
     assert!(rt; there_and_back(slots, FIRST, 73) == Some((70, AGAIN)));
-    assert!(rt; slots.get(FIRST) == Some(70) && slots.get(AGAIN).is_none());
+    assert!(rt; slots.get(FIRST) == Some(Number(70)) && slots.get(AGAIN).is_none());
     assert!(rt; slots.first_free().is_none() && slots.last_free().is_none());
     assert!(rt; slots.used() == slots.capacity());
 }
@@ -142,8 +156,31 @@ fn takes_a_reused_slot_back(rt: HostRuntime) -> Result<(), Fail> {
     Ok(())
 }
 
+/// Whether some slot holds something, and whether one holds what pends.
+fn holds(slots: &Slots<Number>) -> (bool, bool) {
+    (slots.holds_any(), slots.holds_pending())
+}
+
+/// One slot is taken, and what it holds pends, and no longer.
+fn count<R: Abort>(rt: &R, slots: &mut Slots<Number>) {
+    assert!(rt; holds(slots) == (false, false));
+    assert!(rt; slots.insert(Number(70)).is_ok());
+    assert!(rt; holds(slots) == (true, false));
+    assert!(rt; slots.set(FIRST, Number(71)) == Some(Number(70)));
+    assert!(rt; holds(slots) == (true, true));
+    assert!(rt; slots.set(FIRST, Number(72)) == Some(Number(71)));
+    assert!(rt; holds(slots) == (true, false));
+}
+
+#[test]
+fn counts_what_slots_hold(rt: HostRuntime) -> Result<(), Fail> {
+    let mut slots = Slots::new(rt.alloc(), 2, 1)?;
+    count(&rt, &mut slots);
+    Ok(())
+}
+
 /// A list of four, there and back.
-fn read<R: Abort>(rt: &R, slots: &mut Slots<u64>) {
+fn read<R: Abort>(rt: &R, slots: &mut Slots<Number>) {
     assert!(rt; has_members(slots, ListName::Idle, &[2, 0, 1, 3]));
     assert!(rt; has_turned(slots, ListName::Idle, &[3, 1, 0, 2]));
     assert!(rt; slots.next(AGAIN).is_none() && slots.prev(AGAIN).is_none());
@@ -152,7 +189,7 @@ fn read<R: Abort>(rt: &R, slots: &mut Slots<u64>) {
 }
 
 /// All of it goes to another list, off which nothing is pushed.
-fn move_all<R: Abort>(rt: &R, slots: &mut Slots<u64>) {
+fn move_all<R: Abort>(rt: &R, slots: &mut Slots<Number>) {
     splice(slots, ListName::Idle, ListName::IdleYet);
     assert!(rt; has_members(slots, ListName::IdleYet, &[2, 0, 1, 3]));
     assert!(rt; has_members(slots, ListName::Idle, &[]));
@@ -169,10 +206,10 @@ fn lists_read_both_ways(rt: HostRuntime) -> Result<(), Fail> {
 }
 
 /// Takes a slot, and takes that back: its id.
-fn insert_and_back(slots: &mut Slots<u64>, content: u64) -> Option<Id>
+fn insert_and_back(slots: &mut Slots<Number>, content: u64) -> Option<Id>
     ensures { slots.new.image ≡ slots.old.image }
 {
-    match slots.insert(content) {
+    match slots.insert(Number(content)) {
         Err(_) => None,
         Ok(made) => {
             slots.undo_insert(made.1);
@@ -182,21 +219,23 @@ fn insert_and_back(slots: &mut Slots<u64>, content: u64) -> Option<Id>
 }
 
 /// The last slot of the first piece, and then the first one of the second, which is taken back and taken again.
-fn cross<R: Abort>(rt: &R, slots: &mut Slots<u64>) {
+fn cross<R: Abort>(rt: &R, slots: &mut Slots<Number>) {
     assert!(rt; insert_and_back(slots, 70) == Some(live(1023)));
-    assert!(rt; slots.insert(71).ok().map(|made| made.0) == Some(live(1023)));
+    assert!(rt; slots.insert(Number(71)).ok().map(|made| made.0) == Some(live(1023)));
     assert!(rt; insert_and_back(slots, 72) == Some(live(1024)));
     assert!(rt; slots.used() == 1024 && slots.next_free() == Some(live(1024)));
-    assert!(rt; slots.insert(73).ok().map(|made| made.0) == Some(live(1024)));
-    assert!(rt; slots.get(live(1023)) == Some(71) && slots.get(live(1024)) == Some(73));
-    assert!(rt; slots.get(FIRST) == Some(0));
+    assert!(rt; slots.insert(Number(73)).ok().map(|made| made.0) == Some(live(1024)));
+    assert!(rt;
+        slots.get(live(1023)) == Some(Number(71)) && slots.get(live(1024)) == Some(Number(73))
+    );
+    assert!(rt; slots.get(FIRST) == Some(Number(0)));
 }
 
 #[test]
 fn goes_on_in_the_second_piece(rt: HostRuntime) -> Result<(), Fail> {
     let mut slots = Slots::new(rt.alloc(), 2000, 9)?;
     for content in 0u64..1023 {
-        assert!(rt; slots.insert(content).is_ok());
+        assert!(rt; slots.insert(Number(content)).is_ok());
     }
     cross(&rt, &mut slots);
     Ok(())

@@ -7,6 +7,21 @@ use std::io;
 use std::io::{Print, Read};
 use uv_arena::{InsertFault, Slots};
 use uv_ids::Id;
+use uv_records::Pends;
+
+/// What a slot holds here: a number, which never pends.
+#[derive(Clone, Copy)]
+struct Number(u64);
+
+impl Pends for Number {
+    ghost use Rattle.std.specs.Prelude.{false};
+
+    ghost is_pending = { λ _. false };
+
+    fn pends(&self) -> bool {
+        false
+    }
+}
 
 /// What the first slot of the second piece is given.
 const NEXT: Id = Id {
@@ -15,10 +30,10 @@ const NEXT: Id = Id {
 };
 
 /// An arena whose first piece is full.
-fn filled(alloc: Global) -> Result<Slots<u64>, AllocError> {
+fn filled(alloc: Global) -> Result<Slots<Number>, AllocError> {
     let mut slots = Slots::new(alloc, 2000, 9)?;
     for content in 0u64..1024 {
-        if slots.insert(content).is_err() {
+        if slots.insert(Number(content)).is_err() {
             return Err(AllocError);
         }
     }
@@ -26,10 +41,10 @@ fn filled(alloc: Global) -> Result<Slots<u64>, AllocError> {
 }
 
 /// Takes a slot, and takes that back: the id that it had.
-fn insert_and_back(slots: &mut Slots<u64>, content: u64) -> Result<Id, InsertFault>
+fn insert_and_back(slots: &mut Slots<Number>, content: u64) -> Result<Id, InsertFault>
     ensures { slots.new.image ≡ slots.old.image }
 {
-    match slots.insert(content) {
+    match slots.insert(Number(content)) {
         Err(fault) => Err(fault),
         Ok((id, undo)) => {
             slots.undo_insert(undo);
@@ -39,13 +54,13 @@ fn insert_and_back(slots: &mut Slots<u64>, content: u64) -> Result<Id, InsertFau
 }
 
 /// Whether no slot of the second piece was taken.
-fn is_as_before(slots: &Slots<u64>) -> bool {
+fn is_as_before(slots: &Slots<Number>) -> bool {
     slots.used() == 1024 && slots.next_free() == Some(NEXT)
 }
 
 fn crosses<I: Read, R: Print>(
     rt: &R,
-    slots: &mut Slots<u64>,
+    slots: &mut Slots<Number>,
     turns: &mut Turns<I>,
 ) -> io::Result<bool> {
     turns.wait(rt, "refuse")?;

@@ -3,6 +3,7 @@ ghost use Rattle.std.specs.Prelude.{◌≡◌, ◌≢◌, ◌<◌, ◌≤◌, �
 ghost use Rattle.std.specs.List.{list_any};
 ghost use Rattle.uv_ids.specs.declared.id.Id.{Id};
 ghost use Rattle.uv_records.specs.declared.lists.TheConstants.{LIST_COUNT};
+ghost use Rattle.uv_records.specs.Count.{pends_in};
 ghost use Rattle.uv_records.specs.Lists.{number};
 ghost use Rattle.uv_arena.specs.declared.links.TheConstants.{CHAIN_COUNT, FREE};
 ghost use Rattle.uv_arena.specs.Image.{fresh_arena, IsWithin, put_in, taken_out, edited, grown, shrunk, links_at, slot_at, head_at, tail_at, place_at, front_place, back_place, name_at, in_memory, IsSound, plain_slots, held_slots, held, on_list};
@@ -21,7 +22,7 @@ use std::alloc::{AllocError, Global};
 use std::marker::Model;
 use uv_ids::Id;
 use uv_raw::Pieces;
-use uv_records::{Ends, LIST_COUNT, ListName, Slot};
+use uv_records::{Ends, LIST_COUNT, ListName, Pends, Slot};
 
 /// Why nothing is inserted.
 #[derive(Clone, Copy, PartialEq, Eq)]
@@ -34,14 +35,14 @@ pub enum InsertFault {
 
 /// Slots for what is held under ids. Each is on at most one of the lists.
 #[derive(Drop)]
-pub struct Slots<T: Copy> {
+pub struct Slots<T: Pends> {
     memory: Memory<T>,
     /// Which chain each list is, by the list's number.
     names: [u8; LIST_COUNT],
     last_generation: u32,
 }
 
-impl<T: Copy> Model for Slots<T> {
+impl<T: Pends> Model for Slots<T> {
     ghost use Rattle.uv_arena.specs.Image.{Arena, IsSound, memory_of};
 
     ghost Value = { Arena T };
@@ -54,7 +55,7 @@ impl<T: Copy> Model for Slots<T> {
     ghost invariant = { λ s. IsSound (record { memory = memory_of s.memory; names = s.names; last = s.last_generation }) };
 }
 
-impl<T: Copy> Slots<T> {
+impl<T: Pends> Slots<T> {
     /// An arena of so many slots, whose pieces are made by the inserts that first need them. A slot that is freed at the last
     /// generation is retired.
     pub fn new(alloc: Global, capacity: u32, last_generation: u32) -> Result<Self, AllocError>
@@ -259,6 +260,13 @@ impl<T: Copy> Slots<T> {
         ensures { result ≡ list_any (λ slot. is_some slot.content) (held_slots self.now.image.memory) }
     {
         self.memory.row.holds_any()
+    }
+
+    /// Whether some slot holds what pends. It takes no look at the slots.
+    pub fn holds_pending(&self) -> bool
+        ensures { result ≡ list_any (λ slot. pends_in T.is_pending slot.content) (held_slots self.now.image.memory) }
+    {
+        self.memory.row.holds_pending()
     }
 
     /// How many slots there are.

@@ -1,63 +1,68 @@
-//! The slots with their links in pieces, and how many of them hold something.
-ghost use Rattle.std.specs.Prelude.{◌≡◌, ◌+◌, ◌<◌, ◌≤◌, [], ◌∷◌, ◌++◌, is_some, length, map, slice_get, slice_set, IfSome, OnOk, OnErr, Some};
+//! The slots with their links in pieces, and how many of them hold something, and something that pends.
+ghost use Rattle.std.specs.Prelude.{◌≡◌, ◌+◌, ◌<◌, ◌≤◌, ◌^◌, [], ◌∷◌, ◌++◌, is_some, length, map, slice_get, slice_set, IfSome, OnOk, OnErr, Some};
 ghost use Rattle.std.specs.List.{list_any};
 ghost use Rattle.uv_raw.specs.Row.{row};
 ghost use Rattle.uv_raw.specs.Pieced.{room_after};
-ghost use Rattle.uv_records.specs.Count.{one_if};
-ghost use Rattle.uv_arena.specs.Holding.{holds_one, FitsSize};
+ghost use Rattle.uv_records.specs.Count.{one_if, pends_in};
+ghost use Rattle.uv_arena.specs.Holding.{one_of};
 
 use crate::links::Cell;
 use std::alloc::AllocError;
 use std::marker::Model;
 use uv_raw::Pieces;
+use uv_records::{Pends, recounted};
 
-/// The slots that were ever used with their links, of which it is known how many hold something.
+/// The slots that were ever used with their links, of which it is known how many hold something, and how many something that pends.
 #[derive(Drop)]
-pub(crate) struct Cells<T: Copy> {
+pub(crate) struct Cells<T: Pends> {
     pieces: Pieces<Cell<T>>,
     /// How many slots hold something.
-    held: usize,
+    held: u32,
+    /// How many slots hold what pends.
+    pending: u32,
 }
 
-impl<T: Copy> Model for Cells<T> {
-    ghost use Rattle.std.specs.Prelude.{◌≡◌};
+impl<T: Pends> Model for Cells<T> {
     ghost use Rattle.uv_raw.specs.Pieced.{Pieced};
-    ghost use Rattle.uv_arena.specs.Holding.{held_count};
+    ghost use Rattle.uv_arena.specs.Holding.{AreCounted};
     ghost use Rattle.uv_arena.specs.declared.links.Cell.{Cell as Linked};
 
     ghost Value = { Pieced (Linked T) };
 
     ghost view = { λ c. c.pieces };
 
-    ghost invariant = { λ c. c.held ≡ held_count c.pieces.row.items };
+    ghost invariant = { λ c. AreCounted T.is_pending c.pieces.row c.held c.pending };
 }
 
 /// Whether a cell's slot holds something.
-fn holds<T: Copy>(cell: Cell<T>) -> bool
-    ensures { one_if result ≡ holds_one cell }
+fn holds<T: Pends>(cell: Cell<T>) -> bool
+    ensures { one_if result ≡ one_of is_some cell }
 {
     cell.slot.content.is_some()
 }
 
-/// A count less what went and plus what came.
-fn recounted(held: usize, went: bool, came: bool) -> usize
-    requires { FitsSize held (one_if went) (one_if came) }
-    ensures { result + one_if went ≡ held + one_if came }
+/// Whether a cell's slot holds what pends.
+fn pends<T: Pends>(cell: Cell<T>) -> bool
+    ensures { one_if result ≡ one_of (pends_in T.is_pending) cell }
 {
-    match (went, came) {
-        (false, true) => held + 1,
-        (true, false) => held - 1,
-        _ => held,
+    match cell.slot.content {
+        Some(content) => content.pends(),
+        None => false,
     }
 }
 
-impl<T: Copy> Cells<T> {
+impl<T: Pends> Cells<T> {
     /// No slot was ever used.
     pub(crate) fn new(pieces: Pieces<Cell<T>>) -> Cells<T>
-        requires { pieces.row.items ≡ [] }
+        requires none { pieces.row.items ≡ [] }
+        requires few { pieces.row.capacity < 2 ^ 32 }
         ensures { result ≡ pieces }
     {
-        Cells { pieces, held: 0 }
+        Cells {
+            pieces,
+            held: 0,
+            pending: 0,
+        }
     }
 
     /// Whether some slot holds something.
@@ -65,6 +70,13 @@ impl<T: Copy> Cells<T> {
         ensures { result ≡ list_any (λ slot. is_some slot.content) (map (λ cell. cell.slot) self.now.row.items) }
     {
         self.held > 0
+    }
+
+    /// Whether some slot holds what pends.
+    pub(crate) fn holds_pending(&self) -> bool
+        ensures { result ≡ list_any (λ slot. pends_in T.is_pending slot.content) (map (λ cell. cell.slot) self.now.row.items) }
+    {
+        self.pending > 0
     }
 
     pub(crate) fn len(&self) -> usize
@@ -98,10 +110,10 @@ impl<T: Copy> Cells<T> {
         self.pieces.get(index)
     }
 
-    /// Writes a cell where one lies that holds something if and only if this one does.
+    /// Writes a cell where one lies that holds the same.
     pub(crate) fn set(&mut self, index: usize, item: Cell<T>)
         requires within { index < length self.old.row.items }
-        requires alike { IfSome (slice_get self.old.row.items index) (λ was. holds_one was ≡ holds_one item) }
+        requires alike { IfSome (slice_get self.old.row.items index) (λ was. was.slot.content ≡ item.slot.content) }
         ensures new { self.new.row ≡ row (slice_set self.old.row.items index item) self.old.row.capacity }
         ensures room { self.new.room ≡ self.old.room }
     {
@@ -117,6 +129,7 @@ impl<T: Copy> Cells<T> {
         let _ = self.pieces.len();
         let was = self.pieces.set(index, item);
         self.held = recounted(self.held, holds(was), holds(item));
+        self.pending = recounted(self.pending, pends(was), pends(item));
     }
 
     /// Adds a cell, whose piece is there.
@@ -129,6 +142,7 @@ impl<T: Copy> Cells<T> {
         let _ = self.pieces.capacity();
         self.pieces.push(item);
         self.held = recounted(self.held, false, holds(item));
+        self.pending = recounted(self.pending, false, pends(item));
     }
 
     /// Takes the last cell off. Its piece stays.
@@ -140,6 +154,7 @@ impl<T: Copy> Cells<T> {
     {
         let last = self.pieces.pop();
         self.held = recounted(self.held, holds(last), false);
+        self.pending = recounted(self.pending, pends(last), false);
         last
     }
 }

@@ -8,16 +8,16 @@ ghost use Rattle.uv_arena.specs.Image.{memory_of, with_links, with_cells, with_e
 use crate::cells::Cells;
 use crate::links::{CHAIN_COUNT, Cell, ChainPlace, LOOSE, Links};
 use std::alloc::AllocError;
-use uv_records::{Ends, Slot};
+use uv_records::{Ends, Pends, Slot};
 
 /// The slots that were ever used with their links, and the ends of the chains.
 #[derive(Drop)]
-pub(crate) struct Memory<T: Copy> {
+pub(crate) struct Memory<T: Pends> {
     pub(crate) row: Cells<T>,
     pub(crate) ends: [Ends; CHAIN_COUNT],
 }
 
-impl<T: Copy> Memory<T> {
+impl<T: Pends> Memory<T> {
     fn set_next(&mut self, at: u32, next: Option<u32>)
         requires { at < length self.old.row.row.items }
         ensures memory { memory_of self.new ≡ with_cells (λ j c. with_links

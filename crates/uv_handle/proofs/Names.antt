@@ -11,12 +11,12 @@ pub use Rattle.uv_arena.specs.declared.links.ChainPlace.{ChainPlace}
 pub use Rattle.uv_arena.specs.declared.undo.InsertUndo.{InsertUndo}
 pub use Rattle.uv_arena.specs.declared.undo.RemoveUndo.{RemoveUndo}
 pub use Rattle.uv_handle.specs.Changes.{IsAdded, IsChanged, IsEnlisted, IsTaken}
-pub use Rattle.uv_handle.specs.Counted.{CanUndoRecord, Fits32, alive_count, counted, record_at, record_undone}
+pub use Rattle.uv_handle.specs.Counted.{CanUndoRecord, alive_count, counted, record_at, record_undone}
 pub use Rattle.uv_handle.specs.declared.undo.RecordUndo.{RecordUndo}
 pub use Rattle.uv_ids.specs.declared.id.Id.{Id}
 pub use Rattle.uv_ids.specs.declared.id.Var.{Var}
 pub use Rattle.uv_ids.specs.declared.phase.Kind.{Kind}
-pub use Rattle.uv_records.specs.Count.{active_count, content_keeps, keeps_in, one_if}
+pub use Rattle.uv_records.specs.Count.{Fits32, active_count, content_keeps, keeps_in, one_if}
 pub use Rattle.uv_records.specs.Handles.{inited, keeps_alive}
 pub use Rattle.uv_records.specs.declared.handle.HandleRecord.{HandleRecord}
 pub use Rattle.uv_records.specs.declared.lists.ListName.{ListName}

@@ -1,5 +1,5 @@
 -- The arena and the count of its active referenced handles, which the calls of handles change; and what takes them back.
-use Rattle.std.specs.Prelude.{◌≡◌, ℕ, ◌+◌, ◌<◌, ◌^◌, Option, Some, None, option_map, option_and_then}
+use Rattle.std.specs.Prelude.{◌≡◌, ℕ, Option, Some, None, option_map, option_and_then}
 use Rattle.uv_ids.specs.declared.id.Id.{Id}
 use Rattle.uv_records.specs.declared.handle.HandleRecord.{HandleRecord}
 use Rattle.uv_records.specs.Count.{active_count}
@@ -15,10 +15,6 @@ use Rattle.uv_handle.specs.declared.undo.TakeUndo.{TakeUndo}
 pub record Counted (X : Type 0) : Type 0 where
   pub arena : Image X
   pub count : ℕ
-
--- a count less what went and plus what came is a number again
-abbrev pub Fits32 : ℕ → ℕ → ℕ → Type 0
-Fits32 n before after = (m : ℕ) × (m + before ≡ n + after) × (m < 2 ^ 32)
 
 module _ {X : Type 0} where
   abbrev pub counted : Image X → ℕ → Counted X

@@ -13,7 +13,7 @@ ghost use Rattle.uv_handle.specs.Counted.{counted, record_at, found, IsCounted, 
 ghost use Rattle.uv_handle.specs.Changes.{Did, Refused, IsClosed, IsTaken};
 
 use crate::content::HoldsHandle;
-use crate::handles::{Handles, recounted};
+use crate::handles::Handles;
 use crate::undo::{ListUndo, RecordUndo, TakeUndo};
 use uv_arena::{Slots, SpliceUndo};
 use uv_ids::{Code, Id};

@@ -1,9 +1,9 @@
 //! What a slot's content says of its handle.
-use uv_records::HandleRecord;
+use uv_records::{HandleRecord, Pends};
 use uv_work::Content;
 
 /// A content of the arena's slots that may be a handle's record.
-pub trait HoldsHandle: Copy {
+pub trait HoldsHandle: Pends {
     ghost use Rattle.std.specs.Prelude.{◌≡◌, Option, Some};
     ghost use Rattle.uv_records.specs.declared.handle.HandleRecord.{HandleRecord};
 

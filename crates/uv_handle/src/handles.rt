@@ -3,18 +3,18 @@ ghost use Rattle.std.specs.Prelude.{◌≡◌, ◌≢◌, ℕ, ◌+◌, ◌≤�
 ghost use Rattle.uv_ids.specs.declared.id.Id.{Id};
 ghost use Rattle.uv_records.specs.declared.handle.HandleRecord.{HandleRecord};
 ghost use Rattle.uv_records.specs.Handles.{inited};
-ghost use Rattle.uv_records.specs.Count.{one_if};
+ghost use Rattle.uv_records.specs.Count.{one_if, Fits32};
 ghost use Rattle.uv_arena.specs.Undo.{set_undone};
 ghost use Rattle.uv_arena.specs.Calls.{IsInserted, IsSet, RefusesInsert, room_after};
 ghost use Rattle.uv_handle.specs.Changes.{IsAdded, IsChanged};
-ghost use Rattle.uv_handle.specs.Counted.{counted, record_at, found, IsCounted, Fits32, record_undone, CanUndoRecord, add_undone, CanUndoAdd};
+ghost use Rattle.uv_handle.specs.Counted.{counted, record_at, found, IsCounted, record_undone, CanUndoRecord, add_undone, CanUndoAdd};
 
 use crate::content::HoldsHandle;
 use crate::undo::{AddUndo, RecordUndo};
 use std::marker::Model;
 use uv_arena::{InsertFault, Slots};
 use uv_ids::{Id, Kind, Var};
-use uv_records::HandleRecord;
+use uv_records::{HandleRecord, recounted};
 
 /// The count of active referenced handles of an arena.
 #[derive(Drop)]
@@ -130,19 +130,5 @@ impl Handles {
         ensures { self.new ≡ active }
     {
         self.active = active;
-    }
-}
-
-/// The count once a handle that kept the loop alive, or didn't, keeps it alive, or doesn't.
-pub(crate) fn recounted(active: u32, before: bool, after: bool) -> u32
-    requires { Fits32 active (one_if before) (one_if after) }
-    ensures { result + one_if before ≡ active + one_if after }
-{
-    if before == after {
-        active
-    } else if after {
-        active + 1
-    } else {
-        active - 1
     }
 }

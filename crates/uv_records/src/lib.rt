@@ -1,14 +1,16 @@
 //! What the plain loop and the arena share: the records of handles, what each op does to one of them, when it is refused, the
-//! names of the lists, what a slot holds, and what names are bound to.
+//! names of the lists, what a slot holds, a count beside what it counts, and what names are bound to.
 #![tactic(auto)]
 
+mod count;
 mod handle;
 mod lists;
 mod named;
 mod refusals;
 mod slot;
 
+pub use count::recounted;
 pub use handle::{HandleRecord, due_after};
 pub use lists::{Ends, LIST_COUNT, ListName, WatcherKind};
 pub use named::{Calls, Named};
-pub use slot::Slot;
+pub use slot::{Pends, Slot};

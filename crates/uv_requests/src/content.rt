@@ -1,9 +1,9 @@
 //! What a slot's content says of its request.
-
+use uv_records::Pends;
 use uv_work::{Content, Request};
 
 /// A content of the arena's slots that may be a request's record.
-pub trait HoldsWork: Copy {
+pub trait HoldsWork: Pends {
     ghost use Rattle.std.specs.Prelude.{◌≡◌, Option, Some};
     ghost use Rattle.uv_work.specs.declared.request.Request.{Request};
 

@@ -1,5 +1,5 @@
 -- What a slot's content says of its handle, and of its request.
-use Rattle.std.specs.Prelude.{◌≡◌, Option, Some, None}
+use Rattle.std.specs.Prelude.{◌≡◌, Bool, false, Option, Some, None}
 use Rattle.std.proofs.Common.{ap}
 use Rattle.uv_records.specs.declared.handle.HandleRecord.{HandleRecord}
 use Rattle.uv_work.specs.declared.request.Request.{Request}
@@ -15,6 +15,11 @@ handle_of (Asked r) = None
 abbrev pub request_of : Content → Option Request
 request_of (Handle h) = None
 request_of (Asked r) = Some r
+
+-- whether it is a handle that was sent to, and not called since
+abbrev pub is_sent_to : Content → Bool
+is_sent_to (Handle h) = h.pending
+is_sent_to (Asked r) = false
 
 -- what holds a handle's record holds nothing else, and what holds a request's neither
 pub only_handle : (x : Content) (h : HandleRecord) → handle_of x ≡ Some h → x ≡ Handle h

@@ -9,9 +9,9 @@ use crate::arena::Slots;
 use crate::links::ChainPlace;
 use crate::undo::{PushUndo, SpliceUndo};
 use uv_ids::Id;
-use uv_records::ListName;
+use uv_records::{ListName, Pends};
 
-impl<T: Copy> Slots<T> {
+impl<T: Pends> Slots<T> {
     /// Puts the slot of an id, which is on no list, at the front of one.
     pub fn push_front(&mut self, list: ListName, id: Id) -> PushUndo
         requires held { is_some (held self.old.image id) ≡ true }

@@ -13,9 +13,9 @@ ghost use Rattle.uv_arena.specs.Calls.{IsListed, IsFirst, IsLast, slot_of};
 use crate::arena::Slots;
 use crate::links::{FREE, LOOSE, Links};
 use uv_ids::Id;
-use uv_records::ListName;
+use uv_records::{ListName, Pends};
 
-impl<T: Copy> Slots<T> {
+impl<T: Pends> Slots<T> {
     /// The id that the next insert gives. None where no slot is free or unused.
     pub fn next_free(&self) -> Option<Id>
         ensures { result ≡ next_free (plain_slots self.now.image) }

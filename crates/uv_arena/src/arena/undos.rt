@@ -5,9 +5,9 @@ ghost use Rattle.uv_arena.specs.Undo.{insert_undone, remove_undone, set_undone, 
 use crate::arena::Slots;
 use crate::links::{ChainPlace, FREE};
 use crate::undo::{InsertUndo, PushUndo, RemoveUndo, SpliceUndo};
-use uv_records::Slot;
+use uv_records::{Pends, Slot};
 
-impl<T: Copy> Slots<T> {
+impl<T: Pends> Slots<T> {
     /// Takes an insert back.
     pub fn undo_insert(&mut self, undo: InsertUndo)
         requires { CanUndoInsert self.old.image undo }

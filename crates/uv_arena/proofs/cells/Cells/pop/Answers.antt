@@ -1,11 +1,18 @@
 use Rattle.std.proofs.Common.{arith}
-use Rattle.uv_arena.specs.Holding.{held_count}
-use Rattle.uv_arena.proofs.Held.{held_push}
+use Rattle.std.specs.Prelude.{is_some}
+use Rattle.uv_records.specs.Count.{pends_in}
+use Rattle.uv_arena.specs.Holding.{count_of}
+use Rattle.uv_arena.proofs.Held.{count_push}
 use Rattle.uv_arena.proofs.cells.Cells.pop.Goals as goal
 
 pub recounted-self-inside-requires : goal.recounted-self-inside-requires
 recounted-self-inside-requires g c =
-    (held_count c.pop-last.new.self.row.items, grind (arith, held_push), grind (arith, held_push))
+    (count_of is_some c.pop-last.new.self.row.items, grind (arith, count_push {X = g.row.T.Denot} is_some), grind (arith, count_push {X = g.row.T.Denot} is_some))
+
+pub recounted-self-inside-requires-2 : goal.recounted-self-inside-requires-2
+recounted-self-inside-requires-2 g c =
+    let such = pends_in g.T.Pends.is_pending in
+    (count_of such c.pop-last.new.self.row.items, grind (arith, count_push {X = g.row.T.Denot} such), grind (arith, count_push {X = g.row.T.Denot} such))
 
 pub invariant_of-self : goal.invariant_of-self
-invariant_of-self g c = grind (arith, held_push)
+invariant_of-self g c = grind (arith, count_push {X = g.row.T.Denot} is_some, count_push {X = g.row.T.Denot} (pends_in g.T.Pends.is_pending))

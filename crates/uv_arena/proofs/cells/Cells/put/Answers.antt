@@ -1,23 +1,24 @@
-use Rattle.std.proofs.Common.{arith, slice_set}
-use Rattle.uv_arena.specs.Holding.{held_count}
-use Rattle.uv_arena.proofs.Held.{held_set, held_within_set}
+use Rattle.std.proofs.Common.{arith}
+use Rattle.std.specs.Prelude.{is_some}
+use Rattle.uv_records.specs.Count.{pends_in}
+use Rattle.uv_arena.proofs.Held.{count_set, fits_set}
 use Rattle.uv_arena.proofs.cells.Cells.put.Goals as goal
 
 pub recounted-self-inside-requires : goal.recounted-self-inside-requires
 recounted-self-inside-requires g c =
-    let xs = c.self.inside.pieces.row.items in
-    let e = held_set xs c.args.index c.set-was.result c.args.item c.set-was.ensures.old in (
-      held_count (slice_set xs c.args.index c.args.item),
-      grind (arith, e),
-      omega (
-        arith,
-        held_within_set xs c.args.index c.args.item,
-        c.len-self-inside.ensures.len,
-        c.len-self-inside.type_inv,
-      ),
-    )
+    rw (c.self.invariant.held, c.holds.ensures, c.holds-2.ensures)
+    (fits_set is_some c.self.inside.pieces.row.items c.args.index c.set-was.result c.args.item c.set-was.ensures.old
+    (omega (arith, c.len.ensures.len, c.len.ensures.within, c.self.invariant.few)))
+
+pub recounted-self-inside-requires-2 : goal.recounted-self-inside-requires-2
+recounted-self-inside-requires-2 g c =
+    rw (c.self.invariant.pending, c.pends.ensures, c.pends-2.ensures)
+    (fits_set (pends_in g.T.Pends.is_pending) c.self.inside.pieces.row.items c.args.index c.set-was.result c.args.item c.set-was.ensures.old
+    (omega (arith, c.len.ensures.len, c.len.ensures.within, c.self.invariant.few)))
 
 pub invariant_of-self : goal.invariant_of-self
 invariant_of-self g c =
-    let e = held_set c.self.inside.pieces.row.items c.args.index c.set-was.result c.args.item c.set-was.ensures.old in
-    grind (arith, e)
+    let xs = c.self.inside.pieces.row.items in
+    let h = count_set is_some xs c.args.index c.set-was.result c.args.item c.set-was.ensures.old in
+    let p = count_set (pends_in g.T.Pends.is_pending) xs c.args.index c.set-was.result c.args.item c.set-was.ensures.old in
+    grind (arith, h, p)

@@ -1,6 +1,13 @@
 use Rattle.std.proofs.Common.{arith}
-use Rattle.uv_arena.proofs.Held.{held_set}
+use Rattle.std.specs.Prelude.{is_some}
+use Rattle.uv_records.specs.Count.{pends_in}
+use Rattle.uv_arena.proofs.Held.{count_kept}
 use Rattle.uv_arena.proofs.cells.Cells.set.Goals as goal
 
 pub invariant_of-self : goal.invariant_of-self
-invariant_of-self g c = grind (arith, held_set, c.set.ensures.old, c.set.ensures.new, c.requires.alike)
+invariant_of-self g c =
+    let xs = c.self.inside.pieces.row.items in
+    let alike = rw (← c.self.view_is) at c.requires.alike in
+    let h = count_kept is_some xs c.args.index c.args.item alike in
+    let p = count_kept (pends_in g.T.Pends.is_pending) xs c.args.index c.args.item alike in
+    grind (arith, h, p)
