@@ -13,6 +13,5 @@ pub mod Returning
 pub mod Single
 pub mod Slots
 pub mod Values
-pub mod Waking
 pub mod Walked
 pub mod Without

@@ -1,5 +1,4 @@
 pub mod Stands
-pub mod Pending
 pub mod Ready
 pub mod Doing
 pub mod Asking

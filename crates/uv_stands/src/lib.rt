@@ -3,7 +3,6 @@
 
 mod ask;
 mod names;
-mod pending;
 mod queries;
 
 pub use ask::Ask;

@@ -8,7 +8,6 @@ ghost use Rattle.uv_model.specs.Next.{is_woken, may_leave};
 ghost use Rattle.uv_step.specs.Image.{held};
 ghost use Rattle.uv_stands.specs.Doing.{OfEach};
 
-use crate::pending::any_pending;
 use uv_ids::Mode;
 use uv_model::{LONGEST_POLL, Place};
 use uv_records::ListName;
@@ -53,7 +52,7 @@ pub fn is_alive(memory: &Memory<Place>) -> bool
 pub fn has_pending(memory: &Memory<Place>) -> bool
     ensures { OfEach (held memory.now).image (λ s. has_pending s ≡ result) }
 {
-    any_pending(memory, ListName::Async) || any_pending(memory, ListName::AsyncYet)
+    memory.slots().holds_pending()
 }
 
 /// Whether a poll is woken: a request is done, or an async handle was sent to.
