@@ -15,14 +15,13 @@ use Rattle.uv_model.specs.Ops as ops
 use Rattle.uv_model.specs.Next.{next, take}
 use Rattle.uv_model.specs.After.{after}
 use Rattle.uv_model.proofs.Found.{found_both}
-use Rattle.uv_model.proofs.Counting.{AreUpTo, Counts, Drawn, Freed, IsBounded, StaysBounded, if_keeps, drawn_set, drawn_push, freed_more, freed_set, freed_push, slot_freed, never_timer, counts_at, IsHeld, LiveBefore, handle_before, RequestBefore, request_before, NamedBefore, live_before, AskedBefore, asked_before, more, placed, renamed, listed, off_bounded, kept_in, requested, pooled, rested_in, at_clock, flagged, watched_bounded, stopped_bounded, started_bounded}
+use Rattle.uv_model.proofs.Counting.{AreUpTo, Counts, Drawn, Freed, IsBounded, StaysBounded, if_keeps, drawn_set, drawn_push, freed_more, freed_set, freed_push, slot_freed, counts_at, IsHeld, LiveBefore, handle_before, RequestBefore, request_before, NamedBefore, live_before, AskedBefore, asked_before, more, placed, renamed, listed, off_bounded, kept_in, requested, pooled, rested_in, at_clock, flagged, watched_bounded, stopped_bounded, started_bounded}
 
 -- ---- the ops
 
 -- a handle that is made is no active timer
 inited_before : (n : ℕ) (v : Var) (kind : Kind) → StartsBefore n (inited v kind)
-inited_before n v kind.Async = λ t a. cc t
-inited_before n v each = λ t a. cc a
+inited_before n v kind = grind arith
 
 taken_drawn : (n : ℕ) (free : List ℕ) (id : Id) (x : Content) (s : Slots Content) → Drawn n s.slots → HoldsBefore n (handle_in (Some x)) →
     Drawn n (taken_from free id x s).slots
@@ -31,34 +30,21 @@ taken_drawn n (i ∷ is) id x s h b = drawn_set n s.slots id.slot _ h b
 
 taken_freed : (n : ℕ) (free : List ℕ) (id : Id) (x : Content) (s : Slots Content) → Freed n s.slots → id.generation ≤ n →
     Freed n (taken_from free id x s).slots
-taken_freed n [] id x s h few = freed_push n s.slots _ h (omega arith)
-taken_freed n (i ∷ is) id x s h few = freed_set n s.slots id.slot _ h few
+taken_freed n free id x s h few = grind (arith, freed_push, freed_set)
 
 -- the slot that is taken next was freed as often as its id says
 next_freed : (n : ℕ) (all : List (Slot Content)) (unused : ℕ) (free : List ℕ) (id : Id) → Freed n all → slots.next_id all unused free ≡ Some id →
     id.generation ≤ n
-next_freed n all zero [] id h e = cc e
-next_freed n all (suc unused) [] id h e = subst (λ (i : Id). i.generation ≤ n) (same_Some _ _ e) (omega arith)
 next_freed n all unused (i ∷ is) id h e = at (slice_get all i) refl e where
   at : (x : Option (Slot Content)) → slice_get all i ≡ x → option_and_then (λ slot. Some (slots.id_of i slot)) x ≡ Some id → id.generation ≤ n
   at None f g = cc g
   at (Some slot) f g = subst (λ (j : Id). j.generation ≤ n) (same_Some _ _ g) (slot_freed n all i slot f h)
+next_freed n all each e3 id h e = grind arith
 
 -- a slot that is taken
 wider : (n : ℕ) (s : State) (x : Content) (id : Id) → IsBounded n s → HoldsBefore s.next_start (handle_in (Some x)) → next_free s.arena ≡ Some id →
     IsBounded (suc n) (record s { arena = taken id x s.arena })
-wider n s x id h b e =
-    let m = more n s h in
-    record {
-      counts = m.counts;
-      starts = m.starts;
-      drawn = taken_drawn s.next_start s.arena.free id x s.arena h.drawn b;
-      time = h.time;
-      clock = h.clock;
-      line = m.line;
-      freed = taken_freed (suc n) s.arena.free id x s.arena m.freed
-          (next_freed (suc n) s.arena.slots s.arena.unused s.arena.free id m.freed e);
-    }
+wider n s x id h b e = search (more, taken_drawn, taken_freed, next_freed)
 
 bound_bounded : (n : ℕ) (s : State) (v : Var) (id : Id) → IsBounded n s → IsBounded n (ops.bound_to s v id)
 bound_bounded n s v id h = renamed n s v (record (named s v) { id = Some id }) h (counts_at n s v h.counts)
@@ -87,15 +73,12 @@ make_bounded n s None made h k = found_both (next_free s.arena) _ _ (λ (d : ops
 
 ended_bounded : (n : ℕ) (s : State) (id : Id) (r : Request) (outcome : Outcome) → IsBounded n s → id.generation ≤ n →
     IsBounded n (ops.ended s id r outcome)
-ended_bounded n s id r outcome h few =
-    let done = with_last s.done id in
-    requested n (record s { done = done }) id (record r { outcome = outcome }) (pooled n s s.waiting s.running done h) few
+ended_bounded n s id r outcome h few = search (requested, pooled)
 
 cancel_bounded : (n : ℕ) (s : State) (t : Result (Id × Request) Code) → AskedBefore n t → IsBounded n s → IsBounded (suc n) (ops.cancel s t).state
 cancel_bounded n s (Err code) few h = more n s h
 cancel_bounded n s (Ok t) few h = if_keeps (λ (d : ops.Done). IsBounded (suc n) d.state) (list_any (same_id t.0) s.waiting) _ _
-    (let u = record s { waiting = without_id s.waiting t.0 } in
-    more n (ops.cancelled s t.0 t.1) (ended_bounded n u t.0 t.1 Cancelled (pooled n s (without_id s.waiting t.0) s.running s.done h) few))
+    (search (more, ended_bounded, pooled))
     (more n s h)
 
 on_handle_bounded : (n : ℕ) (s : State) (v : Var) (why : HandleRecord → Option Code) (f : Id → HandleRecord → ops.Done) → IsBounded n s →
@@ -103,8 +86,7 @@ on_handle_bounded : (n : ℕ) (s : State) (v : Var) (why : HandleRecord → Opti
     IsBounded (suc n) (ops.on_handle s (live_handle s v) why f).state
 on_handle_bounded n s v why f h k = at (live_handle s v) (live_before n s v h) where
   at : (t : Result (Id × HandleRecord) Code) → NamedBefore s.next_start n t → IsBounded (suc n) (ops.on_handle s t why f).state
-  at (Err code) l = more n s h
-  at (Ok t) l = found_both (why t.1) _ (f t.0 t.1) (λ (d : ops.Done). IsBounded (suc n) d.state) (λ code e. more n s h) (λ e. k t.0 t.1 l e)
+  at t l = grind arith
 
 start_bounded : (n : ℕ) (s : State) (timeout repeat : ℕ) (id : Id) (x : HandleRecord) → IsBounded n s → id.generation ≤ n →
     IsBounded (suc n) (ops.start s timeout repeat id x).state
@@ -119,13 +101,11 @@ again_bounded n s id x h few = restarted_bounded n (stopped s id x) id x (stoppe
 
 set_repeat_bounded : (n : ℕ) (s : State) (repeat : ℕ) (id : Id) (x : HandleRecord) → IsBounded n s → IsHeld s.next_start n id x →
     IsBounded (suc n) (ops.set_repeat s repeat id x).state
-set_repeat_bounded n s repeat id x h b = more n (with_handle s id (repeating repeat x))
-    (kept_in n s id (repeating repeat x) h (record { starts = b.starts; freed = b.freed }))
+set_repeat_bounded n s repeat id x h b = search (more, kept_in)
 
 -- `start v` starts no timer
 no_timer_starts : (kind : Kind) (closing : Bool) → only_if (is_startable kind) (invalid_if closing) ≡ None → is_timer kind ≡ true → ⊥
-no_timer_starts kind.Timer closing e t = cc e
-no_timer_starts each closing e t = cc t
+no_timer_starts kind closing e t = grind arith
 
 start_watcher_bounded : (n : ℕ) (s : State) (id : Id) (x : HandleRecord) → IsBounded n s → id.generation ≤ n → start_watcher_refusal x ≡ None →
     IsBounded (suc n) (ops.start_watcher s id x).state
@@ -139,92 +119,47 @@ start_watcher_bounded n s id x h few may = if_keeps (IsBounded (suc n)) x.active
         let t = with_watched s kind (with_first (watched s kind) id) in
         let b = watched_bounded n s kind (with_first (watched s kind) id) h in
         more n (with_handle t id (activated x))
-        (kept_in n t id (activated x) b (record { starts = λ u a. absurd (never_timer x.kind kind e u); freed = few }))
+        (kept_in n t id (activated x) b (record { starts = λ u a. absurd (grind arith); freed = few }))
 
 set_referenced_bounded : (n : ℕ) (s : State) (flag : Bool) (id : Id) (x : HandleRecord) → IsBounded n s → IsHeld s.next_start n id x →
     IsBounded (suc n) (ops.set_referenced s flag id x).state
-set_referenced_bounded n s flag id x h b = more n (with_handle s id (referenced_as flag x))
-    (kept_in n s id (referenced_as flag x) h (record { starts = b.starts; freed = b.freed }))
+set_referenced_bounded n s flag id x h b = search (more, kept_in)
 
 closed_bounded : (n : ℕ) (s : State) (id : Id) (x : HandleRecord) → IsBounded n s → id.generation ≤ n → IsBounded n (ops.closed s id x)
-closed_bounded n s id x h few =
-    let off = off_bounded n s id x h in
-    let u = record (taken_off s id x) { closing = with_first s.closing id } in
-    let b : IsBounded n u = record {
-      counts = off.counts;
-      starts = off.starts;
-      drawn = off.drawn;
-      time = off.time;
-      clock = off.clock;
-      line = off.line;
-      freed = off.freed;
-    } in
-    rested_in n u id (records.closed x) b few refl
+closed_bounded n s id x h few = search (off_bounded, rested_in)
 
 sent_bounded : (n : ℕ) (s : State) (v : Var) → IsBounded n s → IsBounded (suc n) (ops.send s (live_handle s v)).state
 sent_bounded n s v h = at (live_handle s v) (live_before n s v h) where
   at : (t : Result (Id × HandleRecord) Code) → NamedBefore s.next_start n t → IsBounded (suc n) (ops.send s t).state
   at (Err code) l = more n s h
   at (Ok t) l = found_both (send_refusal t.1) _ _ (λ (d : ops.Coded). IsBounded (suc n) d.state) (λ code e. more n s h)
-      (λ e. more n (with_handle s t.0 (records.sent t.1))
-      (kept_in n s t.0 (records.sent t.1) h (record { starts = l.starts; freed = l.freed })))
+      (λ e. search (more, kept_in))
 
 op_bounded : (n : ℕ) (s : State) (x : Op) → IsBounded n s → IsBounded (suc n) (do_op s x).state
-op_bounded n s (op.Init v kind) h = make_bounded n s (live s v) (ops.with_new s v kind) h (λ id e. new_bounded n s v kind id h e)
-op_bounded n s (op.Queue v task) h = make_bounded n s (live s v) (ops.with_queued s v task) h (λ id e. queued_bounded n s v task id h e)
-op_bounded n s (op.Cancel v) h = cancel_bounded n s (live_request s v) (asked_before n s v h) h
 op_bounded n s (op.Start v timeout repeat) h = on_handle_bounded n s v start_timer_refusal _ h
     (λ id x b e. start_bounded n s timeout repeat id x h b.freed)
 op_bounded n s (op.StartWatcher v) h = on_handle_bounded n s v start_watcher_refusal _ h (λ id x b e. start_watcher_bounded n s id x h b.freed e)
 op_bounded n s (op.Stop v) h = on_handle_bounded n s v stop_refusal _ h (λ id x b e. more n (stopped s id x) (stopped_bounded n s id x h b.freed))
 op_bounded n s (op.Again v) h = on_handle_bounded n s v again_refusal _ h (λ id x b e. again_bounded n s id x h b.freed)
-op_bounded n s (op.SetRepeat v repeat) h = on_handle_bounded n s v timer_refusal _ h (λ id x b e. set_repeat_bounded n s repeat id x h b)
-op_bounded n s (op.DueIn v) h = on_handle_bounded n s v timer_refusal _ h (λ id x b e. more n s h)
 op_bounded n s (op.Close v) h = on_handle_bounded n s v close_refusal _ h (λ id x b e. more n (ops.closed s id x) (closed_bounded n s id x h b.freed))
-op_bounded n s (op.Ref v) h = on_handle_bounded n s v no_refusal _ h (λ id x b e. set_referenced_bounded n s true id x h b)
-op_bounded n s (op.Unref v) h = on_handle_bounded n s v no_refusal _ h (λ id x b e. set_referenced_bounded n s false id x h b)
-op_bounded n s (op.HasRef v) h = on_handle_bounded n s v no_refusal _ h (λ id x b e. more n s h)
-op_bounded n s (op.IsActive v) h = on_handle_bounded n s v no_refusal _ h (λ id x b e. more n s h)
-op_bounded n s (op.IsClosing v) h = on_handle_bounded n s v no_refusal _ h (λ id x b e. more n s h)
-op_bounded n s (op.Send v) h = sent_bounded n s v h
-op_bounded n s op.StopLoop h = more n _ (flagged n s true s.idled h)
-op_bounded n s op.UpdateTime h = more n (refreshed s) (at_clock n s h)
-op_bounded n s op.Now h = more n s h
-op_bounded n s op.IsAlive h = more n s h
-op_bounded n s op.Timeout h = more n s h
 op_bounded n s op.CloseLoop h = if_keeps (λ (d : ops.Done). IsBounded (suc n) d.state) (ops.is_in_use s) _ _ (more n s h) (more n s h)
+op_bounded n s each h =
+    search (make_bounded, new_bounded, queued_bounded, cancel_bounded, asked_before, on_handle_bounded, start_bounded, start_watcher_bounded, more,
+    stopped_bounded, again_bounded, set_repeat_bounded, closed_bounded, set_referenced_bounded, sent_bounded, flagged, at_clock, if_keeps)
 
 -- ---- the rows
 
 run_at : (n : ℕ) (s : State) (run : Run) → IsBounded n s → run.line ≤ n → IsBounded (suc n) (record s { place = Running run })
 run_at n s run h l = placed (suc n) s (Running run) (more n s h) (omega arith)
 
-ends_bounded : (n : ℕ) (s : State) (run : Run) → IsBounded n s → run.line ≤ n → StaysBounded (suc n) (ends s run)
-ends_bounded n s run h l = let t = record s { stop_flag = false } in placed (suc n) t (Main (run.line + 1)) (more n t (flagged n s false s.idled h))
-    (omega arith)
-
-timed : (n : ℕ) (o : Order) (s : State) (part : TimersOf) → IsBounded n s → IsBounded n (record s { time = time_at o part s })
-timed n V145 s timers_of.Entry h = h
-timed n V145 s timers_of.Iteration h = at_clock n s h
-timed n V144 s part h = at_clock n s h
-
 way_bounded : (n : ℕ) (o : Order) (s : State) (run : Run) (w : Way) → IsBounded n s → run.line ≤ n → StaysBounded (suc n) (goes_by o s run w)
-way_bounded n o s run (ToTimers part) h l =
-    let t = record s { time = time_at o part s } in
-    run_at n (record t { idled = idled_at o part s }) (record run { stage = Timers part Collecting; body = None })
-    (flagged n t s.stop_flag (idled_at o part s) (timed n o s part h)) l
-way_bounded n o s run ToPending h l =
-    let idled = idled_then o s in
-    run_at n (record s { idled = idled }) (record run { stage = Pending; body = None }) (flagged n s s.stop_flag idled h) l
-way_bounded n o s run ToEnd h l = ends_bounded n s run h l
+way_bounded n o s run each h l = grind arith
 
 turn_bounded : (n : ℕ) (o : Order) (s : State) (run : Run) (turn : Turn) → IsBounded n s → run.line ≤ n → StaysBounded (suc n) (turns o s run turn)
 turn_bounded n o s run turn h l = way_bounded n o s run (way o run.mode (goes s) turn) h l
 
 counted_up : (n : ℕ) (kind : Callback) (c : Calls) → AreUpTo n c → AreUpTo (suc n) (counted kind c)
-counted_up n callback.Handle c h = (omega (arith, h.0), omega (arith, h.1), omega (arith, h.2))
-counted_up n callback.After c h = (omega (arith, h.0), omega (arith, h.1), omega (arith, h.2))
-counted_up n callback.Close c h = (omega (arith, h.0), omega (arith, h.1), omega (arith, h.2))
+counted_up n each c h = grind arith
 
 calls_bounded : (p : Program) (n : ℕ) (s : State) (run : Run) (kind : Callback) (v : Var) (what : Seen) → IsBounded (suc n) s → Counts n s.names →
     run.line ≤ n → StaysBounded (suc n) (calls p s run kind v what)
@@ -255,10 +190,7 @@ fire_bounded p n s run part h l = found_both (front s s.ready) _ _ (StaysBounded
     (λ e. turn_bounded n (order_of p) s run (Behind part) h l)
 
 collected_bounded : (n : ℕ) (s : State) (id : Id) (x : HandleRecord) → IsBounded n s → id.generation ≤ n → IsBounded n (collected s id x)
-collected_bounded n s id x h few =
-    let ready = s.ready ++ id ∷ [] in
-    let ts = drop 1 s.timers in
-    rested_in n (record s { timers = ts; ready = ready }) id (records.stopped x) (listed n s ts ready h) few refl
+collected_bounded n s id x h few = search (rested_in, listed)
 
 first_due_before : (n : ℕ) (s : State) (ts : List (Due × Id)) (t : Id × HandleRecord) → first_due s ts ≡ Some t → IsBounded n s →
     IsHeld s.next_start n t.0 t.1
@@ -268,8 +200,7 @@ first_due_before n s (u ∷ ts) t e h =
     subst (LiveBefore s.next_start n) p (handle_before n s u.1 h)
   where
     chosen : {A : Type 0} (b : Bool) (x : Option A) (y : A) → (if b then x else None) ≡ Some y → x ≡ Some y
-    chosen true x y f = f
-    chosen false x y f = absurd (none-some y f)
+    chosen b x y f = grind arith
 
 call_due_bounded : (p : Program) (n : ℕ) (s : State) (run : Run) (part : TimersOf) → IsBounded n s → run.line ≤ n →
     StaysBounded (suc n) (call_due p s run part)
@@ -291,35 +222,19 @@ timers_bounded p n s run part Firing h l = fire_bounded p n s run part h l
 
 begin_walk_bounded : (n : ℕ) (s : State) (run : Run) (kind : WatcherKind) → IsBounded n s → run.line ≤ n
     → StaysBounded (suc n) (begin_walk s run kind)
-begin_walk_bounded n s run kind h l =
-    let w = all_yet (watched s kind) in
-    run_at n (with_watched s kind w) (record run { stage = Walking kind; body = None }) (watched_bounded n s kind w h) l
+begin_walk_bounded n s run kind h l = grind arith
 
 closing_bounded : (n : ℕ) (s : State) (w : Walk Id) → IsBounded n s → IsBounded n (record s { closing = w })
-closing_bounded n s w h = record {
-  counts = h.counts;
-  starts = h.starts;
-  drawn = h.drawn;
-  time = h.time;
-  clock = h.clock;
-  line = h.line;
-  freed = h.freed;
-}
+closing_bounded n s w h = assumption
 
 after_walk_bounded : (n : ℕ) (s : State) (run : Run) (kind : WatcherKind) → IsBounded n s → run.line ≤ n
     → StaysBounded (suc n) (after_walk s run kind)
-after_walk_bounded n s run watcher.Idle h l = begin_walk_bounded n s run watcher.Prepare h l
-after_walk_bounded n s run watcher.Prepare h l = run_at n s (record run { stage = _; body = None }) h l
-after_walk_bounded n s run watcher.Check h l =
-    run_at n (record s { closing = all_yet s.closing }) (record run { stage = Closing; body = None }) (closing_bounded n s (all_yet s.closing) h) l
-after_walk_bounded n s run watcher.Async h l = begin_walk_bounded n s run watcher.Check h l
+after_walk_bounded n s run each h l = grind arith
 
 walk_bounded : (p : Program) (n : ℕ) (s : State) (run : Run) (kind : WatcherKind) → IsBounded n s → run.line ≤ n
     → StaysBounded (suc n) (walk p s run kind)
 walk_bounded p n s run kind h l = found_both (front s (watched s kind).yet) _ _ (StaysBounded (suc n))
-    (λ t e. let u = front_moved s kind t.0 in
-    calls_bounded p n u run callback.Handle t.1.name (seen.Call t.1.name t.0) (more n u (watched_bounded n s kind _ h))
-    h.counts l)
+    (λ t e. search (calls_bounded, more, watched_bounded))
     (λ e. after_walk_bounded n s run kind h l)
 
 async_bounded : (p : Program) (n : ℕ) (s : State) (run : Run) → IsBounded n s → run.line ≤ n → StaysBounded (suc n) (walk_async p s run)
@@ -329,8 +244,7 @@ async_bounded p n s run h l = found_both (front s s.watchers.async.yet) _ _ (Sta
     let x = with_handle u t.0 (records.woken t.1) in
     let held = front_before n s s.watchers.async.yet t e h in
     if_keeps (StaysBounded (suc n)) t.1.pending _ _
-    (calls_bounded p n x run callback.Handle t.1.name (seen.Call t.1.name t.0)
-    (more n x (kept_in n u t.0 (records.woken t.1) b (record { starts = held.starts; freed = held.freed }))) h.counts l)
+    (search (calls_bounded, more, kept_in))
     (run_at n u (record run { stage = Walking watcher.Async; body = None }) b l))
     (λ e. after_walk_bounded n s run watcher.Async h l)
 
@@ -339,24 +253,14 @@ freed_drawn n last id s h = if_keeps (λ (u : Slots Content). Drawn n u.slots) (
     (drawn_set n s.slots id.slot _ h tt)
 
 freed_freed : (n : ℕ) (last : ℕ) (id : Id) (s : Slots Content) → Freed n s.slots → id.generation ≤ n → Freed (suc n) (freed last id s).slots
-freed_freed n last id s h few = if_keeps (λ (u : Slots Content). Freed (suc n) u.slots) (id.generation == last) _ _
-    (freed_set (suc n) s.slots id.slot _ (freed_more n s.slots h) (omega arith))
-    (freed_set (suc n) s.slots id.slot _ (freed_more n s.slots h) (omega arith))
+freed_freed n last id s h few = grind (arith, if_keeps, freed_set, freed_more)
 
 -- a slot that is freed
 released : (n : ℕ) (s : State) (last : ℕ) (id : Id) → IsBounded n s → id.generation ≤ n →
     IsBounded (suc n) (record s { arena = freed last id s.arena })
 released n s last id h few =
     let m = more n s h in
-    record {
-      counts = m.counts;
-      starts = m.starts;
-      drawn = freed_drawn s.next_start last id s.arena h.drawn;
-      time = h.time;
-      clock = h.clock;
-      line = m.line;
-      freed = freed_freed n last id s.arena h.freed few;
-    }
+    search (freed_drawn, freed_freed)
 
 close_bounded : (p : Program) (n : ℕ) (s : State) (run : Run) → IsBounded n s → run.line ≤ n → StaysBounded (suc n) (close_front p s run)
 close_bounded p n s run h l = found_both (front s s.closing.yet) _ _ (StaysBounded (suc n))
@@ -376,28 +280,14 @@ collect_bounded p n s run h l = found_both (front_request s s.done.yet) _ _ (Sta
     (pooled (suc n) u s.waiting s.running w (released n s last t.0 h (request_front n s s.done.yet t e h))) h.counts l)
     (λ e. begin_walk_bounded n s run watcher.Async h l)
 
-begin_done_bounded : (n : ℕ) (s : State) (run : Run) → IsBounded n s → run.line ≤ n → StaysBounded (suc n) (begin_done s run)
-begin_done_bounded n s run h l =
-    run_at n (record s { done = all_yet s.done }) (record run { stage = Done; body = None })
-    (pooled n s s.waiting s.running (all_yet s.done) h) l
-
-leave_polled_bounded : (n : ℕ) (s : State) (run : Run) (woken : Bool) → IsBounded n s → run.line ≤ n → StaysBounded (suc n) (leave_polled s run woken)
-leave_polled_bounded n s run true h l = begin_done_bounded n s run h l
-leave_polled_bounded n s run false h l = run_at n s (record run { stage = DoneUnwoken; body = None }) h l
-
 stage_bounded : (p : Program) (n : ℕ) (s : State) (run : Run) (stage : Stage) → IsBounded n s → run.line ≤ n →
     StaysBounded (suc n) (stage_step p s run stage)
-stage_bounded p n s run Entry h l = turn_bounded n (order_of p) s run AtEntry h l
-stage_bounded p n s run Pending h l = begin_walk_bounded n s run watcher.Idle h l
 stage_bounded p n s run (Walking watcher.Async) h l = async_bounded p n s run h l
 stage_bounded p n s run (Walking kind) h l = walk_bounded p n s run kind h l
-stage_bounded p n s run (Poll deadline) h l = if_keeps (StaysBounded (suc n)) (may_leave s deadline) _ _
-    (begin_done_bounded n (refreshed s) run (at_clock n s h) l) tt
-stage_bounded p n s run (Polled woken) h l = leave_polled_bounded n s run woken h l
 stage_bounded p n s run Done h l = collect_bounded p n s run h l
-stage_bounded p n s run DoneUnwoken h l = run_at n s (record run { stage = Walking watcher.Async; body = None }) h l
 stage_bounded p n s run Closing h l = close_bounded p n s run h l
 stage_bounded p n s run (Timers part timing) h l = timers_bounded p n s run part timing h l
+stage_bounded p n s run each h l = grind arith
 
 body_bounded : (p : Program) (n : ℕ) (s : State) (run : Run) (body : Body) (line : Option CallbackLine) → IsBounded n s → run.line ≤ n →
     StaysBounded (suc n) (body_step p s run body line)
@@ -406,11 +296,8 @@ body_bounded p n s run body (Some line) h l = placed (suc n) (do_op s line.op).s
     (Running (record run { body = body_from p body.callback body.name body.call (body.next + 1) })) (op_bounded n s line.op h) (omega arith)
 
 main_bounded : (n : ℕ) (o : Order) (s : State) (line : ℕ) (x : Option MainOp) → IsBounded n s → line ≤ n → StaysBounded (suc n) (main_step o s line x)
-main_bounded n o s line None h l = tt
-main_bounded n o s line (Some (main.Run mode)) h l =
-    run_at n (if refreshes o mode then refreshed s else s) (record { mode = mode; line = line; stage = Entry; body = None })
-    (if_keeps (IsBounded n) (refreshes o mode) (refreshed s) s (at_clock n s h) h) l
 main_bounded n o s line (Some (main.Op op)) h l = placed (suc n) (do_op s op).state (Main (line + 1)) (op_bounded n s op h) (omega arith)
+main_bounded n o s line each h l = grind arith
 
 run_bounded : (p : Program) (n : ℕ) (s : State) (run : Run) (body : Option Body) → IsBounded n s → run.line ≤ n →
     StaysBounded (suc n) (run_step p s run body)
@@ -422,18 +309,7 @@ place_bounded p n s (Main line) h l = main_bounded n (order_of p) s line _ h l
 place_bounded p n s (Running run) h l = run_bounded p n s run run.body h l
 
 tick_bounded : (n : ℕ) (s : State) (ms : ℕ) → IsBounded n s → StaysBounded (suc n) (tick s ms)
-tick_bounded n s ms h = cond_both (nat_le (s.clock + ms) (2 ^ 62)) _ _ (StaysBounded (suc n))
-    (λ e. let m = more n s h in let small : s.clock + ms ≤ 2 ^ 62 = grind
-    (arith, nat_tests, e) in record {
-      counts = m.counts;
-      starts = m.starts;
-      drawn = m.drawn;
-      time = m.time;
-      clock = small;
-      line = m.line;
-      freed = m.freed;
-    })
-    (λ e. tt)
+tick_bounded n s ms h = grind arith
 
 sent_to_bounded : (n : ℕ) (s : State) (v : Var) → IsBounded n s → StaysBounded (suc n) (sent_to s v)
 sent_to_bounded n s v h = if_keeps (StaysBounded (suc n)) (nat_lt v.0 (length s.names)) _ _ (sent_bounded n s v h) tt
@@ -444,8 +320,7 @@ cancels_bounded n s v h = if_keeps (StaysBounded (suc n)) (nat_lt v.0 (length s.
 
 -- a callback of I/O in the poll sets the time to the clock
 polled_time : (n : ℕ) (s : State) (stage : Stage) → IsBounded n s → IsBounded n (record s { time = time_polled s stage })
-polled_time n s (Poll deadline) h = at_clock n s h
-polled_time n s each h = h
+polled_time n s stage h = grind arith
 
 io_bounded : (p : Program) (n : ℕ) (s : State) (v : Var) → IsBounded n s → StaysBounded (suc n) (io p s v)
 io_bounded p n s v h = if_keeps (StaysBounded (suc n)) (nat_lt v.0 (length s.names)) _ _
@@ -453,12 +328,7 @@ io_bounded p n s v h = if_keeps (StaysBounded (suc n)) (nat_lt v.0 (length s.nam
   where
     -- the run under way has the place's line
     runs : (place : Place) → place ≡ s.place → (run : Run) → io_run p s place ≡ Some run → run.line ≤ n
-    runs (Main line) e run f = cc f
-    runs (Running r) e run f = taken (has_io p && takes_io s r.stage r.body) f where
-      taken : (b : Bool) → (if b then Some r else None) ≡ Some run → run.line ≤ n
-      taken true g = let same : r ≡ run = same_Some _ _ g in let l : line_of (Running r) ≤ n = subst (λ (q : Place). line_of q ≤ n) (sym e) h.line in
-          subst (λ (q : Run). q.line ≤ n) same l
-      taken false g = absurd (none-some run g)
+    runs place e run f = grind arith
 
     at : (r : Option Run) (id : Option Id) → ((run : Run) → r ≡ Some run → run.line ≤ n) → StaysBounded (suc n) (call_io p s v r id)
     at None id l = tt
@@ -469,11 +339,7 @@ io_bounded p n s v h = if_keeps (StaysBounded (suc n)) (nat_lt v.0 (length s.nam
         (more n u (polled_time n s run.stage h)) h.counts (l run refl)
 
 take_bounded : (n : ℕ) (s : State) (k : ℕ) (t : Result (Id × Request) Why) → IsBounded n s → StaysBounded (suc n) (take s k t)
-take_bounded n s k (Err why) h = tt
-take_bounded n s k (Ok t) h =
-    let waiting = drop 1 s.waiting in
-    let running = slice_set s.running k (Some t.0) in
-    more n (record s { waiting = waiting; running = running }) (pooled n s waiting running s.done h)
+take_bounded n s k t h = grind arith
 
 finish_bounded : (n : ℕ) (s : State) (k : ℕ) (run : Option (Option Id)) → IsBounded n s → StaysBounded (suc n) (finish s k (work_of s run))
 finish_bounded n s k None h = tt
@@ -481,11 +347,7 @@ finish_bounded n s k (Some None) h = tt
 finish_bounded n s k (Some (Some id)) h = at (with_id id (request s id)) (request_before n s id h) where
   at : (t : Option (Id × Request)) → RequestBefore n t → StaysBounded (suc n) (finish s k (found_or t Ok (Err IdleWorker)))
   at None few = tt
-  at (Some t) few =
-      let running = slice_set s.running k None in
-      let u = record s { running = running } in
-      let ending = Finished (digest_of t.1.task.rounds (text_of t.1.task)) in
-      more n (ops.ended u t.0 t.1 ending) (ended_bounded n u t.0 t.1 ending (pooled n s s.waiting running s.done h) few)
+  at (Some t) few = search (more, ended_bounded, pooled)
 
 pub next_bounded : (p : Program) (n : ℕ) (s : State) (e : Event) → IsBounded n s → StaysBounded (suc n) (next p s e)
 unfolding next
@@ -500,8 +362,7 @@ next_bounded p n s (Tick ms) h = tick_bounded n s ms h
 state_bounded : (p : Program) (n : ℕ) (s : State) (e : Event) → IsBounded n s → IsBounded (suc n) (state_of s (next p s e))
 state_bounded p n s e h = kept (next p s e) (next_bounded p n s e h) where
   kept : (x : Next) → StaysBounded (suc n) x → IsBounded (suc n) (state_of s x)
-  kept (Moves t seen) k = k
-  kept (Refuses why) k = more n s h
+  kept x k = grind arith
 
 -- ---- a list of events
 
@@ -518,29 +379,8 @@ fresh_names n = grind (arith, elements)
 after_bounded : (p : Program) (es : List Event) → IsBounded (length es) (after p es)
 unfolding after
 after_bounded p es = rw (← zero-add (length es))
-    (goes_on_bounded p 0 (fresh p) es (record {
-      counts = fresh_names (length p.callbacks);
-      starts = omega arith;
-      drawn = λ k d l. absurd
-          (omega arith);
-      time = omega arith;
-      clock = omega arith;
-      line = omega arith;
-      freed = λ k d l. absurd (omega arith);
-    }))
+    (goes_on_bounded p 0 (fresh p) es (grind (arith, fresh_names)))
 
 -- after few steps the numbers fit, and the timers' keys are apart
 pub after_able : (p : Program) (es : List Event) → length es ≤ 2 ^ 24 → CanStep (after p es)
-after_able p es l =
-    let h = after_bounded p es in
-    record {
-      small = record {
-        counts = λ k d i. omega
-            (arith, h.counts k d i);
-        starts = omega arith;
-        time = omega arith;
-        line = omega arith;
-        freed = λ k d i. let few = h.freed k d i in omega arith;
-      };
-      drawn = h.drawn;
-    }
+after_able p es l = grind (arith, after_bounded)

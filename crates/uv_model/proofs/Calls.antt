@@ -5,8 +5,7 @@ use Rattle.uv_ids.specs.declared.seen.Callback.TheVariants as callback
 pub at_name : (m : ℕ) (names : List Named) (i : ℕ) (x : Option Named) → slice_get names i ≡ x → All (λ (n : Named). AreBelow m n.calls) names
     → 0 < m →
     AreBelow m (unwrap_or x unbound).calls
-at_name m names i None e h l = (l, l, l)
-at_name m names i (Some n) e h l = grind (arith, elements, h)
+at_name m names i x e h l = grind (arith, elements)
 
 pub small : (s : State) (v : Var) → All (λ (n : Named). AreBelow (2 ^ 31) n.calls) s.names → AreBelow (2 ^ 31) (named s v).calls
 small s v h = at_name (2 ^ 31) s.names v.0 (slice_get s.names v.0) refl h (omega arith)
@@ -16,6 +15,4 @@ able_small s v h = small s v h.small.counts
 
 -- each of a name's counts is as small
 pub count_below : (m : ℕ) (k : Callback) (c : Calls) → AreBelow m c → count_of k c < m
-count_below m callback.Handle c h = h.0
-count_below m callback.After c h = h.1
-count_below m callback.Close c h = h.2
+count_below m k c h = grind arith

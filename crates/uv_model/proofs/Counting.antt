@@ -33,8 +33,7 @@ StaysBounded n (Moves t seen) = IsBounded n t
 StaysBounded n (Refuses why) = Unit {0}
 
 pub if_keeps : {A : Type 0} (P : A → Type 0) (b : Bool) (x y : A) → P x → P y → P (if b then x else y)
-if_keeps P true x y h k = h
-if_keeps P false x y h k = k
+if_keeps P b x y h k = grind arith
 
 -- ---- the parts
 
@@ -43,13 +42,6 @@ counts_more n names h = λ k d l. let a = h k d l in (omega (arith, a.0), omega 
 
 pub counts_set : (n : ℕ) (names : List Named) (i : ℕ) (x : Named) → Counts n names → AreUpTo n x.calls → Counts n (slice_set names i x)
 counts_set n names i x h l = grind (arith, elements, h)
-
-pub holds_more : (m n : ℕ) (content : Option HandleRecord) → m ≤ n → HoldsBefore m content → HoldsBefore n content
-holds_more m n None l h = tt
-holds_more m n (Some x) l h = λ t a. omega (arith, h t a)
-
-pub drawn_more : (m n : ℕ) (slots : List (Slot Content)) → m ≤ n → Drawn m slots → Drawn n slots
-drawn_more m n slots l h = λ k d w. holds_more m n _ l (h k d w)
 
 pub drawn_set : (n : ℕ) (slots : List (Slot Content)) (i : ℕ) (x : Slot Content) → Drawn n slots → HoldsBefore n (handle_in x.content)
     → Drawn n (slice_set slots i x)
@@ -74,10 +66,6 @@ slot_freed n slots i slot e h = grind (arith, elements, h)
 
 pub never : (n : ℕ) (h : HandleRecord) → h.active ≡ false → StartsBefore n h
 never n h e = λ t a. cc (a, e)
-
-pub never_timer : (k : Kind) (w : WatcherKind) → watcher_kind k ≡ Some w → is_timer k ≡ true → ⊥
-never_timer kind.Timer w e t = cc e
-never_timer each w e t = cc t
 
 pub counts_at : (n : ℕ) (s : State) (v : Var) → Counts n s.names → AreUpTo n (named s v).calls
 counts_at n s v h =
@@ -119,9 +107,7 @@ found_before m n all id (Some slot) e h f =
     (λ other. record { starts = tt; freed = λ x none. absurd (none-some x none) })
 
 pub with_id_before : (m n : ℕ) (id : Id) (c : Option Content) → ContentBefore m n id c → LiveBefore m n (with_id id (handle_in c))
-with_id_before m n id None h = tt
-with_id_before m n id (Some (content.Handle x)) h = record { starts = h.starts; freed = h.freed (content.Handle x) refl }
-with_id_before m n id (Some (content.Request r)) h = tt
+with_id_before m n id each h = grind arith
 
 pub held_before : (n : ℕ) (s : State) (id : Id) → IsBounded n s → ContentBefore s.next_start n id (slots.held s.arena.slots id)
 held_before n s id h = found_before s.next_start n s.arena.slots id (slice_get s.arena.slots id.slot) refl h.drawn h.freed
@@ -137,9 +123,7 @@ RequestBefore n (Some t) = t.0.generation ≤ n
 pub request_before : (n : ℕ) (s : State) (id : Id) → IsBounded n s → RequestBefore n (with_id id (request s id))
 request_before n s id h = at (slots.held s.arena.slots id) (held_before n s id h) where
   at : (c : Option Content) → ContentBefore s.next_start n id c → RequestBefore n (with_id id (request_in c))
-  at None k = tt
-  at (Some (content.Handle x)) k = tt
-  at (Some (content.Request r)) k = k.freed (content.Request r) refl
+  at c k = grind arith
 
 -- what is known of the handle of a name
 abbrev pub NamedBefore : ℕ → ℕ → Result (Id × HandleRecord) Code → Type 0
@@ -149,9 +133,7 @@ NamedBefore m n (Ok t) = IsHeld m n t.0 t.1
 pub live_before : (n : ℕ) (s : State) (v : Var) → IsBounded n s → NamedBefore s.next_start n (live_handle s v)
 live_before n s v h = of_id (named s v).id where
   at : (id : Id) (c : Option Content) → ContentBefore s.next_start n id c → NamedBefore s.next_start n (as_handle (with_id id c))
-  at id None k = tt
-  at id (Some (content.Handle x)) k = record { starts = k.starts; freed = k.freed (content.Handle x) refl }
-  at id (Some (content.Request r)) k = tt
+  at id c k = grind arith
 
   of_id : (id : Option Id) → NamedBefore s.next_start n (as_handle (live_id s id))
   of_id None = tt
@@ -165,9 +147,7 @@ AskedBefore n (Ok t) = t.0.generation ≤ n
 pub asked_before : (n : ℕ) (s : State) (v : Var) → IsBounded n s → AskedBefore n (live_request s v)
 asked_before n s v h = of_id (named s v).id where
   at : (id : Id) (c : Option Content) → ContentBefore s.next_start n id c → AskedBefore n (as_request (with_id id c))
-  at id None k = tt
-  at id (Some (content.Handle x)) k = tt
-  at id (Some (content.Request r)) k = k.freed (content.Request r) refl
+  at id c k = grind arith
 
   of_id : (id : Option Id) → AskedBefore n (as_request (live_id s id))
   of_id None = tt
@@ -176,87 +156,31 @@ asked_before n s v h = of_id (named s v).id where
 -- ---- the changes of a state
 
 pub more : (n : ℕ) (s : State) → IsBounded n s → IsBounded (suc n) s
-more n s h = record {
-  counts = counts_more n s.names h.counts;
-  starts = omega arith;
-  drawn = h.drawn;
-  time = h.time;
-  clock = h.clock;
-  line = omega arith;
-  freed = freed_more n s.arena.slots h.freed;
-}
+more n s h = grind arith
 
 pub placed : (n : ℕ) (s : State) (place : Place) → IsBounded n s → line_of place ≤ n → IsBounded n (record s { place = place })
 placed n s place h l = record { counts = h.counts; starts = h.starts; drawn = h.drawn; time = h.time; clock = h.clock; line = l; freed = h.freed }
 
 pub renamed : (n : ℕ) (s : State) (v : Var) (x : Named) → IsBounded n s → AreUpTo n x.calls → IsBounded n (with_named s v x)
-renamed n s v x h l = record {
-  counts = counts_set n s.names v.0 x h.counts l;
-  starts = h.starts;
-  drawn = h.drawn;
-  time = h.time;
-  clock = h.clock;
-  line = h.line;
-  freed = h.freed;
-}
+renamed n s v x h l = search counts_set
 
 pub listed : (n : ℕ) (s : State) (ts : List (Due × Id)) (ready : List Id) → IsBounded n s → IsBounded n (record s { timers = ts; ready = ready })
-listed n s ts ready h = record {
-  counts = h.counts;
-  starts = h.starts;
-  drawn = h.drawn;
-  time = h.time;
-  clock = h.clock;
-  line = h.line;
-  freed = h.freed;
-}
+listed n s ts ready h = assumption
 
 pub off_bounded : (n : ℕ) (s : State) (id : Id) (x : HandleRecord) → IsBounded n s → IsBounded n (taken_off s id x)
-off_bounded n s id x h = record {
-  counts = h.counts;
-  starts = h.starts;
-  drawn = h.drawn;
-  time = h.time;
-  clock = h.clock;
-  line = h.line;
-  freed = h.freed;
-}
+off_bounded n s id x h = assumption
 
 pub kept_in : (n : ℕ) (s : State) (id : Id) (x : HandleRecord) → IsBounded n s → IsHeld s.next_start n id x → IsBounded n (with_handle s id x)
-kept_in n s id x h b = record {
-  counts = h.counts;
-  starts = h.starts;
-  drawn = drawn_set s.next_start s.arena.slots id.slot _ h.drawn b.starts;
-  time = h.time;
-  clock = h.clock;
-  line = h.line;
-  freed = freed_set n s.arena.slots id.slot _ h.freed b.freed;
-}
+kept_in n s id x h b = search (drawn_set, freed_set)
 
 -- a request has no start number
 pub requested : (n : ℕ) (s : State) (id : Id) (r : Request) → IsBounded n s → id.generation ≤ n → IsBounded n (with_request s id r)
-requested n s id r h few = record {
-  counts = h.counts;
-  starts = h.starts;
-  drawn = drawn_set s.next_start s.arena.slots id.slot _ h.drawn tt;
-  time = h.time;
-  clock = h.clock;
-  line = h.line;
-  freed = freed_set n s.arena.slots id.slot _ h.freed few;
-}
+requested n s id r h few = search (drawn_set, freed_set)
 
 -- the lists of requests hold no number
 pub pooled : (n : ℕ) (s : State) (waiting : List Id) (running : List (Option Id)) (done : Walk Id) → IsBounded n s →
     IsBounded n (record s { waiting = waiting; running = running; done = done })
-pooled n s waiting running done h = record {
-  counts = h.counts;
-  starts = h.starts;
-  drawn = h.drawn;
-  time = h.time;
-  clock = h.clock;
-  line = h.line;
-  freed = h.freed;
-}
+pooled n s waiting running done h = assumption
 
 -- so is one that isn't active any more
 pub rested_in : (n : ℕ) (s : State) (id : Id) (x : HandleRecord) → IsBounded n s → id.generation ≤ n → x.active ≡ false →
@@ -267,26 +191,10 @@ pub at_clock : (n : ℕ) (s : State) → IsBounded n s → IsBounded n (refreshe
 at_clock n s h = record { counts = h.counts; starts = h.starts; drawn = h.drawn; time = h.clock; clock = h.clock; line = h.line; freed = h.freed }
 
 pub flagged : (n : ℕ) (s : State) (stop_flag idled : Bool) → IsBounded n s → IsBounded n (record s { stop_flag = stop_flag; idled = idled })
-flagged n s stop_flag idled h = record {
-  counts = h.counts;
-  starts = h.starts;
-  drawn = h.drawn;
-  time = h.time;
-  clock = h.clock;
-  line = h.line;
-  freed = h.freed;
-}
+flagged n s stop_flag idled h = assumption
 
 pub watched_bounded : (n : ℕ) (s : State) (kind : WatcherKind) (w : Walk Id) → IsBounded n s → IsBounded n (with_watched s kind w)
-watched_bounded n s kind w h = record {
-  counts = h.counts;
-  starts = h.starts;
-  drawn = h.drawn;
-  time = h.time;
-  clock = h.clock;
-  line = h.line;
-  freed = h.freed;
-}
+watched_bounded n s kind w h = assumption
 
 pub stopped_bounded : (n : ℕ) (s : State) (id : Id) (x : HandleRecord) → IsBounded n s → id.generation ≤ n → IsBounded n (stopped s id x)
 stopped_bounded n s id x h few = rested_in n (taken_off s id x) id (records.stopped x) (off_bounded n s id x h) few refl
@@ -296,7 +204,7 @@ pub started_bounded : (n : ℕ) (s : State) (id : Id) (x : HandleRecord) (timeou
 started_bounded n s id x timeout repeat h few = record {
   counts = counts_more n s.names h.counts;
   starts = omega arith;
-  drawn = drawn_set (s.next_start + 1) s.arena.slots id.slot _ (drawn_more s.next_start (s.next_start + 1) s.arena.slots (omega arith) h.drawn)
+  drawn = drawn_set (s.next_start + 1) s.arena.slots id.slot _ (grind arith)
       (λ t a. omega arith);
   time = h.time;
   clock = h.clock;

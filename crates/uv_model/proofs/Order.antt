@@ -25,17 +25,7 @@ pub without-with_timer : (ts : List (Due × Id)) (old new : Due) (id : Id) → I
     is_eq (due_cmp old new) ≡ false → without_timer (with_timer ts new id) old ≡ with_timer (without_timer ts old) new id
 unfolding IsStrictlySortedBy
 without-with_timer [] old new id s d = rw d refl
-without-with_timer (t ∷ ts) old new id s d = at (due_cmp new t.0) refl (is_eq (due_cmp old t.0)) refl (without-with_timer ts old new id s.1 d) where
-  at : (o : Ordering) → due_cmp new t.0 ≡ o → (b : Bool) → is_eq (due_cmp old t.0) ≡ b →
-      without_timer (with_timer ts new id) old ≡ with_timer (without_timer ts old) new id →
-      without_timer (match_ordering o ((new, id) ∷ t ∷ ts) ((t.0, id) ∷ ts) (t ∷ with_timer ts new id)) old ≡ with_timer
-      (cond b ts (t ∷ without_timer ts old)) new id
-  at Less e true f h = rw (d, f) (sym (in_front ts new id (before_all new t.0 (keys_of ts) e s.0)))
-  at Less e false f h = rw (d, f, e) refl
-  at Equal e true f h = let clash : true ≡ false = sym f ∙ ap is_eq (same_other old new t.0 e) ∙ d in cc clash
-  at Equal e false f h = rw (f, e) refl
-  at Greater e true f h = rw f refl
-  at Greater e false f h = rw (f, e) (ap (λ (us : List (Due × Id)). t ∷ us) h)
+without-with_timer (t ∷ ts) old new id s d = grind (arith, in_front, before_all, same_other, (without-with_timer ts old new id s.1 d))
 
 differs : (a b c d : ℕ) → b < d → is_eq (ordering_then (nat_cmp a c) (nat_cmp b d)) ≡ false
 differs a b c d l = grind (arith, nat_tests)

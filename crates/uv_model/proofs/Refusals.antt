@@ -15,10 +15,9 @@ Does (Some why) (Moves t l) = ⊥
 Does (Some why) (Refuses x) = Some x ≡ Some why
 
 its_refusal : (r : Option Why) (n : Next) → Does r n → refusal_of n ≡ r
-its_refusal None (Moves t l) h = refl
 its_refusal None (Refuses why) h = absurd h
 its_refusal (Some why) (Moves t l) h = absurd h
-its_refusal (Some why) (Refuses x) h = h
+its_refusal each e1 h = assumption
 
 -- what is appended, if the step is taken, is of the loop
 abbrev pub OfLoop : Next → Type 0

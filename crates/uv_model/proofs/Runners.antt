@@ -21,6 +21,4 @@ found_later at running d id within other left = let e = runner_from-drop at runn
 
 pub found_nowhere : (at : ℕ) (running : List (Option Id)) (id : Id) → length running ≤ at → IsSoughtFrom at running id →
     None ≡ runner_from 0 running id
-found_nowhere at running id past left =
-    let none : drop at running ≡ [] = grind (arith, common_steps) in
-    rw none at left
+found_nowhere at running id past left = grind (arith, common_steps)

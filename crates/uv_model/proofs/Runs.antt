@@ -40,9 +40,8 @@ unfolding seen_by
 length-seen_by p es = length-seen_from p (fresh p) es
 
 seen_from-take : (p : Program) (s : State) (k : ℕ) (es : List Event) → seen_from p s (take k es) ≡ take k (seen_from p s es)
-seen_from-take p s zero es = refl
-seen_from-take p s (suc k) [] = refl
 seen_from-take p s (suc k) (x ∷ es) = ap (λ (ls : List (Option Seen)). seen_of (next p s x) ∷ ls) (seen_from-take p (state_of s (next p s x)) k es)
+seen_from-take p s each e3 = assumption
 
 pub seen_by-take : (p : Program) (k : ℕ) (es : List Event) → seen_by p (take k es) ≡ take k (seen_by p es)
 unfolding seen_by
@@ -51,9 +50,7 @@ seen_by-take p k es = seen_from-take p (fresh p) k es
 -- what a standing step appended, read from a list of what each of them appended
 pub seen_at : (p : Program) (es : List Event) (xs : List (Option Seen)) (k : ℕ) (x : Option Seen) → xs ≡ seen_by p es → k < length es →
     x ≡ get_or xs k x → slice_get (seen_by p es) k ≡ Some x
-seen_at p es xs k x same within is =
-    let long : length xs ≡ length es = ap length same ∙ length-seen_by p es in
-    rw (← same) (slice_get_read xs (length xs) k x refl (omega arith) is)
+seen_at p es xs k x same within is = grind (arith, length-seen_by, slice_get_read)
 
 -- an accepted event is one more step
 pub after-moves : (p : Program) (es : List Event) (e : Event) (t : State) (seen : Option Seen) → next p (after p es) e ≡ Moves t seen →
@@ -77,9 +74,6 @@ accepts_from-push : (p : Program) (s : State) (es : List Event) (e : Event) → 
 accepts_from-push p s [] e h k = (k, tt)
 accepts_from-push p s (x ∷ es) e h k = (h.0, accepts_from-push p (state_of s (next p s x)) es e h.1 k)
 
-is_move : (n : Next) (t : State) (seen : Option Seen) → n ≡ Moves t seen → IsMove n
-is_move n t seen h = rw h tt
-
 pub accepts-nil : (p : Program) → Accepts p []
 unfolding Accepts
 accepts-nil p = tt
@@ -87,12 +81,11 @@ accepts-nil p = tt
 pub accepts-push : (p : Program) (es : List Event) (e : Event) (t : State) (seen : Option Seen) → Accepts p es →
     next p (after p es) e ≡ Moves t seen → Accepts p (es ++ e ∷ [])
 unfolding Accepts after
-accepts-push p es e t seen h k = accepts_from-push p (fresh p) es e h (is_move _ t seen k)
+accepts-push p es e t seen h k = accepts_from-push p (fresh p) es e h (grind arith)
 
 accepts_from-take : (p : Program) (s : State) (k : ℕ) (es : List Event) → AcceptsFrom p s es → AcceptsFrom p s (take k es)
-accepts_from-take p s zero es h = tt
-accepts_from-take p s (suc k) [] h = tt
 accepts_from-take p s (suc k) (x ∷ es) h = (h.0, accepts_from-take p (state_of s (next p s x)) k es h.1)
+accepts_from-take p s each e3 h = assumption
 
 pub accepts-take : (p : Program) (k : ℕ) (es : List Event) → Accepts p es → Accepts p (take k es)
 unfolding Accepts
@@ -121,9 +114,6 @@ pub ruleset runs = (after-nil, seen_by-nil, after-moves, seen_by-moves, after-re
 -- a step that is taken can fail for memory alone
 pub only_memory : (limit : ℕ) (p : Program) (es : List Event) (e : Event) (f : Fault) (fs : List Event) → length es < limit →
     IsMove (next p (after p es) e) → Answers limit p es e (Err f) fs → (f ≡ fault.Memory) × (fs ≡ es)
-only_memory limit p es e fault.Memory fs l m h = (refl, h.1)
-only_memory limit p es e (fault.Refused why) fs l m h = absurd (subst IsMove h.2 m)
-only_memory limit p es e fault.StepsFull fs l m h = absurd (omega arith)
-only_memory limit p es e _ fs l m h = absurd h
+only_memory limit p es e f fs l m h = grind arith
 
 pub ruleset accepting = (accepts-nil, accepts-push, accepts-take, not_refused)

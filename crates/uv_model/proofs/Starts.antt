@@ -29,7 +29,4 @@ started_again s id h timeout repeat sorted before =
     let u = taken_off s id h in
     let old : (is_timer h.kind && h.active) ≡ true → h.due.start < s.next_start =
     λ e. let both = both_true (is_timer h.kind) h.active e in before both.0 both.1 in
-    ap₂ (λ (ts : List (Due × Id)) (slots : List (Slot Content)). record u
-    { timers = ts; next_start = s.next_start + 1; arena = record s.arena { slots = slots } })
-    (swapped s.timers (is_timer h.kind && h.active) h.due (due_after s timeout) id sorted old)
-    (sym (set-set s.arena.slots id.slot _ _))
+    simp (swapped, set-set)

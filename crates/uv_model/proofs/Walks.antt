@@ -6,30 +6,19 @@ use Rattle.uv_model.proofs.Calls.{able_small}
 
 -- the handles of a kind in their own place
 pub same_those : (kind : WatcherKind) (all : Watchers) → with_those_of kind (those_of kind all) all ≡ all
-same_those watcher.Idle all = refl
-same_those each all = refl
+same_those kind all = grind arith
 
 -- a list with a front has a member
 pub front_there : (s : State) (ids : List Id) (id : Id) (h : HandleRecord) → front s ids ≡ Some (id, h) → 0 < length ids
-front_there s [] id h e = cc e
-front_there s (x ∷ ids) id h e = omega arith
+front_there s ids id h e = grind arith
 
 pub request_there : (s : State) (ids : List Id) (id : Id) (r : Request) → front_request s ids ≡ Some (id, r) → 0 < length ids
-request_there s [] id r e = cc e
-request_there s (x ∷ ids) id r e = omega arith
+request_there s ids id r e = grind arith
 
 -- a slot that holds something was freed as often as its id says
 held_few : (n : ℕ) (slots : List (Slot Content)) (id : Id) (x : Option (Slot Content)) (c : Content) → slice_get slots id.slot ≡ x →
     option_and_then (held_in id) x ≡ Some c → All (λ (slot : Slot Content). slot.generation < n) slots → id.generation < n
-held_few n slots id None c e h all = cc h
-held_few n slots id (Some slot) c e h all =
-    let same = eqb-true slot.generation id.generation (cond_some_test (slot.generation == id.generation) slot.content c h) in
-    let few : slot.generation < n = grind (arith, elements, all) in
-    omega arith
-  where
-    cond_some_test : (b : Bool) (y : Option Content) (z : Content) → cond b y None ≡ Some z → b ≡ true
-    cond_some_test true y z t = refl
-    cond_some_test false y z t = absurd (none-some z t)
+held_few n slots id x c e h all = grind (arith, eqb-true, elements, none-some)
 
 -- so was that of the front of a list
 pub front_freed : (s : State) (ids : List Id) (id : Id) (h : HandleRecord) → front s ids ≡ Some (id, h) → CanStep s → id.generation < 2 ^ 31

@@ -1,13 +1,12 @@
 use Rattle.uv_model.proofs.Names.{refl, arith, Finish}
-use Rattle.uv_model.proofs.Kept.{stays, kept_more, answers_refused_result}
+use Rattle.uv_model.proofs.Kept.{kept_more, answers_refused_result}
 use Rattle.uv_model.proofs.plain.PlainLoopMachine.finish_with.Goals as goal
 
 pub invariant_of-self : goal.invariant_of-self
 invariant_of-self c = rw (c.reserve_step.ensures.steps, c.reserve_step.ensures.seen) c.self.invariant
 
 pub invariant_of-self-in-Err-finish_with : goal.invariant_of-self-in-Err-finish_with
-invariant_of-self-in-Err-finish_with c =
-    rw (c.reserve_step.ensures.steps, c.reserve_step.ensures.seen, stays _ _ _ _ c.in-Err-finish_with.ensures) c.self.invariant
+invariant_of-self-in-Err-finish_with c = grind arith
 
 pub invariant_of-self-2 : goal.invariant_of-self-2
 invariant_of-self-2 c = kept_more _ _ _ _ _ _ _ (Finish c.args.worker) c.in-Ok-finish_with.outcome.seen c.self.invariant (omega arith)
