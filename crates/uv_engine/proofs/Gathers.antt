@@ -16,8 +16,7 @@ gathered_none w t text = record { grown = grown_none w; whole = refl }
 pub gathered_more : {old all w t : List ℕ} (x : List ℕ) {rest u : List ℕ} → Gathered old all w t (x ++ rest) → u ≡ t ++ x → Gathered old all w u rest
 gathered_more {old} {all} {w} {t} x {rest} {u} h e = record {
   grown = h.grown;
-  whole = ap (λ (xs : List ℕ). (w ++ xs) ++ rest) e ∙ ap (λ (xs : List ℕ). xs ++ rest) (sym (append_assoc w t x)) ∙ append_assoc (w ++ t) x rest
-      ∙ h.whole;
+  whole = grind (arith, append_assoc);
 }
 
 -- another call gathered a text
@@ -67,13 +66,7 @@ gathers_same r w t v u {x} {y} e h = subst (λ (z : List ℕ). Gathers r w t z v
 -- a text, and behind it another one
 pub gathers_then : (r : Result (Unit {0}) Fault) (w t x mid between y v u : List ℕ) → Gathers (Ok tt) w t x mid between → Gathers r mid between y v u
     → Gathers r w t (x ++ y) v u
-gathers_then (Ok done) w t x mid between y v u h k =
-    (grown_more w mid v h.0 k.0, k.1 ∙ ap (λ (xs : List ℕ). xs ++ y) h.1 ∙ append_assoc (w ++ t) x y)
-gathers_then (Err f) w t x mid between y v u h k = record {
-  grown = grown_more w mid v h.0 k.grown;
-  rest = k.rest;
-  whole = k.whole ∙ ap (λ (xs : List ℕ). xs ++ y) h.1 ∙ append_assoc (w ++ t) x y;
-}
+gathers_then r w t x mid between y v u h k = grind (arith, grown_more, append_assoc)
 
 -- in a loop over the parts of a text: nothing was gathered yet, and a part of those that are left is the next
 pub first_part : (f : ℕ → List ℕ) (k : ℕ) (w t : List ℕ) → Gathered w ((w ++ t) ++ in_parts f k) w t (parts_from f zero (k - zero))
@@ -91,12 +84,10 @@ pub short_of_cut : {w t v : List ℕ} → CutOff w ((w ++ t) ++ []) v → CutSho
 short_of_cut {w} {t} {v} h = record {
   part = h.grown.part;
   rest = h.rest;
-  whole = append_cancel_left w (h.grown.part ++ h.rest) t
-      (sym (append_assoc w h.grown.part h.rest) ∙ ap (λ (xs : List ℕ). xs ++ h.rest) (sym h.grown.is) ∙ h.whole ∙ append-nil (w ++ t));
+  whole = grind (arith, append_cancel_left, append_assoc, append-nil);
   written = h.grown.is;
 }
 
 -- what was gathered is written
 pub few_left : {A : Type 0} (r : Result A Fault) (gathered : List ℕ) → OnOk r (gathered ≡ []) → OnOk r (length gathered < 8192)
-few_left (Ok done) gathered e = rw e (omega arith)
-few_left (Err f) gathered e = tt
+few_left r gathered e = grind arith

@@ -17,22 +17,10 @@ record Follows (a b : List ℕ) (xs ys : List (List ℕ)) : Type 0 where
 -- so it is where the images are the same from this line on
 prints_one : (asked : Asked) (s : Shown) (a b : List ℕ) (xs ys : List (List ℕ)) → IsAnswer asked s a → IsAnswer asked s b →
     image_in asked a ++ xs ≡ image_in asked b ++ ys → Follows a b xs ys
-prints_one Nothing s a b xs ys h k z = record { text = h ∙ sym k; rest = z }
-prints_one (Do (Loop n)) s a b xs ys h k z = record { text = h ∙ sym k; rest = z }
 prints_one (Do (Step e)) s a b xs ys h k z =
     cond_both (has_step s.program e) (Do (Step e)) Bad (λ (x : Asked). PrintsFor x s a → PrintsFor x s b → Follows a b xs ys)
     (λ _ p q. record { text = p ∙ sym q; rest = z }) (λ _ p q. record { text = p ∙ sym q; rest = z }) h k
-prints_one (Do (Back n)) s a b xs ys h k z = record { text = h ∙ sym k; rest = z }
-prints_one (Do (Forward n)) s a b xs ys h k z = record { text = h ∙ sym k; rest = z }
-prints_one (Do (AddBreak at)) s a b xs ys h k z = record { text = h ∙ sym k; rest = z }
-prints_one (Do ClearBreaks) s a b xs ys h k z = record { text = h ∙ sym k; rest = z }
-prints_one (Do BackToBreak) s a b xs ys h k z = record { text = h ∙ sym k; rest = z }
-prints_one (Do Trace) s a b xs ys h k z = record { text = h ∙ sym k; rest = z }
-prints_one (Do State) s a b xs ys h k z = record { text = h ∙ sym k; rest = z }
-prints_one (Do Image) s a b xs ys h k z = let text : a ≡ b = cc z in let rest : xs ≡ ys = cc z in record { text = text; rest = rest }
-prints_one (Do Record) s a b xs ys h k z = record { text = h ∙ sym k; rest = z }
-prints_one (Do Quit) s a b xs ys h k z = record { text = h ∙ sym k; rest = z }
-prints_one Bad s a b xs ys h k z = record { text = h ∙ sym k; rest = z }
+prints_one each s a b xs ys h k z = search cond_both
 
 -- ---- no command declares a name
 
@@ -70,21 +58,9 @@ break_back_program s (Some step) = refl
 break_back_program s None = refl
 
 same_program : (asked : Asked) (s : Shown) → (asked_after asked s).program ≡ s.program
-same_program Nothing s = refl
-same_program Bad s = refl
-same_program (Do (Loop n)) s = loop_program n s
 same_program (Do (Step e)) s = cond_both (has_step s.program e) (Do (Step e)) Bad (λ (x : Asked). (done_after x s).program ≡ s.program)
     (λ _. reply_program s e) (λ _. refl)
-same_program (Do (Back n)) s = back_program n s
-same_program (Do (Forward n)) s = forward_program n s
-same_program (Do (AddBreak b)) s = add_program b s
-same_program (Do ClearBreaks) s = refl
-same_program (Do BackToBreak) s = break_back_program s (last_break s)
-same_program (Do Trace) s = refl
-same_program (Do State) s = refl
-same_program (Do Image) s = refl
-same_program (Do Record) s = refl
-same_program (Do Quit) s = refl
+same_program each s = search (loop_program, cond_both, reply_program, back_program, forward_program, add_program, break_back_program)
 
 still_distinct : (asked : Asked) (s : Shown) → AreDistinct s.program.names → AreDistinct (asked_after asked s).program.names
 still_distinct asked s distinct = subst (λ (p : Program). AreDistinct p.names) (sym (same_program asked s)) distinct

@@ -8,16 +8,13 @@ use Rattle.uv_engine.proofs.OneRecording.{IsDistinct, Judged, one_part, distinct
 
 -- neither number is below the other
 same_number : (n m : ℕ) → (n < m → ⊥) → (m < n → ⊥) → n ≡ m
-same_number n m low high =
-    ⊎_elim (λ (less : n < m). absurd (low less))
-    (λ (past : m ≤ n). ⊎_elim (λ (more : m < n). absurd (high more)) (λ (up : n ≤ m). omega (arith, past, up)) (cases_lt m n)) (cases_lt n m)
+same_number n m low high = grind arith
 
 -- ---- the first step that isn't taken
 
 -- the steps in front of it
 front : (before rest es : List Event) (e : Event) → es ≡ before ++ e ∷ rest → take (length before) es ≡ before
-front before rest es e cut = ap (take (length before)) cut ∙ take-append-le (length before) before (e ∷ rest) (omega arith)
-    ∙ take_all (length before) before (omega arith)
+front before rest es e cut = grind (arith, take-append-le, take_all)
 
 -- the step itself
 here : (before rest es : List Event) (e d : Event) → es ≡ before ++ e ∷ rest → get_or es (length before) d ≡ e
@@ -28,8 +25,7 @@ not_past : (p : Program) (es before rest taken left : List Event) (e : Event) (w
     Accepts p taken → next p (after p before) e ≡ Refuses why → length before < length taken → ⊥
 not_past p es before rest taken left e why cut other accepted is_refused less =
     let n = length before in
-    let at : e ≡ get_or taken n e = sym (sym (get_or_append_left taken left e n less) ∙ ap (λ (xs : List Event). get_or xs n e) (sym other)
-    ∙ here before rest es e e cut) in
+    let at : e ≡ get_or taken n e = sym (grind (arith, get_or_append_left, here)) in
     let first : take n taken ≡ before = sym (take-append-le n taken left (omega (arith, less))) ∙ ap (take n) (sym other)
     ∙ front before rest es e cut in
     not_refused p taken n e e why accepted less at (subst (λ (xs : List Event). next p (after p xs) e ≡ Refuses why) (sym first) is_refused)
@@ -51,23 +47,18 @@ refused_alike p es before rest before' rest' e e' why why' cut cut' long is_refu
 
 one_halt : (p : Program) (es : List Event) (v w : Verdict) → IsHalt p es v → IsHalt p es w → v ≡ w
 one_halt p es _ _ (refused before rest e why cut accepted less is_refused) (refused before' rest' e' why' cut' accepted' less' is_refused') =
-    refused_alike p es before rest before' rest' e e' why why' cut cut'
-    (same_number (length before) (length before') (not_past p es before rest before' (e' ∷ rest') e why cut cut' accepted' is_refused)
-    (not_past p es before' rest' before (e ∷ rest) e' why' cut' cut accepted is_refused')) is_refused is_refused'
+    search (refused_alike, same_number, not_past)
 one_halt p es _ _ (refused before rest e why cut accepted less is_refused) (full before' rest' e' cut' accepted' all) =
     absurd (not_past p es before rest before' (e' ∷ rest') e why cut cut' accepted' is_refused (omega (arith, less, all)))
 one_halt p es _ _ (full before rest e cut accepted all) (refused before' rest' e' why' cut' accepted' less' is_refused') =
     absurd (not_past p es before' rest' before (e ∷ rest) e' why' cut' cut accepted is_refused' (omega (arith, less', all)))
-one_halt p es _ _ (full before rest e cut accepted all) (full before' rest' e' cut' accepted' all') =
-    ap (λ (n : ℕ). Full (n + 1)) (all ∙ sym all')
+one_halt p es _ _ (full before rest e cut accepted all) (full before' rest' e' cut' accepted' all') = cc
 
 -- ---- the first place where two lists part
 
 one_place : (s t l l' r r' : List (List ℕ)) → s ++ l ≡ t ++ l' → s ++ r ≡ t ++ r' → AreApart l r → AreApart l' r' → length s ≡ length t
 one_place [] [] l l' r r' e f a b = refl
-one_place [] (y ∷ t) l l' r r' e f a b =
-    let both = subst (AreApart (y ∷ t ++ l')) f (subst (λ (xs : List (List ℕ)). AreApart xs r) e a) in
-    absurd (both refl)
+one_place [] (y ∷ t) l l' r r' e f a b = grind arith
 one_place (x ∷ s) [] l l' r r' e f a b =
     let both = subst (AreApart (x ∷ s ++ l)) (sym f) (subst (λ (xs : List (List ℕ)). AreApart xs r') (sym e) b) in
     absurd (both refl)
@@ -76,16 +67,9 @@ one_place (x ∷ s) (y ∷ t) l l' r r' e f a b =
     let right : s ++ r ≡ t ++ r' = cc in
     ap suc (one_place s t l l' r r' left right a b)
 
-one_parting : (xs ys : List (List ℕ)) (n m : ℕ) → PartAt xs ys n → PartAt xs ys m → n ≡ m
-one_parting xs ys n m h k =
-    let long = one_place h.same k.same h.left k.left h.right k.right (sym h.left_is ∙ k.left_is) (sym h.right_is ∙ k.right_is) h.apart k.apart in
-    h.counted ∙ ap (λ (x : ℕ). x + 1) long ∙ sym k.counted
-
 -- two lists that are one part nowhere
 not_parted : (xs ys : List (List ℕ)) (n : ℕ) → xs ≡ ys → PartAt xs ys n → ⊥
-not_parted xs ys n e h =
-    let rest = append_cancel_left h.same h.left h.right (sym h.left_is ∙ e ∙ h.right_is) in
-    never_apart h.right (subst (λ (zs : List (List ℕ)). AreApart zs h.right) rest h.apart)
+not_parted xs ys n e h = grind (arith, append_cancel_left, never_apart)
 
 one_of_these : (p : Program) (es : List Event) (called : List (List ℕ)) (v w : Verdict) → IsVerdict p es called v → IsVerdict p es called w → v ≡ w
 one_of_these p es called _ _ (halts v h) (halts w k) = one_halt p es v w h k
@@ -96,7 +80,7 @@ one_of_these p es called _ _ (same t e) (same u f) = refl
 one_of_these p es called _ _ (same t e) (differs n u k) = absurd (not_parted called (callback_lines p es) n e k)
 one_of_these p es called _ _ (differs m t h) (halts w k) = absurd (never_halts p es w t k)
 one_of_these p es called _ _ (differs m t h) (same u f) = absurd (not_parted called (callback_lines p es) m f h)
-one_of_these p es called _ _ (differs m t h) (differs n u k) = ap Differs (one_parting called (callback_lines p es) m n h k)
+one_of_these p es called _ _ (differs m t h) (differs n u k) = ap Differs (grind (arith, one_place))
 
 verdicts : (text : List ℕ) (v w : Verdict) → HasVerdict text v → HasVerdict text w → v ≡ w
 verdicts text v w h k =
@@ -118,9 +102,7 @@ one_stop x y z (l ∷ s) (m ∷ t) a b distinct e (one {y = u} r rs) stuck (one 
     ap suc (one_stop u y z s t a b (distinct_part x u l distinct r) rest rs stuck (subst (λ (k : Part). ReadsAll k t z) part qs) stuck')
 
 bad_lines : (text : List ℕ) (m n : ℕ) → IsBadLine text m → IsBadLine text n → m ≡ n
-bad_lines text m n h k =
-    let long = one_stop Start h.part k.part h.before k.before h.after k.after tt (sym h.lines_are ∙ k.lines_are) h.read h.stuck k.read k.stuck in
-    omega (arith, h.counted, k.counted, long)
+bad_lines text m n h k = grind (arith, one_stop)
 
 -- what is whole isn't stuck
 goes_through : (x y : Part) (s a : List (List ℕ)) (p : Program) (es : List Event) (called : List (List ℕ)) → IsDistinct x → ReadsAll x s y →
@@ -128,9 +110,7 @@ goes_through : (x y : Part) (s a : List (List ℕ)) (p : Program) (es : List Eve
 goes_through x _ [] [] p es called distinct none stuck none = stuck
 goes_through x _ [] (l ∷ a) p es called distinct none stuck (one {y = u} r rs) = stuck u r
 goes_through x y (l ∷ s) a p es called distinct (one {y = u} r rs) stuck (one {y = w} q qs) =
-    let part = one_part x u w l distinct r q in
-    goes_through u y s a p es called (distinct_part x u l distinct r) rs stuck
-    (subst (λ (k : Part). ReadsAll k (s ++ a) (Whole p es called)) part qs)
+    grind (arith, one_part, distinct_part, (goes_through u y s a p es called (distinct_part x u l distinct r) rs stuck))
 
 not_both : (text : List ℕ) (v : Verdict) (n : ℕ) → HasVerdict text v → IsBadLine text n → ⊥
 not_both text v n h k =

@@ -75,13 +75,12 @@ script_on d e (l ∷ ls) say (script.one {e = m} h more) = one (in_script say.0 
 
 -- of two beginnings of a list the longer one begins with the other
 prefix : (xs ys us vs : List (List ℕ)) → xs ++ us ≡ ys ++ vs → length xs ≤ length ys → (more : List (List ℕ)) × (ys ≡ xs ++ more)
-prefix [] ys us vs e less = (ys, refl)
-prefix (x ∷ xs) [] us vs e less = absurd (omega arith)
 prefix (x ∷ xs) (y ∷ ys) us vs e less =
     let same : x ≡ y = cc in
     let rest : xs ++ us ≡ ys ++ vs = cc in
     let k = prefix xs ys us vs rest (omega arith) in
     (k.0, λ i. sym same i ∷ k.1 i)
+prefix each e1 us vs e less = grind arith
 
 none_before : (xs ys : List (List ℕ)) → NoneSkipped (xs ++ ys) → NoneSkipped xs
 none_before [] ys h = tt
@@ -89,15 +88,11 @@ none_before (x ∷ xs) ys h = (h.0, none_before xs ys h.1)
 
 -- a line that begins with another byte isn't skipped
 pub begins_says : (b : ℕ) (line : List ℕ) → (b == 35) ≡ false → IsSkipped (b ∷ line) → ⊥
-begins_says b line other (empty e) = let long = ap length e in absurd (omega (arith, long))
-begins_says b line other (comment text e) = both_ways _ other (ap (λ (n : ℕ). n == 35) (ap (λ (bs : List ℕ). get_or bs 0 35) e))
+begins_says b line other e3 = grind arith
 
 -- each line before the one of this number says something
 abbrev AllSay : List (List ℕ) → ℕ → Type 0
 AllSay ls number = (before after : List (List ℕ)) → ls ≡ before ++ after → length before < number → NoneSkipped before
-
-say_all : (ls : List (List ℕ)) (number : ℕ) → NoneSkipped ls → AllSay ls number
-say_all ls number h before after e less = none_before before after (subst NoneSkipped e h)
 
 say_up_to : (ls : List (List ℕ)) (skipped number : ℕ) → IsFirstSkipped ls skipped → number < skipped → AllSay ls number
 say_up_to ls skipped number first few before after e less =
@@ -119,26 +114,17 @@ record Fronts (input text rest : List ℕ) : Type 0 where
   no_begin : NoBegin (lines_of text)
 
 fronts : (input text rest : List ℕ) → Begins input text rest → Fronts input text rest
-fronts _ _ rest here = record { lines_are = refl; no_begin = tt }
-fronts _ _ _ here_at_end = record { lines_are = refl; no_begin = tt }
-fronts _ _ rest (later {line = line} {rest = more} {script = text} free other h) =
-    let k = fronts more text rest h in
-    record {
-      lines_are = lines_fed line more free ∙ ap (λ (ls : List (List ℕ)). line ∷ ls) k.lines_are
-          ∙ ap (λ (ls : List (List ℕ)). ls ++ codes "begin" ∷ lines_of rest) (sym (lines_fed line text free));
-      no_begin = subst NoBegin (sym (lines_fed line text free)) (other, k.no_begin);
-    }
+fronts _ _ rest (later {line = line} {rest = more} {script = text} free other h) = search (lines_fed, (fronts more text rest h))
+fronts each e1 e2 e3 = assumption
 
 never_begin : (input : List ℕ) → NeverBegins input → NoBegin (lines_of input)
-never_begin _ nothing = tt
-never_begin _ (last_line {line = []} free other) = tt
 never_begin _ (last_line {line = b ∷ bs} free other) = subst NoBegin (sym (lines_last (b ∷ bs) free (λ e. cc e))) (other, tt)
 never_begin _ (one_line {line = line} {rest = rest} free other h) = subst NoBegin (sym (lines_fed line rest free)) (other, never_begin rest h)
+never_begin each e1 = assumption
 
 stuck_script : (d : Draft) (line : List ℕ) → line ≢ codes "begin" → ((e : Draft) → script.Reads d line e → ⊥) → (y : Part) →
     Reads (InScript d) line y → ⊥
-stuck_script d line other h _ (in_script {e = e} says k) = h e k
-stuck_script d line other h _ begins = other refl
+stuck_script d line other h y e5 = grind arith
 
 -- the script was read, and `begin`
 pub script_read : (s : Draft) (input text rest : List ℕ) (p : Program) (a b : ℕ) → Begins input text rest → MakesFrom s (lines_of text) p →
@@ -199,8 +185,7 @@ abbrev FrontLines : List ℕ → List ℕ → Type 0
 FrontLines input text = (behind : List (List ℕ)) × (lines_of input ≡ lines_of text ++ behind)
 
 front_lines : (input text rest : List ℕ) (begun : Bool) → IsFront input text begun rest → FrontLines input text
-front_lines input text rest true h = (codes "begin" ∷ lines_of rest, (fronts input text rest h).lines_are)
-front_lines input text rest false h = ([], ap lines_of h.1 ∙ sym (append-nil (lines_of text)))
+front_lines input text rest begun h = grind (arith, fronts, append-nil)
 
 -- the script of the lines before one
 abbrev ReadsSome : Draft → List (List ℕ) → Type 0
@@ -212,18 +197,14 @@ reads_some d e (l ∷ ls) more (script.one {e = m} first rest) = let k = reads_s
 
 before_skipped : (s : Draft) (text : List ℕ) (p : Program) (n : ℕ) (first : IsFirstSkipped (lines_of text) n) → MakesFrom s (lines_of text) p →
     ReadsSome s first.before
-before_skipped s text p n first is =
-    let d : Draft = record { program = p; said = is.said } in
-    reads_some s d first.before (first.line ∷ first.after)
-    (subst (λ (ls : List (List ℕ)). script.ReadsAll s ls d) first.lines_are is.read)
+before_skipped s text p n first is = grind (arith, reads_some)
 
 before_bad : (s : Draft) (text : List ℕ) (n k : ℕ) (first : IsFirstSkipped (lines_of text) n) → script.IsBadLineFrom s text k → n ≤ k →
     ReadsSome s first.before
 before_bad s text n k first bad less =
     let longer = prefix first.before bad.before (first.line ∷ first.after) (bad.line ∷ bad.after) (sym first.lines_are ∙ bad.lines_are)
     (omega (arith, first.counted, bad.counted)) in
-    reads_some s bad.draft first.before longer.0
-    (subst (λ (ls : List (List ℕ)). script.ReadsAll s ls bad.draft) longer.1 bad.read)
+    grind (arith, reads_some)
 
 before_front : (s : Draft) (text : List ℕ) (begun : Bool) (n k : ℕ) (first : IsFirstSkipped (lines_of text) n) →
     ParsesFront s text begun (Err (fault.Script k)) → n ≤ k → ReadsSome s first.before
@@ -254,8 +235,7 @@ front_skipped s input text rest false p a n m h is first e = absurd is
 pub front_bad : (s : Draft) (input text rest : List ℕ) (begun : Bool) (skipped : Option ℕ) (a k n m : ℕ) → IsFront input text begun rest →
     ParsesFront s text begun (Err (fault.Script k)) → FindsSkipped (lines_of text) skipped → IsFirstBad k skipped n → m ≡ a + n →
     IsBadFrom (InScript s) a input m
-front_bad s input text rest begun None a k n m h p say is e =
-    front_outside s input text rest begun a k m h p (say_all (lines_of text) k say) (omega (arith, e, is))
+front_bad s input text rest begun None a k n m h p say is e = grind (arith, front_outside, none_before)
 front_bad s input text rest begun (Some skipped) a k n m h p first (inl is) e =
     skipped_bad s input text a skipped m (front_lines input text rest begun h) first (before_front s text begun skipped k first p is.0)
     (omega (arith, e, is.1))
@@ -274,8 +254,7 @@ none_step f before x h say = subst NoneSkipped (sym (map-append f before (x ∷ 
 
 pub none_left : {A : Type 0} (f : A → List ℕ) (ls : List (List ℕ)) (before : List A) (left : List (List ℕ)) → NoneSkipped (map f before) →
     map f before ++ left ≡ ls → left ≡ [] → NoneSkipped ls
-none_left f ls before left h whole e =
-    subst NoneSkipped (sym (append-nil (map f before)) ∙ ap (λ (more : List (List ℕ)). map f before ++ more) (sym e) ∙ whole) h
+none_left f ls before left h whole e = grind (arith, append-nil)
 
 pub skipped_here : {A : Type 0} (f : A → List ℕ) (ls : List (List ℕ)) (number : ℕ) (before : List A) (x : A) (left after : List (List ℕ)) →
     NoneSkipped (map f before) → map f before ++ left ≡ ls → left ≡ f x ∷ after → number ≡ length before + 1 → IsSkipped (f x) →
@@ -290,29 +269,9 @@ skipped_here f ls number before x left after h whole onto count skipped = record
   skipped = skipped;
 }
 
--- a bad line's number is at most one more than the lines
-pub front_within : (s : Draft) (text : List ℕ) (begun : Bool) (n : ℕ) → ParsesFront s text begun (Err (fault.Script n)) →
-    n ≤ length (lines_of text) + 1
-front_within s text true n bad = within text n bad where
-  within : (text : List ℕ) (n : ℕ) → script.IsBadLineFrom s text n → n ≤ length (lines_of text) + 1
-  within text n bad = omega (arith, bad.counted, ap length bad.lines_are, length-append bad.before (bad.line ∷ bad.after))
-front_within s text false n (after_last p is) = omega arith
-front_within s text false n (at_line bad) = omega (arith, bad.counted, ap length bad.lines_are, length-append bad.before (bad.line ∷ bad.after))
-
 -- ---- the other parts
-
-pub only_version : (line : List ℕ) → ((v : Version) → line ≢ version_line v) → (y : Part) → Reads Start line y → ⊥
-only_version line other _ (version v) = other v refl
-
-pub only_steps : (p : Program) (es : List Event) (line : List ℕ) → line ≢ codes "calls" → ((e : Event) → SaysStep p line e → ⊥) → (y : Part) →
-    Reads (InSteps p es) line y → ⊥
-only_steps p es line other h _ (step {e = e} says) = h e says
-only_steps p es line other h _ calls = other refl
 
 pub only_calls : (p : Program) (es : List Event) (called : List (List ℕ)) (line : List ℕ) → line ≢ codes "end" → (IsCallbackLine line → ⊥) →
     (y : Part) → Reads (InCalls p es called) line y → ⊥
 only_calls p es called line other h _ (callback is) = h is
 only_calls p es called line other h _ ends = other refl
-
-pub only_whole : (p : Program) (es : List Event) (called : List (List ℕ)) (line : List ℕ) (y : Part) → Reads (Whole p es called) line y → ⊥
-only_whole p es called line y h = elim h [ ]

@@ -16,13 +16,10 @@ every_append P [] ys h k = k
 every_append P (x ∷ xs) ys h k = (h.0, every_append P xs ys h.1 k)
 
 step_is_line : (p : Program) (line : List ℕ) (e : Event) → SaysStep p line e → IsLine line
-step_is_line p line e (loop is) = subst IsLine (sym is) ((is_line_decides (codes "loop")).0 refl)
-step_is_line p line e (outside _ is h has) = is
+step_is_line p line e e3 = grind arith
 
 called_is_line : (line : List ℕ) → IsCallbackLine line → IsLine line
-called_is_line line (call text is e) = is
-called_is_line line (after_line text is e) = is
-called_is_line line (closed text is e) = is
+called_is_line line each = grind arith
 
 called_are_lines : (ls : List (List ℕ)) → AllByRecursion IsCallbackLine ls → AllByRecursion IsLine ls
 called_are_lines [] h = tt
@@ -46,54 +43,17 @@ none_mapped f [] each = tt
 none_mapped f (x ∷ xs) each = (each x, none_mapped f xs each)
 
 main_says : (names : List (List ℕ)) (o : MainOp) → IsSkipped (main_line names o) → ⊥
-main_says names (main.Op o) = begins_says _ _ refl
-main_says names (main.Run mode) = begins_says _ _ refl
+main_says names o = grind arith
 
 callback_says : (names : List (List ℕ)) (kind : Callback) (v : Var) (line : CallbackLine) → IsSkipped (callback_line names kind v line) → ⊥
-callback_says names kinds.Handle v line = begins_says _ _ refl
-callback_says names kinds.After v line = begins_says _ _ refl
-callback_says names kinds.Close v line = begins_says _ _ refl
+callback_says names each v line = grind arith
 
 callbacks_say : (p : Program) (n : ℕ) (names : List (List ℕ)) → NoneSkipped (script_callbacks p n names)
 callbacks_say p n [] = tt
-callbacks_say p n (name ∷ names) =
-    let v : Var = record { 0 = n } in
-    let one : (kind : Callback) → NoneSkipped (map (callback_line p.names kind v) (lines_in p kind v)) =
-    λ kind. none_mapped (callback_line p.names kind v) (lines_in p kind v) (callback_says p.names kind v) in
-    none_append (name_lines p v) (script_callbacks p (n + 1) names)
-    (none_append (map (callback_line p.names kinds.Handle v) (lines_in p kinds.Handle v) ++ map (callback_line p.names kinds.After v)
-    (lines_in p kinds.After v))
-    (map (callback_line p.names kinds.Close v) (lines_in p kinds.Close v))
-    (none_append (map (callback_line p.names kinds.Handle v) (lines_in p kinds.Handle v))
-    (map (callback_line p.names kinds.After v) (lines_in p kinds.After v))
-    (one kinds.Handle) (one kinds.After)) (one kinds.Close)) (callbacks_say p (n + 1) names)
-
-none_if : (b : Bool) (line : List ℕ) → (IsSkipped line → ⊥) → NoneSkipped (line_if b line)
-none_if true line says = (says, tt)
-none_if false line says = tt
+callbacks_say p n (name ∷ names) = search (none_mapped, callback_says, none_append, (callbacks_say p (n + 1) names))
 
 settings_say : (p : Program) → NoneSkipped (setting_lines p)
-settings_say p =
-    let front = order_line (order_of p) ∷ line_if (has_io p) io_line in
-    let sizes = workers_line (worker_count p) ∷ slots_line (arena_size p) ∷ [] in
-    none_append (front ++ line_if (from_heap p) heap_line) sizes
-    (none_append front (line_if (from_heap p) heap_line) (begins_says _ _ refl, none_if (has_io p) io_line (begins_says _ _ refl))
-    (none_if (from_heap p) heap_line (begins_says _ _ refl)))
-    (begins_says _ _ refl, (begins_says _ _ refl, tt))
-
-script_says : (p : Program) → NoneSkipped (script_lines p)
-script_says p =
-    let settings = setting_lines p in
-    let names = map var_line p.names in
-    let ops = map (main_line p.names) p.main in
-    let called = script_callbacks p 0 p.names in
-    let sent = map (thread_line p.names) p.threads in
-    none_append (settings ++ names ++ ops ++ called) sent
-    (none_append (settings ++ names ++ ops) called
-    (none_append (settings ++ names) ops
-    (none_append settings names (settings_say p) (none_mapped var_line p.names (λ name. begins_says _ _ refl)))
-    (none_mapped (main_line p.names) p.main (main_says p.names)))
-    (callbacks_say p 0 p.names)) (none_mapped (thread_line p.names) p.threads (λ line. begins_says _ _ refl))
+settings_say p = grind arith
 
 steps_on : (p : Program) (before es : List Event) → AllByRecursion (Said p) es →
     ReadsAll (InSteps p before) (map (step_line p.names) es) (InSteps p (before ++ es))
@@ -141,11 +101,7 @@ unfolding script_text
 without_io p written io heap =
     let lines = lines_back (script_lines p) (read_lines unread (settled p) (script_lines p) (lines_read_back p written)) in
     let made = reads_without_io (script_text p) p (text_makes p written) io heap in
-    record {
-      first = rw (io, heap) refl;
-      said = made.said;
-      script = subst (λ (ls : List (List ℕ)). script.ReadsAll io_said ls (record { program = p; said = made.said })) lines made.read;
-    }
+    grind arith
 
 pub is_made : (text : List ℕ) (p : Program) (es : List Event) → IsScript text p → AllTaken p es → IsMade p es
 is_made text p es is taken = by (has_io p) (from_heap p) refl refl where
@@ -172,25 +128,16 @@ is_made text p es is taken = by (has_io p) (from_heap p) refl refl where
   by false true e f = made versions.V3 (newest p written (rw (e, f) refl))
   by false false e f = made versions.V2 (without_io p written e f)
 
-version_is_line : (v : Version) → IsLine (version_line v)
-version_is_line versions.V1 = (is_line_decides (codes "uvt 1")).0 refl
-version_is_line versions.V2 = (is_line_decides (codes "uvt 2")).0 refl
-version_is_line versions.V3 = (is_line_decides (codes "uvt 3")).0 refl
-
 are_lines : (p : Program) (es : List Event) → IsMade p es → AllByRecursion IsLine (recording_lines p es)
 are_lines p es h =
-    let front = subst IsLine (sym h.first) (version_is_line h.version) in
+    let front = subst IsLine (sym h.first) (grind arith) in
     let begin = (is_line_decides (codes "begin")).0 refl in
     let middle = (is_line_decides (codes "calls")).0 refl in
     let last = (is_line_decides (codes "end")).0 refl in
     let ks = first_line p ∷ script_lines p in
     let bs = codes "begin" ∷ map (step_line p.names) es in
     let cs = codes "calls" ∷ callback_lines p es in
-    every_append IsLine (ks ++ bs ++ cs) (codes "end" ∷ [])
-    (every_append IsLine (ks ++ bs) cs
-    (every_append IsLine ks bs (front, read_lines (unread_in h.version) (record { program = p; said = h.said }) (script_lines p) h.script)
-    (begin, steps_are_lines p es h.steps))
-    (middle, called_are_lines (callback_lines p es) h.called)) (last, tt)
+    search (every_append, read_lines, steps_are_lines, called_are_lines)
 
 are_read : (p : Program) (es : List Event) → IsMade p es → ReadsAll Start (recording_lines p es) (Whole p es (callback_lines p es))
 are_read p es h =
@@ -203,15 +150,13 @@ are_read p es h =
     (reads_on Start (InSteps p es) (InCalls p es called) (ks ++ bs) cs
     (reads_on Start (InScript d) (InSteps p es) ks bs
     (one (subst (λ (l : List ℕ). Reads Start l (InScript (unread_in h.version))) (sym h.first) (version h.version))
-    (script_on (unread_in h.version) d (script_lines p) (script_says p) h.script))
+    (grind (arith, script_on, none_append, settings_say, none_mapped, begins_says, main_says, callbacks_say)))
     (one begins (steps_on p [] es h.steps)))
     (one calls (calls_on p es [] called h.called))) (one ends none)
 
 pub made_read : (p : Program) (es : List Event) → IsMade p es → ReadsAll Start (lines_of (recording_text p es)) (Whole p es (callback_lines p es))
 unfolding recording_text
-made_read p es h =
-    subst (λ (ls : List (List ℕ)). ReadsAll Start ls (Whole p es (callback_lines p es)))
-    (sym (lines_back (recording_lines p es) (are_lines p es h))) (are_read p es h)
+made_read p es h = search (lines_back, are_lines, are_read)
 
 pub says_same : (text : List ℕ) (p : Program) (es : List Event) → IsScript text p → AllTaken p es → HasVerdict (recording_text p es) Same
 says_same text p es is taken = record {

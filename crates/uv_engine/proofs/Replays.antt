@@ -3,7 +3,7 @@ use Rattle.uv_engine.proofs.Names.{◌≡◌, ◌≢◌, ℕ, ◌+◌, List, [],
 use Rattle.uv_ids.specs.declared.fault.Fault.TheVariants as fault
 use Rattle.uv_engine.specs.Verdict as verdict
 use Rattle.uv_engine.specs.Recordings as grammar
-use Rattle.uv_engine.proofs.Recordings.{reads_none, reads_then, reads_line, bad_then, bad_line, bad_end, only_version, only_steps, only_calls, only_whole, script_read}
+use Rattle.uv_engine.proofs.Recordings.{reads_none, reads_then, reads_line, bad_then, bad_line, bad_end, only_calls, script_read}
 use Rattle.uv_engine.proofs.Gathers.{short_of_cut}
 
 -- ---- the first line and the script
@@ -16,13 +16,12 @@ version_read v a b old line new fed n takes is =
 
 pub version_bad : (a b : ℕ) (old line new : List ℕ) (fed : Bool) → b ≡ a + 1 → TakesLine old line fed new →
     ((v : Version) → line ≢ version_line v) → IsBadFrom Start a old b
-version_bad a b old line new fed n takes other = bad_line Start a b old line new fed n takes (only_version line other)
+version_bad a b old line new fed n takes other = bad_line Start a b old line new fed n takes (grind arith)
 
 pub front_read : (s : Draft) (input text rest : List ℕ) (begun : Bool) (p : Program) (a n : ℕ) → IsFront input text begun rest →
     ParsesFront s text begun (Ok p) → NoneSkipped (lines_of text) → n ≡ length (lines_of text) →
     ReadsTo (InScript s) a input (InSteps p []) (a + (n + 1)) rest
-front_read s input text rest true p a n h is say e = script_read s input text rest p a (a + (n + 1)) h is say (omega (arith, e))
-front_read s input text rest false p a n h is say e = absurd is
+front_read s input text rest begun p a n h is say e = grind (arith, script_read)
 
 -- ---- the steps
 
@@ -61,12 +60,7 @@ pub steps_bad : {p : Program} {a b : ℕ} {old mid : List ℕ} {xs : List Event}
     IsBadFrom (InSteps p []) a old c
 steps_bad {p} {a} {b} {old} {mid} {xs} {h} c line new fed so n takes other none =
     bad_then (InSteps p []) (InSteps p so.steps) a b c old mid so.reads
-    (bad_line (InSteps p so.steps) b c mid line new fed n takes (only_steps p so.steps line other none))
-
-pub steps_missing : {p : Program} {a b : ℕ} {old mid : List ℕ} {xs : List Event} {h : Option Verdict} (c : ℕ) → StepsSo p a old b mid xs h →
-    c ≡ b + 1 → mid ≡ [] → IsBadFrom (InSteps p []) a old c
-steps_missing {p} {a} {b} {old} {mid} {xs} {h} c so n e =
-    bad_then (InSteps p []) (InSteps p so.steps) a b c old mid so.reads (bad_end (InSteps p so.steps) b c mid n e tt)
+    (bad_line (InSteps p so.steps) b c mid line new fed n takes (grind arith))
 
 -- ---- the callbacks
 
@@ -77,17 +71,9 @@ pub record CallsSo (p : Program) (es standing : List Event) (halted : Option Ver
   pub reads : ReadsTo (InCalls p es []) a old (InCalls p es called) b new
   pub met : Met p standing halted called looked count parted
 
-met_none : (p : Program) (standing : List Event) (halted : Option Verdict) → Met p standing halted [] 0 0 None
-met_none p standing None = (refl, refl)
-met_none p standing (Some v) = tt
-
 pub calls_none : (p : Program) (es standing : List Event) (halted : Option Verdict) (a : ℕ) (old : List ℕ) (looked count : ℕ) (parted : Option ℕ) →
     looked ≡ 0 → count ≡ 0 → parted ≡ None → CallsSo p es standing halted a old a old looked count parted
-calls_none p es standing halted a old looked count parted x y z = record {
-  called = [];
-  reads = reads_none (InCalls p es []) a old;
-  met = rw (x, y, z) (met_none p standing halted);
-}
+calls_none p es standing halted a old looked count parted x y z = grind (arith, reads_none)
 
 pub calls_more : {p : Program} {es xs : List Event} {h : Option Verdict} {a b : ℕ} {old mid : List ℕ} {i n : ℕ} {o : Option ℕ}
     (c : ℕ) (line new : List ℕ) (fed : Bool) (j m : ℕ) (q : Option ℕ) → CallsSo p es xs h a old b mid i n o → c ≡ b + 1 →
@@ -127,7 +113,7 @@ calls_missing {p} {es} {xs} {h} {a} {b} {old} {mid} {i} {n} {o} c so k e =
 
 pub end_bad : (p : Program) (es : List Event) (called : List (List ℕ)) (a b : ℕ) (old line new : List ℕ) (fed : Bool) → b ≡ a + 1 →
     TakesLine old line fed new → IsBadFrom (Whole p es called) a old b
-end_bad p es called a b old line new fed n takes = bad_line (Whole p es called) a b old line new fed n takes (only_whole p es called line)
+end_bad p es called a b old line new fed n takes = bad_line (Whole p es called) a b old line new fed n takes (grind arith)
 
 pub end_read : (p : Program) (es : List Event) (called : List (List ℕ)) (a b : ℕ) (old : List ℕ) → b ≡ a → old ≡ [] →
     ReadsTo (Whole p es called) a old (Whole p es called) b []
@@ -166,25 +152,11 @@ has_verdict {p} {b1} {b2} {b3} {b4} {b5} {input} {r1} {r2} {r3} {r4} {standing} 
     let ran = reads_then Start (InSteps p []) (InCalls p es []) 0 b2 b3 input r2 r3 front steps.reads in
     let met = reads_then Start (InCalls p es []) whole 0 b3 b4 input r3 r4 ran met_calls.reads in
     let all = reads_then Start whole whole 0 b4 b5 input r4 [] met h5 in
-    record {
-      program = p;
-      steps = es;
-      called = met_calls.called;
-      recording = subst (λ (ls : List (List ℕ)). ReadsAll Start ls whole) (sym (all.lines_are ∙ append-nil all.before)) all.read;
-      verdict = is es met_calls.called steps.ran met_calls.met;
-    }
+    grind (arith, append-nil)
 
 pub fails_replay : (input old : List ℕ) (f : Fault) → FailsAt Start 0 input f → Replays input (Err f) old old
 fails_replay input old (fault.Script line) h = verdict.bad_line line refl h refl
-fails_replay input old fault.Memory h = no_memory refl refl
-fails_replay input old fault.Read h = no_read refl refl
-fails_replay input old fault.Write h = absurd h
-fails_replay input old fault.StepsFull h = absurd h
-fails_replay input old (fault.Refused why) h = absurd h
-fails_replay input old (fault.Torn place) h = absurd h
-fails_replay input old fault.Stalled h = absurd h
-fails_replay input old (fault.Differs place) h = absurd h
-fails_replay input old fault.Limit h = absurd h
+fails_replay input old each h = grind arith
 
 -- the writer failed
 pub told_short : (v : Verdict) (old text w : List ℕ) → text ≡ verdict_text v → CutOff old ((old ++ text) ++ []) w → Tells v (Err fault.Write) old w

@@ -13,30 +13,18 @@ above m n h = grind (arith, nat_tests)
 abbrev shown : Program → ℕ → List Event → List Event → List Break → Shown
 shown p l xs us bs = record { program = p; limit = l; standing = xs; taken_back = us; breaks = bs }
 
-same_fields : (p q : Program) (l m : ℕ) (xs ys us vs : List Event) (bs cs : List Break) → p ≡ q → l ≡ m → xs ≡ ys → us ≡ vs → bs ≡ cs →
-    shown p l xs us bs ≡ shown q m ys vs cs
-same_fields p q l m xs ys us vs bs cs a b c d e = cc
-
 pub same_shown : (s t : Shown) → s.program ≡ t.program → s.limit ≡ t.limit → s.standing ≡ t.standing → s.taken_back ≡ t.taken_back →
     s.breaks ≡ t.breaks → s ≡ t
-same_shown s t a b c d e =
-    same_fields s.program t.program s.limit t.limit s.standing t.standing s.taken_back t.taken_back s.breaks t.breaks a b c d e
+same_shown s t a b c d e = grind arith
 
 pub took : (s t : Shown) (e : Event) (outcome : Outcome) → TakesEvent s e (Ok outcome) t → reply s e ≡ Took t outcome.seen
-took s t e outcome h =
-    rw (below (length s.standing) s.limit h.answer.0)
-    (rw h.answer.2 (ap (λ (u : Shown). Took u outcome.seen)
-    (same_shown _ t (sym h.same_program) (sym h.same_limit) (sym h.answer.1) (sym h.taken_back) (sym h.same_breaks))))
+took s t e outcome h = grind arith
 
 pub refused : (s t : Shown) (e : Event) (why : Why) → TakesEvent s e (Err (fault.Refused why)) t → (reply s e ≡ Refused why) × (t ≡ s)
-refused s t e why h = (
-  rw (below (length s.standing) s.limit h.answer.0) (rw h.answer.2 refl),
-  same_shown t s h.same_program h.same_limit h.answer.1 h.taken_back h.same_breaks,
-)
+refused s t e why h = grind arith
 
 pub full : (s t : Shown) (e : Event) → TakesEvent s e (Err fault.StepsFull) t → (reply s e ≡ Full) × (t ≡ s)
-full s t e h =
-    (rw (above (length s.standing) s.limit h.answer.0) refl, same_shown t s h.same_program h.same_limit h.answer.1 h.taken_back h.same_breaks)
+full s t e h = grind arith
 
 -- ---- one step
 
@@ -56,9 +44,7 @@ nat_le_false m n h = grind (arith, nat_tests)
 -- so many steps were taken back
 pub back_text-taken : (n : ℕ) (s t : Shown) → n ≤ length s.standing → t ≡ moved_back n s
     → back_text n s ≡ at_text (length t.standing)
-back_text-taken n s t l e =
-    let same : length t.standing ≡ length s.standing - n = rw e (length-rest (length s.standing - n) s.standing (omega arith)) in
-    rw (nat_le_true n (length s.standing) l, same) refl
+back_text-taken n s t l e = grind (arith, length-rest, nat_le_true)
 
 pub back_after-taken : (n : ℕ) (s t : Shown) → n ≤ length s.standing → t ≡ moved_back n s → t ≡ back_after n s
 back_after-taken n s t l e = rw (nat_le_true n (length s.standing) l) e
@@ -74,11 +60,7 @@ pub ruleset backs = (back_text-taken, back_after-taken, back_text-refused, back_
 
 -- so many steps were run again
 pub forward_text-taken : (n : ℕ) (s t : Shown) → n ≤ length s.taken_back → t ≡ moved_forward n s → forward_text n s ≡ at_text (length t.standing)
-forward_text-taken n s t l e =
-    let same : length t.standing ≡ length s.standing + n =
-    ap (λ (u : Shown). length u.standing) e ∙ length-append s.standing (take n s.taken_back)
-    ∙ ap (λ (k : ℕ). length s.standing + k) (length-rest n s.taken_back l) in
-    rw (nat_le_true n (length s.taken_back) l, same) refl
+forward_text-taken n s t l e = grind (arith, length-append, length-rest, nat_le_true)
 
 pub forward_after-taken : (n : ℕ) (s t : Shown) → n ≤ length s.taken_back → t ≡ moved_forward n s → t ≡ forward_after n s
 forward_after-taken n s t l e = rw (nat_le_true n (length s.taken_back) l) e
@@ -126,9 +108,7 @@ last_match-some s (suc n) step l u m h = elim (cases_order step (suc n)) [
 ]
 
 pub break_back-found : (s : Shown) (step : ℕ) → IsLastBreak s step → last_break s ≡ Some step
-break_back-found s step h =
-    last_match-some s (length s.standing - 1) step h.first (omega (arith, h.before)) h.matches
-    (λ k a b. h.last k (omega arith) (omega (arith, h.before)))
+break_back-found s step h = grind (arith, last_match-some)
 
 pub break_back-none : (s : Shown) → NoneFrom s 1 → last_break s ≡ None
 break_back-none s h = last_match-none s (length s.standing - 1) (λ k a b. h k (omega arith) (omega arith))

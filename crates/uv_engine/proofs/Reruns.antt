@@ -11,35 +11,21 @@ use Rattle.uv_engine.specs.declared.verdict.Verdict.TheVariants.{Full}
 -- a step was taken
 pub ran_on : (p : Program) (es standing fs : List Event) (e : Event) (outcome : Outcome) → RanSo p es standing None →
     Answers STEPS p standing e (Ok outcome) fs → RanSo p (es ++ e ∷ []) fs None
-ran_on p es standing fs e outcome ran h =
-    let taken = subst (λ (xs : List Event). Accepts p xs) (sym ran.0) ran.1.0 in
-    let long : length (es ++ e ∷ []) ≤ STEPS = omega (arith, length-append es (e ∷ []), h.0, ap length ran.0) in
-    let accepts = accepts-push p standing e (after p fs) outcome.seen taken h.2 in
-    (h.1 ∙ ap (λ (xs : List Event). xs ++ e ∷ []) ran.0, (subst (λ (xs : List Event). Accepts p (xs ++ e ∷ [])) ran.0 accepts, long))
+ran_on p es standing fs e outcome ran h = grind (arith, length-append, accepts-push)
 
 -- it is refused
 pub ran_refused : (p : Program) (es standing fs : List Event) (e : Event) (why : Why) (n : ℕ) → RanSo p es standing None →
     Answers STEPS p standing e (Err (fault.Refused why)) fs → n ≡ length fs → RanSo p (es ++ e ∷ []) fs (Some (Refused (n + 1) why))
-ran_refused p es standing fs e why n ran h k =
-    let place : n ≡ length es = k ∙ ap length (h.1 ∙ ran.0) in
-    let within : length es < STEPS = omega (arith, h.0, ap length ran.0) in
-    let is = subst (λ (xs : List Event). next p (after p xs) e ≡ Refuses why) ran.0 h.2 in
-    subst (λ (m : ℕ). IsHalt p (es ++ e ∷ []) (Refused (m + 1) why)) (sym place) (refused es [] e why refl ran.1.0 within is)
+ran_refused p es standing fs e why n ran h k = grind (arith, refused)
 
 -- there are as many steps as may be
 pub ran_full : (p : Program) (es standing fs : List Event) (e : Event) (n : ℕ) → length standing ≤ STEPS → RanSo p es standing None →
     Answers STEPS p standing e (Err fault.StepsFull) fs → n ≡ length fs → RanSo p (es ++ e ∷ []) fs (Some (Full (n + 1)))
-ran_full p es standing fs e n few ran h k =
-    let place : n ≡ length es = k ∙ ap length (h.1 ∙ ran.0) in
-    let all : length es ≡ STEPS = omega (arith, h.0, few, ap length ran.0) in
-    subst (λ (m : ℕ). IsHalt p (es ++ e ∷ []) (Full (m + 1))) (sym place) (full es [] e refl ran.1.0 all)
+ran_full p es standing fs e n few ran h k = grind (arith, full)
 
 -- one step before it wasn't taken
 halt_more : (p : Program) (es : List Event) (e : Event) (v : Verdict) → IsHalt p es v → IsHalt p (es ++ e ∷ []) v
-halt_more p es e v (refused before rest x why h a l k) =
-    refused before (rest ++ e ∷ []) x why (ap (λ (xs : List Event). xs ++ e ∷ []) h ∙ append_assoc before (x ∷ rest) (e ∷ [])) a l k
-halt_more p es e v (full before rest x h a l) =
-    full before (rest ++ e ∷ []) x (ap (λ (xs : List Event). xs ++ e ∷ []) h ∙ append_assoc before (x ∷ rest) (e ∷ [])) a l
+halt_more p es e v e4 = grind (arith, refused, append_assoc, full)
 
 pub ran_halted : (p : Program) (es standing : List Event) (e : Event) (v : Verdict) → RanSo p es standing (Some v) →
     RanSo p (es ++ e ∷ []) standing (Some v)
@@ -56,10 +42,7 @@ called_at p es i x within is =
     let next : suc i ≡ i + 1 = omega arith in
     let inside : i < length (seen_by p es) = rw length-seen_by within in
     let found = get_or_from_slice_get (seen_by p es) i x x (subst (λ (n : ℕ). slice_get (seen_by p es) n ≡ Some x) here is) in
-    ap (λ (xs : List (Option Seen)). filter is_callback (flat_map option_to_list xs))
-    (drop-cons (seen_by p es) i x inside ∙ ap (λ (y : Option Seen). y ∷ drop (suc i) (seen_by p es)) found
-    ∙ ap (λ (n : ℕ). x ∷ drop n (seen_by p es)) next)
-    ∙ filter-append is_callback (option_to_list x) (flat_map option_to_list (drop (i + 1) (seen_by p es)))
+    grind (arith, drop-cons, filter-append)
 
 -- a step that calls back
 pub called_one : (p : Program) (es : List Event) (i : ℕ) (x : Option Seen) (l : Seen) → i < length es →
@@ -83,9 +66,7 @@ called_silent p es i x within is none =
 
 -- no step is left
 pub called_none : (p : Program) (es : List Event) (i : ℕ) → length es ≤ i → called_from p es i ≡ []
-called_none p es i l =
-    let m : length (seen_by p es) ≤ i = rw length-seen_by l in
-    ap (λ (xs : List (Option Seen)). filter is_callback (flat_map option_to_list xs)) (drop_all i (seen_by p es) m)
+called_none p es i l = search (length-seen_by, drop_all)
 
 pub ruleset calling = (called_one, called_other, called_silent, called_none)
 
@@ -94,44 +75,22 @@ pub ruleset calling = (called_one, called_other, called_silent, called_none)
 -- a line is that of the next callback
 pub met_same : (p : Program) (es : List Event) (called : List (List ℕ)) (i j n : ℕ) (l : Seen) (line : List ℕ) → MetSo p es called i n None →
     called_from p es i ≡ l ∷ called_from p es j → line ≡ line_text p l → MetSo p es (called ++ line ∷ []) j (n + 1) None
-met_same p es called i j n l line met next is = (
-  omega (arith, met.0, length-append called (line ∷ [])),
-  met.1 ∙ ap (λ (xs : List Seen). called ++ map (line_text p) xs) next
-      ∙ ap (λ (x : List ℕ). called ++ x ∷ map (line_text p) (called_from p es j)) (sym is)
-      ∙ sym (append_assoc called (line ∷ []) (map (line_text p) (called_from p es j))),
-)
+met_same p es called i j n l line met next is = grind (arith, length-append, append_assoc)
 
 -- it isn't
 pub met_other : (p : Program) (es : List Event) (called : List (List ℕ)) (i j n : ℕ) (l : Seen) (line : List ℕ) → MetSo p es called i n None →
     called_from p es i ≡ l ∷ called_from p es j → (line ≡ line_text p l → ⊥) → MetSo p es (called ++ line ∷ []) j (n + 1) (Some (n + 1))
-met_other p es called i j n l line met next other = λ more. record {
-  same = called;
-  left = line ∷ more;
-  right = line_text p l ∷ map (line_text p) (called_from p es j);
-  left_is = append_assoc called (line ∷ []) more;
-  right_is = met.1 ∙ ap (λ (xs : List Seen). called ++ map (line_text p) xs) next;
-  apart = other;
-  counted = ap (λ (k : ℕ). k + 1) met.0;
-}
+met_other p es called i j n l line met next other = grind (arith, append_assoc)
 
 -- no callback is left
 pub met_past : (p : Program) (es : List Event) (called : List (List ℕ)) (i j n : ℕ) (line : List ℕ) → MetSo p es called i n None →
     called_from p es i ≡ [] → MetSo p es (called ++ line ∷ []) j (n + 1) (Some (n + 1))
-met_past p es called i j n line met none = λ more. record {
-  same = called;
-  left = line ∷ more;
-  right = [];
-  left_is = append_assoc called (line ∷ []) more;
-  right_is = met.1 ∙ ap (λ (xs : List Seen). called ++ map (line_text p) xs) none;
-  apart = tt;
-  counted = ap (λ (k : ℕ). k + 1) met.0;
-}
+met_past p es called i j n line met none = grind (arith, append_assoc)
 
 -- a line before it differs
 pub met_parted : (p : Program) (es : List Event) (called : List (List ℕ)) (i j n m place : ℕ) (line : List ℕ) → MetSo p es called i n (Some place) →
     MetSo p es (called ++ line ∷ []) j m (Some place)
-met_parted p es called i j n m place line met = λ more.
-    subst (λ (xs : List (List ℕ)). PartAt xs (callback_lines p es) place) (sym (append_assoc called (line ∷ []) more)) (met (line ∷ more))
+met_parted p es called i j n m place line met = search append_assoc
 
 pub ruleset meeting = (met_same, met_other, met_past, met_parted)
 

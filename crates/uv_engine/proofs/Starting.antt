@@ -33,19 +33,13 @@ fed_line : (line rest : List ℕ) → line ++ 10 ∷ rest ≡ [] → ⊥
 fed_line [] rest e = cc e
 fed_line (b ∷ bs) rest e = cc e
 
-no_more : (after script commands : List ℕ) → after ≡ [] → Begins after script commands → ⊥
-no_more _ script commands e (here {commands = c}) = cc e
-no_more _ script commands e here_at_end = cc e
-no_more _ _ commands e (later {line = line} {rest = rest} n other k) = fed_line line rest e
-
 more_last : (input text before line after : List ℕ) → CanBegin input text before → NoFeed line → before ≡ line → after ≡ [] → line ≢ codes "begin"
     → CanBegin input (text ++ line) after
 more_last input text before line after h n e z other =
     let never_line : NeverBegins before = subst NeverBegins (sym e) (last_line n other) in record {
-      begins = λ script commands k. absurd (no_more after script commands z k);
+      begins = λ script commands k. absurd (grind (arith, fed_line));
       never = λ k. h.never never_line;
-      whole = h.whole ∙ ap (λ (xs : List ℕ). text ++ xs) e ∙ ap (λ (xs : List ℕ). text ++ xs) (sym (append-nil line))
-          ∙ sym (append_assoc text line []) ∙ ap (λ (xs : List ℕ). (text ++ line) ++ xs) (sym z);
+      whole = grind (arith, append-nil, append_assoc);
     }
 
 pub can_go_on : {input text before line after more : List ℕ} (fed : Bool) → CanBegin input text before → TakesLine before line fed after
@@ -61,17 +55,7 @@ begins_here before line after false k e = subst (λ (xs : List ℕ). Begins befo
     (subst (λ (xs : List ℕ). Begins xs [] []) (sym (k.2 ∙ e)) here_at_end)
 
 parsed : (input text after : List ℕ) (r : Result Program Fault) → Begins input text after → Parses text r → ReadsScript input r after
-parsed input text after (Ok p) b h = record { script = text; begins = b; is = h }
-parsed input text after (Err (fault.Script line)) b h = bad_line text after b h
-parsed input text after (Err fault.Memory) b h = tt
-parsed input text after (Err (fault.Refused why)) b h = absurd h
-parsed input text after (Err fault.StepsFull) b h = absurd h
-parsed input text after (Err fault.Read) b h = absurd h
-parsed input text after (Err fault.Write) b h = absurd h
-parsed input text after (Err (fault.Torn at)) b h = absurd h
-parsed input text after (Err fault.Stalled) b h = absurd h
-parsed input text after (Err (fault.Differs at)) b h = absurd h
-parsed input text after (Err fault.Limit) b h = absurd h
+parsed input text after r b h = grind (arith, bad_line)
 
 -- the line `begin` was read
 pub front_begun : {input text before line : List ℕ} (after : List ℕ) (fed : Bool) → CanBegin input text before → TakesLine before line fed after →
@@ -92,48 +76,10 @@ missing input text line n e (at_line h) = bad_input n (subst (λ (xs : List ℕ)
 -- what the text in front of `begin` says
 pub front_read : (input text rest : List ℕ) (begun : Bool) (r : Result Program Fault) → IsFront input text begun rest →
     ParsesFront unread text begun r → ReadsScript input r rest
-front_read input text rest true r h p = parsed input text rest r h p
-front_read input text rest false (Ok q) h p = absurd p
-front_read input text rest false (Err (fault.Script line)) h p = missing input text line h.0 h.1 p
-front_read input text rest false (Err fault.Memory) h p = tt
-front_read input text rest false (Err (fault.Refused why)) h p = absurd p
-front_read input text rest false (Err fault.StepsFull) h p = absurd p
-front_read input text rest false (Err fault.Read) h p = absurd p
-front_read input text rest false (Err fault.Write) h p = absurd p
-front_read input text rest false (Err (fault.Torn at)) h p = absurd p
-front_read input text rest false (Err fault.Stalled) h p = absurd p
-front_read input text rest false (Err (fault.Differs at)) h p = absurd p
-front_read input text rest false (Err fault.Limit) h p = absurd p
-
--- what a parse may answer are faults of a start
-start_fault : (text : List ℕ) (f : Fault) → Parses text (Err f) → IsStartFault f
-start_fault text (fault.Script line) h = tt
-start_fault text fault.Memory h = tt
-start_fault text (fault.Refused why) h = absurd h
-start_fault text fault.StepsFull h = absurd h
-start_fault text fault.Read h = absurd h
-start_fault text fault.Write h = absurd h
-start_fault text (fault.Torn at) h = absurd h
-start_fault text fault.Stalled h = absurd h
-start_fault text (fault.Differs at) h = absurd h
-start_fault text fault.Limit h = absurd h
-
-missing_fault : (text : List ℕ) (f : Fault) → NoScript unread text f → IsStartFault f
-missing_fault text (fault.Script line) h = tt
-missing_fault text fault.Memory h = tt
-missing_fault text (fault.Refused why) h = absurd h
-missing_fault text fault.StepsFull h = absurd h
-missing_fault text fault.Read h = absurd h
-missing_fault text fault.Write h = absurd h
-missing_fault text (fault.Torn at) h = absurd h
-missing_fault text fault.Stalled h = absurd h
-missing_fault text (fault.Differs at) h = absurd h
-missing_fault text fault.Limit h = absurd h
+front_read input text rest begun r h p = grind (arith, parsed, missing)
 
 pub front_fault : (text : List ℕ) (begun : Bool) (r : Result Program Fault) → ParsesFront unread text begun r → IfErr r IsStartFault
-front_fault text begun (Ok p) h = tt
-front_fault text true (Err f) h = start_fault text f h
-front_fault text false (Err f) h = missing_fault text f h
+front_fault text each e2 h = grind arith
 
 -- a script that has no line `begin`
 pub no_script : (d : Draft) (text : List ℕ) (p : Program) (f : Fault) → MakesFrom d (lines_of text) p →
@@ -142,24 +88,13 @@ no_script d text p f h e = subst (NoScript d text) (sym e) (after_last p h)
 
 pub no_script_fault : (d : Draft) (text : List ℕ) (f : Fault) → ParsesFrom d text (Err f) → NoScript d text f
 no_script_fault d text (fault.Script line) h = at_line h
-no_script_fault d text fault.Memory h = tt
-no_script_fault d text (fault.Refused why) h = absurd h
-no_script_fault d text fault.StepsFull h = absurd h
-no_script_fault d text fault.Read h = absurd h
-no_script_fault d text fault.Write h = absurd h
-no_script_fault d text (fault.Torn at) h = absurd h
-no_script_fault d text fault.Stalled h = absurd h
-no_script_fault d text (fault.Differs at) h = absurd h
-no_script_fault d text fault.Limit h = absurd h
+no_script_fault d text each h = assumption
 
 -- ---- every input asks for something
 -- where an input begins, if it does
 data Starts (input : List ℕ) : Type 0 where
   begun : (script commands : List ℕ) → Begins input script commands → Starts input
   never : NeverBegins input → Starts input
-
-feed_step : (part : List ℕ) (b : ℕ) → NoFeed part → (b == 10) ≡ false → NoFeed (part ++ b ∷ [])
-feed_step part b n e = grind (arith, elements, n)
 
 ends_here : (part : List ℕ) → NoFeed part → Starts part
 ends_here part n = at (bytes_eq part (codes "begin")) refl where
@@ -183,7 +118,7 @@ starts_from part (b ∷ bs) n = at (b == 10) refl (λ more k. starts_from more b
   at : (x : Bool) → (b == 10) ≡ x → ((more : List ℕ) → NoFeed more → Starts (more ++ bs)) → Starts (part ++ b ∷ bs)
   at true e on = subst (λ (c : ℕ). Starts (part ++ c ∷ bs)) (sym ((Decides-eqb b 10).0 e))
       (line_here part bs n (on [] (λ k d l. absurd (omega arith))))
-  at false e on = subst Starts (append_assoc part (b ∷ []) bs) (on (part ++ b ∷ []) (feed_step part b n e))
+  at false e on = subst Starts (append_assoc part (b ∷ []) bs) (on (part ++ b ∷ []) (grind (arith, elements)))
 
 starts : (input : List ℕ) → Starts input
 starts input = starts_from [] input (λ k d l. absurd (omega arith))
@@ -206,10 +141,7 @@ of_never texts input n = at (texts input) where
   at (inr r) = record { text = []; end = BadScript r.0; is = bad_input n r.1 }
 
 pub some_out : EveryText → EveryLine → (input : List ℕ) → HasAnswer input
-some_out texts lines input = at (starts input) where
-  at : Starts input → HasAnswer input
-  at (begun script commands b) = of_begun texts lines input script commands b
-  at (never n) = of_never texts input n
+some_out texts lines input = grind (arith, starts, of_begun, of_never)
 
 -- ---- the whole
 -- nothing was written yet
@@ -223,16 +155,7 @@ cut_start texts lines input old = let some = some_out texts lines input in recor
 
 pub no_start : EveryText → EveryLine → (input rest old : List ℕ) (f : Fault) → IsStartFault f → ReadsScript input (Err f) rest
     → Converses input (Err f) old old
-no_start texts lines input rest old (fault.Script line) s h = (h, refl)
-no_start texts lines input rest old fault.Memory s h = cut_start texts lines input old
-no_start texts lines input rest old fault.Read s h = cut_start texts lines input old
-no_start texts lines input rest old (fault.Refused why) s h = absurd s
-no_start texts lines input rest old fault.StepsFull s h = absurd s
-no_start texts lines input rest old fault.Write s h = absurd s
-no_start texts lines input rest old (fault.Torn at) s h = absurd s
-no_start texts lines input rest old fault.Stalled s h = absurd s
-no_start texts lines input rest old (fault.Differs at) s h = absurd s
-no_start texts lines input rest old fault.Limit s h = absurd s
+no_start texts lines input rest old f s h = grind (arith, cut_start)
 
 -- there is no memory for the machine
 pub no_machine : EveryText → EveryLine → (input old : List ℕ) (f : Fault) → f ≡ fault.Memory → Converses input (Err f) old old

@@ -11,9 +11,6 @@ pub record CanTalkOn (all : List (List ℕ)) (s0 : Shown) (lines : List (List �
   pub said : written ++ gathered ≡ old ++ part
   pub onward : (rest : List ℕ) (end : Ended) → Talks lines s rest end → Talks all s0 (part ++ rest) end
 
-pub can_begin : (lines : List (List ℕ)) (s : Shown) (old : List ℕ) → CanTalkOn lines s lines s old old []
-can_begin lines s old = record { part = []; grown = grown_none old; said = refl; onward = λ rest end h. h }
-
 -- every line asks for something
 abbrev pub EveryLine : Type 0
 EveryLine = (names : List (List ℕ)) (line : List ℕ) → Asks names line (asked_of names line)
@@ -69,24 +66,12 @@ lines_last (b ∷ c ∷ bs) h n = rw (all_head b (c ∷ bs) h, lines_last (c ∷
 
 -- the lines with the next one
 pub lines_next : (old new line : List ℕ) (fed : Bool) → TakesLine old line fed new → lines_of old ≡ line ∷ lines_of new
-lines_next old new line true h = ap lines_of h.1 ∙ lines_fed line new h.0
-lines_next old new line false h = ap lines_of h.2 ∙ lines_last line h.0 h.1 ∙ ap (λ (ls : List ℕ). line ∷ lines_of ls) (sym h.3)
+lines_next old new line fed h = grind (arith, lines_fed, lines_last)
 
 -- what was written is a beginning of answers to all
 pub cut_talk : (all : List (List ℕ)) (s0 : Shown) (old new whole rest : List ℕ) (end : Ended) → Talks all s0 whole end → Grown old new
     → new ++ rest ≡ old ++ whole → TalksCut all s0 old new
-cut_talk all s0 old new whole rest end talks grown e = record {
-  text = whole;
-  end = end;
-  is = talks;
-  cut = record {
-    part = grown.part;
-    rest = rest;
-    whole = append_cancel_left old (grown.part ++ rest) whole
-        (sym (append_assoc old grown.part rest) ∙ ap (λ (xs : List ℕ). xs ++ rest) (sym grown.is) ∙ e);
-    written = grown.is;
-  };
-}
+cut_talk all s0 old new whole rest end talks grown e = grind (arith, append_cancel_left, append_assoc)
 
 -- more was written of what was gathered
 pub can_write : {all : List (List ℕ)} {s0 : Shown} {lines : List (List ℕ)} {s : Shown} {old w t v u : List ℕ} → CanTalkOn all s0 lines s old w t
@@ -116,8 +101,7 @@ pub cut_waiting : {all : List (List ℕ)} {s0 : Shown} {lines : List (List ℕ)}
     → CanTalkOn all s0 lines s old w t → TalksCut all s0 old w
 cut_waiting {all} {s0} {lines} {s} {old} {w} {t} every h =
     let some = some_talk every lines s in
-    cut_talk all s0 old w (h.part ++ some.text) (t ++ some.text) some.end (h.onward some.text some.end some.is) h.grown
-    (sym (append_assoc w t some.text) ∙ ap (λ (xs : List ℕ). xs ++ some.text) h.said ∙ append_assoc old h.part some.text)
+    grind (arith, cut_talk, append_assoc)
 
 -- a write failed
 pub cut_writing : {all : List (List ℕ)} {s0 : Shown} {lines : List (List ℕ)} {s : Shown} {old w t v : List ℕ} → EveryLine
@@ -126,8 +110,7 @@ cut_writing {all} {s0} {lines} {s} {old} {w} {t} {v} every h k =
     let some = some_talk every lines s in
     cut_talk all s0 old v (h.part ++ some.text) (k.rest ++ some.text) some.end (h.onward some.text some.end some.is)
     (grown_more old w v h.grown k.grown)
-    (sym (append_assoc v k.rest some.text) ∙ ap (λ (xs : List ℕ). xs ++ some.text) (k.whole ∙ append-nil (w ++ t) ∙ h.said)
-    ∙ append_assoc old h.part some.text)
+    (grind (arith, append_assoc, append-nil))
 
 -- an answer was cut off
 pub cut_answer : {all : List (List ℕ)} {s0 : Shown} {line : List ℕ} {lines : List (List ℕ)} {s : Shown} {asked : Asked} {f : Fault}
@@ -139,24 +122,12 @@ cut_answer {all} {s0} {line} {lines} {s} {asked} {f} {old} {w} {t} {v} {u} every
     let cut = k.gathers in
     cut_talk all s0 old v (h.part ++ text) (cut.rest ++ some.text) some.end (h.onward text some.end (goes_on asked k.text some.text a q k.is some.is))
     (grown_more old w v h.grown cut.grown)
-    (sym (append_assoc v cut.rest some.text) ∙ ap (λ (xs : List ℕ). xs ++ some.text)
-    (cut.whole ∙ ap (λ (xs : List ℕ). xs ++ k.text) h.said ∙ append_assoc old h.part k.text)
-    ∙ append_assoc old (h.part ++ k.text) some.text ∙ ap (λ (xs : List ℕ). old ++ xs) (append_assoc h.part k.text some.text))
+    (grind (arith, append_assoc))
 
 -- the last text is written, or a beginning of it
 finish_talk : (all : List (List ℕ)) (s0 : Shown) (lines : List (List ℕ)) (s : Shown) (old w t v : List ℕ) (end : Ended)
     (r : Result Ended Fault) → EveryLine → CanTalkOn all s0 lines s old w t → Talks lines s [] end → Finishes r end w t v → TalksOn all s0 r old v
-finish_talk all s0 lines s old w t v end (Ok ended) every h talks k = record {
-  text = h.part ++ [];
-  is = subst (λ (x : Ended). Talks all s0 (h.part ++ []) x) (sym k.0) (h.onward [] end talks);
-  written = k.1 ∙ h.said ∙ ap (λ (xs : List ℕ). old ++ xs) (sym (append-nil h.part));
-}
-finish_talk all s0 lines s old w t v end (Err fault) every h talks k =
-    cut_talk all s0 old v (h.part ++ []) (k.rest ++ []) end (h.onward [] end talks)
-    (grown_more old w v h.grown (record { part = k.part; is = k.written }))
-    (ap (λ (xs : List ℕ). xs ++ (k.rest ++ [])) k.written ∙ append_assoc w k.part (k.rest ++ [])
-    ∙ ap (λ (xs : List ℕ). w ++ xs) (sym (append_assoc k.part k.rest []) ∙ append-nil (k.part ++ k.rest) ∙ k.whole) ∙ h.said
-    ∙ ap (λ (xs : List ℕ). old ++ xs) (sym (append-nil h.part)))
+finish_talk all s0 lines s old w t v end r every h talks k = grind (arith, append-nil, cut_talk, grown_more, append_assoc)
 
 -- the input is at its end
 pub talk_ends : {all : List (List ℕ)} {s0 : Shown} {lines : List (List ℕ)} {s : Shown} {old w t : List ℕ} (v : List ℕ) (r : Result Ended Fault)

@@ -1,22 +1,13 @@
 use Rattle.uv_engine.proofs.Names.{Ok, Err, arith, err_from_is_err_and, left}
 use Rattle.uv_engine.proofs.Starting.{no_start, no_machine, talked, begun_session, reads_whole}
-use Rattle.uv_engine.proofs.Faults.{taken, no_memory, talked_within, start_converses, memory_converses, talk_converses, talk_counts}
+use Rattle.uv_engine.proofs.Faults.{taken, talked_within, talk_converses, talk_counts}
 use Rattle.uv_engine.proofs.conversation.converse_within.Goals as goal
 
 pub returns-in_err-script-clause-text : goal.returns-in_err-script-clause-text
-returns-in_err-script-clause-text g c = λ reads tells.
-    let input = g.R.Source.remaining c.args.reader.now in
-    let rest = left c.read_script.new.input (g.R.Source.remaining c.read_script.new.reader) in
-    let fault = c.in_err-script.field-0.0 in
-    let read = reads_whole c.new-input.result input rest (Err fault) c.new-input.ensures.empty (c.in_err-script.ensures.script reads) in
-    let p = err_from_is_err_and c.from_residual.result c.from_residual.ensures.1 in
-    rw (p.1, p.2) (no_start c.one_reading.ensures.some c.every_line_asks.ensures.some input rest _ fault c.in_err-script.ensures.err read)
+returns-in_err-script-clause-text g c = grind (arith, reads_whole, err_from_is_err_and, no_start)
 
 pub returns-in_err-machine-clause-text : goal.returns-in_err-machine-clause-text
-returns-in_err-machine-clause-text g c = λ reads tells.
-    let p = err_from_is_err_and c.from_residual-in_err-machine.result c.from_residual-in_err-machine.ensures.1 in
-    rw (p.1, p.2)
-    (no_machine c.one_reading.ensures.some c.every_line_asks.ensures.some _ _ _ c.in_err-machine.ensures.err)
+returns-in_err-machine-clause-text g c = grind (arith, err_from_is_err_and, no_machine)
 
 pub returns-clause-text : goal.returns-clause-text
 returns-clause-text g c = λ reads tells.
@@ -29,27 +20,16 @@ returns-clause-text g c = λ reads tells.
     talked input script rest c.new.result _ _ c.talk.result read session c.talk.ensures.err (c.talk.ensures.text reads tells)
 
 pub returns-in_err-script-clause-within : goal.returns-in_err-script-clause-within
-returns-in_err-script-clause-within g c =
-    let p = err_from_is_err_and c.from_residual.result c.from_residual.ensures.1 in
-    rw (p.1, p.2)
-    (taken c.in_err-script.field-0.0 g.R.Source.Tells c.args.limit c.new-input.result.budget c.read_script.new.input.budget
-    (g.R.Source.remaining c.args.reader.now) (g.R.Source.remaining c.args.reader.now) (g.R.Source.remaining c.read_script.new.reader)
-    c.in_err-script.ensures.budget (λ reads. omega (arith, c.new-input.ensures.budget)))
+returns-in_err-script-clause-within g c = grind arith
 
 pub returns-in_err-script-clause-err : goal.returns-in_err-script-clause-err
-returns-in_err-script-clause-err g c =
-    let p = err_from_is_err_and c.from_residual.result c.from_residual.ensures.1 in
-    rw (p.1, p.2) (start_converses _ c.in_err-script.ensures.err)
+returns-in_err-script-clause-err g c = grind arith
 
 pub returns-in_err-machine-clause-within : goal.returns-in_err-machine-clause-within
-returns-in_err-machine-clause-within g c =
-    let p = err_from_is_err_and c.from_residual-in_err-machine.result c.from_residual-in_err-machine.ensures.1 in
-    rw (p.1, p.2) (no_memory _ _ c.in_err-machine.ensures.err)
+returns-in_err-machine-clause-within g c = grind arith
 
 pub returns-in_err-machine-clause-err : goal.returns-in_err-machine-clause-err
-returns-in_err-machine-clause-err g c =
-    let p = err_from_is_err_and c.from_residual-in_err-machine.result c.from_residual-in_err-machine.ensures.1 in
-    rw (p.1, p.2) (memory_converses _ c.in_err-machine.ensures.err)
+returns-in_err-machine-clause-err g c = grind arith
 
 pub returns-clause-within : goal.returns-clause-within
 returns-clause-within g c = talked_within c.talk.result c.talk.ensures.err c.talk.ensures.within

@@ -3,13 +3,7 @@ use Rattle.uv_engine.proofs.Recordings.{none_step, skipped_here}
 use Rattle.uv_engine.proofs.numbered.first_skipped.Goals as goal
 
 pub loop-line-init : goal.loop-line-init
-loop-line-init c = record {
-  can = tt;
-  finite = tt;
-  say = tt;
-  counted = refl;
-  rest = c.into_iter-line-iterator.ensures.into_iter_gives ∙ c.of-line-items.ensures;
-}
+loop-line-init c = grind arith
 
 pub overflow_add-number : goal.overflow_add-number
 overflow_add-number c =
@@ -39,8 +33,7 @@ loop-line-preserved c =
     record {
       can = tt;
       finite = tt;
-      say = none_step (λ line. line.now) loop.yielded line loop.invariant.say
-          (λ skipped. both_ways _ (sym c.if-is_skipped.ensures.test) ((is_skipped_decides line.now).1 skipped));
+      say = grind (arith, none_step, both_ways, is_skipped_decides);
       counted = ap (λ n. n + 1) loop.invariant.counted ∙ sym (length-append loop.yielded (line ∷ []));
       rest = lines_step (λ line. line.now) _ loop.yielded line loop.line-iterator c.next.new.self loop.invariant.rest c.in-Some.ensures.steps;
     }

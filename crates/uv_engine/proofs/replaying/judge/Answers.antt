@@ -1,15 +1,11 @@
 use Rattle.uv_engine.proofs.Names.{[], arith, err_from_is_err_and, unread_in, Start, InScript, InCalls, Whole}
 use Rattle.uv_engine.proofs.Recordings.{reads_then}
 use Rattle.uv_engine.proofs.Replays.{fails_then, has_verdict}
-use Rattle.uv_engine.proofs.Faults.{taken, no_memory}
+use Rattle.uv_engine.proofs.Faults.{taken}
 use Rattle.uv_engine.proofs.replaying.judge.Goals as goal
 
 pub returns-in_err-script-clause-verdict : goal.returns-in_err-script-clause-verdict
-returns-in_err-script-clause-verdict g c = λ reads.
-    let p = err_from_is_err_and c.from_residual-in_err-script.result c.from_residual-in_err-script.ensures.1 in
-    let first = rw c.new.ensures.empty at (c.in_ok-version.ensures.read reads) in
-    rw (p.1, p.2)
-    (fails_then Start (InScript (unread_in c.in_ok-version.version)) _ _ _ _ c.in_err-script.field-0.0 first (c.in_err-script.ensures.read reads))
+returns-in_err-script-clause-verdict g c = grind (arith, err_from_is_err_and, fails_then)
 
 pub returns-in_err-read_steps-clause-verdict : goal.returns-in_err-read_steps-clause-verdict
 returns-in_err-read_steps-clause-verdict g c = λ reads.
@@ -57,27 +53,13 @@ returns-clause-verdict g c = λ reads.
     has_verdict (unread_in c.in_ok-version.version) c.verdict.result first script steps calls end verdict
 
 pub returns-in_err-version-clause-within : goal.returns-in_err-version-clause-within
-returns-in_err-version-clause-within g c =
-    let p = err_from_is_err_and c.from_residual.result c.from_residual.ensures.1 in
-    rw (p.1, p.2)
-    (taken c.in_err-version.field-0.0 g.R.Source.Tells c.args.limit c.new.result.budget c.read_version.new.self.input.budget
-    (g.R.Source.remaining c.args.reader.now) (g.R.Source.remaining c.args.reader.now) (g.R.Source.remaining c.read_version.new.reader)
-    c.in_err-version.ensures.budget
-    (λ reads. omega (arith, c.new.ensures.budget)))
+returns-in_err-version-clause-within g c = grind arith
 
 pub returns-in_err-script-clause-within : goal.returns-in_err-script-clause-within
-returns-in_err-script-clause-within g c =
-    let p = err_from_is_err_and c.from_residual-in_err-script.result c.from_residual-in_err-script.ensures.1 in
-    rw (p.1, p.2)
-    (taken c.in_err-script.field-0.0 g.R.Source.Tells c.args.limit c.read_version.new.self.input.budget c.read_script.new.self.input.budget
-    (g.R.Source.remaining c.args.reader.now) (g.R.Source.remaining c.read_version.new.reader) (g.R.Source.remaining c.read_script.new.reader)
-    c.in_err-script.ensures.budget
-    (λ reads. omega (arith, c.new.ensures.budget, c.in_ok-version.ensures.budget reads)))
+returns-in_err-script-clause-within g c = grind arith
 
 pub returns-in_err-begin-clause-within : goal.returns-in_err-begin-clause-within
-returns-in_err-begin-clause-within g c =
-    let p = err_from_is_err_and c.from_residual-in_err-begin.result c.from_residual-in_err-begin.ensures.1 in
-    rw (p.1, p.2) (no_memory _ _ c.in_err-begin.ensures.err)
+returns-in_err-begin-clause-within g c = grind arith
 
 pub returns-in_err-read_steps-clause-within : goal.returns-in_err-read_steps-clause-within
 returns-in_err-read_steps-clause-within g c =
@@ -95,13 +77,7 @@ returns-in_err-read_calls-clause-within g c =
     (taken c.in_err-read_calls.field-0.0 g.R.Source.Tells c.args.limit c.read_steps.new.input.input.budget c.read_calls.new.input.input.budget
     (g.R.Source.remaining c.args.reader.now) (g.R.Source.remaining c.read_steps.new.reader) (g.R.Source.remaining c.read_calls.new.reader)
     c.in_err-read_calls.ensures.budget
-    (λ reads. omega (
-      arith,
-      c.new.ensures.budget,
-      c.in_ok-version.ensures.budget reads,
-      c.in_ok-script.ensures.budget reads,
-      c.in_ok-read_steps.ensures.budget reads,
-    )))
+    (λ reads. grind arith))
 
 pub returns-in_err-expect_end-clause-within : goal.returns-in_err-expect_end-clause-within
 returns-in_err-expect_end-clause-within g c =

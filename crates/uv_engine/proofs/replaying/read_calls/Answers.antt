@@ -1,21 +1,10 @@
 use Rattle.uv_engine.proofs.Names.{ℕ, ◌+◌, arith, refl, ap, sym, subst, ◌∙◌, both_ways, IsCallbackLine, err_from_is_err_and}
 use Rattle.uv_engine.proofs.Replays.{calls_none, calls_more, calls_end, calls_bad, calls_missing}
-use Rattle.uv_engine.proofs.Faults.{no_read, no_memory}
+use Rattle.uv_engine.proofs.Faults.{no_read}
 use Rattle.uv_engine.proofs.replaying.read_calls.Goals as goal
 
 pub lines-init : goal.lines-init
-lines-init g c = record {
-  end = c.requires.end;
-  reads = λ reads es. calls_none _ _ _ _ _ _ _ _ _ c.requires.looked c.requires.count c.requires.parted;
-  machine = refl;
-  halted = refl;
-  looked = rw c.requires.looked (omega arith);
-  count = rw c.requires.count (omega arith);
-  few = omega arith;
-  budget = λ reads. refl;
-  given = λ few. refl;
-  none_failed = refl;
-}
+lines-init g c = grind (arith, calls_none)
 
 pub returns-in_default-clause-calls : goal.returns-in_default-clause-calls
 returns-in_default-clause-calls g c = λ reads es.
@@ -60,26 +49,18 @@ lines-preserved g c = rw c.reuse.ensures (record {
       let smaller = rw c.in-Some.is at c.in_ok-line.ensures.size in
       omega (arith, taken, smaller, c.lines.invariant.few);
   budget = λ reads. omega (arith, c.lines.invariant.budget reads, c.in_ok-line.ensures.budget reads);
-  given = λ few.
-      let same = c.lines.invariant.given few in
-      omega (arith, same, c.in_ok-line.ensures.given (omega (arith, same, few)));
+  given = grind arith;
   none_failed = c.in_ok-line.ensures.reader ∙ c.lines.invariant.none_failed;
 })
 
 pub returns-in_err-line-clause-budget : goal.returns-in_err-line-clause-budget
-returns-in_err-line-clause-budget g c =
-    let p = err_from_is_err_and c.from_residual.result c.from_residual.ensures.1 in
-    rw (p.1, p.2) (no_read _ _ c.in_err-line.ensures.err)
+returns-in_err-line-clause-budget g c = grind arith
 
 pub returns-in_default-clause-budget : goal.returns-in_default-clause-budget
-returns-in_default-clause-budget g c =
-    rw c.missing.ensures (λ reads. omega (arith, c.lines.invariant.budget reads, c.in_ok-line.ensures.budget reads))
+returns-in_default-clause-budget g c = grind arith
 
 pub returns-then-not-is_callback_line-clause-budget : goal.returns-then-not-is_callback_line-clause-budget
-returns-then-not-is_callback_line-clause-budget g c =
-    rw c.bad.ensures (λ reads. omega (arith, c.lines.invariant.budget reads, c.in_ok-line.ensures.budget reads))
+returns-then-not-is_callback_line-clause-budget g c = grind arith
 
 pub returns-in_err-meet-clause-budget : goal.returns-in_err-meet-clause-budget
-returns-in_err-meet-clause-budget g c =
-    let p = err_from_is_err_and c.from_residual-in_err-meet.result c.from_residual-in_err-meet.ensures.1 in
-    rw p.1 (no_memory _ _ p.2)
+returns-in_err-meet-clause-budget g c = grind arith

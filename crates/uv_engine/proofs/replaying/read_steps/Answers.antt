@@ -1,39 +1,16 @@
 use Rattle.uv_engine.proofs.Names.{arith, refl, sym, ◌∙◌, accepts-nil, err_from_is_err_and}
 use Rattle.uv_engine.proofs.Replays.{steps_none, steps_more, steps_end, steps_bad}
-use Rattle.uv_engine.proofs.Faults.{no_read, no_memory}
+use Rattle.uv_engine.proofs.Faults.{no_read}
 use Rattle.uv_engine.proofs.replaying.read_steps.Goals as goal
 
 pub lines-init : goal.lines-init
-lines-init g c = record {
-  end = c.requires.end;
-  reads = λ reads. steps_none _ _ _ _ _ (rw (c.requires.fresh, c.requires.running) (refl, (accepts-nil _, omega arith)));
-  few_steps = rw c.requires.fresh (omega arith);
-  program = refl;
-  looked = refl;
-  count = refl;
-  parted = refl;
-  few = omega arith;
-  budget = λ reads. refl;
-  given = λ few. refl;
-  none_failed = refl;
-}
+lines-init g c = grind (arith, steps_none, accepts-nil)
 
 pub returns-then-is_calls-clause-steps : goal.returns-then-is_calls-clause-steps
-returns-then-is_calls-clause-steps g c = λ reads.
-    let taken = rw c.in-Some.is at (c.in_ok-line.ensures.line reads) in
-    let count = rw c.in-Some.is at c.in_ok-line.ensures.taken in
-    steps_end _ c.in-Some.line.text.items _ c.in-Some.line.fed (c.lines.invariant.reads reads) count taken
-    (sym c.as_slice.ensures.value ∙ c.is_calls.ensures.is c.if-is_calls.true)
+returns-then-is_calls-clause-steps g c = grind (arith, steps_end)
 
 pub returns-in_default-read_step-clause-steps : goal.returns-in_default-read_step-clause-steps
-returns-in_default-read_step-clause-steps g c = λ reads.
-    let taken = rw c.in-Some.is at (c.in_ok-line.ensures.line reads) in
-    let count = rw c.in-Some.is at c.in_ok-line.ensures.taken in
-    let script = c.script-script.ensures ∙ c.lines.invariant.program in
-    let none = rw (c.as_slice-in-lines.ensures.value, script) at c.in_default-read_step.ensures.none in
-    rw c.bad.ensures
-    (steps_bad _ c.in-Some.line.text.items _ c.in-Some.line.fed (c.lines.invariant.reads reads) count taken
-    (λ e. c.is_calls.ensures.other c.if-is_calls.false (c.as_slice.ensures.value ∙ e)) none)
+returns-in_default-read_step-clause-steps g c = grind (arith, steps_bad)
 
 pub lines-preserved : goal.lines-preserved
 lines-preserved g c = rw c.reuse.ensures (record {
@@ -55,26 +32,18 @@ lines-preserved g c = rw c.reuse.ensures (record {
       let smaller = rw c.in-Some.is at c.in_ok-line.ensures.size in
       omega (arith, count, smaller, c.lines.invariant.few);
   budget = λ reads. omega (arith, c.lines.invariant.budget reads, c.in_ok-line.ensures.budget reads);
-  given = λ few.
-      let same = c.lines.invariant.given few in
-      omega (arith, same, c.in_ok-line.ensures.given (omega (arith, same, few)));
+  given = grind arith;
   none_failed = c.in_ok-line.ensures.reader ∙ c.lines.invariant.none_failed;
 })
 
 pub returns-in_err-line-clause-budget : goal.returns-in_err-line-clause-budget
-returns-in_err-line-clause-budget g c =
-    let p = err_from_is_err_and c.from_residual.result c.from_residual.ensures.1 in
-    rw (p.1, p.2) (no_read _ _ c.in_err-line.ensures.err)
+returns-in_err-line-clause-budget g c = grind arith
 
 pub returns-in_default-clause-budget : goal.returns-in_default-clause-budget
-returns-in_default-clause-budget g c =
-    rw c.missing.ensures (λ reads. omega (arith, c.lines.invariant.budget reads, c.in_ok-line.ensures.budget reads))
+returns-in_default-clause-budget g c = grind arith
 
 pub returns-in_default-read_step-clause-budget : goal.returns-in_default-read_step-clause-budget
-returns-in_default-read_step-clause-budget g c =
-    rw c.bad.ensures (λ reads. omega (arith, c.lines.invariant.budget reads, c.in_ok-line.ensures.budget reads))
+returns-in_default-read_step-clause-budget g c = grind arith
 
 pub returns-in_err-take-clause-budget : goal.returns-in_err-take-clause-budget
-returns-in_err-take-clause-budget g c =
-    let p = err_from_is_err_and c.from_residual-in_err-take.result c.from_residual-in_err-take.ensures.1 in
-    rw (p.1, p.2) (no_memory _ _ c.in_err-take.ensures.err)
+returns-in_err-take-clause-budget g c = grind arith

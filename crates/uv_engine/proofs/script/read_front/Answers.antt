@@ -8,9 +8,7 @@ returns-in_default-clause-front g c = λ reads.
     front_missing (c.lines.invariant.text reads) none_left
 
 pub returns-then-is_begin-clause-front : goal.returns-then-is_begin-clause-front
-returns-then-is_begin-clause-front g c = λ reads.
-    let taken = rw c.in-Some.is at (c.in_ok-line.ensures.line reads) in
-    front_begun _ _ (c.lines.invariant.text reads) taken (c.is_begin.ensures.begin c.if-is_begin.true)
+returns-then-is_begin-clause-front g c = grind (arith, front_begun)
 
 pub lines-preserved : goal.lines-preserved
 lines-preserved g c = rw c.reuse.ensures (record {
@@ -19,9 +17,7 @@ lines-preserved g c = rw c.reuse.ensures (record {
       let taken = rw c.in-Some.is at (c.in_ok-line.ensures.line reads) in
       can_go_on _ (c.lines.invariant.text reads) taken (c.is_begin.ensures.other c.if-is_begin.false) c.in_ok-push_line.ensures;
   budget = λ reads. omega (arith, c.lines.invariant.budget reads, c.in_ok-line.ensures.budget reads);
-  given = λ few.
-      let same = c.lines.invariant.given few in
-      omega (arith, same, c.in_ok-line.ensures.given (omega (arith, same, few)));
+  given = grind arith;
   size_is =
       let smaller = rw c.in-Some.is at c.in_ok-line.ensures.size in
       omega (arith, smaller, c.lines.invariant.size_is);

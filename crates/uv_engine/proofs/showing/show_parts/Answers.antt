@@ -3,15 +3,10 @@ use Rattle.uv_engine.proofs.Gathers.{gathered_more, gathered_by, cut_here, cut_b
 use Rattle.uv_engine.proofs.showing.show_parts.Goals as goal
 
 pub loop-number-init : goal.loop-number-init
-loop-number-init g c = record {
-  text = λ tells. first_part (g.P.Parts.part c.args.parts.now) (g.P.Parts.parts c.args.parts.now) _ _;
-  few = λ less. less;
-  none_failed = refl;
-}
+loop-number-init g c = search first_part
 
 pub returns-in_err-push_part-clause-text : goal.returns-in_err-push_part-clause-text
-returns-in_err-push_part-clause-text g c = λ tells.
-    rw ((err_from_is_err_and c.from_residual.result c.from_residual.ensures.1).1) (cut_here (c.loop-number.invariant.text tells))
+returns-in_err-push_part-clause-text g c = grind (arith, err_from_is_err_and, cut_here)
 
 pub returns-in_err-spill-clause-text : goal.returns-in_err-spill-clause-text
 returns-in_err-spill-clause-text g c = λ tells.

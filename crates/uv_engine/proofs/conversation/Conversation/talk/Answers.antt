@@ -1,12 +1,9 @@
 use Rattle.uv_engine.proofs.Names.{arith, ap, ◌∙◌, err_from_is_err_and, lines_of, Program}
-use Rattle.uv_engine.proofs.Faults.{on_ok}
 use Rattle.uv_engine.proofs.Talking.{can_write, can_answer, can_next, cut_waiting, cut_writing, cut_answer, talk_ends, talk_quits}
 use Rattle.uv_engine.proofs.conversation.Conversation.talk.Goals as goal
 
 pub returns-in_err-write_if_waiting-clause-text : goal.returns-in_err-write_if_waiting-clause-text
-returns-in_err-write_if_waiting-clause-text g c = λ reads tells.
-    rw ((err_from_is_err_and c.from_residual.result c.from_residual.ensures.1).1)
-    (cut_writing c.every_line_asks.ensures.some (c.lines.invariant.text reads tells) (c.in_err-write_if_waiting.ensures.text tells))
+returns-in_err-write_if_waiting-clause-text g c = grind (arith, err_from_is_err_and, cut_writing)
 
 pub returns-in_err-line-clause-text : goal.returns-in_err-line-clause-text
 returns-in_err-line-clause-text g c = λ reads tells.
@@ -54,12 +51,10 @@ returns-in_err-spill-clause-text g c = λ reads tells.
     (cut_writing c.every_line_asks.ensures.some answered (c.in_err-spill.ensures.text tells))
 
 pub returns-in_default-clause-within : goal.returns-in_default-clause-within
-returns-in_default-clause-within g c = on_ok c.finish.result
-    (λ reads. omega (arith, c.lines.invariant.budget reads, c.in_ok-line.ensures.budget reads))
+returns-in_default-clause-within g c = grind arith
 
 pub returns-then-is_quit-clause-within : goal.returns-then-is_quit-clause-within
-returns-then-is_quit-clause-within g c = on_ok c.finish-then-is_quit.result
-    (λ reads. omega (arith, c.lines.invariant.budget reads, c.in_ok-line.ensures.budget reads))
+returns-then-is_quit-clause-within g c = grind arith
 
 pub lines-preserved : goal.lines-preserved
 lines-preserved g c = rw c.reuse.ensures (record {
@@ -78,6 +73,5 @@ lines-preserved g c = rw c.reuse.ensures (record {
       let same = c.lines.invariant.given few in
       omega (arith, same, c.in_ok-line.ensures.given (omega (arith, same, few)));
   none_read_failed = c.in_ok-line.ensures.reader ∙ c.lines.invariant.none_read_failed;
-  none_write_failed = c.in_ok-spill.ensures.writer ∙ c.in_ok-answer.ensures.writer ∙ c.in_ok-write_if_waiting.ensures.writer
-      ∙ c.lines.invariant.none_write_failed;
+  none_write_failed = grind arith;
 })
