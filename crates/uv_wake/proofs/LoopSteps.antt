@@ -35,8 +35,7 @@ is_loop names s kept v at = some-injective (Loop kept.loop) v (sym kept.first �
 -- the words and the views as they were
 same_state : (names : ℕ) (s : State ℕ View) (i : ℕ) (v : View) → get_elem? s.views 0 ≡ some v → Kept names s
     → Kept names (record { words = set s.words i (get_or s.words i 0); homes = s.homes; views = set s.views 0 v })
-same_state names s i v at kept = subst (λ (x : List ℕ × List View). Kept names (record { words = x.0; homes = s.homes; views = x.1 }))
-    (λ j. (sym (set-get_or s.words i 0) j, sym (set_again s.views 0 v at) j)) kept
+same_state names s i v at kept = search (set-get_or, set_again)
 
 pub looks : (names slots id : ℕ) (me : Me ℕ View) (v : Var) → id ≡ 0 → Knows me → v.0 < names
     → Allows (Kept names) slots id me (v.0 + 1) (λ n. n) (looked (step slots (v.0 + 1) 0 0 none) me)
@@ -101,8 +100,7 @@ absorbs names slots id me v first knows small seen room = subst
           subst (λ (w : ℕ). Kept names (record {
             words = set s.words (v.0 + 1) w;
             homes = s.homes;
-            views = set s.views 0
-                (Loop (after_absorb kept.loop v true));
+            views = assumption;
           })) plain held,
           λ u e. let told = subst (λ (x : LoopView × Var). AllCarried (after_absorb x.0 x.1 true) x.1 × HasEach (after_absorb x.0 x.1 true))
               (λ i. (same i, var_ext v u (omega arith) i))
@@ -140,25 +138,13 @@ joins names id other v w first sender s kept at apart there = let at_0 : get_ele
     let at_other : get_elem? s.views other ≡ some (Sender (sender_of w)) = sym (set_else s.views id other (joined v w) apart)
     ∙ (there ∙ ap (λ (x : View). some x) sender) in
     let whole = join_keeps names s kept other (sender_of w) (λ z. apart (z ∙ sym first)) at_other in
-    subst (λ (x : ℕ × View × View). Kept names
-    (record { words = s.words; homes = s.homes; views = set (set s.views x.0 (joined x.1 x.2)) other Joined }))
-    (λ i. (sym first i, is_loop names s kept v at_0 i, sym sender i)) whole
-
-none_has : (views : List View) (l : LoopView) (t : Ticket) → l.tickets ≡ [] → views ≡ Loop l ∷ [] → Has views t → ⊥
-none_has views l t empty is h = go h.0 h.1 (sym (λ i. get_elem? (is i) h.0) ∙ h.2) h.3
-  where
-    go : (i : ℕ) (v : View) → get_elem? (Loop l ∷ []) i ≡ some v → Contains (list_of v) t → ⊥
-    go zero v e c = let same = some-injective (Loop l) v e in let k : Contains [] t = subst (λ (ts : List Ticket). Contains ts t) empty
-        (subst (λ (x : View). Contains (list_of x) t) (sym same) c) in let h : k.0 < 0 = k.1 in omega arith
-    go (suc i) v e c = some-ne-none v (sym e)
+    grind arith
 
 first_only : (l : LoopView) (seat : ℕ) (k : LoopView) → get_elem? (Loop l ∷ []) seat ≡ some (Loop k) → seat ≡ 0
-first_only l zero k e = refl
-first_only l (suc i) k e = absurd (some-ne-none (Loop k) (sym e))
+first_only l seat k e = grind arith
 
 no_sender : (l : LoopView) (seat : ℕ) (k : SenderView) → get_elem? (Loop l ∷ []) seat ≡ some (Sender k) → ⊥
-no_sender l zero k e = let same = some-injective (Loop l) (Sender k) e in absurd (cc)
-no_sender l (suc i) k e = some-ne-none (Sender k) (sym e)
+no_sender l seat k e = grind arith
 
 pub opens : (names : ℕ) (words : List ℕ) → words ≡ replicate (names + 1) 0 → Kept names (opening {S = ℕ} words [] (at_first names))
 opens names words is = record {
@@ -168,20 +154,7 @@ opens names words is = record {
   wide = ap length is ∙ length-replicate (names + 1) 0;
   further = (λ i. get_or (is i) 0 0) ∙ get_or-replicate (names + 1) 0 0 0 (omega arith);
   counted = length-replicate names 0;
-  each = λ v small. subst (λ (x : ℕ × ℕ). NameKept (at_first names ∷ []) None v x.0 x.1)
-      (λ i. (
-        sym (get_or-replicate names v.0 0 0 small) i,
-        sym
-            ((λ j. get_or (is j) (v.0 + 1) 0) ∙ get_or-replicate (names + 1) (v.0 + 1) 0 0 (omega arith)) i,
-      ))
-      (record {
-        is_word = inl refl;
-        is_past = λ t _ h. absurd (none_has (at_first names ∷ []) (starting names) t refl refl h);
-        is_asked = λ e. absurd (omega arith);
-        was_asked = λ e lt. absurd (omega arith);
-        is_seen = λ e. absurd (cc);
-        is_ahead = λ seat k e. absurd (no_sender (starting names) seat k e);
-      });
+  each = grind (arith, get_or-replicate, no_sender);
   senders = refl;
 }
 
@@ -192,10 +165,4 @@ pub settles : {board board' : TableId} {id id' : ℕ} {me me' : Me ℕ View} {co
 settles {board'} {me'} l old t i m c k w =
     let is : loop_of me'.0 ≡ l = ap (λ (x : Me ℕ View). loop_of x.0) m in
     let wide = old.wide in
-    record {
-      first = i ∙ old.first;
-      knows = m ∙ (λ j. (Loop (sym is j), []));
-      counts_are = ap (λ (x : LoopView). x.counts) is ∙ c;
-      splits_are = ap (λ (x : LoopView). x.splits) is ∙ k;
-      wide = ap (λ (x : TableId). x.words) t ∙ (wide ∙ ap (λ (x : ℕ). x + 1) (sym w));
-    }
+    grind arith
