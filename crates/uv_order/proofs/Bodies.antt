@@ -1,12 +1,11 @@
 -- The ops of a callback that are still to be done.
 use Rattle.uv_order.proofs.Names.{◌≡◌, ℕ, zero, suc, ◌+◌, List, [], ◌∷◌, Bool, true, false, Option, Some, None, slice_get, drop, refl, ap, sym, ◌∙◌, arith, if◌then◌else◌, Var, Callback, Site, CallbackLine, Program, lines_in, is_for, Body, next_line, body_from, body_at, sites_from, body_of}
-use Rattle.uv_ids.specs.declared.seen.Site.TheVariants as site
 
 -- the line of the next op, and the ops from it on
 pub record IsAt (lines : List CallbackLine) (kind : Callback) (v : Var) (call next : ℕ) (sites : List Site) : Type 0 where
   pub line : CallbackLine
   pub there : slice_get lines next ≡ Some line
-  pub are : sites ≡ site.In kind v next ∷ sites_from kind v call (next + 1) (drop (next + 1) lines)
+  pub are : sites ≡ Site.In kind v next ∷ sites_from kind v call (next + 1) (drop (next + 1) lines)
 
 abbrev pub IsBody : Program → Option Body → List Site → Type 0
 IsBody p None sites = sites ≡ []
@@ -33,11 +32,11 @@ found kind v call n lines (x ∷ xs) e = let f = first_left n lines x xs e in le
     at : (b : Bool) → slice_get lines n ≡ Some x → drop (n + 1) lines ≡ xs →
         Found lines kind v call (next_line call (n + 1) xs) (sites_from kind v call (n + 1) xs) →
         Found lines kind v call (if b then Some n else next_line call (n + 1) xs)
-        (if b then site.In kind v n ∷ sites_from kind v call (n + 1) xs else sites_from kind v call (n + 1) xs)
+        (if b then Site.In kind v n ∷ sites_from kind v call (n + 1) xs else sites_from kind v call (n + 1) xs)
     at true a b rest = record {
       line = x;
       there = a;
-      are = ap (λ (ls : List CallbackLine). site.In kind v n ∷ sites_from kind v call (n + 1) ls) (sym b);
+      are = ap (λ (ls : List CallbackLine). Site.In kind v n ∷ sites_from kind v call (n + 1) ls) (sym b);
     }
     at false a b rest = rest
 

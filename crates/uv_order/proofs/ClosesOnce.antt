@@ -1,14 +1,6 @@
 -- Each handle closes once: every op and every step of the loop appends a line that may follow those before it.
-use Rattle.uv_order.proofs.Names.{◌≡◌, inl, inr, ℕ, zero, suc, ◌+◌, ◌==◌, ◌||◌, List, [], ◌∷◌, ◌++◌, true, false, drop, Option, Some, None, Ok, slice_get, slice_set, unwrap_or, replicate, refl, ap, sym, subst, ◌∙◌, arith, cond_both, eqb-true, none-some, Id, Var, Code, Kind, Phase, Seen, Site, Op, Program, op_at, arena_size, HandleRecord, WatcherKind, Slots, freed, Content, Named, Request, digest_in, request_in, text_of, Finished, Run, Stage, Done, Closing, Walk, all_yet, has_id, AreDistinct, run_ids, State, fresh, handle, live, live_handle, live_request, with_handle, with_request, watched, unbound, stopped, started, restarted, do_op, Next, Moves, Refuses, call, calls, front_moved, CancelSays, MakesNew, OpSays, MayFollow, activity, kind_as}
-use Rattle.uv_ids.specs.declared.code.Code.TheVariants as code
-use Rattle.uv_ids.specs.declared.code.Answer.TheVariants as answer
-use Rattle.uv_ids.specs.declared.phase.Phase.TheVariants as phase
-use Rattle.uv_ids.specs.declared.seen.Callback.TheVariants as callback
-use Rattle.uv_ids.specs.declared.seen.Seen.TheVariants as seen
-use Rattle.uv_script.specs.declared.op.Op.TheVariants as op
-use Rattle.uv_records.specs.declared.lists.WatcherKind.TheVariants as watcher
+use Rattle.uv_order.proofs.Names.{◌≡◌, inl, inr, ℕ, zero, suc, ◌+◌, ◌==◌, ◌||◌, List, [], ◌∷◌, ◌++◌, true, false, drop, Option, Some, None, Ok, slice_get, slice_set, unwrap_or, replicate, refl, ap, sym, subst, ◌∙◌, arith, cond_both, eqb-true, none-some, Id, Var, Code, Kind, Phase, Seen, Site, Op, Program, op_at, arena_size, HandleRecord, WatcherKind, Slots, freed, Content, Named, Request, digest_in, request_in, text_of, Finished, Run, Stage, Done, Closing, Walk, all_yet, has_id, AreDistinct, run_ids, State, fresh, handle, live, live_handle, live_request, with_handle, with_request, watched, unbound, stopped, started, restarted, do_op, Next, Moves, Refuses, call, calls, front_moved, CancelSays, MakesNew, OpSays, MayFollow, activity, kind_as, Answer, Callback}
 use Rattle.uv_records.specs.Handles as records
-use Rattle.uv_work.specs.declared.content.Content.TheVariants as content
 use Rattle.uv_work.specs.Digests.{digest_of}
 use Rattle.uv_model.specs.Ops as ops
 use Rattle.uv_model.specs.Next as step
@@ -54,7 +46,7 @@ still_known p past t l q k = grind (arith, plain, still_may, still_line)
 
 begins_known : (p : Program) (past : List Seen) (s : State) (run : Run) (x : Stage) (word : Phase) → KnownAt p past s →
     Follows p past (step.begins s run x word)
-begins_known p past s run x word k = still_known p past (step.at s run x) (Some (seen.Section word)) (row.section word) k
+begins_known p past s run x word k = still_known p past (step.at s run x) (Some (Seen.Section word)) (row.section word) k
 
 -- a callback counts one call more of its name
 called_known : (p : Program) (past : List Seen) (s : State) (v : Var) (x : Named) → x.id ≡ id_in s.names v → KnownAt p past s →
@@ -66,7 +58,7 @@ call_known : (p : Program) (past : List Seen) (s : State) (run : Run) (id : Id) 
     h.closing ≡ false → (activity p past id).started ≡ true → KnownAt p past s → Follows p past (call p s run id v)
 call_known p past s run id v h e stays begun k = (
   (not_closed p past s.arena s.names id h e stays k, begun),
-  known_quiet p past (seen.Call v id) s.arena _ (assumption)
+  known_quiet p past (Seen.Call v id) s.arena _ (assumption)
       (assumption) (called_known p past s v _ refl k),
 )
 
@@ -111,14 +103,14 @@ due_known p past s run t f kept begun k =
 -- an active handle of I/O is called
 answered_known : (p : Program) (past : List Seen) (s : State) (run : Run) (time : ℕ) (v : Var) (t : Id × HandleRecord) → live_handle s v ≡ Ok t →
     t.1.active ≡ true → Kept s → StartedAt p past s → KnownAt p past s →
-    Follows p past (calls p (record s { time = time }) run callback.Handle v (seen.Io v t.0))
+    Follows p past (calls p (record s { time = time }) run Callback.Handle v (Seen.Io v t.0))
 answered_known p past s run time v t e on kept begun k =
     let held = live_held s v t e in (
       (
         not_closed p past s.arena s.names t.0 t.1 held (opened t.1 on (kept.sound t.0 t.1 held)) k,
         active_started p past s t.0 t.1 held on begun,
       ),
-      known_quiet p past (seen.Io v t.0) s.arena _ (assumption) (assumption) (called_known p past s v _ refl k),
+      known_quiet p past (Seen.Io v t.0) s.arena _ (assumption) (assumption) (called_known p past s v _ refl k),
     )
 
 -- who is yet to run doesn't close
@@ -144,21 +136,21 @@ walked_known p past s run q t f kept begun k =
 
 woken_known : (p : Program) (past : List Seen) (s : State) (run : Run) (t : Id × HandleRecord) → FrontOf s s.watchers.async.yet t → Kept s →
     StartedAt p past s → KnownAt p past s →
-    Follows p past (call p (with_handle (front_moved s watcher.Async t.0) t.0 (records.woken t.1)) run t.0 t.1.name)
+    Follows p past (call p (with_handle (front_moved s WatcherKind.Async t.0) t.0 (records.woken t.1)) run t.0 t.1.name)
 woken_known p past s run t f kept begun k =
-    call_known p past (with_handle (front_moved s watcher.Async t.0) t.0 (records.woken t.1)) run t.0 t.1.name _
-    (put_same s.arena.slots t.0 t.1 _ f.holds) (watched_stays s watcher.Async t f kept)
-    (watcher_is_started p past s watcher.Async t f kept begun) (changed p past s t (records.woken t.1) f.holds refl refl k)
+    call_known p past (with_handle (front_moved s WatcherKind.Async t.0) t.0 (records.woken t.1)) run t.0 t.1.name _
+    (put_same s.arena.slots t.0 t.1 _ f.holds) (watched_stays s WatcherKind.Async t f kept)
+    (watcher_is_started p past s WatcherKind.Async t f kept begun) (changed p past s t (records.woken t.1) f.holds refl refl k)
 
 -- ---- the closing section
 
 -- its line, and its slot
 freed_known : (p : Program) (past : List Seen) (s : State) (t : Id × HandleRecord) → handle s t.0 ≡ Some t.1 → Kept s → KnownAt p past s →
-    Known p (seen.Closed t.1.name t.0 ∷ past) (freed (arena_size p).last_generation t.0 s.arena) s.names s.waiting (run_ids s.running)
+    Known p (Seen.Closed t.1.name t.0 ∷ past) (freed (arena_size p).last_generation t.0 s.arena) s.names s.waiting (run_ids s.running)
 freed_known p past s t e kept k = cond_both (t.0.generation == (arena_size p).last_generation) _ _
-    (λ (u : Slots Content). Known p (seen.Closed t.1.name t.0 ∷ past) u s.names s.waiting (run_ids s.running))
+    (λ (u : Slots Content). Known p (Seen.Closed t.1.name t.0 ∷ past) u s.names s.waiting (run_ids s.running))
     (λ last. known_gone p past t.1.name s.arena s.arena.free s.names t.0 t.1 t.0.generation e (omega arith)
-    (inr (not_free s.arena.slots t.0 (content.Handle t.1) s.arena.free (is_held s.arena.slots t.0 t.1 e) kept.free)) (λ m d f. f) k)
+    (inr (not_free s.arena.slots t.0 (Content.Handle t.1) s.arena.free (is_held s.arena.slots t.0 t.1 e) kept.free)) (λ m d f. f) k)
     (λ more. known_gone p past t.1.name s.arena (t.0.slot ∷ s.arena.free) s.names t.0 t.1 (t.0.generation + 1) e (omega arith) (inl (omega arith))
     (λ m d f. still m d f) k)
   where
@@ -169,12 +161,12 @@ closed_known : (p : Program) (past : List Seen) (s : State) (run : Run) (t : Id 
     KnownAt p past s → Follows p past (calls p (record s {
       arena = freed (arena_size p).last_generation t.0 s.arena;
       closing = record s.closing { yet = drop 1 s.closing.yet };
-    }) run callback.Close t.1.name (seen.Closed t.1.name t.0))
+    }) run Callback.Close t.1.name (Seen.Closed t.1.name t.0))
 closed_known p past s run t f kept k =
     let shut = front_fits s Closes s.closing.list s.closing.yet t kept.closing.lists.each f in
     let its : Fits s.arena.slots Closes t.0 = record { handle = t.1; holds = f.holds; fits = shut } in (
       (k.closing t.0 its, not_over p past s.arena s.names t.0 t.1 f.holds k),
-      known_names p (seen.Closed t.1.name t.0 ∷ past) (freed (arena_size p).last_generation t.0 s.arena) _ s.names
+      known_names p (Seen.Closed t.1.name t.0 ∷ past) (freed (arena_size p).last_generation t.0 s.arena) _ s.names
           (counted_ids s.names t.1.name _ refl) (freed_known p past s t f.holds kept k),
     )
 
@@ -184,12 +176,12 @@ ended_known : (p : Program) (past : List Seen) (s : State) (run : Run) (t : Id �
     KnownAt p past s → Follows p past (calls p (record s {
       arena = freed (arena_size p).last_generation t.0 s.arena;
       done = record s.done { yet = drop 1 s.done.yet };
-    }) run callback.After t.1.name (seen.After (digest_in t.1.outcome) t.1.name t.0))
+    }) run Callback.After t.1.name (Seen.After (digest_in t.1.outcome) t.1.name t.0))
 ended_known p past s run t f kept work k =
     let last = (arena_size p).last_generation in
-    let turns = freed_turns last s.arena t.0 (content.Request t.1) f.holds in
+    let turns = freed_turns last s.arena t.0 (Content.Request t.1) f.holds in
     let gone : (i : Id) → IsGone s.arena.slots s.arena.free i → IsGone (freed last t.0 s.arena).slots (freed last t.0 s.arena).free i =
-    λ i g. gone_freed s last t.0 (content.Request t.1) f.holds kept i g in
+    λ i g. gone_freed s last t.0 (Content.Request t.1) f.holds kept i g in
     let ended = its_fit s.arena.slots HasEnded (s.done.list ++ s.done.yet) t.0 t.1 (ap request_in f.holds)
     (ap (λ (ids : List Id). has_id (s.done.list ++ ids) t.0) f.are ∙ has_new_middle s.done.list f.rest t.0) work.ended in (
       record {
@@ -198,19 +190,19 @@ ended_known p past s run t f kept work k =
         first = not_called p past s.arena s.waiting (run_ids s.running) t.0 t.1 f.holds k.worked;
         says = says_true p past t.0 t.1.task t.1.outcome ended (k.worked.ended t.0 t.1 (ap request_in f.holds));
       },
-      known_names p (seen.After (digest_in t.1.outcome) t.1.name t.0 ∷ past) (freed last t.0 s.arena) _ s.names
+      known_names p (Seen.After (digest_in t.1.outcome) t.1.name t.0 ∷ past) (freed last t.0 s.arena) _ s.names
           (counted_ids s.names t.1.name _ refl)
-          (known_told p past (seen.After (digest_in t.1.outcome) t.1.name t.0) s.arena (freed last t.0 s.arena) s.names
+          (known_told p past (Seen.After (digest_in t.1.outcome) t.1.name t.0) s.arena (freed last t.0 s.arena) s.names
           (assumption) (same_handles s.arena.slots _ t.0 _ _ turns refl refl) (names_turned s.arena.slots _ t.0 _ _ turns (λ u g. cc g)) gone
           (worked_collected p past s.arena (freed last t.0 s.arena) s.waiting (run_ids s.running) (digest_in t.1.outcome) t.1.name t.0 t.1 turns
-          (freed_gone s last t.0 (content.Request t.1) f.holds kept) gone k.worked) k),
+          (freed_gone s last t.0 (Content.Request t.1) f.holds kept) gone k.worked) k),
     )
 
 -- ---- any step
 
 -- a cancel answers the id of what it cancelled, or why it is refused
-refused_says : (p : Program) (past : List Seen) (v : Var) (c : Code) → IsRefusal c → CancelSays p past v (answer.Code c)
-refused_says p past v code.Ok no_success = absurd (no_success refl)
+refused_says : (p : Program) (past : List Seen) (v : Var) (c : Code) → IsRefusal c → CancelSays p past v (Answer.Code c)
+refused_says p past v Code.Ok no_success = absurd (no_success refl)
 refused_says p past v each no_success = tt
 
 cancel_says : (p : Program) (past : List Seen) (s : State) (v : Var) → KnownAt p past s → CancelSays p past v (ops.cancel s (live_request s v)).answer
@@ -232,14 +224,14 @@ make_says p past s o made kept begun = make_both s o made (λ (d : ops.Done). Ma
 
 op_says : (p : Program) (past : List Seen) (s : State) (o : Op) → Kept s → StartedAt p past s → KnownAt p past s →
     OpSays p past (Some o) (do_op s o).answer
-op_says p past s (op.Init v q) kept begun k = make_says p past s (live s v) (ops.with_new s v q) kept begun
-op_says p past s (op.Queue v task) kept begun k = make_says p past s (live s v) (ops.with_queued s v task) kept begun
-op_says p past s (op.Cancel v) kept begun k = cancel_says p past s v k
+op_says p past s (Op.Init v q) kept begun k = make_says p past s (live s v) (ops.with_new s v q) kept begun
+op_says p past s (Op.Queue v task) kept begun k = make_says p past s (live s v) (ops.with_queued s v task) kept begun
+op_says p past s (Op.Cancel v) kept begun k = cancel_says p past s v k
 op_says p past s each kept begun k = tt
 
 -- the line of an op that is done
 op_line : (p : Program) (past : List Seen) (s : State) (place : Site) (o : Op) → op_at p place ≡ Some o → Kept s → StartedAt p past s →
-    KnownAt p past s → MayFollow p past (seen.Op place (do_op s o).answer)
+    KnownAt p past s → MayFollow p past (Seen.Op place (do_op s o).answer)
 op_line p past s place o e kept begun k = subst (λ (x : Option Op). OpSays p past x (do_op s o).answer) (sym e) (op_says p past s o kept begun k)
 
 taken_known : (p : Program) (past : List Seen) (s : State) (n : ℕ) (t : Id × Request) → TakesFront s n t → Working s → KnownAt p past s →
@@ -254,7 +246,7 @@ taken_known p past s n t f work k =
         not_called p past s.arena s.waiting (run_ids s.running) t.0 t.1 f.front.holds k.worked,
         k.worked.uncancelled t.0 waits,
       ),
-      known_told p past (seen.Take n t.1.name t.0) s.arena s.arena s.names (assumption) (λ i. refl) (λ i u g. g) (λ i g. g)
+      known_told p past (Seen.Take n t.1.name t.0) s.arena s.arena s.names (assumption) (λ i. refl) (λ i u g. g) (λ i g. g)
           (worked_taken p past s.arena s.waiting (run_ids s.running) (drop 1 s.waiting) (run_ids (slice_set s.running n (Some t.0))) n t.1.name t.0
           t.1 (ap request_in f.front.holds) (waits_open s.arena.slots s.waiting s.running s.done t.0 t.1 f.front.holds waits work) waits
           (λ i e. fewer_wait s.waiting (run_ids s.running) f.front.rest (drop 1 s.waiting) t.0 i f.front.are f.front.behind apart.0 e)
@@ -271,26 +263,26 @@ finished_known p past s n t f work k =
     let was = k.worked.runs_now t.0 on in
     let apart : has_id (g.front ++ g.behind) t.0 ≡ false =
     once_middle g.front g.behind t.0 (subst AreDistinct g.were (distinct_back s.waiting (run_ids s.running) work.open_ones.distinct)) in
-    let told : Worked p (seen.Finish n t.1.name t.0 ∷ past) s.arena s.waiting runs =
+    let told : Worked p (Seen.Finish n t.1.name t.0 ∷ past) s.arena s.waiting runs =
     worked_finished p past s.arena s.waiting (run_ids s.running) runs n t.1.name t.0 on
     (λ i e. fewer_run (run_ids s.running) runs g.front g.behind t.0 i g.were (g.are None) apart e) k.worked in
     let gone : (i : Id) → IsGone s.arena.slots s.arena.free i → IsGone (with_request s t.0 x).arena.slots (with_request s t.0 x).arena.free i =
-    λ i h. gone_turned s.arena.slots s.arena.free t.0 (content.Request t.1) (Some (content.Request x)) i f.holds h in
+    λ i h. gone_turned s.arena.slots s.arena.free t.0 (Content.Request t.1) (Some (Content.Request x)) i f.holds h in
     let turns = request_turns s.arena.slots t.0 t.1 x f.holds in (
       was,
-      known_told p past (seen.Finish n t.1.name t.0) s.arena (with_request s t.0 x).arena s.names (assumption)
+      known_told p past (Seen.Finish n t.1.name t.0) s.arena (with_request s t.0 x).arena s.names (assumption)
           (same_handles s.arena.slots _ t.0 _ _ turns refl refl) (names_turned s.arena.slots _ t.0 _ _ turns (λ u h. h)) gone
-          (worked_ended p (seen.Finish n t.1.name t.0 ∷ past) s.arena (with_request s t.0 x).arena s.waiting runs t.0 t.1 x turns refl
+          (worked_ended p (Seen.Finish n t.1.name t.0 ∷ past) s.arena (with_request s t.0 x).arena s.waiting runs t.0 t.1 x turns refl
           (was.0, rw (itself t.0 t.0 refl) refl, refl) gone told) k,
     )
 
 -- a cancel from outside
 cancel_outside : (p : Program) (past : List Seen) (s : State) (v : Var) → KnownAt p past s →
-    KnownAt p (seen.Cancel v (ops.cancel s (live_request s v)).answer ∷ past) (ops.cancel s (live_request s v)).state
-cancel_outside p past s v k = cancel_both s v (λ (d : ops.Done). KnownAt p (seen.Cancel v d.answer ∷ past) d.state)
-    (λ c no_success. known_quiet p past (seen.Cancel v (answer.Code c)) s.arena s.names
+    KnownAt p (Seen.Cancel v (ops.cancel s (live_request s v)).answer ∷ past) (ops.cancel s (live_request s v)).state
+cancel_outside p past s v k = cancel_both s v (λ (d : ops.Done). KnownAt p (Seen.Cancel v d.answer ∷ past) d.state)
+    (λ c no_success. known_quiet p past (Seen.Cancel v (Answer.Code c)) s.arena s.names
     (assumption) (assumption) k)
-    (λ t live on. cancel_told p past (seen.Cancel v (answer.Cancelled t.0)) s t
+    (λ t live on. cancel_told p past (Seen.Cancel v (Answer.Cancelled t.0)) s t
     (assumption) (assumption) live.holds on k)
 
 pub did_known : (p : Program) (past : List Seen) (s : State) (n : Next) → Did p s n → Kept s → Working s → StartedAt p past s → KnownAt p past s →
@@ -301,9 +293,9 @@ did_known p past s n (row.op x at o e) kept work begun k =
     (op_line p past s at o e kept begun k, op_known p past s o kept (λ id f. new_id p past s id f kept begun) k at e)
 did_known p past s n (row.begun run q e) kept work begun k = begin_known p past s run q k
 did_known p past s n (row.begun_closing run e) kept work begun k = begins_known p past (record s { closing = all_yet s.closing }) run Closing
-    phase.Closing k
+    Phase.Closing k
 did_known p past s n (row.begun_done run time e) kept work begun k =
-    begins_known p past (record s { time = time; done = all_yet s.done }) run Done phase.Done k
+    begins_known p past (record s { time = time; done = all_yet s.done }) run Done Phase.Done k
 did_known p past s n (row.collected run part t f) kept work begun k = changed p past s t (records.stopped t.1) f.holds refl refl k
 did_known p past s n (row.fired run t f) kept work begun k = fired_known p past s run t f kept begun k
 did_known p past s n (row.called_due run t f) kept work begun k = due_known p past s run t f kept begun k
@@ -316,7 +308,7 @@ did_known p past s n (row.ended run t f) kept work begun k = ended_known p past 
 did_known p past s n (row.taken n' t f) kept work begun k = taken_known p past s n' t f work k
 did_known p past s n (row.finished n' t f) kept work begun k = finished_known p past s n' t f work k
 did_known p past s n (row.sent v) kept work begun k =
-    plain p past (seen.Send v (ops.send s (live_handle s v)).code) (ops.send s (live_handle s v)).state tt (grind arith) (send_known p past s v k)
+    plain p past (Seen.Send v (ops.send s (live_handle s v)).code) (ops.send s (live_handle s v)).state tt (grind arith) (send_known p past s v k)
 did_known p past s n (row.cancelled v) kept work begun k = (cancel_says p past s v k, cancel_outside p past s v k)
 
 -- ---- all steps

@@ -1,6 +1,5 @@
 -- What the slots hold, by their ids, and how one of them changes.
 use Rattle.uv_order.proofs.Names.{◌≡◌, ℕ, ◌==◌, List, [], ◌∷◌, ◌++◌, Bool, true, false, cond, Option, Some, None, length, slice_get, slice_set, refl, ap, ◌∙◌, arith, elements, option_and_then, eq-eqb, eqb-true, false_from_ne_true, if◌then◌else◌, slice_get_past, Id, HandleRecord, Slot, held_in, held, Content, Request, handle_in, request_in, same_id}
-use Rattle.uv_work.specs.declared.content.Content.TheVariants as content
 use Rattle.uv_order.proofs.IdLists.{same, other, itself}
 
 -- ---- slots
@@ -122,9 +121,9 @@ pub held_turned : (slots more : List (Slot Content)) (id i : Id) (was : Option C
 held_turned slots more id i was c t k = grind (arith, turned_to t)
 
 -- a handle that is held
-pub as_handle : (c : Option Content) (h : HandleRecord) → handle_in c ≡ Some h → c ≡ Some (content.Handle h)
+pub as_handle : (c : Option Content) (h : HandleRecord) → handle_in c ≡ Some h → c ≡ Some (Content.Handle h)
 as_handle c h e = grind arith
 
 -- a request that is held
-pub as_request : (c : Option Content) (r : Request) → request_in c ≡ Some r → c ≡ Some (content.Request r)
+pub as_request : (c : Option Content) (r : Request) → request_in c ≡ Some r → c ≡ Some (Content.Request r)
 as_request c r e = grind arith

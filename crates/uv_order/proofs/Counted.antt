@@ -1,6 +1,5 @@
 -- How often each name was called, as the lines tell it and as the state counts it.
 use Rattle.uv_order.proofs.Names.{◌≡◌, ℕ, zero, suc, ◌+◌, ◌<◌, ◌≤◌, ◌==◌, List, [], ◌∷◌, length, true, false, None, slice_get, slice_set, unwrap_or, replicate, refl, ap, ◌∙◌, arith, elements, eqb-true, eq-eqb, cases_lt, Id, Var, Callback, Program, Callbacks, no_callbacks, lines_of, lines_in, Calls, Named, without_id, fresh, unbound, count_of, counted, body_from, Told, nothing_told, told_of, times, next_call, body_of}
-use Rattle.uv_ids.specs.declared.seen.Callback.TheVariants as callback
 use Rattle.uv_order.proofs.Bodies.{IsBody, whole_body}
 use Rattle.uv_order.proofs.OpEffects.{SameCalls, set_long}
 
@@ -40,9 +39,9 @@ set_there names i j x d = grind (arith, elements)
 
 -- one call of a name's callback more is told, by the line of this id
 abbrev pub told_call : Callback → Var → Id → Told → Told
-told_call callback.Handle v id told = record told { called = v ∷ told.called; sent = without_id told.sent id }
-told_call callback.After v id told = record told { after = v ∷ told.after }
-told_call callback.Close v id told = record told { closed = v ∷ told.closed }
+told_call Callback.Handle v id told = record told { called = v ∷ told.called; sent = without_id told.sent id }
+told_call Callback.After v id told = record told { after = v ∷ told.after }
+told_call Callback.Close v id told = record told { closed = v ∷ told.closed }
 
 -- whoever is sent to, the calls are as before
 pub counted_sent : (p : Program) (names : List Named) (told : Told) (sent : List Id) → Counted p names told →

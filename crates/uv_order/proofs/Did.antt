@@ -1,14 +1,8 @@
 -- What a step does, in a row for each way: the tree of the steps is walked here, once, and whatever steps keep is shown by rows.
-use Rattle.uv_order.proofs.Names.{arith, ◌≡◌, ℕ, ◌+◌, ◌&&◌, List, [], ◌∷◌, Bool, true, false, Option, Some, None, Result, Ok, Err, drop, length, nat_le, nat_lt, slice_get, option_map, refl, ap, cond_both, and_parts, same_Some, Id, Var, Due, Event, Loop, Take, Finish, Cancel, Send, Io, Tick, Why, Blocked, Ended, Range, Mode, Phase, Seen, Site, HandleRecord, WatcherKind, is_io, CallbackLine, MainOp, Op, Program, arena_size, from_heap, lines_in, main_op, op_at, order_of, Request, digest_in, Body, Place, Run, Stage, Pending, Poll, Polled, Done, DoneUnwoken, Closing, Timers, Collecting, Firing, TimersOf, Turn, AtEntry, Behind, BehindClosing, Way, ToTimers, ToPending, ToEnd, State, handle, with_handle, live_handle, live_request, front, front_request, watched, refreshed, stopped, restarted, do_op, Next, Moves, Refuses, call, calls, first_due, front_moved, goes, io_handle, io_run, may_leave, next_work, stage_polled, time_polled, work_of, found_both, BeginsBehind, BeginsIn, BeginsAt, Walking}
+use Rattle.uv_order.proofs.Names.{arith, ◌≡◌, ℕ, ◌+◌, ◌&&◌, List, [], ◌∷◌, Bool, true, false, Option, Some, None, Result, Ok, Err, drop, length, nat_le, nat_lt, slice_get, option_map, refl, ap, cond_both, and_parts, same_Some, Id, Var, Due, Event, Loop, Take, Finish, Cancel, Send, Io, Tick, Why, Blocked, Ended, Range, Mode, Phase, Seen, Site, HandleRecord, WatcherKind, is_io, CallbackLine, MainOp, Op, Program, arena_size, from_heap, lines_in, main_op, op_at, order_of, Request, digest_in, Body, Place, Run, Stage, Pending, Poll, Polled, Done, DoneUnwoken, Closing, Timers, Collecting, Firing, TimersOf, Turn, AtEntry, Behind, BehindClosing, Way, ToTimers, ToPending, ToEnd, State, handle, with_handle, live_handle, live_request, front, front_request, watched, refreshed, stopped, restarted, do_op, Next, Moves, Refuses, call, calls, first_due, front_moved, goes, io_handle, io_run, may_leave, next_work, stage_polled, time_polled, work_of, found_both, BeginsBehind, BeginsIn, BeginsAt, Walking, Kind, Callback}
 use Rattle.uv_ids.specs.declared.code.Code.{Code}
-use Rattle.uv_ids.specs.declared.phase.Kind.TheVariants as kind
-use Rattle.uv_ids.specs.declared.seen.Callback.TheVariants as callback
-use Rattle.uv_ids.specs.declared.seen.Seen.TheVariants as seen
-use Rattle.uv_ids.specs.declared.seen.Site.TheVariants as site
-use Rattle.uv_records.specs.declared.lists.WatcherKind.TheVariants as watcher
 use Rattle.uv_records.specs.Handles as records
 use Rattle.uv_records.specs.Slots as slots
-use Rattle.uv_script.specs.declared.op.MainOp.TheVariants as main
 use Rattle.uv_model.specs.declared.place.Place.TheVariants.{Running}
 use Rattle.uv_model.specs.declared.place.Stage.TheVariants.{Entry}
 use Rattle.uv_model.specs.Ops as ops
@@ -48,18 +42,18 @@ first_of s (x ∷ ts) t e = grind (arith, same_Some, holds)
 -- the line tells of no op, no callback and no event from outside but the clock's
 pub data IsStill : Option Seen → Type 0 where
   unseen : IsStill None
-  section : (word : Phase) → IsStill (Some (seen.Section word))
-  poll : (timeout : Option ℕ) → IsStill (Some (seen.Poll timeout))
-  runs : (mode : Mode) → IsStill (Some (seen.Run mode))
-  end : (alive : Bool) → IsStill (Some (seen.End alive))
-  tick : (ms : ℕ) → IsStill (Some (seen.Tick ms))
+  section : (word : Phase) → IsStill (Some (Seen.Section word))
+  poll : (timeout : Option ℕ) → IsStill (Some (Seen.Poll timeout))
+  runs : (mode : Mode) → IsStill (Some (Seen.Run mode))
+  end : (alive : Bool) → IsStill (Some (Seen.End alive))
+  tick : (ms : ℕ) → IsStill (Some (Seen.Tick ms))
 
 -- only the place and the times change
 abbrev pub timed : State → Place → ℕ → ℕ → Bool → Bool → State
 timed s x time clock stop idled = record s { place = x; time = time; clock = clock; stop_flag = stop; idled = idled }
 
 abbrev pub IsSync : WatcherKind → Type 0
-IsSync watcher.Async = ⊥
+IsSync WatcherKind.Async = ⊥
 IsSync q = Unit {0}
 
 pub data Did (p : Program) (s : State) : Next → Type 0 where
@@ -67,7 +61,7 @@ pub data Did (p : Program) (s : State) : Next → Type 0 where
   still : (x : Place) (time clock : ℕ) (stop idled : Bool) (l : Option Seen) → IsStill l → Did p s (Moves (timed s x time clock stop idled) l)
   -- an op of the script is done
   op : (x : Place) (at : Site) (o : Op) → op_at p at ≡ Some o
-      → Did p s (Moves (record (do_op s o).state { place = x }) (Some (seen.Op at (do_op s o).answer)))
+      → Did p s (Moves (record (do_op s o).state { place = x }) (Some (Seen.Op at (do_op s o).answer)))
   -- a section begins
   begun : (run : Run) (q : WatcherKind) → (watched s q).yet ≡ [] → Did p s (step.begin_walk s run q)
   begun_closing : (run : Run) → s.closing.yet ≡ [] → Did p s (step.begin_closing s run)
@@ -84,29 +78,29 @@ pub data Did (p : Program) (s : State) : Next → Type 0 where
   walked : (run : Run) (q : WatcherKind) (t : Id × HandleRecord) → IsSync q → FrontOf s (watched s q).yet t
       → Did p s (call p (front_moved s q t.0) run t.0 t.1.name)
   passed : (run : Run) (t : Id × HandleRecord) → FrontOf s s.watchers.async.yet t → t.1.pending ≡ false
-      → Did p s (Moves (step.at (front_moved s watcher.Async t.0) run (Walking watcher.Async)) None)
+      → Did p s (Moves (step.at (front_moved s WatcherKind.Async t.0) run (Walking WatcherKind.Async)) None)
   woken : (run : Run) (t : Id × HandleRecord) → FrontOf s s.watchers.async.yet t → t.1.pending ≡ true
-      → Did p s (call p (with_handle (front_moved s watcher.Async t.0) t.0 (records.woken t.1)) run t.0 t.1.name)
+      → Did p s (call p (with_handle (front_moved s WatcherKind.Async t.0) t.0 (records.woken t.1)) run t.0 t.1.name)
   -- an active handle of I/O is called, in the poll with the time that it is left at
-  answered : (run : Run) (time : ℕ) (v : Var) (t : Id × HandleRecord) → live_handle s v ≡ Ok t → t.1.kind ≡ kind.Io → t.1.active ≡ true
-      → Did p s (calls p (record s { time = time }) run callback.Handle v (seen.Io v t.0))
+  answered : (run : Run) (time : ℕ) (v : Var) (t : Id × HandleRecord) → live_handle s v ≡ Ok t → t.1.kind ≡ Kind.Io → t.1.active ≡ true
+      → Did p s (calls p (record s { time = time }) run Callback.Handle v (Seen.Io v t.0))
   -- a slot is freed, and its close or after callback begins
   closed : (run : Run) (t : Id × HandleRecord) → FrontOf s s.closing.yet t
       → Did p s (calls p (record s {
         arena = slots.freed (arena_size p).last_generation t.0 s.arena;
         closing = record s.closing { yet = drop 1 s.closing.yet };
-      }) run callback.Close t.1.name (seen.Closed t.1.name t.0))
+      }) run Callback.Close t.1.name (Seen.Closed t.1.name t.0))
   ended : (run : Run) (t : Id × Request) → FrontRequest s s.done.yet t
       → Did p s (calls p (record s {
         arena = slots.freed (arena_size p).last_generation t.0 s.arena;
         done = record s.done { yet = drop 1 s.done.yet };
-      }) run callback.After t.1.name (seen.After (digest_in t.1.outcome) t.1.name t.0))
+      }) run Callback.After t.1.name (Seen.After (digest_in t.1.outcome) t.1.name t.0))
   -- a worker takes a request, and finishes one
   taken : (n : ℕ) (t : Id × Request) → TakesFront s n t → Did p s (step.take s n (Ok t))
   finished : (n : ℕ) (t : Id × Request) → RunsWork s n t → Did p s (step.finish s n (Ok t))
   -- from outside
-  sent : (v : Var) → Did p s (Moves (ops.send s (live_handle s v)).state (Some (seen.Send v (ops.send s (live_handle s v)).code)))
-  cancelled : (v : Var) → Did p s (Moves (ops.cancel s (live_request s v)).state (Some (seen.Cancel v (ops.cancel s (live_request s v)).answer)))
+  sent : (v : Var) → Did p s (Moves (ops.send s (live_handle s v)).state (Some (Seen.Send v (ops.send s (live_handle s v)).code)))
+  cancelled : (v : Var) → Did p s (Moves (ops.cancel s (live_request s v)).state (Some (Seen.Cancel v (ops.cancel s (live_request s v)).answer)))
 
 -- ---- each step does one of these
 
@@ -133,20 +127,20 @@ walk_did p s run q sync over = found_both (front s (watched s q).yet) _ _ (Did p
 
 stage_did : (p : Program) (s : State) (run : Run) (x : Stage) → BeginsBehind x s → Did p s (step.stage_step p s run x)
 stage_did p s run Entry r = turn_did p s run AtEntry
-stage_did p s run Pending r = begun run watcher.Idle r
-stage_did p s run (Walking watcher.Idle) r = walk_did p s run watcher.Idle tt (begun run watcher.Prepare r)
-stage_did p s run (Walking watcher.Prepare) r =
-    walk_did p s run watcher.Prepare tt (still _ s.time s.clock s.stop_flag s.idled _ (poll _))
+stage_did p s run Pending r = begun run WatcherKind.Idle r
+stage_did p s run (Walking WatcherKind.Idle) r = walk_did p s run WatcherKind.Idle tt (begun run WatcherKind.Prepare r)
+stage_did p s run (Walking WatcherKind.Prepare) r =
+    walk_did p s run WatcherKind.Prepare tt (still _ s.time s.clock s.stop_flag s.idled _ (poll _))
 stage_did p s run (Poll deadline) r = cond_both (may_leave s deadline) _ _ (Did p s) (λ h. begun_done run s.clock r) (λ h. refused Blocked)
 stage_did p s run (Polled true) r = begun_done run s.time r
 stage_did p s run (Polled false) r = still _ s.time s.clock s.stop_flag s.idled _ (section _)
 stage_did p s run Done r = found_both (front_request s s.done.yet) _ _ (Did p s)
-    (λ t e. ended run t (request_front s s.done.yet t e)) (λ e. begun run watcher.Async r)
+    (λ t e. ended run t (request_front s s.done.yet t e)) (λ e. begun run WatcherKind.Async r)
 stage_did p s run DoneUnwoken r = still _ s.time s.clock s.stop_flag s.idled _ (section _)
-stage_did p s run (Walking watcher.Async) r = found_both (front s s.watchers.async.yet) _ _ (Did p s)
+stage_did p s run (Walking WatcherKind.Async) r = found_both (front s s.watchers.async.yet) _ _ (Did p s)
     (λ t e. let f = front_of s s.watchers.async.yet t e in cond_both t.1.pending _ _ (Did p s) (λ on. woken run t f on) (λ off. passed run t f off))
-    (λ e. begun run watcher.Check r)
-stage_did p s run (Walking watcher.Check) r = walk_did p s run watcher.Check tt (begun_closing run r)
+    (λ e. begun run WatcherKind.Check r)
+stage_did p s run (Walking WatcherKind.Check) r = walk_did p s run WatcherKind.Check tt (begun_closing run r)
 stage_did p s run Closing r = found_both (front s s.closing.yet) _ _ (Did p s)
     (λ t e. closed run t (front_of s s.closing.yet t e)) (λ e. turn_did p s run BehindClosing)
 stage_did p s run (Timers part Collecting) r = cond_both (from_heap p) _ _ (Did p s) (λ heap. call_due_did p s run part)
@@ -158,19 +152,19 @@ body_did : (p : Program) (s : State) (run : Run) (body : Body) (x : Option Callb
     slice_get (lines_in p body.callback body.name) body.next ≡ x → Did p s (step.body_step p s run body x)
 body_did p s run body None e = still _ s.time s.clock s.stop_flag s.idled None unseen
 body_did p s run body (Some line) e =
-    op _ (site.In body.callback body.name body.next) line.op (ap (option_map (λ (x : CallbackLine). x.op)) e)
+    op _ (Site.In body.callback body.name body.next) line.op (ap (option_map (λ (x : CallbackLine). x.op)) e)
 
 run_did : (p : Program) (s : State) (run : Run) (body : Option Body) → BeginsIn body run.stage s → Did p s (step.run_step p s run body)
 run_did p s run body r = grind (arith, stage_did, body_did)
 
 main_did : (p : Program) (s : State) (i : ℕ) (x : Option MainOp) → slice_get p.main i ≡ x → Did p s (step.main_step (order_of p) s i x)
 main_did p s i None e = refused Ended
-main_did p s i (Some (main.Run m)) e = cond_both (step.refreshes (order_of p) m) (refreshed s) s
+main_did p s i (Some (MainOp.Run m)) e = cond_both (step.refreshes (order_of p) m) (refreshed s) s
     (λ (t : State). Did p s (Moves (record t {
       place = Running (record { mode = m; line = i; stage = Entry; body = None });
-    }) (Some (seen.Run m))))
+    }) (Some (Seen.Run m))))
     (λ h. still _ s.clock s.clock s.stop_flag s.idled _ (runs m)) (λ h. still _ s.time s.clock s.stop_flag s.idled _ (runs m))
-main_did p s i (Some (main.Op o)) e = op _ (site.Main i) o (ap main_op e)
+main_did p s i (Some (MainOp.Op o)) e = op _ (Site.Main i) o (ap main_op e)
 
 place_did : (p : Program) (s : State) (x : Place) → BeginsAt x s → Did p s (step.loop_step p s x)
 place_did p s x r = grind (arith, main_did, run_did)

@@ -1,9 +1,6 @@
 -- The lines of every list of steps are in the documented order: what names are bound to by the lines is what the accepted ops of a step
 -- find them bound to.
 use Rattle.uv_order.proofs.Names.{arith, false, map, ◌≡◌, List, [], ◌∷◌, ◌++◌, Option, Some, None, Ok, refl, ap, sym, subst, ◌∙◌, same_Some, Id, Var, Event, Code, Answer, Phase, Seen, Op, Program, worker_count, op_at, HandleRecord, State, fresh, named, live_handle, do_op, Next, Moves, Refuses, state_of, lines, Line, line_of_step, history_from, MayFollow, OnceFrom, line_events, pool_events, pool_of, Pool, empty_pool, then_event, after_events, PoolEvent, Names, names_by, ids_of, sent_by, sent_after, off_by, taken_off, Told, nothing_told, told_by, Lasting, lasting, at_first, Within, Position, Between, Running, Goes, GoesOn, cut, line, Documented, word_of}
-use Rattle.uv_ids.specs.declared.code.Answer.TheVariants as answer
-use Rattle.uv_ids.specs.declared.seen.Seen.TheVariants as seen
-use Rattle.uv_script.specs.declared.op.Op.TheVariants as op
 use Rattle.uv_model.specs.Ops as ops
 use Rattle.uv_model.specs.Next.{next}
 use Rattle.uv_model.specs.After as after
@@ -52,19 +49,19 @@ SameOff a b o x = (word : Phase) → taken_off word a o x ≡ taken_off word b o
 off_none : (names : Names) (s : State) (o : Op) (a : Answer) → takes o ≡ false → SameOff (names_at s) names o a
 off_none names s o a e word = none_taken (names_at s) o a (harmless o e) word ∙ sym (none_taken names o a (harmless o e) word)
 
-off_refused : (a b : Names) (o : Op) (c : Code) → IsRefusal c → SameOff a b o (answer.Code c)
+off_refused : (a b : Names) (o : Op) (c : Code) → IsRefusal c → SameOff a b o (Answer.Code c)
 off_refused a b o c no_success word = refusal_takes_none a o c no_success word ∙ sym (refusal_takes_none b o c no_success word)
 
 off_again : (a b : Names) (v : Var) → ids_of a (Some v) ≡ ids_of b (Some v) → (word : Phase) →
-    ids_of a (off_by word (op.Again v)) ≡ ids_of b (off_by word (op.Again v))
+    ids_of a (off_by word (Op.Again v)) ≡ ids_of b (off_by word (Op.Again v))
 off_again a b v e each = grind arith
 
 off_stop : (a b : Names) (v : Var) → ids_of a (Some v) ≡ ids_of b (Some v) → (word : Phase) →
-    ids_of a (off_by word (op.Stop v)) ≡ ids_of b (off_by word (op.Stop v))
+    ids_of a (off_by word (Op.Stop v)) ≡ ids_of b (off_by word (Op.Stop v))
 off_stop a b v e each = grind arith
 
 off_close : (a b : Names) (v : Var) → ids_of a (Some v) ≡ ids_of b (Some v) → (word : Phase) →
-    ids_of a (off_by word (op.Close v)) ≡ ids_of b (off_by word (op.Close v))
+    ids_of a (off_by word (Op.Close v)) ≡ ids_of b (off_by word (Op.Close v))
 off_close a b v e each = grind arith
 
 did_op_off : (names : Names) (s : State) (o : Op) (d : ops.Done) → DidOp s o d → Agrees names s → SameOff (names_at s) names o d.answer
@@ -74,7 +71,7 @@ did_op_off names s o d (which.closed v t e stays) k = off_close (names_at s) nam
 did_op_off names s o d (which.started v timeout repeat t e is stays) k = λ word. ap (ids_of (names_at s)) (start_off v timeout repeat word)
     ∙ off_again (names_at s) names v (one_name names s v t k e) word ∙ ap (ids_of names) (sym (start_off v timeout repeat word))
 did_op_off names s o d (which.again v t e is stays) k = off_again (names_at s) names v (one_name names s v t k e)
-did_op_off names s o d (which.asked o' a (which.due_in v)) k = off_none names s (op.DueIn v) a refl
+did_op_off names s o d (which.asked o' a (which.due_in v)) k = off_none names s (Op.DueIn v) a refl
 did_op_off names s o d (which.asked o' a each) k = off_none names s o a refl
 did_op_off names s o d (which.referenced o' u flag t e (which.ref v)) k = off_none names s o d.answer refl
 did_op_off names s o d each k = off_none names s o d.answer refl
@@ -87,7 +84,7 @@ op_off names s o k = did_op_off names s o (do_op s o) (op_did s o) k
 abbrev SameSent : Names → Names → Op → Answer → Type 0
 SameSent a b o x = (sent : List Id) → sent_by o x a sent ≡ sent_by o x b sent
 
-refused_sends : (a b : Names) (o : Op) (c : Code) → IsRefusal c → SameSent a b o (answer.Code c)
+refused_sends : (a b : Names) (o : Op) (c : Code) → IsRefusal c → SameSent a b o (Answer.Code c)
 refused_sends a b each c r sent = grind arith
 
 did_op_sends : (names : Names) (s : State) (o : Op) (d : ops.Done) → DidOp s o d → Agrees names s → SameSent (names_at s) names o d.answer
@@ -99,8 +96,8 @@ op_sends names s o k = did_op_sends names s o (do_op s o) (op_did s o) k
 -- ---- the line of a step says what was done
 
 abbrev Says : Program → State → Seen → Type 0
-Says p s (seen.Op place a) = (o : Op) → op_at p place ≡ Some o → a ≡ (do_op s o).answer
-Says p s (seen.Send v c) = c ≡ (ops.send s (live_handle s v)).code
+Says p s (Seen.Op place a) = (o : Op) → op_at p place ≡ Some o → a ≡ (do_op s o).answer
+Says p s (Seen.Send v c) = c ≡ (ops.send s (live_handle s v)).code
 Says p s l = Unit {0}
 
 abbrev Told_by : Program → State → Next → Type 0
@@ -119,14 +116,14 @@ says p s n each = tt
 
 tells_same : (p : Program) (told : Told) (names : Names) (s : State) (l : Seen) → Agrees names s → Says p s l →
     told_by p told (names_at s) l ≡ told_by p told names l
-tells_same p told names s (seen.Op place a) k h = ap (λ (ids : List Id). record told { sent = ids }) (at (op_at p place) refl) where
+tells_same p told names s (Seen.Op place a) k h = ap (λ (ids : List Id). record told { sent = ids }) (at (op_at p place) refl) where
   at : (o : Option Op) → op_at p place ≡ o → sent_after o a (names_at s) told.sent ≡ sent_after o a names told.sent
   at None e = refl
   at (Some o) e = subst (λ (x : Answer). sent_by o x (names_at s) told.sent ≡ sent_by o x names told.sent) (sym (h o e))
       (op_sends names s o k told.sent)
-tells_same p told names s (seen.Send v c) k h = ap (λ (ids : List Id). record told { sent = ids })
-    (subst (λ (x : Code). sent_by (op.Send v) (answer.Code x) (names_at s) told.sent ≡ sent_by (op.Send v) (answer.Code x) names told.sent) (sym h)
-    (op_sends names s (op.Send v) k told.sent))
+tells_same p told names s (Seen.Send v c) k h = ap (λ (ids : List Id). record told { sent = ids })
+    (subst (λ (x : Code). sent_by (Op.Send v) (Answer.Code x) (names_at s) told.sent ≡ sent_by (Op.Send v) (Answer.Code x) names told.sent) (sym h)
+    (op_sends names s (Op.Send v) k told.sent))
 tells_same p told names s each k h = refl
 
 goes_same : (p : Program) (told : Told) (names : Names) (l : Line) (at to : Position) → Agrees names l.before → Says p l.before l.seen →

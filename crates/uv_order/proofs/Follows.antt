@@ -1,16 +1,6 @@
 -- A whole step goes on from where the state stands, and so does every list of them.
-use Rattle.uv_order.proofs.Names.{arith, ◌≡◌, ℕ, ◌+◌, ◌||◌, ◌&&◌, List, [], ◌∷◌, ◌++◌, Bool, true, false, Option, Some, None, Result, Ok, Err, drop, length, slice_get, slice_set, nat_le, nat_lt, refl, ap, sym, subst, ◌∙◌, if◌then◌else◌, cond_both, Order, V144, V145, Id, Var, Event, Loop, Take, Finish, Cancel, Send, Io, Tick, Answer, Mode, Default, Once, Nowait, Phase, Site, Op, MainOp, CallbackLine, Program, lines_in, main_op, order_of, from_heap, HandleRecord, held, Why, Request, has_some, without_id, has_pending, has_passed, Body, Run, Stage, TimersOf, AtEntry, Collecting, Firing, Place, State, fresh, handle, live_handle, with_handle, with_request, refreshed, do_op, may_leave, body_from, next_work, work_of, Names, Told, nothing_told, lasting, Section, In, word_of, Standing, Answering, Begun, Within, Polling, Position, Between, Running, sites_from, taken_off, BeginsIn, BeginsAt, phase_of}
+use Rattle.uv_order.proofs.Names.{arith, ◌≡◌, ℕ, ◌+◌, ◌||◌, ◌&&◌, List, [], ◌∷◌, ◌++◌, Bool, true, false, Option, Some, None, Result, Ok, Err, drop, length, slice_get, slice_set, nat_le, nat_lt, refl, ap, sym, subst, ◌∙◌, if◌then◌else◌, cond_both, Order, V144, V145, Id, Var, Event, Loop, Take, Finish, Cancel, Send, Io, Tick, Answer, Mode, Default, Once, Nowait, Phase, Site, Op, MainOp, CallbackLine, Program, lines_in, main_op, order_of, from_heap, HandleRecord, held, Why, Request, has_some, without_id, has_pending, has_passed, Body, Run, Stage, TimersOf, AtEntry, Collecting, Firing, Place, State, fresh, handle, live_handle, with_handle, with_request, refreshed, do_op, may_leave, body_from, next_work, work_of, Names, Told, nothing_told, lasting, Section, In, word_of, Standing, Answering, Begun, Within, Polling, Position, Between, Running, sites_from, taken_off, BeginsIn, BeginsAt, phase_of, Code, Seen, Content, WatcherKind}
 use Rattle.std.specs.Prelude.{option_map}
-use Rattle.uv_ids.specs.declared.code.Code.TheVariants as code
-use Rattle.uv_ids.specs.declared.code.Answer.TheVariants as answer
-use Rattle.uv_ids.specs.declared.phase.Phase.TheVariants as phase
-use Rattle.uv_ids.specs.declared.seen.Seen.TheVariants as seen
-use Rattle.uv_ids.specs.declared.seen.Site.TheVariants as site
-use Rattle.uv_script.specs.declared.op.MainOp.TheVariants as main
-use Rattle.uv_work.specs.declared.content.Content.TheVariants as content
-use Rattle.uv_model.specs.declared.place.Stage.TheVariants as stage
-use Rattle.uv_model.specs.declared.place.Place.TheVariants as place
-use Rattle.uv_records.specs.declared.lists.WatcherKind.TheVariants as watcher
 use Rattle.uv_records.specs.Handles as records
 use Rattle.uv_model.specs.Ops as ops
 use Rattle.uv_model.specs.Next as step
@@ -47,8 +37,8 @@ pub left_poll : (p : Program) (told : Told) (s : State) (run : Run) (deadline : 
     NobodyLeft (rest s.ready s) → Follows p told (Running run.mode run.line (Polling deadline)) s (step.poll s run deadline)
 left_poll p told s run deadline sent g c e = cond_both (may_leave s deadline) _ _ (Follows p told (Running run.mode run.line (Polling deadline)) s)
     (λ h. record {
-      to = Running run.mode run.line (Within (In phase.Done) (begun_with true s.done.list));
-      goes = doc.section (In phase.Done) (more_or (has_passed s.clock deadline) (has_some s.done.list) (has_pending s)
+      to = Running run.mode run.line (Within (In Phase.Done) (begun_with true s.done.list));
+      goes = doc.section (In Phase.Done) (more_or (has_passed s.clock deadline) (has_some s.done.list) (has_pending s)
           (has_some told.sent && has_pending s)
           (λ on. rw (sym (pending_is told s sent) ∙ on, on) refl) h)
           (done_next (order_of p) run.mode (doc.goes_on s)) refl (opens_done p told _ (are_ended s e.done g)) refl;
@@ -64,16 +54,16 @@ left_polled : (p : Program) (told : Told) (s : State) (run : Run) (woken : Bool)
     Counted p s.names told → NobodyLeft (rest s.ready s) →
     Follows p told (Running run.mode run.line (Answering woken sites)) s (step.leave_polled s run woken)
 left_polled p told s run true sites b g c e = record {
-  to = Running run.mode run.line (Within (In phase.Done) (begun_with true s.done.list));
-  goes = doc.section (In phase.Done) b (done_next (order_of p) run.mode (doc.goes_on s)) refl (opens_done p told _ (are_ended s e.done g)) refl;
+  to = Running run.mode run.line (Within (In Phase.Done) (begun_with true s.done.list));
+  goes = doc.section (In Phase.Done) b (done_next (order_of p) run.mode (doc.goes_on s)) refl (opens_done p told _ (are_ended s e.done g)) refl;
   stands = record {
     stands = running (done refl refl) (left_all e.timers e.idle e.prepare e.check e.async e.closing (sym (none_off s.done.list)));
     counted = c;
   };
 }
 left_polled p told s run false sites b g c e = record {
-  to = Running run.mode run.line (Within (In phase.Done) (begun_with false []));
-  goes = doc.section (In phase.Done) b (done_next (order_of p) run.mode (doc.goes_on s)) refl (opens_unwoken p told _) refl;
+  to = Running run.mode run.line (Within (In Phase.Done) (begun_with false []));
+  goes = doc.section (In Phase.Done) b (done_next (order_of p) run.mode (doc.goes_on s)) refl (opens_unwoken p told _) refl;
   stands = record {
     stands = running (unwoken refl refl refl) (left_all e.timers e.idle e.prepare e.check e.async e.closing e.done);
     counted = c;
@@ -82,17 +72,17 @@ left_polled p told s run false sites b g c e = record {
 
 -- the timers of a section are collected, or called straight from their heap
 timers_follow : (p : Program) (told : Told) (s : State) (run : Run) (part : TimersOf) (at : Standing) → Kept s → Working s → Counted p s.names told →
-    StandsIn p None (stage.Timers part Collecting) at →
-    Leaves (rest (waiting (stage.Timers part Collecting) (from_heap p) s.ready (due_now s)) s) at →
+    StandsIn p None (Stage.Timers part Collecting) at →
+    Leaves (rest (waiting (Stage.Timers part Collecting) (from_heap p) s.ready (due_now s)) s) at →
     Follows p told (Running run.mode run.line at) s (step.timers p s run part Collecting)
 timers_follow p told s run part at k g c stands l = by at stands l where
   left : Bool → Standing → Type 0
-  left heap at = Leaves (rest (waiting (stage.Timers part Collecting) heap s.ready (due_now s)) s) at
+  left heap at = Leaves (rest (waiting (Stage.Timers part Collecting) heap s.ready (due_now s)) s) at
 
   step_by : Bool → Standing → Type 0
   step_by heap at = Follows p told (Running run.mode run.line at) s (if heap then step.call_due p s run part else step.collect p s run part)
 
-  by : (at : Standing) → StandsIn p None (stage.Timers part Collecting) at → left (from_heap p) at → step_by (from_heap p) at
+  by : (at : Standing) → StandsIn p None (Stage.Timers part Collecting) at → left (from_heap p) at → step_by (from_heap p) at
   by at (collects {w = w} heap b) l = subst (λ (h : Bool). step_by h at) (sym heap)
       (collect_follows p told s run part w (lives_is s g) k c (subst (λ (h : Bool). left h at) heap l) b heap)
   by at (calls_due {w = w} heap none b) l = subst (λ (h : Bool). step_by h at) (sym heap)
@@ -101,23 +91,23 @@ timers_follow p told s run part at k g c stands l = by at stands l where
 pub stage_follows : (p : Program) (told : Told) (s : State) (run : Run) (x : Stage) (at : Standing) → run.stage ≡ x → Kept s →
     SentAt told.sent s → Working s → Counted p s.names told → StandsIn p None x at →
     Leaves (rest (waiting x (from_heap p) s.ready (due_now s)) s) at → Follows p told (Running run.mode run.line at) s (step.stage_step p s run x)
-stage_follows p told s run stage.Entry at st k h g c begun l = turn_follows p told s run AtEntry Begun (lives_is s g) refl tt k c l
-stage_follows p told s run stage.Pending at st k h g c (pending {w = w} none b) l =
-    begin_follows p told s run watcher.Idle (Within (In phase.Pending) w) (empty_over phase.Pending w none b, tt) idle_next refl k h c
+stage_follows p told s run Stage.Entry at st k h g c begun l = turn_follows p told s run AtEntry Begun (lives_is s g) refl tt k c l
+stage_follows p told s run Stage.Pending at st k h g c (pending {w = w} none b) l =
+    begin_follows p told s run WatcherKind.Idle (Within (In Phase.Pending) w) (empty_over Phase.Pending w none b, tt) idle_next refl k h c
     (left_all l.timers l.idle l.prepare l.check l.async l.closing l.done)
-stage_follows p told s run (stage.Walking watcher.Async) at st k h g c (walking b) l = async_follows p told s run _ (lives_is s g) st k h c l b
-stage_follows p told s run (stage.Walking q) at st k h g c (walking b) l = walk_follows p told s run q _ (lives_is s g) tt st k h c l b
-stage_follows p told s run (stage.Poll deadline) at st k h g c polls l = left_poll p told s run deadline h g c (left_all l.timers l.idle l.prepare
+stage_follows p told s run (Stage.Walking WatcherKind.Async) at st k h g c (walking b) l = async_follows p told s run _ (lives_is s g) st k h c l b
+stage_follows p told s run (Stage.Walking q) at st k h g c (walking b) l = walk_follows p told s run q _ (lives_is s g) tt st k h c l b
+stage_follows p told s run (Stage.Poll deadline) at st k h g c polls l = left_poll p told s run deadline h g c (left_all l.timers l.idle l.prepare
     l.check l.async l.closing l.done)
-stage_follows p told s run (stage.Polled woken) at st k h g c (polled b) l =
+stage_follows p told s run (Stage.Polled woken) at st k h g c (polled b) l =
     left_polled p told s run woken _ b g c (left_all l.timers l.idle l.prepare l.check l.async l.closing l.done)
-stage_follows p told s run stage.Done at st k h g c (done woken b) l = done_follows p told s run _ st k h g c l woken b
-stage_follows p told s run stage.DoneUnwoken at st k h g c (unwoken {w = w} asleep none b) l =
+stage_follows p told s run Stage.Done at st k h g c (done woken b) l = done_follows p told s run _ st k h g c l woken b
+stage_follows p told s run Stage.DoneUnwoken at st k h g c (unwoken {w = w} asleep none b) l =
     unwoken_follows p told s run w asleep none b c (left_all l.timers l.idle l.prepare l.check l.async l.closing
     (l.done ∙ ap (λ (ids : List Id). left_of ids w.off) none))
-stage_follows p told s run stage.Closing at st k h g c (closing b) l = closing_follows p told s run _ (lives_is s g) st k c l b
-stage_follows p told s run (stage.Timers part Collecting) at st k h g c stands l = timers_follow p told s run part at k g c stands l
-stage_follows p told s run (stage.Timers part Firing) at st k h g c (fires heap b) l = fire_follows p told s run part _ (lives_is s g) k c l b heap
+stage_follows p told s run Stage.Closing at st k h g c (closing b) l = closing_follows p told s run _ (lives_is s g) st k c l b
+stage_follows p told s run (Stage.Timers part Collecting) at st k h g c stands l = timers_follow p told s run part at k g c stands l
+stage_follows p told s run (Stage.Timers part Firing) at st k h g c (fires heap b) l = fire_follows p told s run part _ (lives_is s g) k c l b heap
 
 -- ---- a body
 
@@ -144,37 +134,37 @@ LeavesAfter s o part w more = Leaves (rest (do_op s o).state.ready (do_op s o).s
 left_in : (x word : Phase) (names : Names) (o : Op) (a : Answer) (w : Walk) (more : List Site) (now was : List Id) →
     now ≡ left_of was (taken_off x names o a) → was ≡ rest_in x word w →
     now ≡ rest_in x word (record w { off = taken_off word names o a ++ w.off; body = more })
-left_in phase.Idle phase.Idle names o a w more now was e h = more_left w.ahead w.off now was _ e h
-left_in phase.Prepare phase.Prepare names o a w more now was e h = more_left w.ahead w.off now was _ e h
-left_in phase.Check phase.Check names o a w more now was e h = more_left w.ahead w.off now was _ e h
-left_in phase.Timers phase.Timers names o a w more now was e h = more_left w.ahead w.off now was _ e h
-left_in phase.Closing phase.Closing names o a w more now was e h = more_left w.ahead w.off now was _ e h
-left_in phase.Done phase.Done names o a w more now was e h = more_left w.ahead w.off now was _ e h
+left_in Phase.Idle Phase.Idle names o a w more now was e h = more_left w.ahead w.off now was _ e h
+left_in Phase.Prepare Phase.Prepare names o a w more now was e h = more_left w.ahead w.off now was _ e h
+left_in Phase.Check Phase.Check names o a w more now was e h = more_left w.ahead w.off now was _ e h
+left_in Phase.Timers Phase.Timers names o a w more now was e h = more_left w.ahead w.off now was _ e h
+left_in Phase.Closing Phase.Closing names o a w more now was e h = more_left w.ahead w.off now was _ e h
+left_in Phase.Done Phase.Done names o a w more now was e h = more_left w.ahead w.off now was _ e h
 left_in x word names o a w more now was e h = still_none now was _ e h
 
 async_in : (s : State) (told : Told) (o : Op) (word : Phase) (w : Walk) (more : List Site) → Kept s → SentAt told.sent s →
     AsyncIn word s.arena.slots w s.watchers.async.yet → AsyncIn word (do_op s o).state.arena.slots
     (record w { off = taken_off word (names_at s) o (do_op s o).answer ++ w.off; body = more }) (do_op s o).state.watchers.async.yet
-async_in s told o phase.Async w more k h l =
+async_in s told o Phase.Async w more k h l =
     let f = op_effect s o k in
     record {
       gone = l.gone;
       behind = l.behind;
       all = l.all;
       left = more_left l.behind w.off _ s.watchers.async.yet _ f.async l.left;
-      passed = pass_more (taken_off phase.Async (names_at s) o (do_op s o).answer) w.off w.sent l.gone l.passed;
+      passed = pass_more (taken_off Phase.Async (names_at s) o (do_op s o).answer) w.off w.sent l.gone l.passed;
       still = still_sent s told o s.watchers.async.yet _ w.sent k h f.async l.still;
     }
 async_in s told o word w more k h l = still_none _ s.watchers.async.yet _ (op_effect s o k).async l
 
 -- no op takes a handle off the closing list
-pub closing_takes_none : (s : State) (o : Op) (a : Answer) → taken_off phase.Closing (names_at s) o a ≡ []
-closing_takes_none s o (answer.Code code.Ok) = refl
+pub closing_takes_none : (s : State) (o : Op) (a : Answer) → taken_off Phase.Closing (names_at s) o a ≡ []
+closing_takes_none s o (Answer.Code Code.Ok) = refl
 closing_takes_none s o each = refl
 
 -- nor a request off the list of those that are done
-pub done_takes_none : (s : State) (o : Op) (a : Answer) → taken_off phase.Done (names_at s) o a ≡ []
-done_takes_none s o (answer.Code code.Ok) = refl
+pub done_takes_none : (s : State) (o : Op) (a : Answer) → taken_off Phase.Done (names_at s) o a ≡ []
+done_takes_none s o (Answer.Code Code.Ok) = refl
 done_takes_none s o each = refl
 
 -- no list is touched by an op that takes nobody off it
@@ -186,14 +176,14 @@ op_left : (s : State) (told : Told) (o : Op) (part : Section) (w : Walk) (more :
 op_left s told o part w more k h l =
     let f = op_effect s o k in
     let a = (do_op s o).answer in
-    (left_all (left_in phase.Timers (word_of part) (names_at s) o a w more _ s.ready f.ready l.timers)
-    (left_in phase.Idle (word_of part) (names_at s) o a w more _ s.watchers.idle.yet f.idle l.idle)
-    (left_in phase.Prepare (word_of part) (names_at s) o a w more _ s.watchers.prepare.yet f.prepare l.prepare)
-    (left_in phase.Check (word_of part) (names_at s) o a w more _ s.watchers.check.yet f.check l.check)
+    (left_all (left_in Phase.Timers (word_of part) (names_at s) o a w more _ s.ready f.ready l.timers)
+    (left_in Phase.Idle (word_of part) (names_at s) o a w more _ s.watchers.idle.yet f.idle l.idle)
+    (left_in Phase.Prepare (word_of part) (names_at s) o a w more _ s.watchers.prepare.yet f.prepare l.prepare)
+    (left_in Phase.Check (word_of part) (names_at s) o a w more _ s.watchers.check.yet f.check l.check)
     (async_in s told o (word_of part) w more k h l.async)
-    (left_in phase.Closing (word_of part) (names_at s) o a w more _ s.closing.yet
+    (left_in Phase.Closing (word_of part) (names_at s) o a w more _ s.closing.yet
     (untouched _ s.closing.yet _ f.closing (closing_takes_none s o a)) l.closing)
-    (left_in phase.Done (word_of part) (names_at s) o a w more _ s.done.yet (untouched _ s.done.yet _ f.done (done_takes_none s o a)) l.done))
+    (left_in Phase.Done (word_of part) (names_at s) o a w more _ s.done.yet (untouched _ s.done.yet _ f.done (done_takes_none s o a)) l.done))
 
 pub nothing_there : {A : Type 0} {o : Option A} {x : A} → o ≡ None → o ≡ Some x → ⊥
 nothing_there e f = cc (e, f)
@@ -201,7 +191,7 @@ nothing_there e f = cc (e, f)
 -- the state after an op of a body
 abbrev pub after_body : Program → State → Run → Body → Op → State
 after_body p s run body o = record (do_op s o).state {
-  place = place.Running (record run {
+  place = Place.Running (record run {
     body = body_from p body.callback body.name body.call
         (body.next + 1);
   });
@@ -216,7 +206,7 @@ pub op_follows : (p : Program) (told : Told) (s : State) (run : Run) (body : Bod
     Follows p told (Running run.mode run.line (Within part w)) s (step.body_step p s run body (Some x))
 op_follows p told s run body part w x e k c b stands = record {
   to = _;
-  goes = doc.body_op (site.In body.callback body.name body.next) _ x.op _ b.are (ap (option_map (λ (l : CallbackLine). l.op)) e) refl (op_effect s
+  goes = doc.body_op (Site.In body.callback body.name body.next) _ x.op _ b.are (ap (option_map (λ (l : CallbackLine). l.op)) e) refl (op_effect s
       x.op k).lasts;
   stands = record {
     stands = stands _ (is_body p body.callback body.name body.call (body.next + 1));
@@ -226,7 +216,7 @@ op_follows p told s run body part w x e k c b stands = record {
 
 -- that of a callback of I/O that left the poll
 answer_op_follows : (p : Program) (told : Told) (s : State) (run : Run) (body : Body) (woken : Bool) (sites : List Site) (x : CallbackLine) →
-    run.stage ≡ stage.Polled woken → slice_get (lines_in p body.callback body.name) body.next ≡ Some x → Kept s → Counted p s.names told →
+    run.stage ≡ Stage.Polled woken → slice_get (lines_in p body.callback body.name) body.next ≡ Some x → Kept s → Counted p s.names told →
     (b : IsBody p (Some body) sites) → NobodyLeft (rest s.ready s) →
     Follows p told (Running run.mode run.line (Answering woken sites)) s (step.body_step p s run body (Some x))
 answer_op_follows p told s run body woken sites x st e k c b l =
@@ -234,7 +224,7 @@ answer_op_follows p told s run body woken sites x st e k c b l =
     let more = sites_from body.callback body.name body.call (body.next + 1) (drop (body.next + 1) (lines_in p body.callback body.name)) in
     record {
       to = Running run.mode run.line (Answering woken more);
-      goes = rw b.are (doc.answer_op (site.In body.callback body.name body.next) _ x.op _ (ap (option_map (λ (l : CallbackLine). l.op)) e) refl
+      goes = rw b.are (doc.answer_op (Site.In body.callback body.name body.next) _ x.op _ (ap (option_map (λ (l : CallbackLine). l.op)) e) refl
           (op_effect s x.op k).lasts);
       stands = record {
         stands = rw st (running (polled (is_body p body.callback body.name body.call (body.next + 1))) (left_all left.timers left.idle left.prepare
@@ -262,19 +252,19 @@ body_follows p told s run body x at (Some y) st e k h c (walking {q = q} {w = w}
     op_follows p told s run body (In (phase_of q)) w y e k c b
     (λ more is. rw st (running (walking is) (op_left s told y.op (In (phase_of q)) w more k h l)))
 body_follows p told s run body x at (Some y) st e k h c (closing {w = w} b) l =
-    op_follows p told s run body (In phase.Closing) w y e k c b
-    (λ more is. rw st (running (closing is) (op_left s told y.op (In phase.Closing) w more k h l)))
+    op_follows p told s run body (In Phase.Closing) w y e k c b
+    (λ more is. rw st (running (closing is) (op_left s told y.op (In Phase.Closing) w more k h l)))
 body_follows p told s run body x at (Some y) st e k h c (pending {w = w} none b) l =
-    op_follows p told s run body (In phase.Pending) w y e k c b
-    (λ more is. rw st (running (pending none is) (op_left s told y.op (In phase.Pending) w more k h l)))
+    op_follows p told s run body (In Phase.Pending) w y e k c b
+    (λ more is. rw st (running (pending none is) (op_left s told y.op (In Phase.Pending) w more k h l)))
 body_follows p told s run body x at (Some y) st e k h c (polled {woken = woken} b) l =
     answer_op_follows p told s run body woken _ y st e k c b (left_all l.timers l.idle l.prepare l.check l.async l.closing l.done)
 body_follows p told s run body x at (Some y) st e k h c (done {w = w} woken b) l =
-    op_follows p told s run body (In phase.Done) w y e k c b
-    (λ more is. rw st (running (done woken is) (op_left s told y.op (In phase.Done) w more k h l)))
+    op_follows p told s run body (In Phase.Done) w y e k c b
+    (λ more is. rw st (running (done woken is) (op_left s told y.op (In Phase.Done) w more k h l)))
 body_follows p told s run body x at (Some y) st e k h c (unwoken {w = w} asleep none b) l =
-    op_follows p told s run body (In phase.Done) w y e k c b
-    (λ more is. rw st (running (unwoken asleep none is) (op_left s told y.op (In phase.Done) w more k h l)))
+    op_follows p told s run body (In Phase.Done) w y e k c b
+    (λ more is. rw st (running (unwoken asleep none is) (op_left s told y.op (In Phase.Done) w more k h l)))
 body_follows p told s run body x at (Some y) st e k h c (fires {part = part} {w = w} heap b) l =
     op_follows p told s run body (section_of part) w y e k c b
     (λ more is. rw st (running (fires heap is) (op_left s told y.op (section_of part) w more k h l)))
@@ -295,21 +285,21 @@ pub main_follows : (p : Program) (told : Told) (s : State) (i : ℕ) (x : Option
     NobodyLeft (rest s.ready s) →
     Follows p told (Between i) s (step.main_step (order_of p) s i x)
 main_follows p told s i None e k c l = tt
-main_follows p told s i (Some (main.Run m)) e k c l = record {
+main_follows p told s i (Some (MainOp.Run m)) e k c l = record {
   to = Running m i Begun;
   goes = doc.run m e refl (run_lasts (order_of p) m s);
   stands = cond_both (step.refreshes (order_of p) m) (refreshed s) s (λ (t : State). Stands p told (begun_in t) (Running m i Begun))
       (λ d. begun_at s.clock) (λ d. begun_at s.time);
 } where
   begun_in : State → State
-  begun_in t = record t { place = place.Running (record { mode = m; line = i; stage = stage.Entry; body = None }) }
+  begun_in t = record t { place = Place.Running (record { mode = m; line = i; stage = Stage.Entry; body = None }) }
 
   begun_at : (time : ℕ) → Stands p told (begun_in (record s { time = time })) (Running m i Begun)
   begun_at time = record {
     stands = running begun l;
     counted = c;
   }
-main_follows p told s i (Some (main.Op o)) e k c l = record {
+main_follows p told s i (Some (MainOp.Op o)) e k c l = record {
   to = Between (i + 1);
   goes = doc.main_line o _ (ap main_op e) refl (op_effect s o k).lasts;
   stands = record {
@@ -329,20 +319,20 @@ run_follows p told s run (Some body) at k sent g c h l =
 
 pub place_follows : (p : Program) (told : Told) (s : State) (x : Place) (at : Position) → Kept s → SentAt told.sent s →
     Working s → Counted p s.names told → StandsAt p s x at → Follows p told at s (step.loop_step p s x)
-place_follows p told s (place.Main i) at k sent g c (between e) = main_follows p told s i (slice_get p.main i) refl k c e
-place_follows p told s (place.Running run) at k sent g c (running h l) = run_follows p told s run run.body _ k sent g c h l
+place_follows p told s (Place.Main i) at k sent g c (between e) = main_follows p told s i (slice_get p.main i) refl k c e
+place_follows p told s (Place.Running run) at k sent g c (running h l) = run_follows p told s run run.body _ k sent g c h l
 
 pub tick_follows : (p : Program) (told : Told) (s : State) (at : Position) (ms : ℕ) → Stands p told s at → Follows p told at s (step.tick s ms)
 tick_follows p told s at ms h = cond_both (nat_le (s.clock + ms) 4611686018427387904) _ _ (Follows p told at s)
     (λ e. record { to = at; goes = doc.outside ms refl refl; stands = record { stands = moved s.place at h.stands; counted = h.counted } }) (λ e. tt)
   where
     moved : (x : Place) (y : Position) → StandsAt p s x y → StandsAt p (record s { clock = s.clock + ms }) x y
-    moved (place.Main i) y (between e) = between e
-    moved (place.Running run) y (running a l) = running a l
+    moved (Place.Main i) y (between e) = between e
+    moved (Place.Running run) y (running a l) = running a l
 
 pub send_follows : (p : Program) (told : Told) (s : State) (at : Position) (v : Var) → Stands p told s at → Follows p told at s (step.sent_to s v)
 send_follows p told s at v h = cond_both (nat_lt v.0 (length s.names)) _ _ (Follows p told at s)
-    (λ e. send_both s v (λ (c : ops.Coded). FollowsLine p told at s (seen.Send v c.code) c.state)
+    (λ e. send_both s v (λ (c : ops.Coded). FollowsLine p told at s (Seen.Send v c.code) c.state)
     (λ c no_success. record {
       to = at;
       goes = doc.sent v c refl refl;
@@ -354,7 +344,7 @@ send_follows p told s at v h = cond_both (nat_lt v.0 (length s.names)) _ _ (Foll
     })
     (λ t f is. record {
       to = at;
-      goes = doc.sent v code.Ok refl refl;
+      goes = doc.sent v Code.Ok refl refl;
       stands = record {
         stands = moved t (live_held s v t f) s.place at h.stands;
         counted = counted_sent p _ told _ h.counted;
@@ -364,15 +354,15 @@ send_follows p told s at v h = cond_both (nat_lt v.0 (length s.names)) _ _ (Foll
   where
     moved : (t : Id × HandleRecord) → handle s t.0 ≡ Some t.1 → (x : Place) (y : Position) → StandsAt p s x y →
         StandsAt p (with_handle s t.0 (records.sent t.1)) x y
-    moved t f (place.Main i) y (between e) = between (left_all e.timers e.idle e.prepare e.check e.async e.closing e.done)
-    moved t f (place.Running run) y (running {at = b} a l) = running a (left_all l.timers l.idle l.prepare l.check
+    moved t f (Place.Main i) y (between e) = between (left_all e.timers e.idle e.prepare e.check e.async e.closing e.done)
+    moved t f (Place.Running run) y (running {at = b} a l) = running a (left_all l.timers l.idle l.prepare l.check
         (async_moved s.arena.slots _ (pends_more s.arena.slots t.0 t.1 (records.sent t.1) f refl) b s.watchers.async.yet l.async) l.closing l.done)
 
 -- the lists of requests are no places
 works_on : (p : Program) (s : State) (ids : List Id) (workers : List (Option Id)) (x : Place) (at : Position) → StandsAt p s x at →
     StandsAt p (record s { waiting = ids; running = workers }) x at
-works_on p s ids workers (place.Main i) at (between e) = between e
-works_on p s ids workers (place.Running run) at (running a l) = running a l
+works_on p s ids workers (Place.Main i) at (between e) = between e
+works_on p s ids workers (Place.Running run) at (running a l) = running a l
 
 take_follows : (p : Program) (told : Told) (s : State) (at : Position) (n : ℕ) (t : Result (Id × Request) Why) →
     next_work s (slice_get s.running n) ≡ t → Stands p told s at → Follows p told at s (step.take s n t)
@@ -385,10 +375,10 @@ take_follows p told s at n (Ok t) e h = record {
 
 -- a request ends
 ends_on : (p : Program) (s : State) (t : Id × Request) (x : Request) (ids : List Id) (workers : List (Option Id)) →
-    held s.arena.slots t.0 ≡ Some (content.Request t.1) → (y : Place) (at : Position) → StandsAt p s y at →
+    held s.arena.slots t.0 ≡ Some (Content.Request t.1) → (y : Place) (at : Position) → StandsAt p s y at →
     StandsAt p (record (with_request s t.0 x) { waiting = ids; running = workers; done = record s.done { list = s.done.list ++ t.0 ∷ [] } }) y at
-ends_on p s t x ids workers e (place.Main i) at (between l) = between (left_all l.timers l.idle l.prepare l.check l.async l.closing l.done)
-ends_on p s t x ids workers e (place.Running run) at (running {at = b} a l) = running a (left_all l.timers l.idle l.prepare l.check
+ends_on p s t x ids workers e (Place.Main i) at (between l) = between (left_all l.timers l.idle l.prepare l.check l.async l.closing l.done)
+ends_on p s t x ids workers e (Place.Running run) at (running {at = b} a l) = running a (left_all l.timers l.idle l.prepare l.check
     (async_moved s.arena.slots _ (λ i on. ap pends_in (same i) ∙ on) b s.watchers.async.yet l.async) l.closing l.done) where
       same : SameHandles (with_request s t.0 x).arena.slots s.arena.slots
       same = same_handles s.arena.slots _ t.0 _ _ (request_turns s.arena.slots t.0 t.1 x e) refl refl
@@ -409,11 +399,11 @@ finish_follows p told s at n h = by (work_of s (slice_get s.running n)) refl whe
 
 cancel_follows : (p : Program) (told : Told) (s : State) (at : Position) (v : Var) → Stands p told s at → Follows p told at s (step.cancels s v)
 cancel_follows p told s at v h = cond_both (nat_lt v.0 (length s.names)) _ _ (Follows p told at s)
-    (λ e. cancel_both s v (λ (d : ops.Done). FollowsLine p told at s (seen.Cancel v d.answer) d.state)
-    (λ c no_success. record { to = at; goes = doc.cancelled v (answer.Code c) refl refl; stands = h })
+    (λ e. cancel_both s v (λ (d : ops.Done). FollowsLine p told at s (Seen.Cancel v d.answer) d.state)
+    (λ c no_success. record { to = at; goes = doc.cancelled v (Answer.Code c) refl refl; stands = h })
     (λ t live on. record {
       to = at;
-      goes = doc.cancelled v (answer.Cancelled t.0) refl refl;
+      goes = doc.cancelled v (Answer.Cancelled t.0) refl refl;
       stands = record {
         stands = ends_on p s t _ (without_id s.waiting t.0) s.running live.holds s.place at h.stands;
         counted = h.counted;
@@ -442,19 +432,19 @@ follows p told s at (Tick ms) k sent g called h = tick_follows p told s at ms h
 pub begins_in : (p : Program) (s : State) (body : Option Body) (x : Stage) (at : Standing) → StandsIn p body x at →
     Leaves (rest (waiting x (from_heap p) s.ready (due_now s)) s) at → BeginsIn body x s
 begins_in p s (Some body) x at h l = tt
-begins_in p s None stage.Pending at (pending none b) l = l.idle
-begins_in p s None (stage.Walking watcher.Idle) at (walking b) l = l.prepare
-begins_in p s None (stage.Poll deadline) at polls l = l.done
-begins_in p s None (stage.Polled woken) at (polled b) l = l.done
-begins_in p s None stage.Done at (done woken b) l = l.async
-begins_in p s None stage.DoneUnwoken at (unwoken asleep none b) l = l.async
-begins_in p s None (stage.Walking watcher.Async) at (walking b) l = l.check
-begins_in p s None (stage.Walking watcher.Check) at (walking b) l = l.closing
+begins_in p s None Stage.Pending at (pending none b) l = l.idle
+begins_in p s None (Stage.Walking WatcherKind.Idle) at (walking b) l = l.prepare
+begins_in p s None (Stage.Poll deadline) at polls l = l.done
+begins_in p s None (Stage.Polled woken) at (polled b) l = l.done
+begins_in p s None Stage.Done at (done woken b) l = l.async
+begins_in p s None Stage.DoneUnwoken at (unwoken asleep none b) l = l.async
+begins_in p s None (Stage.Walking WatcherKind.Async) at (walking b) l = l.check
+begins_in p s None (Stage.Walking WatcherKind.Check) at (walking b) l = l.closing
 begins_in p s None each at h l = tt
 
 pub begins_at : (p : Program) (s : State) (x : Place) (at : Position) → StandsAt p s x at → BeginsAt x s
-begins_at p s (place.Main i) at h = tt
-begins_at p s (place.Running run) at (running h l) = begins_in p s run.body run.stage _ h l
+begins_at p s (Place.Main i) at h = tt
+begins_at p s (Place.Running run) at (running h l) = begins_in p s run.body run.stage _ h l
 
 -- where every script begins
 pub stands_fresh : (p : Program) → Stands p nothing_told (fresh p) (Between 0)

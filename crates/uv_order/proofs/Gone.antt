@@ -1,6 +1,5 @@
 -- Ids that will never be held again: the slot has a later generation, or is empty for good.
 use Rattle.uv_order.proofs.Names.{◌≡◌, ◌⊎◌, inl, inr, ℕ, ◌<◌, ◌≤◌, ◌==◌, List, [], ◌∷◌, ◌++◌, true, false, Option, Some, None, slice_get, slice_set, refl, arith, or_parts, eq-eqb, Id, HandleRecord, Slot, held, Content}
-use Rattle.uv_work.specs.declared.content.Content.TheVariants as content
 use Rattle.uv_order.proofs.Contents.{slot_with, emptied, holds, get_set_same, get_set_other, get_push}
 use Rattle.uv_order.proofs.Holding.{held_at, is_held, put}
 use Rattle.uv_order.proofs.Keeping.{has_number}
@@ -40,7 +39,7 @@ gone_turned slots free id c d i e k =
 -- another handle is changed
 pub gone_put : (slots : List (Slot Content)) (free : List ℕ) (id : Id) (h x : HandleRecord) (i : Id) → held_at slots id ≡ Some h →
     IsGone slots free i → IsGone (put slots id x) free i
-gone_put slots free id h x i e k = gone_turned slots free id (content.Handle h) (Some (content.Handle x)) i (is_held slots id h e) k
+gone_put slots free id h x i e k = gone_turned slots free id (Content.Handle h) (Some (Content.Handle x)) i (is_held slots id h e) k
 
 -- a slot is used for the first time
 pub gone_push : (slots : List (Slot Content)) (free : List ℕ) (y : Slot Content) (i : Id) → IsGone slots free i → IsGone (slots ++ y ∷ []) free i

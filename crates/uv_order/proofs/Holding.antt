@@ -1,8 +1,6 @@
 -- What the slots hold, and the lists of ids of handles.
-use Rattle.uv_order.proofs.Names.{◌≡◌, ◌⊎◌, inl, inr, ℕ, ◌<◌, List, ◌∷◌, ◌++◌, Bool, true, false, Option, Some, None, slice_set, refl, ap, sym, subst, ◌∙◌, arith, same_Some, Id, Var, Due, HandleRecord, Slot, held, Content, handle_in, same_id, without_id, with_timer, without_timer, Has, InOrder, has_id, AreDistinct, if◌then◌else◌, false_from_ne_true, or_left, or_right, none-some}
+use Rattle.uv_order.proofs.Names.{◌≡◌, ◌⊎◌, inl, inr, ℕ, ◌<◌, List, ◌∷◌, ◌++◌, Bool, true, false, Option, Some, None, slice_set, refl, ap, sym, subst, ◌∙◌, arith, same_Some, Id, Var, Due, HandleRecord, Slot, held, Content, handle_in, same_id, without_id, with_timer, without_timer, Has, InOrder, has_id, AreDistinct, if◌then◌else◌, false_from_ne_true, or_left, or_right, none-some, Kind}
 use Rattle.std.specs.Prelude.{option_map}
-use Rattle.uv_ids.specs.declared.phase.Kind.TheVariants as kind
-use Rattle.uv_work.specs.declared.content.Content.TheVariants as content
 use Rattle.uv_order.proofs.Contents.{slot_with, turned_to, holds, Turns, set_turns, emptied, emptied_turns, as_handle}
 use Rattle.uv_order.proofs.IdLists.{same, other, turned, Each, each_mapped, each_without, absent, distinct_without, still_there, without_absent, each_middle, distinct_middle, has_new_middle, has_old_middle, each_but, distinct_but, has_but}
 use Rattle.uv_order.proofs.TimerKeys.{one_id, not_before_itself, before_each, still_has, had, in_order_without, IsNew, has_new, has_old, new_or_old, in_order_with, is_new}
@@ -14,7 +12,7 @@ abbrev pub held_at : List (Slot Content) → Id → Option HandleRecord
 held_at slots id = handle_in (held slots id)
 
 abbrev pub slot_of : Id → HandleRecord → Slot Content
-slot_of id h = slot_with id (Some (content.Handle h))
+slot_of id h = slot_with id (Some (Content.Handle h))
 
 -- the handle of an id is put in its slot
 abbrev pub put : List (Slot Content) → Id → HandleRecord → List (Slot Content)
@@ -23,8 +21,8 @@ put slots id h = slice_set slots id.slot (slot_of id h)
 -- an id that stands for a handle stands for what its slot holds
 -- what is held is called so
 abbrev pub name_in : Content → Var
-name_in (content.Handle h) = h.name
-name_in (content.Request r) = r.name
+name_in (Content.Handle h) = h.name
+name_in (Content.Request r) = r.name
 
 abbrev pub name_at : List (Slot Content) → Id → Option Var
 name_at slots id = option_map name_in (held slots id)
@@ -38,13 +36,13 @@ pub names_turned : (slots more : List (Slot Content)) (id : Id) (was is : Option
     ((v : Var) → option_map name_in is ≡ Some v → option_map name_in was ≡ Some v) → NoNewNames more slots
 names_turned slots more id was is t f i v e = grind arith
 
-pub is_held : (slots : List (Slot Content)) (id : Id) (h : HandleRecord) → held_at slots id ≡ Some h → held slots id ≡ Some (content.Handle h)
+pub is_held : (slots : List (Slot Content)) (id : Id) (h : HandleRecord) → held_at slots id ≡ Some h → held slots id ≡ Some (Content.Handle h)
 is_held slots id h e = as_handle (held slots id) h e
 
 pub put_turns : (slots : List (Slot Content)) (id : Id) (h x : HandleRecord) → held_at slots id ≡ Some h →
-    Turns slots (put slots id x) id (Some (content.Handle h)) (Some (content.Handle x))
+    Turns slots (put slots id x) id (Some (Content.Handle h)) (Some (Content.Handle x))
 put_turns slots id h x e = let k = is_held slots id h e in
-    assumption (k, set_turns slots id (Some (content.Handle x)) (holds slots id (content.Handle h) k).at)
+    assumption (k, set_turns slots id (Some (Content.Handle x)) (holds slots id (Content.Handle h) k).at)
 
 -- the record of a handle changes, which is called as before
 pub put_names : (slots : List (Slot Content)) (id : Id) (h x : HandleRecord) → held_at slots id ≡ Some h → x.name ≡ h.name →
@@ -60,11 +58,11 @@ put_other slots id i h x e d = ap handle_in ((put_turns slots id h x e).others i
 
 pub emptied_same : (slots : List (Slot Content)) (id : Id) (h : HandleRecord) (generation : ℕ) → held_at slots id ≡ Some h → held_at (emptied slots
     id generation) id ≡ None
-emptied_same slots id h generation e = ap handle_in (emptied_turns slots id (content.Handle h) generation (is_held slots id h e)).here
+emptied_same slots id h generation e = ap handle_in (emptied_turns slots id (Content.Handle h) generation (is_held slots id h e)).here
 
 pub emptied_other : (slots : List (Slot Content)) (id i : Id) (h : HandleRecord) (generation : ℕ) → held_at slots id ≡ Some h → (i ≡ id → ⊥) →
     held_at (emptied slots id generation) i ≡ held_at slots i
-emptied_other slots id i h generation e d = ap handle_in ((emptied_turns slots id (content.Handle h) generation (is_held slots id h e)).others i d)
+emptied_other slots id i h generation e d = ap handle_in ((emptied_turns slots id (Content.Handle h) generation (is_held slots id h e)).others i d)
 
 -- ---- a slot that is taken
 
@@ -74,7 +72,7 @@ pub record Grown (slots more : List (Slot Content)) (id : Id) (x : HandleRecord)
   pub others : (i : Id) → (i ≡ id → ⊥) → held_at more i ≡ held_at slots i
   pub new : held_at slots id ≡ None
 
-pub grown : (slots more : List (Slot Content)) (id : Id) (x : HandleRecord) → Turns slots more id None (Some (content.Handle x)) →
+pub grown : (slots more : List (Slot Content)) (id : Id) (x : HandleRecord) → Turns slots more id None (Some (Content.Handle x)) →
     Grown slots more id x
 grown slots more id x t = record { here = ap handle_in t.here; others = λ i d. ap handle_in (t.others i d); new = ap handle_in t.before }
 
@@ -276,7 +274,7 @@ everyone_rest slots P id h n xs ys e k = record {
 -- ---- the timers
 
 pub record IsSet (key : Due) (h : HandleRecord) : Type 0 where
-  pub kind : h.kind ≡ kind.Timer
+  pub kind : h.kind ≡ Kind.Timer
   pub active : h.active ≡ true
   pub due : h.due ≡ key
 

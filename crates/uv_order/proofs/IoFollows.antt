@@ -1,9 +1,5 @@
 -- Callbacks of I/O: the step that begins one goes on from where the state stands.
-use Rattle.uv_order.proofs.Names.{arith, ◌≡◌, ℕ, ◌&&◌, ◌||◌, List, [], Bool, true, not, Option, Some, None, Result, Ok, Err, length, nat_lt, refl, ap, subst, ◌∙◌, cond_both, and_parts, Id, Var, Mode, Code, Site, Program, from_heap, has_io, HandleRecord, is_io, Body, Run, Stage, Place, State, live_handle, has_some, io_run, io_handle, stage_polled, takes_io, time_polled, Told, MayAnswer, lasting, Standing, Answering, Position, Running, body_of, next_call}
-use Rattle.uv_ids.specs.declared.seen.Callback.TheVariants as callback
-use Rattle.uv_records.specs.declared.lists.WatcherKind.TheVariants as watcher
-use Rattle.uv_model.specs.declared.place.Place.TheVariants as place
-use Rattle.uv_model.specs.declared.place.Stage.TheVariants as stage
+use Rattle.uv_order.proofs.Names.{arith, ◌≡◌, ℕ, ◌&&◌, ◌||◌, List, [], Bool, true, not, Option, Some, None, Result, Ok, Err, length, nat_lt, refl, ap, subst, ◌∙◌, cond_both, and_parts, Id, Var, Mode, Code, Site, Program, from_heap, has_io, HandleRecord, is_io, Body, Run, Stage, Place, State, live_handle, has_some, io_run, io_handle, stage_polled, takes_io, time_polled, Told, MayAnswer, lasting, Standing, Answering, Position, Running, body_of, next_call, Callback, WatcherKind}
 use Rattle.uv_model.specs.Next as step
 use Rattle.uv_order.specs.Documented as doc
 use Rattle.uv_order.specs.Documented.{Walk}
@@ -21,7 +17,7 @@ io_begun p s run v = begun_call p (record s { time = time_polled s run.stage }) 
 
 -- the ops of its body
 abbrev io_body : Program → Told → Var → List Site
-io_body p told v = body_of p callback.Handle v (next_call told callback.Handle v)
+io_body p told v = body_of p Callback.Handle v (next_call told Callback.Handle v)
 
 -- one may begin there, sets what it should, and the state stands behind it then
 record Answers (p : Program) (told : Told) (s : State) (run : Run) (v : Var) (at : Standing) : Type 0 where
@@ -38,42 +34,42 @@ answers : (p : Program) (told : Told) (s : State) (m : Mode) (i : ℕ) (x : Stag
     Leaves (rest (waiting x (from_heap p) s.ready (due_now s)) s) at →
     Answers p told s (record { mode = m; line = i; stage = x; body = body }) v at
 answers p told s m i x (Some body) v at on h c stands l = cc on
-answers p told s m i stage.Pending None v at on h c (pending none b) l = record {
+answers p told s m i Stage.Pending None v at on h c (pending none b) l = record {
   may = b;
   lasts = refl;
-  stands = running (pending none (its_body p told s callback.Handle v c)) (left_all l.timers l.idle l.prepare l.check l.async l.closing l.done);
+  stands = running (pending none (its_body p told s Callback.Handle v c)) (left_all l.timers l.idle l.prepare l.check l.async l.closing l.done);
 }
-answers p told s m i (stage.Poll deadline) None v at on h c polls l = record {
+answers p told s m i (Stage.Poll deadline) None v at on h c polls l = record {
   may = tt;
   lasts = refl;
   stands = subst (λ (b : Bool). StandsAt p (io_begun p s run v) (io_begun p s run v).place
       (Running m i (Answering (has_some s.done.list || b) (io_body p told v)))) (pending_is told s h)
-      (running (polled (its_body p told s callback.Handle v c)) (left_all l.timers l.idle l.prepare l.check l.async l.closing l.done));
+      (running (polled (its_body p told s Callback.Handle v c)) (left_all l.timers l.idle l.prepare l.check l.async l.closing l.done));
 } where
   run : Run
-  run = record { mode = m; line = i; stage = stage.Poll deadline; body = None }
-answers p told s m i (stage.Polled woken) None v at on h c (polled b) l = record {
+  run = record { mode = m; line = i; stage = Stage.Poll deadline; body = None }
+answers p told s m i (Stage.Polled woken) None v at on h c (polled b) l = record {
   may = b;
   lasts = refl;
-  stands = running (polled (its_body p told s callback.Handle v c)) (left_all l.timers l.idle l.prepare l.check l.async l.closing l.done);
+  stands = running (polled (its_body p told s Callback.Handle v c)) (left_all l.timers l.idle l.prepare l.check l.async l.closing l.done);
 }
-answers p told s m i stage.Done None v at on h c (done woken b) l = record {
+answers p told s m i Stage.Done None v at on h c (done woken b) l = record {
   may = b;
   lasts = refl;
-  stands = running (done woken (its_body p told s callback.Handle v c)) (left_all l.timers l.idle l.prepare l.check l.async l.closing l.done);
+  stands = running (done woken (its_body p told s Callback.Handle v c)) (left_all l.timers l.idle l.prepare l.check l.async l.closing l.done);
 }
-answers p told s m i stage.DoneUnwoken None v at on h c (unwoken asleep none b) l = record {
+answers p told s m i Stage.DoneUnwoken None v at on h c (unwoken asleep none b) l = record {
   may = b;
   lasts = refl;
-  stands = running (unwoken asleep none (its_body p told s callback.Handle v c)) (left_all l.timers l.idle l.prepare l.check l.async l.closing
+  stands = running (unwoken asleep none (its_body p told s Callback.Handle v c)) (left_all l.timers l.idle l.prepare l.check l.async l.closing
       l.done);
 }
-answers p told s m i (stage.Walking watcher.Async) None v at on h c (walking {w = w} b) l =
+answers p told s m i (Stage.Walking WatcherKind.Async) None v at on h c (walking {w = w} b) l =
     let none = none_yet s.watchers.async.yet on in
     record {
       may = async_over s.arena.slots w s.watchers.async.yet l.async none b;
       lasts = refl;
-      stands = running (walking {q = watcher.Async} (its_body p told s callback.Handle v c)) (left_all l.timers l.idle l.prepare l.check
+      stands = running (walking {q = WatcherKind.Async} (its_body p told s Callback.Handle v c)) (left_all l.timers l.idle l.prepare l.check
           (none_behind s.arena.slots (record w { ahead = []; body = io_body p told v }) s.watchers.async.yet refl none) l.closing l.done);
     }
 answers p told s m i x None v at on h c stands l = cc on
@@ -97,7 +93,7 @@ io_follows p told s at v h c stands called = cond_both (nat_lt v.0 (length s.nam
               (named_of s t held ∙ ap Some (called t e)) refl a.lasts;
           stands = record {
             stands = a.stands;
-            counted = counted_sent p _ (told_call callback.Handle v t.0 told) told.sent (call_counted p told s callback.Handle v t.0 c);
+            counted = counted_sent p _ (told_call Callback.Handle v t.0 told) told.sent (call_counted p told s Callback.Handle v t.0 c);
           };
         }
 
@@ -112,7 +108,7 @@ io_follows p told s at v h c stands called = cond_both (nat_lt v.0 (length s.nam
 
     by : (x : Place) (at : Position) → StandsAt p s x at → (t : Result (Id × HandleRecord) Code) → live_handle s v ≡ t →
         Follows p told at s (step.call_io p s v (io_run p s x) (io_handle t))
-    by (place.Main i) at (between l) t e = tt
-    by (place.Running run) at (running {at = y} f l) t e = cond_both (has_io p && takes_io s run.stage run.body) _ _
+    by (Place.Main i) at (between l) t e = tt
+    by (Place.Running run) at (running {at = y} f l) t e = cond_both (has_io p && takes_io s run.stage run.body) _ _
         (λ (o : Option Run). Follows p told (Running run.mode run.line y) s (step.call_io p s v o (io_handle t)))
         (λ on. let parts = and_parts (has_io p) (takes_io s run.stage run.body) on in found run y t e parts.0 parts.1 f l) (λ off. tt)

@@ -2,11 +2,8 @@
 -- timers, and the lists of watchers, async and closing handles have just those of their kind; no id stands twice on a list. A handle that
 -- closes is inactive. The free slots are empty.
 use Rattle.uv_order.proofs.Names.{◌≡◌, ℕ, zero, suc, ◌+◌, ◌==◌, ◌&&◌, ◌||◌, List, [], ◌∷◌, ◌++◌, Bool, true, false, Some, None, length, slice_get, slice_set, refl, ap, sym, subst, ◌∙◌, append_assoc, arith, if◌then◌else◌, not, option_and_then, cond_both, and_parts, both_ways, or_parts, eqb-true, eq-eqb, same_Some, filter-append, Id, Var, Due, Kind, HandleRecord, Slot, WatcherKind, inited, activated, begun_at, is_timer, is_async, Slots, held, taken, next_free, next_id, next_unused, id_of, Walk, with_last, Content, same_id, walk_without_id, State, handle, with_handle, without_timer, stopped, started, restarted, due_after, has_id, kind_as, Watchers, those_of, with_those_of, watchers_without_id, watched, with_watched, with_first}
-use Rattle.uv_ids.specs.declared.phase.Kind.TheVariants as kind
-use Rattle.uv_records.specs.declared.lists.WatcherKind.TheVariants as watcher
 use Rattle.uv_records.specs.Handles as records
 use Rattle.uv_records.specs.Slots as arena
-use Rattle.uv_work.specs.declared.content.Content.TheVariants as content
 use Rattle.uv_model.specs.Ops as ops
 use Rattle.uv_order.proofs.IdLists.{same, other, without_absent, without_itself}
 use Rattle.uv_order.proofs.Contents.{slot_with, IsThere, Turns, set_turns, pushed_turns, get_set_other}
@@ -17,7 +14,7 @@ use Rattle.uv_order.proofs.OpCases.{timer_kind}
 
 -- an inactive timer
 pub record Rests (h : HandleRecord) : Type 0 where
-  pub kind : h.kind ≡ kind.Timer
+  pub kind : h.kind ≡ Kind.Timer
   pub inactive : h.active ≡ false
   pub stays : h.closing ≡ false
 
@@ -33,7 +30,7 @@ Closes h = h.closing ≡ true
 -- one that closes is inactive, and an async one that doesn't is active
 pub record IsSound (h : HandleRecord) : Type 0 where
   pub shut : h.closing ≡ true → h.active ≡ false
-  pub awake : h.kind ≡ kind.Async → h.closing ≡ false → h.active ≡ true
+  pub awake : h.kind ≡ Kind.Async → h.closing ≡ false → h.active ≡ true
 
 abbrev pub AllSound : List (Slot Content) → Type 0
 AllSound slots = (id : Id) (h : HandleRecord) → held_at slots id ≡ Some h → IsSound h
@@ -87,14 +84,14 @@ abbrev pub Apart : Kind → Kind → Type 0
 Apart a b = a ≡ b → ⊥
 
 -- a watcher is no timer
-pub not_timer : (q : WatcherKind) → Apart kind.Timer (kind_as q)
-not_timer watcher.Idle = λ e. cc e
+pub not_timer : (q : WatcherKind) → Apart Kind.Timer (kind_as q)
+not_timer WatcherKind.Idle = λ e. cc e
 not_timer each = λ e. cc e
 
 pub other_kind : (h x : HandleRecord) (a b : Kind) → h.kind ≡ a → Apart a b → Watches b h → Watches b x
 other_kind h x a b e d w = absurd (d (sym e ∙ w.kind))
 
-pub no_timer : (h : HandleRecord) (a : Kind) (key : Due) → h.kind ≡ a → Apart a kind.Timer → IsSet key h → ⊥
+pub no_timer : (h : HandleRecord) (a : Kind) (key : Due) → h.kind ≡ a → Apart a Kind.Timer → IsSet key h → ⊥
 no_timer h a key e d w = d (sym e ∙ w.kind)
 
 -- a handle of one kind is changed, which the lists of another don't speak of
@@ -130,7 +127,7 @@ free_held slots id c y (n ∷ ns) e k = (empty_held slots id c y n e k.0, k.1, f
 
 pub free_put : (slots : List (Slot Content)) (id : Id) (h x : HandleRecord) (free : List ℕ) → held_at slots id ≡ Some h → AreFree slots free → AreFree
     (put slots id x) free
-free_put slots id h x free e k = free_held slots id (content.Handle h) (slot_of id x) free (is_held slots id h e) k
+free_put slots id h x free e k = free_held slots id (Content.Handle h) (slot_of id x) free (is_held slots id h e) k
 
 -- a slot that isn't one of these is changed
 pub free_set : (slots : List (Slot Content)) (i : ℕ) (y : Slot Content) (free : List ℕ) → has_number free i ≡ false → AreFree slots free → AreFree
@@ -196,7 +193,7 @@ off_both s id h x q w e off l = subst (Everyone (put s.arena.slots id x) (Watche
 off_watched : (s : State) (id : Id) (h x : HandleRecord) (q : WatcherKind) → handle s id ≡ Some h → x.active ≡ false →
     Everyone s.arena.slots (Watches (kind_as q)) (members (watched s q)) →
     Everyone (put s.arena.slots id x) (Watches (kind_as q)) (members (those_of q (watchers_without_id s.watchers id)))
-off_watched s id h x watcher.Idle e off l = off_both s id h x kind.Idle s.watchers.idle e off l
+off_watched s id h x WatcherKind.Idle e off l = off_both s id h x Kind.Idle s.watchers.idle e off l
 off_watched s id h x each e off l = off_both s id h x (kind_as each) (watched s each) e off l
 
 pub off_times : (s : State) (id : Id) (h x : HandleRecord) → handle s id ≡ Some h → x.active ≡ false → Kept s →
@@ -214,7 +211,7 @@ off_times s id h x e off k = at (is_timer h.kind && h.active) refl where
   at false inert = times_put s.arena.slots s.next_start s.timers id h x e
       (λ key a. absurd (unset key inert a)) (λ key a. absurd (on_off x a.active off)) k.timers
 
-pub stopped_kept : (s : State) (id : Id) (h : HandleRecord) → handle s id ≡ Some h → Apart h.kind kind.Async → Kept s → Kept (stopped s id h)
+pub stopped_kept : (s : State) (id : Id) (h : HandleRecord) → handle s id ≡ Some h → Apart h.kind Kind.Async → Kept s → Kept (stopped s id h)
 stopped_kept s id h e other k =
     let x = records.stopped h in
     record {
@@ -238,9 +235,9 @@ closed_kept s id h e stays k =
       closing = everyone_front s.arena.slots Closes id h x (members s.closing) e (λ shut. open_shut h shut stays) refl k.closing;
     }
 
-pub started_kept : (s : State) (id : Id) (old h : HandleRecord) (timeout repeat : ℕ) → handle s id ≡ Some old → old.kind ≡ kind.Timer → old.active ≡
+pub started_kept : (s : State) (id : Id) (old h : HandleRecord) (timeout repeat : ℕ) → handle s id ≡ Some old → old.kind ≡ Kind.Timer → old.active ≡
     false →
-    old.closing ≡ false → h.kind ≡ kind.Timer → h.closing ≡ false → has_id s.ready id ≡ false → Kept s → Kept (started s id h timeout repeat)
+    old.closing ≡ false → h.kind ≡ Kind.Timer → h.closing ≡ false → has_id s.ready id ≡ false → Kept s → Kept (started s id h timeout repeat)
 started_kept s id old h timeout repeat e t off was u stays away k =
     let x = begun_at (due_after s timeout) repeat h in
     record {
@@ -249,20 +246,20 @@ started_kept s id old h timeout repeat e t off was u stays away k =
       timers = times_with s.arena.slots s.next_start (s.next_start + 1) s.timers (due_after s timeout) id old x e off
           (record { kind = u; active = refl; due = refl }) refl (omega arith) k.timers;
       ready = off_list s.arena.slots Rests id old x s.ready e away k.ready;
-      watchers = λ q. others s.arena.slots kind.Timer (kind_as q) id old x (members (watched s q)) e t u (not_timer q) (k.watchers q);
+      watchers = λ q. others s.arena.slots Kind.Timer (kind_as q) id old x (members (watched s q)) e t u (not_timer q) (k.watchers q);
       closing = everyone_put s.arena.slots Closes id old x (members s.closing) e (λ shut. absurd (open_shut old shut was)) (λ shut. absurd
           (open_shut h shut stays)) k.closing;
     }
 
 -- a timer that was stopped
-pub started_again_kept : (s : State) (id : Id) (h : HandleRecord) (timeout repeat : ℕ) → handle s id ≡ Some h → h.kind ≡ kind.Timer → h.closing ≡
+pub started_again_kept : (s : State) (id : Id) (h : HandleRecord) (timeout repeat : ℕ) → handle s id ≡ Some h → h.kind ≡ Kind.Timer → h.closing ≡
     false → Kept s →
     Kept (started (stopped s id h) id h timeout repeat)
 started_again_kept s id h timeout repeat e t stays k =
     started_kept (stopped s id h) id (records.stopped h) h timeout repeat (put_same s.arena.slots id h (records.stopped h) e) t refl stays t stays
     (without_itself s.ready id) (stopped_kept s id h e (λ q. cc (t, q)) k)
 
-pub restarted_again_kept : (s : State) (id : Id) (h : HandleRecord) → handle s id ≡ Some h → h.kind ≡ kind.Timer → h.closing ≡ false → Kept s → Kept
+pub restarted_again_kept : (s : State) (id : Id) (h : HandleRecord) → handle s id ≡ Some h → h.kind ≡ Kind.Timer → h.closing ≡ false → Kept s → Kept
     (restarted (stopped s id h) id h)
 restarted_again_kept s id h e t stays k = cond_both (h.repeat == 0) _ _ Kept (λ z. stopped_kept s id h e (λ q. cc (t, q)) k)
     (λ z. started_again_kept s id h h.repeat
@@ -270,12 +267,12 @@ restarted_again_kept s id h e t stays k = cond_both (h.repeat == 0) _ _ Kept (λ
 
 -- the timers and the ready list where a watcher changes
 pub others_times : (s : State) (id : Id) (h x : HandleRecord) (q : Kind) → handle s id ≡ Some h → h.kind ≡ q → x.kind ≡ q →
-    Apart q kind.Timer → Kept s →
+    Apart q Kind.Timer → Kept s →
     Times (put s.arena.slots id x) s.next_start s.timers
 others_times s id h x q e t u d k = times_put s.arena.slots s.next_start s.timers id h x e
     (λ key a. absurd (no_timer h q key t d a)) (λ key a. absurd (no_timer x q key u d a)) k.timers
 
-pub others_ready : (s : State) (id : Id) (h x : HandleRecord) (q : Kind) → handle s id ≡ Some h → h.kind ≡ q → Apart q kind.Timer → Kept s →
+pub others_ready : (s : State) (id : Id) (h x : HandleRecord) (q : Kind) → handle s id ≡ Some h → h.kind ≡ q → Apart q Kind.Timer → Kept s →
     Lists (put s.arena.slots id x) Rests s.ready
 others_ready s id h x q e t d k = lists_put s.arena.slots Rests id h x s.ready e (λ r. absurd (d (sym t ∙ r.kind))) k.ready
 
@@ -306,10 +303,10 @@ started_lists : (s : State) (k q : WatcherKind) (id : Id) (x : HandleRecord) →
     Everyone (put s.arena.slots id x) (Watches (kind_as k)) (id ∷ members (watched s k)) →
     (Apart (kind_as k) (kind_as q) → Everyone (put s.arena.slots id x) (Watches (kind_as q)) (members (watched s q))) →
     Everyone (put s.arena.slots id x) (Watches (kind_as q)) (members (watched (with_watched s k (with_first (watched s k) id)) q))
-started_lists s watcher.Idle watcher.Idle id x own other = own
-started_lists s watcher.Prepare watcher.Prepare id x own other = own
-started_lists s watcher.Check watcher.Check id x own other = own
-started_lists s watcher.Async watcher.Async id x own other = own
+started_lists s WatcherKind.Idle WatcherKind.Idle id x own other = own
+started_lists s WatcherKind.Prepare WatcherKind.Prepare id x own other = own
+started_lists s WatcherKind.Check WatcherKind.Check id x own other = own
+started_lists s WatcherKind.Async WatcherKind.Async id x own other = own
 started_lists s k q id x own other = other (λ f. cc f)
 
 pub watcher_started_kept : (s : State) (k : WatcherKind) (id : Id) (h : HandleRecord) → handle s id ≡ Some h → h.kind ≡ kind_as k → h.active ≡ false →
@@ -317,25 +314,25 @@ pub watcher_started_kept : (s : State) (k : WatcherKind) (id : Id) (h : HandleRe
 watcher_started_kept s q id h e t off stays k =
     let x = activated h in
     let still = activated_sound s id h e stays k in
-    let untimed : Apart (kind_as q) kind.Timer = λ f. not_timer q (sym f) in
+    let untimed : Apart (kind_as q) Kind.Timer = λ f. not_timer q (sym f) in
     kept_all still.0 still.1 (others_times s id h x (kind_as q) e t t untimed k) (others_ready s id h x (kind_as q) e t untimed k)
     (λ r. started_lists s q r id x (in_front s id h x (kind_as q) (members (watched s q)) e off t refl (k.watchers q))
     (λ apart. others s.arena.slots (kind_as q) (kind_as r) id h x (members (watched s r)) e t t apart (k.watchers r))) still.2
 
 -- a handle of I/O is no watcher
-no_watcher : (q : WatcherKind) → Apart kind.Io (kind_as q)
-no_watcher watcher.Idle = λ e. cc e
+no_watcher : (q : WatcherKind) → Apart Kind.Io (kind_as q)
+no_watcher WatcherKind.Idle = λ e. cc e
 no_watcher each = λ e. cc e
 
 -- one is started, which is on no list
-pub io_started_kept : (s : State) (id : Id) (h : HandleRecord) → handle s id ≡ Some h → h.kind ≡ kind.Io → h.closing ≡ false → Kept s →
+pub io_started_kept : (s : State) (id : Id) (h : HandleRecord) → handle s id ≡ Some h → h.kind ≡ Kind.Io → h.closing ≡ false → Kept s →
     Kept (with_handle s id (activated h))
 io_started_kept s id h e t stays k =
     let x = activated h in
     let still = activated_sound s id h e stays k in
-    let untimed : Apart kind.Io kind.Timer = λ f. cc f in
-    kept_all still.0 still.1 (others_times s id h x kind.Io e t t untimed k) (others_ready s id h x kind.Io e t untimed k)
-    (λ q. others s.arena.slots kind.Io (kind_as q) id h x (members (watched s q)) e t t (no_watcher q) (k.watchers q)) still.2
+    let untimed : Apart Kind.Io Kind.Timer = λ f. cc f in
+    kept_all still.0 still.1 (others_times s id h x Kind.Io e t t untimed k) (others_ready s id h x Kind.Io e t untimed k)
+    (λ q. others s.arena.slots Kind.Io (kind_as q) id h x (members (watched s q)) e t t (no_watcher q) (k.watchers q)) still.2
 
 -- ---- a new handle
 
@@ -365,32 +362,32 @@ fills s (m ∷ ms) id c e k n =
 
 -- and where it puts a handle
 abbrev pub Takes : Slots Content → List ℕ → Id → HandleRecord → Type 0
-Takes s free id x = Grown s.slots (arena.taken_from free id (content.Handle x) s).slots id x
-    × AreFree (arena.taken_from free id (content.Handle x) s).slots (arena.taken_from free id (content.Handle x) s).free
+Takes s free id x = Grown s.slots (arena.taken_from free id (Content.Handle x) s).slots id x
+    × AreFree (arena.taken_from free id (Content.Handle x) s).slots (arena.taken_from free id (Content.Handle x) s).free
 
 pub takes : (s : Slots Content) (free : List ℕ) (id : Id) (x : HandleRecord) → s.free ≡ free → AreFree s.slots free → next_id s.slots s.unused free ≡
     Some id →
     Takes s free id x
 takes s free id x e k n =
-    let f = fills s free id (content.Handle x) e k n in
-    (grown s.slots (arena.taken_from free id (content.Handle x) s).slots id x f.0, f.1)
+    let f = fills s free id (Content.Handle x) e k n in
+    (grown s.slots (arena.taken_from free id (Content.Handle x) s).slots id x f.0, f.1)
 
 pub sound_grown : (slots more : List (Slot Content)) (id : Id) (x : HandleRecord) → Grown slots more id x → IsSound x → AllSound slots → AllSound more
 sound_grown slots more id x g f k i y l = grind arith
 
 -- an inactive handle, which is none of the lists'
 pub new_unset : (v : Var) (q : Kind) (key : Due) → IsSet key (inited v q) → ⊥
-new_unset v kind.Timer key a = absurd (on_off (inited v kind.Timer) a.active refl)
-new_unset v kind.Async key a = cc a.kind
+new_unset v Kind.Timer key a = absurd (on_off (inited v Kind.Timer) a.active refl)
+new_unset v Kind.Async key a = cc a.kind
 new_unset v each key a = on_off (inited v each) a.active refl
 
-pub new_unwatched : (v : Var) (q r : Kind) → Apart kind.Async r → Watches r (inited v q) → ⊥
-new_unwatched v kind.Async r d w = d w.kind
+pub new_unwatched : (v : Var) (q r : Kind) → Apart Kind.Async r → Watches r (inited v q) → ⊥
+new_unwatched v Kind.Async r d w = d w.kind
 new_unwatched v each r d w = on_off (inited v each) w.active refl
 
 pub new_by : (s : State) (v : Var) (q : Kind) (id : Id) (w : Walk Id) → Takes s.arena s.arena.free id (inited v q) →
-    Everyone (taken id (content.Handle (inited v q)) s.arena).slots (Watches kind.Async) (members w) → Kept s →
-    Agree (taken id (content.Handle (inited v q)) s.arena) s.next_start s.timers s.ready (with_those_of watcher.Async w s.watchers) s.closing
+    Everyone (taken id (Content.Handle (inited v q)) s.arena).slots (Watches Kind.Async) (members w) → Kept s →
+    Agree (taken id (Content.Handle (inited v q)) s.arena) s.next_start s.timers s.ready (with_those_of WatcherKind.Async w s.watchers) s.closing
 new_by s v q id w t async k =
     record {
       sound = sound_grown s.arena.slots more id x t.0 (record {
@@ -409,33 +406,33 @@ new_by s v q id w t async k =
     x = inited v q
 
     more : List (Slot Content)
-    more = (taken id (content.Handle (inited v q)) s.arena).slots
+    more = (taken id (Content.Handle (inited v q)) s.arena).slots
 
-    grown_list : (r : WatcherKind) → Apart kind.Async (kind_as r) → Everyone more (Watches (kind_as r)) (members (watched s r))
+    grown_list : (r : WatcherKind) → Apart Kind.Async (kind_as r) → Everyone more (Watches (kind_as r)) (members (watched s r))
     grown_list r d = everyone_grown s.arena.slots more (Watches (kind_as r)) id x (members (watched s r)) t.0 (new_unwatched v q (kind_as r) d)
         (k.watchers r)
 
-    listed : (r : WatcherKind) → Everyone more (Watches (kind_as r)) (members (those_of r (with_those_of watcher.Async w s.watchers)))
-    listed watcher.Async = async
+    listed : (r : WatcherKind) → Everyone more (Watches (kind_as r)) (members (those_of r (with_those_of WatcherKind.Async w s.watchers)))
+    listed WatcherKind.Async = async
     listed r = grown_list r (λ f. cc f)
 
 -- the list of async handles, where the new one is of another kind
 pub async_still : (s : State) (v : Var) (q : Kind) (id : Id) → is_async q ≡ false → Takes s.arena s.arena.free id (inited v q) → Kept s →
-    Everyone (taken id (content.Handle (inited v q)) s.arena).slots (Watches kind.Async) (members s.watchers.async)
-async_still s v q id e t k = everyone_grown s.arena.slots (taken id (content.Handle (inited v q)) s.arena).slots (Watches kind.Async) id (inited v q)
-    (members s.watchers.async) t.0 (λ w. on_off (inited v q) w.active e) (k.watchers watcher.Async)
+    Everyone (taken id (Content.Handle (inited v q)) s.arena).slots (Watches Kind.Async) (members s.watchers.async)
+async_still s v q id e t k = everyone_grown s.arena.slots (taken id (Content.Handle (inited v q)) s.arena).slots (Watches Kind.Async) id (inited v q)
+    (members s.watchers.async) t.0 (λ w. on_off (inited v q) w.active e) (k.watchers WatcherKind.Async)
 
 pub new_kept : (s : State) (v : Var) (q : Kind) (id : Id) → next_free s.arena ≡ Some id → Kept s → Kept (ops.with_new s v q id)
-new_kept s v kind.Async id e k =
-    let x = inited v kind.Async in
+new_kept s v Kind.Async id e k =
+    let x = inited v Kind.Async in
     let t = takes s.arena s.arena.free id x refl k.free e in
-    let more = (taken id (content.Handle x) s.arena).slots in
-    let listed = everyone_listed s.arena.slots more (Watches kind.Async) id x s.watchers.async.list s.watchers.async.yet t.0 (record {
+    let more = (taken id (Content.Handle x) s.arena).slots in
+    let listed = everyone_listed s.arena.slots more (Watches Kind.Async) id x s.watchers.async.list s.watchers.async.yet t.0 (record {
       kind = refl;
       active = refl;
-    }) (k.watchers watcher.Async) in
+    }) (k.watchers WatcherKind.Async) in
     let w = s.watchers.async in
-    new_by s v kind.Async id (with_last w id) t
-    (subst (Everyone more (Watches kind.Async)) (sym (append_assoc w.list (id ∷ []) w.yet)) listed) k
+    new_by s v Kind.Async id (with_last w id) t
+    (subst (Everyone more (Watches Kind.Async)) (sym (append_assoc w.list (id ∷ []) w.yet)) listed) k
 new_kept s v each id e k = let t = takes s.arena s.arena.free id (inited v each) refl k.free e in new_by s v each id s.watchers.async t
     (async_still s v each id refl t k) k

@@ -1,10 +1,6 @@
 -- Each op and each step of the loop keeps what is kept.
-use Rattle.uv_order.proofs.Names.{arith, ◌≡◌, inl, ℕ, ◌+◌, ◌==◌, List, [], ◌∷◌, ◌++◌, true, false, Some, None, drop, refl, ap, sym, subst, ◌∙◌, append_assoc, append-nil, cond_both, false_from_ne_true, Id, Var, Due, HandleRecord, Slot, WatcherKind, referenced_as, repeating, Slots, held, freed, taken, next_free, Walk, all_yet, moved_on, Op, Task, Program, arena_size, Content, Request, queued, Run, State, fresh, handle, with_handle, with_request, with_id, live, front, watched, with_watched, stopped, started, restarted, do_op, Next, Moves, Refuses, collected, front_moved, begin_walk, has_id, kind_as}
-use Rattle.uv_ids.specs.declared.phase.Kind.TheVariants as kind
-use Rattle.uv_records.specs.declared.lists.WatcherKind.TheVariants as watcher
+use Rattle.uv_order.proofs.Names.{arith, ◌≡◌, inl, ℕ, ◌+◌, ◌==◌, List, [], ◌∷◌, ◌++◌, true, false, Some, None, drop, refl, ap, sym, subst, ◌∙◌, append_assoc, append-nil, cond_both, false_from_ne_true, Id, Var, Due, HandleRecord, Slot, WatcherKind, referenced_as, repeating, Slots, held, freed, taken, next_free, Walk, all_yet, moved_on, Op, Task, Program, arena_size, Content, Request, queued, Run, State, fresh, handle, with_handle, with_request, with_id, live, front, watched, with_watched, stopped, started, restarted, do_op, Next, Moves, Refuses, collected, front_moved, begin_walk, has_id, kind_as, Kind}
 use Rattle.uv_records.specs.Handles as records
-use Rattle.uv_script.specs.declared.op.Op.TheVariants as op
-use Rattle.uv_work.specs.declared.content.Content.TheVariants as content
 use Rattle.uv_model.specs.Ops as ops
 use Rattle.uv_order.proofs.IdLists.{Each, each_push, distinct_push, member, has_new_middle}
 use Rattle.uv_order.proofs.Contents.{holds, emptied, get_set_same}
@@ -21,17 +17,17 @@ use Rattle.uv_order.proofs.Keeping.{kept_all, fills, agree_same, free_held, Rest
 -- a slot is taken for a request
 queued_kept : (s : State) (v : Var) (task : Task) (id : Id) → next_free s.arena ≡ Some id → Kept s → Kept (ops.with_queued s v task id)
 queued_kept s v task id e k =
-    let c = content.Request (queued v task) in
+    let c = Content.Request (queued v task) in
     let f = fills s.arena s.arena.free id c refl k.free e in
     let now = taken id c s.arena in
     agree_same now s.arena s (same_handles s.arena.slots now.slots id None (Some c) f.0 refl refl) f.1 k
 
 -- a request's record changes
-pub request_kept : (s : State) (id : Id) (r x : Request) → held s.arena.slots id ≡ Some (content.Request r) → Kept s → Kept (with_request s id x)
+pub request_kept : (s : State) (id : Id) (r x : Request) → held s.arena.slots id ≡ Some (Content.Request r) → Kept s → Kept (with_request s id x)
 request_kept s id r x e k =
     let now = (with_request s id x).arena in
     agree_same now s.arena s (same_handles s.arena.slots now.slots id _ _ (request_turns s.arena.slots id r x e) refl refl)
-    (free_held s.arena.slots id (content.Request r) _ s.arena.free e k.free) k
+    (free_held s.arena.slots id (Content.Request r) _ s.arena.free e k.free) k
 
 did_op_kept : (s : State) (o : Op) (d : ops.Done) → DidOp s o d → Kept s → Kept d.state
 did_op_kept s o d (which.made v q id e) k = new_kept s v q id e k
@@ -118,7 +114,7 @@ collected_kept s t f k =
         each = each_push (Fits (put s.arena.slots t.0 x) Rests) s.ready t.0 ready.each last;
         distinct = distinct_push s.ready t.0 ready.distinct away;
       };
-      watchers = λ q. others s.arena.slots kind.Timer (kind_as q) t.0 t.1 x (members (watched s q)) f.holds set.kind set.kind (not_timer q)
+      watchers = λ q. others s.arena.slots Kind.Timer (kind_as q) t.0 t.1 x (members (watched s q)) f.holds set.kind set.kind (not_timer q)
           (k.watchers q);
       closing = everyone_put s.arena.slots Closes t.0 t.1 x (members s.closing) f.holds (λ shut. shut) (λ shut. shut) k.closing;
     }
@@ -135,10 +131,10 @@ with_watched_kept s q w e k = kept_all k.sound k.free k.timers k.ready (λ r. at
   at : (q r : WatcherKind) → Everyone s.arena.slots (Watches (kind_as q)) (members w) →
       Everyone s.arena.slots (Watches (kind_as r)) (members (watched s r)) →
       Everyone s.arena.slots (Watches (kind_as r)) (members (watched (with_watched s q w) r))
-  at watcher.Idle watcher.Idle now was = now
-  at watcher.Prepare watcher.Prepare now was = now
-  at watcher.Check watcher.Check now was = now
-  at watcher.Async watcher.Async now was = now
+  at WatcherKind.Idle WatcherKind.Idle now was = now
+  at WatcherKind.Prepare WatcherKind.Prepare now was = now
+  at WatcherKind.Check WatcherKind.Check now was = now
+  at WatcherKind.Async WatcherKind.Async now was = now
   at q r now was = was
 
 pub begin_kept : (s : State) (run : Run) (q : WatcherKind) → (watched s q).yet ≡ [] → Kept s → StaysKept (begin_walk s run q)
@@ -163,9 +159,9 @@ front_moved_kept s q t f k = with_watched_kept s q (moved_on (watched s q) t.0 (
     (moved_listed s (Watches (kind_as q)) (watched s q) t f (k.watchers q)) k
 
 pub woken_kept : (s : State) (t : Id × HandleRecord) → FrontOf s s.watchers.async.yet t → Kept s →
-    Kept (with_handle (front_moved s watcher.Async t.0) t.0 (records.woken t.1))
-woken_kept s t f k = put_kept (front_moved s watcher.Async t.0) t.0 t.1 (records.woken t.1) f.holds refl refl refl refl (front_moved_kept s
-    watcher.Async t f k)
+    Kept (with_handle (front_moved s WatcherKind.Async t.0) t.0 (records.woken t.1))
+woken_kept s t f k = put_kept (front_moved s WatcherKind.Async t.0) t.0 t.1 (records.woken t.1) f.holds refl refl refl refl (front_moved_kept s
+    WatcherKind.Async t f k)
 
 -- the front of the closing handles leaves, and its slot is freed
 pub gone_kept : (s : State) (t : Id × HandleRecord) (rest : List Id) (n : ℕ) (free : List ℕ) → handle s t.0 ≡ Some t.1 → s.closing.yet ≡ t.0 ∷ rest →
@@ -225,7 +221,7 @@ gone_closed : (p : Program) (s : State) (t : Id × HandleRecord) → FrontOf s s
       yet = drop 1 s.closing.yet;
     })
 gone_closed p s t f k =
-    let c = content.Handle t.1 in
+    let c = Content.Handle t.1 in
     let e = is_held s.arena.slots t.0 t.1 f.holds in
     subst (λ (rest : List Id). Agree (freed (arena_size p).last_generation t.0 s.arena) s.next_start s.timers s.ready s.watchers
     (record s.closing { yet = rest })) (sym f.behind)
@@ -241,7 +237,7 @@ gone_ended : (p : Program) (s : State) (t : Id × Request) → FrontRequest s s.
     Agree (freed (arena_size p).last_generation t.0 s.arena) s.next_start s.timers s.ready s.watchers s.closing
 gone_ended p s t f k =
     let last = (arena_size p).last_generation in
-    let c = content.Request t.1 in
+    let c = Content.Request t.1 in
     let free = cond_both (t.0.generation == last) _ _ (λ (u : Slots Content). AreFree u.slots u.free)
     (λ at. (freed_free s.arena.slots t.0 c t.0.generation s.arena.free f.holds k.free).0)
     (λ more. (freed_free s.arena.slots t.0 c (t.0.generation + 1) s.arena.free f.holds k.free).1) in
@@ -259,15 +255,15 @@ did_kept p s n (row.collected run part t f) k = collected_kept s t f k
 did_kept p s n (row.fired run t f) k = fired_kept s t f k
 did_kept p s n (row.called_due run t f) k = called_due_kept s t f k
 did_kept p s n (row.walked run q t sync f) k = front_moved_kept s q t f k
-did_kept p s n (row.passed run t f off) k = front_moved_kept s watcher.Async t f k
+did_kept p s n (row.passed run t f off) k = front_moved_kept s WatcherKind.Async t f k
 did_kept p s n (row.woken run t f on) k = woken_kept s t f k
 did_kept p s n (row.answered run time v t e is on) k = k
 did_kept p s n (row.closed run t f) k = gone_closed p s t f k
 did_kept p s n (row.ended run t f) k = gone_ended p s t f k
 did_kept p s n (row.taken n' t f) k = k
 did_kept p s n (row.finished n' t f) k = request_kept s t.0 t.1 _ f.holds k
-did_kept p s n (row.sent v) k = op_kept s (op.Send v) k
-did_kept p s n (row.cancelled v) k = op_kept s (op.Cancel v) k
+did_kept p s n (row.sent v) k = op_kept s (Op.Send v) k
+did_kept p s n (row.cancelled v) k = op_kept s (Op.Cancel v) k
 
 pub fresh_kept : (p : Program) → Kept (fresh p)
 fresh_kept p = grind arith

@@ -1,10 +1,5 @@
 -- What the lines of a trace tell of the names and of the handles that close, and how each change of the slots keeps it.
-use Rattle.uv_order.proofs.Names.{arith, ◌≡◌, ◌⊎◌, inl, inr, ℕ, zero, suc, ◌<◌, ◌≤◌, ◌==◌, ◌||◌, List, [], ◌∷◌, Bool, true, false, Option, Some, None, slice_get, slice_set, unwrap_or, option_map, refl, ap, sym, subst, ◌∙◌, if◌then◌else◌, eqb-true, eq-eqb, or_left, or_right, or_cases, none-some, Id, Var, Answer, Seen, Site, Op, Program, op_at, HandleRecord, Slots, Content, Named, same_id, unbound, answered, queues, binds, bound_by, bound, closes, closes_by, is_some_id, is_bound, was_closed, is_closed_line, has_closed_line, makes, made_by, made_as, cancels}
-use Rattle.uv_ids.specs.declared.code.Code.TheVariants as code
-use Rattle.uv_ids.specs.declared.code.Answer.TheVariants as answer
-use Rattle.uv_ids.specs.declared.seen.Seen.TheVariants as seen
-use Rattle.uv_script.specs.declared.op.Op.TheVariants as op
-use Rattle.uv_work.specs.declared.content.Content.TheVariants as content
+use Rattle.uv_order.proofs.Names.{arith, ◌≡◌, ◌⊎◌, inl, inr, ℕ, zero, suc, ◌<◌, ◌≤◌, ◌==◌, ◌||◌, List, [], ◌∷◌, Bool, true, false, Option, Some, None, slice_get, slice_set, unwrap_or, option_map, refl, ap, sym, subst, ◌∙◌, if◌then◌else◌, eqb-true, eq-eqb, or_left, or_right, or_cases, none-some, Id, Var, Answer, Seen, Site, Op, Program, op_at, HandleRecord, Slots, Content, Named, same_id, unbound, answered, queues, binds, bound_by, bound, closes, closes_by, is_some_id, is_bound, was_closed, is_closed_line, has_closed_line, makes, made_by, made_as, cancels, Code}
 use Rattle.uv_order.proofs.IdLists.{same, other, itself}
 use Rattle.uv_order.proofs.Contents.{Turns, emptied, emptied_turns}
 use Rattle.uv_order.proofs.Holding.{name_at, NoNewNames, put_names, names_turned, held_at, is_held, put, put_same, Fits, fits_put, fits_back, fitted, fits_emptied, fitted_emptied, fits_same, SameHandles, Grown}
@@ -122,19 +117,19 @@ abbrev pub IsIdleOp : Op → Answer → Type 0
 IsIdleOp o a = (id : Id) → (queues o a id ≡ None) × (cancels o a id ≡ false)
 
 pub is_answered : (p : Program) (place : Site) (o : Op) (a : Answer) → op_at p place ≡ Some o →
-    answered p (seen.Op place a) ≡ Some (record { op = o; answer = a })
+    answered p (Seen.Op place a) ≡ Some (record { op = o; answer = a })
 is_answered p place o a e = ap (option_map (λ (x : Op). record { op = x; answer = a })) e
 
-pub quiet_op : (p : Program) (place : Site) (o : Op) (a : Answer) → op_at p place ≡ Some o → IsQuietOp o a → IsQuiet p (seen.Op place a)
+pub quiet_op : (p : Program) (place : Site) (o : Op) (a : Answer) → op_at p place ≡ Some o → IsQuietOp o a → IsQuiet p (Seen.Op place a)
 quiet_op p place o a e q = grind arith
 
-pub idle_op : (p : Program) (place : Site) (o : Op) (a : Answer) → op_at p place ≡ Some o → IsIdleOp o a → IsIdle p (seen.Op place a)
+pub idle_op : (p : Program) (place : Site) (o : Op) (a : Answer) → op_at p place ≡ Some o → IsIdleOp o a → IsIdle p (Seen.Op place a)
 idle_op p place o a e q = grind arith
 
 -- a handle that doesn't close is closed
 pub known_close : {waiting runs : List Id} (p : Program) (past : List Seen) (place : Site) (v : Var) (arena : Slots Content) (names : List Named)
-    (id : Id) (h x : HandleRecord) → op_at p place ≡ Some (op.Close v) → id_in names v ≡ Some id → held_at arena.slots id ≡ Some h →
-    x.closing ≡ true → x.name ≡ h.name → Known p past arena names waiting runs → Known p (seen.Op place (answer.Code code.Ok) ∷ past)
+    (id : Id) (h x : HandleRecord) → op_at p place ≡ Some (Op.Close v) → id_in names v ≡ Some id → held_at arena.slots id ≡ Some h →
+    x.closing ≡ true → x.name ≡ h.name → Known p past arena names waiting runs → Known p (Seen.Op place (Answer.Code Code.Ok) ∷ past)
     (record arena { slots = put arena.slots id x }) names waiting runs
 known_close p past place v arena names id h x e is holds shut called k = record {
   binding = λ u i f. rw said (k.binding u i f);
@@ -144,15 +139,15 @@ known_close p past place v arena names id h x e is holds shut called k = record 
   closed = λ i c. closed i (or_cases (is_some_id i (bound p past v)) (was_closed p past i) (sym (ap
       (λ (o : Option Var). is_bound p past i o || was_closed p past i) closed_now) ∙ c));
   over = λ i c. gone_put arena.slots arena.free id h x i holds (k.over i c);
-  worked = worked_idle p past (seen.Op place (answer.Code code.Ok)) (record arena { slots = put arena.slots id x }) _ _
-      (idle_op p place (op.Close v) (answer.Code code.Ok) e (λ i. (refl, refl)))
+  worked = worked_idle p past (Seen.Op place (Answer.Code Code.Ok)) (record arena { slots = put arena.slots id x }) _ _
+      (idle_op p place (Op.Close v) (Answer.Code Code.Ok) e (λ i. (refl, refl)))
       (worked_same p past arena (record arena { slots = put arena.slots id x }) _ _ (same_put arena.slots id h x holds)
       (λ i g. gone_put arena.slots arena.free id h x i holds g) k.worked);
 } where
-  said : answered p (seen.Op place (answer.Code code.Ok)) ≡ Some (record { op = op.Close v; answer = answer.Code code.Ok })
-  said = is_answered p place (op.Close v) (answer.Code code.Ok) e
+  said : answered p (Seen.Op place (Answer.Code Code.Ok)) ≡ Some (record { op = Op.Close v; answer = Answer.Code Code.Ok })
+  said = is_answered p place (Op.Close v) (Answer.Code Code.Ok) e
 
-  closed_now : closes_by (answered p (seen.Op place (answer.Code code.Ok))) ≡ Some v
+  closed_now : closes_by (answered p (Seen.Op place (Answer.Code Code.Ok))) ≡ Some v
   closed_now = ap closes_by said
 
   its_id : bound p past v ≡ Some id
@@ -178,12 +173,12 @@ known_close p past place v arena names id h x e is holds shut called k = record 
 -- the line of an op binds a name, to an id that was made under none before
 pub known_bound : {waiting runs few : List Id} (p : Program) (past : List Seen) (place : Site) (v : Var) (o : Op) (arena now : Slots Content)
     (names : List Named) (id : Id) (n : Named) → op_at p place ≡ Some o →
-    ((u : Var) (before : Option Id) → binds o (answer.Id id) u before ≡ (if v.0 == u.0 then Some id else before)) →
-    ((i : Id) → makes o (answer.Id id) i ≡ (if same_id id i then Some v else None)) → made_as p past id ≡ None →
+    ((u : Var) (before : Option Id) → binds o (Answer.Id id) u before ≡ (if v.0 == u.0 then Some id else before)) →
+    ((i : Id) → makes o (Answer.Id id) i ≡ (if same_id id i then Some v else None)) → made_as p past id ≡ None →
     ((i : Id) (u : Var) → name_at now.slots i ≡ Some u → (if same_id id i then Some v else name_at arena.slots i) ≡ Some u) →
-    closes o (answer.Id id) ≡ None → n.id ≡ Some id → SameHandles now.slots arena.slots →
-    ((i : Id) → IsGone arena.slots arena.free i → IsGone now.slots now.free i) → Worked p (seen.Op place (answer.Id id) ∷ past) now few runs →
-    Known p past arena names waiting runs → Known p (seen.Op place (answer.Id id) ∷ past) now (slice_set names v.0 n) few runs
+    closes o (Answer.Id id) ≡ None → n.id ≡ Some id → SameHandles now.slots arena.slots →
+    ((i : Id) → IsGone arena.slots arena.free i → IsGone now.slots now.free i) → Worked p (Seen.Op place (Answer.Id id) ∷ past) now few runs →
+    Known p past arena names waiting runs → Known p (Seen.Op place (Answer.Id id) ∷ past) now (slice_set names v.0 n) few runs
 known_bound p past place v o arena now names id n e bind make fresh called quiet is handles gone w k =
     grind (arith, is_answered, fits_same, own_id, set_there, eqb-true, eq-eqb, same, none-some)
 
@@ -197,7 +192,7 @@ known_grown p past arena more names id x grown same_asked stays called gone k = 
 
 -- the `closed` line of a handle that is gone
 known_over : {waiting runs : List Id} (p : Program) (past : List Seen) (v : Var) (arena : Slots Content) (names : List Named) (id : Id) →
-    IsGone arena.slots arena.free id → Known p past arena names waiting runs → Known p (seen.Closed v id ∷ past) arena names waiting runs
+    IsGone arena.slots arena.free id → Known p past arena names waiting runs → Known p (Seen.Closed v id ∷ past) arena names waiting runs
 known_over p past v arena names id g k = grind (arith, same, worked_idle)
 
 -- a closing handle has its `closed` line, and its slot is freed or retired
@@ -205,21 +200,21 @@ pub known_gone : {waiting runs : List Id} (p : Program) (past : List Seen) (v : 
     (id : Id) (h : HandleRecord)
     (n : ℕ) → held_at arena.slots id ≡ Some h → id.generation ≤ n → (id.generation < n) ⊎ (has_number more id.slot ≡ false) →
     ((m : ℕ) → (m ≡ id.slot → ⊥) → has_number arena.free m ≡ false → has_number more m ≡ false) → Known p past arena names waiting runs →
-    Known p (seen.Closed v id ∷ past) (record arena { slots = emptied arena.slots id n; free = more }) names waiting runs
+    Known p (Seen.Closed v id ∷ past) (record arena { slots = emptied arena.slots id n; free = more }) names waiting runs
 known_gone p past v arena more names id h n e l last others k =
     known_over p past v now names id gone_id (known_held p past arena now names (names_turned arena.slots now.slots id _ _ turns (λ u g. cc g))
     (λ i f. (fitted_emptied arena.slots Closes id h n e i f).1) (λ i f. still i f (same_id i id) refl)
-    (λ i g. gone_emptied arena.slots arena.free more id (content.Handle h) n i (is_held arena.slots id h e) l others g)
+    (λ i g. gone_emptied arena.slots arena.free more id (Content.Handle h) n i (is_held arena.slots id h e) l others g)
     (same_requests arena.slots now.slots id _ _ turns refl refl) k)
   where
     now : Slots Content
     now = record arena { slots = emptied arena.slots id n; free = more }
 
-    turns : Turns arena.slots (emptied arena.slots id n) id (Some (content.Handle h)) None
-    turns = emptied_turns arena.slots id (content.Handle h) n (is_held arena.slots id h e)
+    turns : Turns arena.slots (emptied arena.slots id n) id (Some (Content.Handle h)) None
+    turns = emptied_turns arena.slots id (Content.Handle h) n (is_held arena.slots id h e)
 
     gone_id : IsGone now.slots now.free id
-    gone_id = gone_now arena.slots more id (content.Handle h) n (is_held arena.slots id h e) last
+    gone_id = gone_now arena.slots more id (Content.Handle h) n (is_held arena.slots id h e) last
 
     still : (i : Id) → Fits arena.slots Closes i → (b : Bool) → same_id i id ≡ b → IsShut now i
     still i f true s = inr (subst (IsGone now.slots now.free) (sym (same i id s)) gone_id)

@@ -1,6 +1,5 @@
 -- Whether the loop is alive by its lists is whether it is by what its slots hold.
 use Rattle.uv_order.proofs.Names.{arith, ◌≡◌, ℕ, zero, suc, ◌&&◌, ◌||◌, List, [], ◌∷◌, ◌++◌, Bool, true, false, Option, Some, None, refl, ap, sym, ◌∙◌, or-true, or_assoc, not, list_any, eq-eqb, or_left, or_right, Id, Due, Mode, Slot, held_in, is_open, Content, Request, content_keeps, request_in, has_some, State, is_alive, poll_timeout_by, goes, has_id, run_ids, is_kept_by, has_handle, has_run, has_request, closes_some, lives, may_wait}
-use Rattle.uv_work.specs.declared.content.Content.TheVariants as content
 use Rattle.uv_order.proofs.IdLists.{itself}
 use Rattle.uv_order.proofs.Works.{asked_at, AllAsk, IsOpen, HasEnded}
 use Rattle.uv_order.proofs.Working.{Working}
@@ -14,8 +13,8 @@ either_way a b f g = grind arith
 
 abbrev is_asked : Option Content → Bool
 is_asked None = false
-is_asked (Some (content.Handle h)) = false
-is_asked (Some (content.Request r)) = true
+is_asked (Some (Content.Handle h)) = false
+is_asked (Some (Content.Request r)) = true
 
 abbrev any_asked : List (Slot Content) → Bool
 any_asked slots = list_any (λ (slot : Slot Content). is_asked slot.content) slots
@@ -37,8 +36,8 @@ record Found (slots : List (Slot Content)) : Type 0 where
 
 found_here : (x : Slot Content) (xs : List (Slot Content)) (c : Option Content) → x.content ≡ c → is_asked c ≡ true → Found (x ∷ xs)
 found_here x xs None e f = absurd (cc f)
-found_here x xs (Some (content.Handle h)) e f = absurd (cc f)
-found_here x xs (Some (content.Request r)) e f = record {
+found_here x xs (Some (Content.Handle h)) e f = absurd (cc f)
+found_here x xs (Some (Content.Request r)) e f = record {
   id = record { slot = 0; generation = x.generation };
   request = r;
   holds = rw (eq-eqb x.generation x.generation refl) (ap request_in e);

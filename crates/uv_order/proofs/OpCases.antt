@@ -1,19 +1,15 @@
 -- An op by its cases: it is refused, or done with the handle of a live name.
 use Rattle.uv_order.proofs.Names.{arith, ℕ, ◌≡◌, Bool, true, false, Option, Some, None, Result, Ok, Err, refl, ap, not, list_any, cond_both, same_Some, Id, Var, Code, Success, Ebusy, Answer, Kind, HandleRecord, WatcherKind, is_timer, is_async, is_io, activated, sent, watcher_kind, only_if, invalid_if, is_startable, timer_refusal, start_timer_refusal, start_watcher_refusal, stop_refusal, again_refusal, close_refusal, send_refusal, no_refusal, held, next_free, Op, Task, Content, Request, handle_in, same_id, State, handle, named, live, live_handle, live_request, as_handle, as_request, with_id, with_handle, refreshed, do_op, found_both, Names, kind_as}
 use Rattle.std.specs.Prelude.{◌||◌}
-use Rattle.uv_ids.specs.declared.code.Answer.TheVariants as answer
-use Rattle.uv_ids.specs.declared.phase.Kind.TheVariants as kind
-use Rattle.uv_script.specs.declared.op.Op.TheVariants as op
-use Rattle.uv_work.specs.declared.content.Content.TheVariants as content
 use Rattle.uv_model.specs.Ops as ops
 use Rattle.uv_order.proofs.Holding.{name_at}
 
 -- ---- kinds
 
-pub timer_kind : (k : Kind) → is_timer k ≡ true → k ≡ kind.Timer
+pub timer_kind : (k : Kind) → is_timer k ≡ true → k ≡ Kind.Timer
 timer_kind each e = grind arith
 
-pub io_kind : (k : Kind) → is_io k ≡ true → k ≡ kind.Io
+pub io_kind : (k : Kind) → is_io k ≡ true → k ≡ Kind.Io
 io_kind each e = grind arith
 
 pub as_watcher : (q : Kind) (k : WatcherKind) → watcher_kind q ≡ Some k → q ≡ kind_as k
@@ -35,10 +31,10 @@ pub record IsLive (s : State) (v : Var) (id : Id) (c : Content) : Type 0 where
   pub bound : (named s v).id ≡ Some id
   pub holds : held s.arena.slots id ≡ Some c
 
-pub live_as_handle : (s : State) (v : Var) (t : Id × HandleRecord) → live_handle s v ≡ Ok t → IsLive s v t.0 (content.Handle t.1)
+pub live_as_handle : (s : State) (v : Var) (t : Id × HandleRecord) → live_handle s v ≡ Ok t → IsLive s v t.0 (Content.Handle t.1)
 live_as_handle s v t e = grind arith
 
-pub live_as_request : (s : State) (v : Var) (t : Id × Request) → live_request s v ≡ Ok t → IsLive s v t.0 (content.Request t.1)
+pub live_as_request : (s : State) (v : Var) (t : Id × Request) → live_request s v ≡ Ok t → IsLive s v t.0 (Content.Request t.1)
 live_as_request s v t e = grind arith
 
 -- a live name's handle is held
@@ -99,27 +95,27 @@ only_passes b why e = grind arith
 invalid_passes : (b : Bool) → invalid_if b ≡ None → b ≡ false
 invalid_passes b e = grind arith
 
-pub start_passes : (h : HandleRecord) → start_timer_refusal h ≡ None → (h.kind ≡ kind.Timer) × (h.closing ≡ false)
+pub start_passes : (h : HandleRecord) → start_timer_refusal h ≡ None → (h.kind ≡ Kind.Timer) × (h.closing ≡ false)
 start_passes h e = let parts = only_passes (is_timer h.kind) (invalid_if h.closing) e in (timer_kind h.kind parts.0, invalid_passes h.closing parts.1)
 
-pub again_passes : (h : HandleRecord) → again_refusal h ≡ None → (h.kind ≡ kind.Timer) × (h.closing ≡ false)
+pub again_passes : (h : HandleRecord) → again_refusal h ≡ None → (h.kind ≡ Kind.Timer) × (h.closing ≡ false)
 again_passes h e = grind arith
 
 pub start_watcher_passes : (h : HandleRecord) → start_watcher_refusal h ≡ None → (is_startable h.kind ≡ true) × (h.closing ≡ false)
 start_watcher_passes h e = let parts = only_passes (is_startable h.kind) (invalid_if h.closing) e in (parts.0, invalid_passes h.closing parts.1)
 
 -- a handle that may be started so, and is of no kind of watchers, is one of I/O
-is_of_io : (q : Kind) → is_startable q ≡ true → watcher_kind q ≡ None → q ≡ kind.Io
+is_of_io : (q : Kind) → is_startable q ≡ true → watcher_kind q ≡ None → q ≡ Kind.Io
 is_of_io each e f = grind arith
 
 pub close_passes : (h : HandleRecord) → close_refusal h ≡ None → h.closing ≡ false
 close_passes h e = invalid_passes h.closing e
 
 -- what an async handle isn't asked
-pub stop_passes : (h : HandleRecord) → stop_refusal h ≡ None → h.kind ≡ kind.Async → ⊥
+pub stop_passes : (h : HandleRecord) → stop_refusal h ≡ None → h.kind ≡ Kind.Async → ⊥
 stop_passes h e q = grind arith
 
-pub send_passes : (h : HandleRecord) → send_refusal h ≡ None → (h.kind ≡ kind.Async) × (h.closing ≡ false)
+pub send_passes : (h : HandleRecord) → send_refusal h ≡ None → (h.kind ≡ Kind.Async) × (h.closing ≡ false)
 send_passes h e = grind arith
 
 -- what isn't a live handle or request refuses
@@ -147,8 +143,8 @@ send_both s v P refused done = at (live_handle s v) refl where
 
 -- a request is cancelled where it waits, or the cancel is refused
 pub cancel_both : (s : State) (v : Var) (P : ops.Done → Type 0) → ((c : Code) → IsRefusal c → P (ops.refuses s c)) →
-    ((t : Id × Request) → IsLive s v t.0 (content.Request t.1) → list_any (same_id t.0) s.waiting ≡ true →
-    P (record { state = ops.cancelled s t.0 t.1; answer = answer.Cancelled t.0 })) → P (ops.cancel s (live_request s v))
+    ((t : Id × Request) → IsLive s v t.0 (Content.Request t.1) → list_any (same_id t.0) s.waiting ≡ true →
+    P (record { state = ops.cancelled s t.0 t.1; answer = Answer.Cancelled t.0 })) → P (ops.cancel s (live_request s v))
 cancel_both s v P refused done = at (live_request s v) refl where
   at : (t : Result (Id × Request) Code) → live_request s v ≡ t → P (ops.cancel s t)
   at (Err code) e = refused code (no_request (live s v) code e)
@@ -157,68 +153,68 @@ cancel_both s v P refused done = at (live_request s v) refl where
 -- a slot is taken for what a name is bound to, or there is none
 pub make_both : (s : State) (t : Option (Id × Content)) (made : Id → State) (P : ops.Done → Type 0) → ((c : Code) → IsRefusal c →
     P (ops.refuses s c)) →
-    ((id : Id) → next_free s.arena ≡ Some id → P (record { state = made id; answer = answer.Id id })) → P (ops.make s t made)
+    ((id : Id) → next_free s.arena ≡ Some id → P (record { state = made id; answer = Answer.Id id })) → P (ops.make s t made)
 make_both s t made P refused done = grind arith
 
 -- ---- what an op does
 
 -- it only answers
 pub data IsAsked : Op → Type 0 where
-  due_in : (v : Var) → IsAsked (op.DueIn v)
-  has_ref : (v : Var) → IsAsked (op.HasRef v)
-  is_active : (v : Var) → IsAsked (op.IsActive v)
-  is_closing : (v : Var) → IsAsked (op.IsClosing v)
-  now : IsAsked op.Now
-  is_alive : IsAsked op.IsAlive
-  asks_timeout : IsAsked op.Timeout
-  close_loop : IsAsked op.CloseLoop
+  due_in : (v : Var) → IsAsked (Op.DueIn v)
+  has_ref : (v : Var) → IsAsked (Op.HasRef v)
+  is_active : (v : Var) → IsAsked (Op.IsActive v)
+  is_closing : (v : Var) → IsAsked (Op.IsClosing v)
+  now : IsAsked Op.Now
+  is_alive : IsAsked Op.IsAlive
+  asks_timeout : IsAsked Op.Timeout
+  close_loop : IsAsked Op.CloseLoop
 
 pub data IsRef : Op → Type 0 where
-  ref : (v : Var) → IsRef (op.Ref v)
-  unref : (v : Var) → IsRef (op.Unref v)
+  ref : (v : Var) → IsRef (Op.Ref v)
+  unref : (v : Var) → IsRef (Op.Unref v)
 
 abbrev pub MayRefuse : Op → Type 0
-MayRefuse op.StopLoop = ⊥
-MayRefuse op.UpdateTime = ⊥
+MayRefuse Op.StopLoop = ⊥
+MayRefuse Op.UpdateTime = ⊥
 MayRefuse o = Unit {0}
 
 pub data DidOp (s : State) : Op → ops.Done → Type 0 where
   refused : (o : Op) (c : Code) → IsRefusal c → MayRefuse o → DidOp s o (ops.refuses s c)
   asked : (o : Op) (a : Answer) → IsAsked o → DidOp s o (ops.says s a)
-  loop_stopped : DidOp s op.StopLoop (ops.succeeds (record s { stop_flag = true }))
-  time_updated : DidOp s op.UpdateTime (ops.succeeds (refreshed s))
+  loop_stopped : DidOp s Op.StopLoop (ops.succeeds (record s { stop_flag = true }))
+  time_updated : DidOp s Op.UpdateTime (ops.succeeds (refreshed s))
   -- a slot is taken
   made : (v : Var) (q : Kind) (id : Id) → next_free s.arena ≡ Some id
-      → DidOp s (op.Init v q) (record { state = ops.with_new s v q id; answer = answer.Id id })
+      → DidOp s (Op.Init v q) (record { state = ops.with_new s v q id; answer = Answer.Id id })
   queued : (v : Var) (task : Task) (id : Id) → next_free s.arena ≡ Some id
-      → DidOp s (op.Queue v task) (record { state = ops.with_queued s v task id; answer = answer.Id id })
+      → DidOp s (Op.Queue v task) (record { state = ops.with_queued s v task id; answer = Answer.Id id })
   -- the record of a request changes
-  cancelled : (v : Var) (t : Id × Request) → IsLive s v t.0 (content.Request t.1) → list_any (same_id t.0) s.waiting ≡ true
-      → DidOp s (op.Cancel v) (record { state = ops.cancelled s t.0 t.1; answer = answer.Cancelled t.0 })
+  cancelled : (v : Var) (t : Id × Request) → IsLive s v t.0 (Content.Request t.1) → list_any (same_id t.0) s.waiting ≡ true
+      → DidOp s (Op.Cancel v) (record { state = ops.cancelled s t.0 t.1; answer = Answer.Cancelled t.0 })
   -- that of a handle
-  started : (v : Var) (timeout repeat : ℕ) (t : Id × HandleRecord) → live_handle s v ≡ Ok t → t.1.kind ≡ kind.Timer → t.1.closing ≡ false
-      → DidOp s (op.Start v timeout repeat) (ops.start s timeout repeat t.0 t.1)
-  again : (v : Var) (t : Id × HandleRecord) → live_handle s v ≡ Ok t → t.1.kind ≡ kind.Timer → t.1.closing ≡ false
-      → DidOp s (op.Again v) (ops.again s t.0 t.1)
+  started : (v : Var) (timeout repeat : ℕ) (t : Id × HandleRecord) → live_handle s v ≡ Ok t → t.1.kind ≡ Kind.Timer → t.1.closing ≡ false
+      → DidOp s (Op.Start v timeout repeat) (ops.start s timeout repeat t.0 t.1)
+  again : (v : Var) (t : Id × HandleRecord) → live_handle s v ≡ Ok t → t.1.kind ≡ Kind.Timer → t.1.closing ≡ false
+      → DidOp s (Op.Again v) (ops.again s t.0 t.1)
   watching : (v : Var) (q : WatcherKind) (t : Id × HandleRecord) → live_handle s v ≡ Ok t → t.1.kind ≡ kind_as q → t.1.active ≡ false
-      → t.1.closing ≡ false → DidOp s (op.StartWatcher v) (ops.succeeds (ops.watcher_started s q t.0 t.1))
+      → t.1.closing ≡ false → DidOp s (Op.StartWatcher v) (ops.succeeds (ops.watcher_started s q t.0 t.1))
   -- a handle of I/O is on no list
-  io_started : (v : Var) (t : Id × HandleRecord) → live_handle s v ≡ Ok t → t.1.kind ≡ kind.Io → t.1.active ≡ false → t.1.closing ≡ false
-      → DidOp s (op.StartWatcher v) (ops.succeeds (with_handle s t.0 (activated t.1)))
+  io_started : (v : Var) (t : Id × HandleRecord) → live_handle s v ≡ Ok t → t.1.kind ≡ Kind.Io → t.1.active ≡ false → t.1.closing ≡ false
+      → DidOp s (Op.StartWatcher v) (ops.succeeds (with_handle s t.0 (activated t.1)))
   -- a watcher that is active isn't started again
-  watches : (v : Var) (t : Id × HandleRecord) → live_handle s v ≡ Ok t → t.1.active ≡ true → DidOp s (op.StartWatcher v) (ops.succeeds s)
-  stopped : (v : Var) (t : Id × HandleRecord) → live_handle s v ≡ Ok t → (t.1.kind ≡ kind.Async → ⊥) → DidOp s (op.Stop v) (ops.stop s t.0 t.1)
-  closed : (v : Var) (t : Id × HandleRecord) → live_handle s v ≡ Ok t → t.1.closing ≡ false → DidOp s (op.Close v) (ops.close s t.0 t.1)
-  repeated : (v : Var) (n : ℕ) (t : Id × HandleRecord) → live_handle s v ≡ Ok t → DidOp s (op.SetRepeat v n) (ops.set_repeat s n t.0 t.1)
+  watches : (v : Var) (t : Id × HandleRecord) → live_handle s v ≡ Ok t → t.1.active ≡ true → DidOp s (Op.StartWatcher v) (ops.succeeds s)
+  stopped : (v : Var) (t : Id × HandleRecord) → live_handle s v ≡ Ok t → (t.1.kind ≡ Kind.Async → ⊥) → DidOp s (Op.Stop v) (ops.stop s t.0 t.1)
+  closed : (v : Var) (t : Id × HandleRecord) → live_handle s v ≡ Ok t → t.1.closing ≡ false → DidOp s (Op.Close v) (ops.close s t.0 t.1)
+  repeated : (v : Var) (n : ℕ) (t : Id × HandleRecord) → live_handle s v ≡ Ok t → DidOp s (Op.SetRepeat v n) (ops.set_repeat s n t.0 t.1)
   referenced : (o : Op) (v : Var) (flag : Bool) (t : Id × HandleRecord) → live_handle s v ≡ Ok t → IsRef o
       → DidOp s o (ops.set_referenced s flag t.0 t.1)
-  sent_to : (v : Var) (t : Id × HandleRecord) → live_handle s v ≡ Ok t → t.1.kind ≡ kind.Async → t.1.closing ≡ false
-      → DidOp s (op.Send v) (record { state = with_handle s t.0 (sent t.1); answer = answer.Code Success })
+  sent_to : (v : Var) (t : Id × HandleRecord) → live_handle s v ≡ Ok t → t.1.kind ≡ Kind.Async → t.1.closing ≡ false
+      → DidOp s (Op.Send v) (record { state = with_handle s t.0 (sent t.1); answer = Answer.Code Success })
 
 watcher_did : (s : State) (v : Var) (t : Id × HandleRecord) → live_handle s v ≡ Ok t → (is_startable t.1.kind ≡ true) × (t.1.closing ≡ false) →
-    DidOp s (op.StartWatcher v) (ops.start_watcher s t.0 t.1)
+    DidOp s (Op.StartWatcher v) (ops.start_watcher s t.0 t.1)
 watcher_did s v t e may =
-    let by : State → Type 0 = λ u. DidOp s (op.StartWatcher v) (ops.succeeds u) in
+    let by : State → Type 0 = λ u. DidOp s (Op.StartWatcher v) (ops.succeeds u) in
     cond_both t.1.active s _ by (λ on. watches v t e on)
     (λ off. found_both (watcher_kind t.1.kind) _ _ by (λ q is. watching v q t e (as_watcher t.1.kind q is) off may.1)
     (λ none. io_started v t e (is_of_io t.1.kind may.0 none) off may.1))
@@ -229,30 +225,30 @@ held_did : (s : State) (o : Op) (v : Var) (why : HandleRecord → Option Code) (
 held_did s o v why f may codes done = on_handle_both s v why f (DidOp s o) codes (λ c r. refused o c r may) done
 
 pub op_did : (s : State) (o : Op) → DidOp s o (do_op s o)
-op_did s (op.Init v q) = make_both s (live s v) (ops.with_new s v q) (DidOp s (op.Init v q)) (λ c r. refused _ c r tt) (λ id e. made v q id e)
-op_did s (op.Queue v task) =
-    make_both s (live s v) (ops.with_queued s v task) (DidOp s (op.Queue v task)) (λ c r. refused _ c r tt) (λ id e. queued v task id e)
-op_did s (op.Cancel v) = cancel_both s v (DidOp s (op.Cancel v)) (λ c r. refused _ c r tt) (λ t live on. cancelled v t live on)
-op_did s (op.Start v timeout repeat) = held_did s (op.Start v timeout repeat) v start_timer_refusal _ tt refuses_start
+op_did s (Op.Init v q) = make_both s (live s v) (ops.with_new s v q) (DidOp s (Op.Init v q)) (λ c r. refused _ c r tt) (λ id e. made v q id e)
+op_did s (Op.Queue v task) =
+    make_both s (live s v) (ops.with_queued s v task) (DidOp s (Op.Queue v task)) (λ c r. refused _ c r tt) (λ id e. queued v task id e)
+op_did s (Op.Cancel v) = cancel_both s v (DidOp s (Op.Cancel v)) (λ c r. refused _ c r tt) (λ t live on. cancelled v t live on)
+op_did s (Op.Start v timeout repeat) = held_did s (Op.Start v timeout repeat) v start_timer_refusal _ tt refuses_start
     (λ t e is. let p = start_passes t.1 is in started v timeout repeat t e p.0 p.1)
-op_did s (op.StartWatcher v) = held_did s (op.StartWatcher v) v start_watcher_refusal _ tt refuses_start_watcher
+op_did s (Op.StartWatcher v) = held_did s (Op.StartWatcher v) v start_watcher_refusal _ tt refuses_start_watcher
     (λ t e is. watcher_did s v t e (start_watcher_passes t.1 is))
-op_did s (op.Stop v) = held_did s (op.Stop v) v stop_refusal _ tt refuses_stop (λ t e is. stopped v t e (stop_passes t.1 is))
-op_did s (op.Again v) = held_did s (op.Again v) v again_refusal _ tt refuses_again
+op_did s (Op.Stop v) = held_did s (Op.Stop v) v stop_refusal _ tt refuses_stop (λ t e is. stopped v t e (stop_passes t.1 is))
+op_did s (Op.Again v) = held_did s (Op.Again v) v again_refusal _ tt refuses_again
     (λ t e is. let p = again_passes t.1 is in again v t e p.0 p.1)
-op_did s (op.SetRepeat v n) = held_did s (op.SetRepeat v n) v timer_refusal _ tt refuses_timer (λ t e is. repeated v n t e)
-op_did s (op.DueIn v) = held_did s (op.DueIn v) v timer_refusal _ tt refuses_timer (λ t e is. asked _ _ (due_in v))
-op_did s (op.Close v) = held_did s (op.Close v) v close_refusal _ tt refuses_close (λ t e is. closed v t e (close_passes t.1 is))
-op_did s (op.Ref v) = held_did s (op.Ref v) v no_refusal _ tt refuses_none (λ t e is. referenced _ v true t e (ref v))
-op_did s (op.Unref v) = held_did s (op.Unref v) v no_refusal _ tt refuses_none (λ t e is. referenced _ v false t e (unref v))
-op_did s (op.HasRef v) = held_did s (op.HasRef v) v no_refusal _ tt refuses_none (λ t e is. asked _ _ (has_ref v))
-op_did s (op.IsActive v) = held_did s (op.IsActive v) v no_refusal _ tt refuses_none (λ t e is. asked _ _ (is_active v))
-op_did s (op.IsClosing v) = held_did s (op.IsClosing v) v no_refusal _ tt refuses_none (λ t e is. asked _ _ (is_closing v))
-op_did s (op.Send v) = send_both s v (λ (c : ops.Coded). DidOp s (op.Send v) (ops.says_code c)) (λ c r. refused _ c r tt)
+op_did s (Op.SetRepeat v n) = held_did s (Op.SetRepeat v n) v timer_refusal _ tt refuses_timer (λ t e is. repeated v n t e)
+op_did s (Op.DueIn v) = held_did s (Op.DueIn v) v timer_refusal _ tt refuses_timer (λ t e is. asked _ _ (due_in v))
+op_did s (Op.Close v) = held_did s (Op.Close v) v close_refusal _ tt refuses_close (λ t e is. closed v t e (close_passes t.1 is))
+op_did s (Op.Ref v) = held_did s (Op.Ref v) v no_refusal _ tt refuses_none (λ t e is. referenced _ v true t e (ref v))
+op_did s (Op.Unref v) = held_did s (Op.Unref v) v no_refusal _ tt refuses_none (λ t e is. referenced _ v false t e (unref v))
+op_did s (Op.HasRef v) = held_did s (Op.HasRef v) v no_refusal _ tt refuses_none (λ t e is. asked _ _ (has_ref v))
+op_did s (Op.IsActive v) = held_did s (Op.IsActive v) v no_refusal _ tt refuses_none (λ t e is. asked _ _ (is_active v))
+op_did s (Op.IsClosing v) = held_did s (Op.IsClosing v) v no_refusal _ tt refuses_none (λ t e is. asked _ _ (is_closing v))
+op_did s (Op.Send v) = send_both s v (λ (c : ops.Coded). DidOp s (Op.Send v) (ops.says_code c)) (λ c r. refused _ c r tt)
     (λ t e is. let p = send_passes t.1 is in sent_to v t e p.0 p.1)
-op_did s op.StopLoop = loop_stopped
-op_did s op.UpdateTime = time_updated
-op_did s op.Now = asked _ _ now
-op_did s op.IsAlive = asked _ _ is_alive
-op_did s op.Timeout = asked _ _ asks_timeout
-op_did s op.CloseLoop = cond_both (ops.is_in_use s) _ _ (DidOp s op.CloseLoop) (λ e. refused _ _ (λ ok. cc ok) tt) (λ e. asked _ _ close_loop)
+op_did s Op.StopLoop = loop_stopped
+op_did s Op.UpdateTime = time_updated
+op_did s Op.Now = asked _ _ now
+op_did s Op.IsAlive = asked _ _ is_alive
+op_did s Op.Timeout = asked _ _ asks_timeout
+op_did s Op.CloseLoop = cond_both (ops.is_in_use s) _ _ (DidOp s Op.CloseLoop) (λ e. refused _ _ (λ ok. cc ok) tt) (λ e. asked _ _ close_loop)

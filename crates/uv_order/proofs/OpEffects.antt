@@ -1,11 +1,5 @@
 -- What an op leaves of the lists that a section walks, of the counts of calls, and of what lasts from line to line.
 use Rattle.uv_order.proofs.Names.{Bool, true, false, arith, ◌≡◌, ℕ, ◌==◌, List, [], ◌∷◌, Option, Some, None, Ok, length, slice_get, slice_set, unwrap_or, refl, ap, sym, ◌∙◌, zero, suc, cond_both, Id, Var, Code, Answer, Kind, Phase, Op, HandleRecord, Named, Walk, without_id, State, handle, live_handle, unbound, stopped, started, do_op, has_id, Names, lasting, after_op, taken_off, ids_of, off_by, WatcherKind, kind_as, watched}
-use Rattle.uv_ids.specs.declared.code.Code.TheVariants as code
-use Rattle.uv_ids.specs.declared.code.Answer.TheVariants as answer
-use Rattle.uv_ids.specs.declared.phase.Kind.TheVariants as kind
-use Rattle.uv_ids.specs.declared.phase.Phase.TheVariants as phase
-use Rattle.uv_script.specs.declared.op.Op.TheVariants as op
-use Rattle.uv_records.specs.declared.lists.WatcherKind.TheVariants as watcher
 use Rattle.uv_model.specs.Ops as ops
 use Rattle.uv_order.proofs.IdLists.{left_of, none_off, one_off, without_absent, has_back}
 use Rattle.uv_order.proofs.Holding.{Everyone, not_listed}
@@ -46,11 +40,11 @@ bound_calls names i x e = record { long = set_long names i x; each = λ v. set_c
 pub record Effect (s : State) (o : Op) (d : ops.Done) : Type 0 where
   pub lasts : lasting d.state ≡ after_op o s
   pub calls : SameCalls d.state.names s.names
-  pub ready : d.state.ready ≡ left_of s.ready (taken_off phase.Timers (names_at s) o d.answer)
-  pub idle : d.state.watchers.idle.yet ≡ left_of s.watchers.idle.yet (taken_off phase.Idle (names_at s) o d.answer)
-  pub prepare : d.state.watchers.prepare.yet ≡ left_of s.watchers.prepare.yet (taken_off phase.Prepare (names_at s) o d.answer)
-  pub check : d.state.watchers.check.yet ≡ left_of s.watchers.check.yet (taken_off phase.Check (names_at s) o d.answer)
-  pub async : d.state.watchers.async.yet ≡ left_of s.watchers.async.yet (taken_off phase.Async (names_at s) o d.answer)
+  pub ready : d.state.ready ≡ left_of s.ready (taken_off Phase.Timers (names_at s) o d.answer)
+  pub idle : d.state.watchers.idle.yet ≡ left_of s.watchers.idle.yet (taken_off Phase.Idle (names_at s) o d.answer)
+  pub prepare : d.state.watchers.prepare.yet ≡ left_of s.watchers.prepare.yet (taken_off Phase.Prepare (names_at s) o d.answer)
+  pub check : d.state.watchers.check.yet ≡ left_of s.watchers.check.yet (taken_off Phase.Check (names_at s) o d.answer)
+  pub async : d.state.watchers.async.yet ≡ left_of s.watchers.async.yet (taken_off Phase.Async (names_at s) o d.answer)
   pub closing : d.state.closing.yet ≡ s.closing.yet
   pub done : d.state.done.yet ≡ s.done.yet
 
@@ -76,7 +70,7 @@ quiet : (s : State) (o : Op) (d : ops.Done) → TakesNone (names_at s) o d.answe
     SameLists d.state s → Effect s o d
 quiet s o d none lasts calls lists = grind (arith, none_off)
 
-pub refusal_takes_none : (names : Names) (o : Op) (c : Code) → IsRefusal c → TakesNone names o (answer.Code c)
+pub refusal_takes_none : (names : Names) (o : Op) (c : Code) → IsRefusal c → TakesNone names o (Answer.Code c)
 refusal_takes_none names o c no_success word = grind arith
 
 -- an op that is refused, or that only answers
@@ -84,7 +78,7 @@ says_effect : (s : State) (o : Op) (a : Answer) → TakesNone (names_at s) o a �
 says_effect s o a none lasts = quiet s o (ops.says s a) none (sym lasts) (same_calls s.names) (same_lists s)
 
 refused_effect : (s : State) (o : Op) → after_op o s ≡ lasting s → (c : Code) → IsRefusal c → Effect s o (ops.refuses s c)
-refused_effect s o lasts c no_success = says_effect s o (answer.Code c) (refusal_takes_none (names_at s) o c no_success) lasts
+refused_effect s o lasts c no_success = says_effect s o (Answer.Code c) (refusal_takes_none (names_at s) o c no_success) lasts
 
 -- ---- stopping
 
@@ -106,61 +100,61 @@ taken_one : (s : State) (v : Var) (t : Id × HandleRecord) (ids : List Id) → l
     without_id ids t.0 ≡ left_of ids (ids_of (names_at s) (Some v))
 taken_one s v t ids e = rw (one_taken s v t e) (left_one ids t.0)
 
-stop_effect : (s : State) (v : Var) (t : Id × HandleRecord) → live_handle s v ≡ Ok t → (t.1.kind ≡ kind.Async → ⊥) → Kept s →
-    Effect s (op.Stop v) (ops.stop s t.0 t.1)
+stop_effect : (s : State) (v : Var) (t : Id × HandleRecord) → live_handle s v ≡ Ok t → (t.1.kind ≡ Kind.Async → ⊥) → Kept s →
+    Effect s (Op.Stop v) (ops.stop s t.0 t.1)
 stop_effect s v t e apart k = assumption (
   same_calls s.names,
   taken_one s v t s.ready e,
   taken_one s v t s.watchers.idle.yet e,
   taken_one s v t s.watchers.prepare.yet e,
   taken_one s v t s.watchers.check.yet e,
-  not_yet s kind.Async s.watchers.async t.0 t.1 (live_held s v t e) apart (k.watchers watcher.Async),
+  not_yet s Kind.Async s.watchers.async t.0 t.1 (live_held s v t e) apart (k.watchers WatcherKind.Async),
 )
 
-close_effect : (s : State) (v : Var) (t : Id × HandleRecord) → live_handle s v ≡ Ok t → Effect s (op.Close v) (ops.close s t.0 t.1)
+close_effect : (s : State) (v : Var) (t : Id × HandleRecord) → live_handle s v ≡ Ok t → Effect s (Op.Close v) (ops.close s t.0 t.1)
 close_effect s v t e = grind arith
 
 -- ---- timers
 
 -- a timer is not a watcher
-apart : (h : HandleRecord) (q : Kind) → h.kind ≡ kind.Timer → (kind.Timer ≡ q → ⊥) → h.kind ≡ q → ⊥
+apart : (h : HandleRecord) (q : Kind) → h.kind ≡ Kind.Timer → (Kind.Timer ≡ q → ⊥) → h.kind ≡ q → ⊥
 apart h q e d f = d (sym e ∙ f)
 
-timer_effect : (s u : State) (o : Op) (v : Var) (t : Id × HandleRecord) → live_handle s v ≡ Ok t → t.1.kind ≡ kind.Timer → Kept s →
-    ((word : Phase) → off_by word o ≡ off_by word (op.Again v)) → after_op o s ≡ lasting s → lasting u ≡ lasting s → u.names ≡ s.names →
+timer_effect : (s u : State) (o : Op) (v : Var) (t : Id × HandleRecord) → live_handle s v ≡ Ok t → t.1.kind ≡ Kind.Timer → Kept s →
+    ((word : Phase) → off_by word o ≡ off_by word (Op.Again v)) → after_op o s ≡ lasting s → lasting u ≡ lasting s → u.names ≡ s.names →
     SameLists u (stopped s t.0 t.1) → Effect s o (ops.succeeds u)
 timer_effect s u o v t e is k off lasts same names lists = record {
   lasts = same ∙ sym lasts;
   calls = rw names (same_calls s.names);
-  ready = lists.ready ∙ taken_one s v t s.ready e ∙ ap (λ (x : Option Var). left_of s.ready (ids_of (names_at s) x)) (sym (off phase.Timers));
-  idle = lists.idle ∙ away watcher.Idle (λ f. cc f) ∙ none_by phase.Idle s.watchers.idle.yet refl;
-  prepare = lists.prepare ∙ away watcher.Prepare (λ f. cc f) ∙ none_by phase.Prepare s.watchers.prepare.yet refl;
-  check = lists.check ∙ away watcher.Check (λ f. cc f) ∙ none_by phase.Check s.watchers.check.yet refl;
-  async = lists.async ∙ away watcher.Async (λ f. cc f) ∙ none_by phase.Async s.watchers.async.yet refl;
+  ready = lists.ready ∙ taken_one s v t s.ready e ∙ ap (λ (x : Option Var). left_of s.ready (ids_of (names_at s) x)) (sym (off Phase.Timers));
+  idle = lists.idle ∙ away WatcherKind.Idle (λ f. cc f) ∙ none_by Phase.Idle s.watchers.idle.yet refl;
+  prepare = lists.prepare ∙ away WatcherKind.Prepare (λ f. cc f) ∙ none_by Phase.Prepare s.watchers.prepare.yet refl;
+  check = lists.check ∙ away WatcherKind.Check (λ f. cc f) ∙ none_by Phase.Check s.watchers.check.yet refl;
+  async = lists.async ∙ away WatcherKind.Async (λ f. cc f) ∙ none_by Phase.Async s.watchers.async.yet refl;
   closing = lists.closing;
   done = lists.done;
 } where
-  away : (q : WatcherKind) → (kind.Timer ≡ kind_as q → ⊥) → without_id (watched s q).yet t.0 ≡ left_of (watched s q).yet []
+  away : (q : WatcherKind) → (Kind.Timer ≡ kind_as q → ⊥) → without_id (watched s q).yet t.0 ≡ left_of (watched s q).yet []
   away q other = not_yet s (kind_as q) (watched s q) t.0 t.1 (live_held s v t e) (apart t.1 (kind_as q) is other) (k.watchers q)
 
-  none_by : (word : Phase) (ids : List Id) → off_by word (op.Again v) ≡ None → left_of ids [] ≡ left_of ids
-      (taken_off word (names_at s) o (answer.Code code.Ok))
+  none_by : (word : Phase) (ids : List Id) → off_by word (Op.Again v) ≡ None → left_of ids [] ≡ left_of ids
+      (taken_off word (names_at s) o (Answer.Code Code.Ok))
   none_by word ids none = ap (λ (x : Option Var). left_of ids (ids_of (names_at s) x)) (sym none ∙ sym (off word))
 
-pub start_off : (v : Var) (timeout repeat : ℕ) (word : Phase) → off_by word (op.Start v timeout repeat) ≡ off_by word (op.Again v)
+pub start_off : (v : Var) (timeout repeat : ℕ) (word : Phase) → off_by word (Op.Start v timeout repeat) ≡ off_by word (Op.Again v)
 start_off v timeout repeat word = grind arith
 
-start_effect : (s : State) (v : Var) (timeout repeat : ℕ) (t : Id × HandleRecord) → live_handle s v ≡ Ok t → t.1.kind ≡ kind.Timer → Kept s →
-    Effect s (op.Start v timeout repeat) (ops.start s timeout repeat t.0 t.1)
+start_effect : (s : State) (v : Var) (timeout repeat : ℕ) (t : Id × HandleRecord) → live_handle s v ≡ Ok t → t.1.kind ≡ Kind.Timer → Kept s →
+    Effect s (Op.Start v timeout repeat) (ops.start s timeout repeat t.0 t.1)
 start_effect s v timeout repeat t e is k =
-    timer_effect s (started (stopped s t.0 t.1) t.0 t.1 timeout repeat) (op.Start v timeout repeat) v t e is k
+    timer_effect s (started (stopped s t.0 t.1) t.0 t.1 timeout repeat) (Op.Start v timeout repeat) v t e is k
     (start_off v timeout repeat) refl refl refl (assumption)
 
-again_effect : (s : State) (v : Var) (t : Id × HandleRecord) → live_handle s v ≡ Ok t → t.1.kind ≡ kind.Timer → Kept s → Effect s (op.Again v)
+again_effect : (s : State) (v : Var) (t : Id × HandleRecord) → live_handle s v ≡ Ok t → t.1.kind ≡ Kind.Timer → Kept s → Effect s (Op.Again v)
     (ops.again s t.0 t.1)
-again_effect s v t e is k = cond_both (t.1.repeat == 0) _ _ (λ (u : State). Effect s (op.Again v) (ops.succeeds u))
-    (λ z. timer_effect s (stopped s t.0 t.1) (op.Again v) v t e is k (λ word. refl) refl refl refl (assumption))
-    (λ z. timer_effect s (started (stopped s t.0 t.1) t.0 t.1 t.1.repeat t.1.repeat) (op.Again v) v t e is k (λ word. refl) refl refl refl
+again_effect s v t e is k = cond_both (t.1.repeat == 0) _ _ (λ (u : State). Effect s (Op.Again v) (ops.succeeds u))
+    (λ z. timer_effect s (stopped s t.0 t.1) (Op.Again v) v t e is k (λ word. refl) refl refl refl (assumption))
+    (λ z. timer_effect s (started (stopped s t.0 t.1) t.0 t.1 t.1.repeat t.1.repeat) (Op.Again v) v t e is k (λ word. refl) refl refl refl
     (assumption))
 
 -- ---- the other ops
@@ -174,10 +168,10 @@ Harmless o = (word : Phase) → off_by word o ≡ None
 
 -- all but these are such
 abbrev pub takes : Op → Bool
-takes (op.Start v timeout repeat) = true
-takes (op.Stop v) = true
-takes (op.Again v) = true
-takes (op.Close v) = true
+takes (Op.Start v timeout repeat) = true
+takes (Op.Stop v) = true
+takes (Op.Again v) = true
+takes (Op.Close v) = true
 takes o = false
 
 pub harmless : (o : Op) → takes o ≡ false → Harmless o
@@ -193,13 +187,13 @@ simple : (s : State) (o : Op) (d : ops.Done) → takes o ≡ false → lasting d
     Effect s o d
 simple s o d e lasts names lists = still s o d e lasts (rw names (same_calls s.names)) lists
 
-new_effect : (s : State) (v : Var) (q : Kind) (id : Id) → Effect s (op.Init v q) (record { state = ops.with_new s v q id; answer = answer.Id id })
-new_effect s v kind.Timer id = still s (op.Init v kind.Timer) _ refl refl (bound_calls s.names v.0 _ refl)
+new_effect : (s : State) (v : Var) (q : Kind) (id : Id) → Effect s (Op.Init v q) (record { state = ops.with_new s v q id; answer = Answer.Id id })
+new_effect s v Kind.Timer id = still s (Op.Init v Kind.Timer) _ refl refl (bound_calls s.names v.0 _ refl)
     (assumption)
-new_effect s v each id = still s (op.Init v each) _ refl refl (bound_calls s.names v.0 _ refl) (assumption)
+new_effect s v each id = still s (Op.Init v each) _ refl refl (bound_calls s.names v.0 _ refl) (assumption)
 
 asked_effect : (s : State) (o : Op) (a : Answer) → IsAsked o → Effect s o (ops.says s a)
-asked_effect s o a (which.due_in v) = simple s (op.DueIn v) _ refl refl refl (same_lists s)
+asked_effect s o a (which.due_in v) = simple s (Op.DueIn v) _ refl refl refl (same_lists s)
 asked_effect s o a each = simple s o _ refl refl refl (same_lists s)
 
 lasts_refused : (s : State) (o : Op) → MayRefuse o → after_op o s ≡ lasting s
@@ -209,13 +203,13 @@ did_op_effect : (s : State) (o : Op) (d : ops.Done) → DidOp s o d → Kept s �
 did_op_effect s o d (which.refused o' c r may) k = refused_effect s o' (lasts_refused s o' may) c r
 did_op_effect s o d (which.asked o' a is) k = asked_effect s o' a is
 did_op_effect s o d (which.made v q id e) k = new_effect s v q id
-did_op_effect s o d (which.queued v task id e) k = still s (op.Queue v task) _ refl refl (bound_calls s.names v.0 _ refl) (assumption)
+did_op_effect s o d (which.queued v task id e) k = still s (Op.Queue v task) _ refl refl (bound_calls s.names v.0 _ refl) (assumption)
 did_op_effect s o d (which.started v timeout repeat t e is stays) k = start_effect s v timeout repeat t e is k
 did_op_effect s o d (which.again v t e is stays) k = again_effect s v t e is k
 did_op_effect s o d (which.stopped v t e sync) k = stop_effect s v t e sync k
 did_op_effect s o d (which.closed v t e stays) k = close_effect s v t e
-did_op_effect s o d (which.watching v watcher.Idle t e is off stays) k = simple s (op.StartWatcher v) _ refl refl refl (assumption)
-did_op_effect s o d (which.watching v each t e is off stays) k = simple s (op.StartWatcher v) _ refl refl refl (assumption)
+did_op_effect s o d (which.watching v WatcherKind.Idle t e is off stays) k = simple s (Op.StartWatcher v) _ refl refl refl (assumption)
+did_op_effect s o d (which.watching v each t e is off stays) k = simple s (Op.StartWatcher v) _ refl refl refl (assumption)
 did_op_effect s o d (which.referenced o' u flag t e (which.ref v)) k = simple s o _ refl refl refl (assumption)
 did_op_effect s o d each k = simple s o d refl refl refl (assumption)
 

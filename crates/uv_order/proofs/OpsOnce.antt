@@ -1,12 +1,6 @@
 -- What happens once, by the ops: what the line of each tells, and that the handles and the requests are as it tells.
 use Rattle.uv_order.proofs.Names.{◌≡◌, ◌⊎◌, ℕ, ◌==◌, List, [], ◌∷◌, ◌++◌, Bool, true, false, Option, Some, None, Ok, option_map, slice_set, if◌then◌else◌, refl, ap, sym, ◌∙◌, arith, list_any, cond_both, or_left, same_Some, Id, Var, Code, Answer, Kind, Seen, Site, Op, Task, Program, op_at, HandleRecord, WatcherKind, Slot, inited, referenced_as, repeating, Slots, held, taken, taken_from, next_free, next_id, Content, Request, queued, request_in, Cancelled, same_id, without_id, has_id, run_ids, State, named, handle, live, live_handle, with_request, stopped, restarted, do_op, makes, made_as, has_take_line, has_cancel_line, queued_task}
-use Rattle.uv_ids.specs.declared.code.Answer.TheVariants as answer
-use Rattle.uv_ids.specs.declared.phase.Kind.TheVariants as kind
-use Rattle.uv_ids.specs.declared.seen.Seen.TheVariants as seen
-use Rattle.uv_script.specs.declared.op.Op.TheVariants as op
-use Rattle.uv_records.specs.declared.lists.WatcherKind.TheVariants as watcher
 use Rattle.uv_records.specs.Handles as records
-use Rattle.uv_work.specs.declared.content.Content.TheVariants as content
 use Rattle.uv_model.specs.Ops as ops
 use Rattle.uv_order.proofs.IdLists.{has_both, has_but_one, on_list, same, itself, turned, still_absent}
 use Rattle.uv_order.proofs.Contents.{Turns}
@@ -27,7 +21,7 @@ KnownAt p past s = Known p past s.arena s.names s.waiting (run_ids s.running)
 
 -- what is known with the line of an op
 abbrev pub KnownBy : Program → List Seen → Op → ops.Done → Type 0
-KnownBy p past o d = (place : Site) → op_at p place ≡ Some o → KnownAt p (seen.Op place d.answer ∷ past) d.state
+KnownBy p past o d = (place : Site) → op_at p place ≡ Some o → KnownAt p (Seen.Op place d.answer ∷ past) d.state
 
 -- nobody has made the id that comes next
 abbrev pub IsUnmade : Program → List Seen → State → Type 0
@@ -39,7 +33,7 @@ Harmless o = (a : Answer) → IsQuietOp o a × IsIdleOp o a
 
 pub known_by : (p : Program) (past : List Seen) (o : Op) (d : ops.Done) → IsQuietOp o d.answer × IsIdleOp o d.answer → KnownAt p past d.state →
     KnownBy p past o d
-known_by p past o d q k place e = known_quiet p past (seen.Op place d.answer) d.state.arena d.state.names (quiet_op p place o d.answer e q.0)
+known_by p past o d q k place e = known_quiet p past (Seen.Op place d.answer) d.state.arena d.state.names (quiet_op p place o d.answer e q.0)
     (idle_op p place o d.answer e q.1) k
 
 -- the record of a handle changes, which goes on closing or not as before
@@ -82,38 +76,38 @@ new_or_old slots more id c v i u is t e = grind arith
 
 -- so the lines tell it of each
 made_now : (p : Program) (past : List Seen) (place : Site) (o : Op) (slots more : List (Slot Content)) (id : Id) (c : Content) (v : Var) (i : Id)
-    (u : Var) → op_at p place ≡ Some o → ((j : Id) → makes o (answer.Id id) j ≡ (if same_id id j then Some v else None)) → name_in c ≡ v →
-    Turns slots more id None (Some c) → ((j : Id) (w : Var) → name_at slots j ≡ Some w → made_as p (seen.Op place (answer.Id id) ∷ past) j ≡ Some w) →
-    name_at more i ≡ Some u → made_as p (seen.Op place (answer.Id id) ∷ past) i ≡ Some u
+    (u : Var) → op_at p place ≡ Some o → ((j : Id) → makes o (Answer.Id id) j ≡ (if same_id id j then Some v else None)) → name_in c ≡ v →
+    Turns slots more id None (Some c) → ((j : Id) (w : Var) → name_at slots j ≡ Some w → made_as p (Seen.Op place (Answer.Id id) ∷ past) j ≡ Some w) →
+    name_at more i ≡ Some u → made_as p (Seen.Op place (Answer.Id id) ∷ past) i ≡ Some u
 made_now p past place o slots more id c v i u e m is t k h = grind arith
 
 pub new_known : (p : Program) (past : List Seen) (s : State) (v : Var) (q : Kind) (id : Id) → next_free s.arena ≡ Some id → Kept s →
-    IsUnmade p past s → KnownAt p past s → KnownBy p past (op.Init v q) (record { state = ops.with_new s v q id; answer = answer.Id id })
+    IsUnmade p past s → KnownAt p past s → KnownBy p past (Op.Init v q) (record { state = ops.with_new s v q id; answer = Answer.Id id })
 new_known p past s v q id e kept unmade k place at = by q known where
   now : Slots Content
-  now = taken id (content.Handle (inited v q)) s.arena
+  now = taken id (Content.Handle (inited v q)) s.arena
 
-  turns : Turns s.arena.slots now.slots id None (Some (content.Handle (inited v q)))
-  turns = (fills s.arena s.arena.free id (content.Handle (inited v q)) refl kept.free e).0
+  turns : Turns s.arena.slots now.slots id None (Some (Content.Handle (inited v q)))
+  turns = (fills s.arena s.arena.free id (Content.Handle (inited v q)) refl kept.free e).0
 
   -- with the line, and before the slot is taken
-  told : Known p (seen.Op place (answer.Id id) ∷ past) s.arena (slice_set s.names v.0 (record (named s v) { id = Some id })) s.waiting
+  told : Known p (Seen.Op place (Answer.Id id) ∷ past) s.arena (slice_set s.names v.0 (record (named s v) { id = Some id })) s.waiting
       (run_ids s.running)
-  told = known_bound p past place v (op.Init v q) s.arena s.arena s.names id (record (named s v) { id = Some id }) at (λ u b. refl) (λ i. refl)
-      (unmade id e) (λ j u g. new_name s.arena.slots _ id (Some (content.Handle (inited v q))) v j u turns g) refl refl (λ j. refl) (λ j h. h)
-      (worked_idle p past (seen.Op place (answer.Id id)) _ _ _ (idle_op p place (op.Init v q) (answer.Id id) at (λ i. (refl, refl))) k.worked) k
+  told = known_bound p past place v (Op.Init v q) s.arena s.arena s.names id (record (named s v) { id = Some id }) at (λ u b. refl) (λ i. refl)
+      (unmade id e) (λ j u g. new_name s.arena.slots _ id (Some (Content.Handle (inited v q))) v j u turns g) refl refl (λ j. refl) (λ j h. h)
+      (worked_idle p past (Seen.Op place (Answer.Id id)) _ _ _ (idle_op p place (Op.Init v q) (Answer.Id id) at (λ i. (refl, refl))) k.worked) k
 
-  known : Known p (seen.Op place (answer.Id id) ∷ past) now (slice_set s.names v.0 (record (named s v) { id = Some id })) s.waiting
+  known : Known p (Seen.Op place (Answer.Id id) ∷ past) now (slice_set s.names v.0 (record (named s v) { id = Some id })) s.waiting
       (run_ids s.running)
-  known = known_grown p (seen.Op place (answer.Id id) ∷ past) s.arena now _ id (inited v q)
+  known = known_grown p (Seen.Op place (Answer.Id id) ∷ past) s.arena now _ id (inited v q)
       (taken_handle s.arena s.arena.free id (inited v q) refl kept.free e).0 (same_requests s.arena.slots _ id _ _ turns refl refl) refl
-      (λ j u h. made_now p past place (op.Init v q) s.arena.slots _ id (content.Handle (inited v q)) v j u at (λ i. refl) refl turns told.made h)
-      (gone_taken s.arena s.arena.free id (content.Handle (inited v q)) refl kept.free e) told
+      (λ j u h. made_now p past place (Op.Init v q) s.arena.slots _ id (Content.Handle (inited v q)) v j u at (λ i. refl) refl turns told.made h)
+      (gone_taken s.arena s.arena.free id (Content.Handle (inited v q)) refl kept.free e) told
 
-  by : (x : Kind) → Known p (seen.Op place (answer.Id id) ∷ past) (taken id (content.Handle (inited v x)) s.arena)
+  by : (x : Kind) → Known p (Seen.Op place (Answer.Id id) ∷ past) (taken id (Content.Handle (inited v x)) s.arena)
       (slice_set s.names v.0 (record (named s v) { id = Some id })) s.waiting (run_ids s.running) →
-      KnownAt p (seen.Op place (answer.Id id) ∷ past) (ops.with_new s v x id)
-  by kind.Timer w = w
+      KnownAt p (Seen.Op place (Answer.Id id) ∷ past) (ops.with_new s v x id)
+  by Kind.Timer w = w
   by each w = w
 
 listed : (ids : List Id) (i j : Id) → has_id (ids ++ i ∷ []) j ≡ true → (i ≡ j) ⊎ (has_id ids j ≡ true)
@@ -121,17 +115,17 @@ listed ids i j h = grind (arith, has_both, same)
 
 -- a slot is taken for a request
 pub queued_known : (p : Program) (past : List Seen) (s : State) (v : Var) (task : Task) (id : Id) → next_free s.arena ≡ Some id → Kept s →
-    IsUnmade p past s → KnownAt p past s → KnownBy p past (op.Queue v task) (record { state = ops.with_queued s v task id; answer = answer.Id id })
+    IsUnmade p past s → KnownAt p past s → KnownBy p past (Op.Queue v task) (record { state = ops.with_queued s v task id; answer = Answer.Id id })
 queued_known p past s v task id e kept unmade k place at =
-    let c = content.Request (queued v task) in
+    let c = Content.Request (queued v task) in
     let now = taken id c s.arena in
     let t = (fills s.arena s.arena.free id c refl kept.free e).0 in
     let gone = gone_taken s.arena s.arena.free id c refl kept.free e in
     let fresh = next_not_gone s.arena s.arena.free id c refl kept.free e in
-    let w : Worked p (seen.Op place (answer.Id id) ∷ past) now (s.waiting ++ id ∷ []) (run_ids s.running) =
+    let w : Worked p (Seen.Op place (Answer.Id id) ∷ past) now (s.waiting ++ id ∷ []) (run_ids s.running) =
     worked_queued p past place v task s.arena now s.waiting (run_ids s.running) (s.waiting ++ id ∷ []) id at t fresh (listed s.waiting id) gone
     k.worked in
-    known_bound p past place v (op.Queue v task) s.arena now s.names id (record (named s v) { id = Some id }) at (λ u b. refl) (λ i. refl)
+    known_bound p past place v (Op.Queue v task) s.arena now s.names id (record (named s v) { id = Some id }) at (λ u b. refl) (λ i. refl)
     (unmade id e) (λ i u h. new_or_old s.arena.slots now.slots id c v i u refl t h) refl refl
     (same_handles s.arena.slots now.slots id None (Some c) t refl refl) gone w k
 
@@ -140,7 +134,7 @@ fewer ids id i e = grind (arith, still_absent)
 
 -- the line of an accepted cancel: its request waits no more, the line tells of it, and it ended so
 pub cancel_told : (p : Program) (past : List Seen) (l : Seen) (s : State) (t : Id × Request) →
-    Tells p l (λ i. same_id t.0 i) → IsQuiet p l → held s.arena.slots t.0 ≡ Some (content.Request t.1) →
+    Tells p l (λ i. same_id t.0 i) → IsQuiet p l → held s.arena.slots t.0 ≡ Some (Content.Request t.1) →
     list_any (same_id t.0) s.waiting ≡ true → KnownAt p past s → KnownAt p (l ∷ past) (ops.cancelled s t.0 t.1)
 cancel_told p past l s t tells q e on k =
     let x : Request = record t.1 { outcome = Cancelled } in
@@ -148,7 +142,7 @@ cancel_told p past l s t tells q e on k =
     let runs : List Id = run_ids s.running in
     let turns = request_turns s.arena.slots t.0 t.1 x e in
     let still : (i : Id) → IsGone s.arena.slots s.arena.free i → IsGone (with_request s t.0 x).arena.slots (with_request s t.0 x).arena.free i =
-    λ i g. gone_turned s.arena.slots s.arena.free t.0 (content.Request t.1) (Some (content.Request x)) i e g in
+    λ i g. gone_turned s.arena.slots s.arena.free t.0 (Content.Request t.1) (Some (Content.Request x)) i e g in
     let few : Worked p past s.arena rest runs =
     worked_fewer p past s.arena s.waiting runs rest runs (λ i h. fewer s.waiting t.0 i h) (λ i h. h) k.worked in
     let said : Worked p (l ∷ past) s.arena rest runs = worked_told p past l s.arena rest runs (λ i. same_id t.0 i) tells was_queued gone few in
@@ -170,10 +164,10 @@ cancel_told p past l s t tells q e on k =
 
 -- all but these tell nothing of names, of closing and of requests
 abbrev is_harmless : Op → Bool
-is_harmless (op.Init v q) = false
-is_harmless (op.Queue v task) = false
-is_harmless (op.Cancel v) = false
-is_harmless (op.Close v) = false
+is_harmless (Op.Init v q) = false
+is_harmless (Op.Queue v task) = false
+is_harmless (Op.Cancel v) = false
+is_harmless (Op.Close v) = false
 is_harmless o = true
 
 pub harmless : (o : Op) → is_harmless o ≡ true → Harmless o
@@ -182,59 +176,59 @@ harmless o e a = grind arith
 pub asked_harmless : (o : Op) → IsAsked o → is_harmless o ≡ true
 asked_harmless o a = grind arith
 
-pub refused_harmless : (o : Op) (c : Code) → IsRefusal c → IsQuietOp o (answer.Code c) × IsIdleOp o (answer.Code c)
+pub refused_harmless : (o : Op) (c : Code) → IsRefusal c → IsQuietOp o (Answer.Code c) × IsIdleOp o (Answer.Code c)
 refused_harmless o c r = grind arith
 
-cancel_op_known : (p : Program) (past : List Seen) (s : State) (v : Var) (t : Id × Request) → IsLive s v t.0 (content.Request t.1) →
+cancel_op_known : (p : Program) (past : List Seen) (s : State) (v : Var) (t : Id × Request) → IsLive s v t.0 (Content.Request t.1) →
     list_any (same_id t.0) s.waiting ≡ true → KnownAt p past s →
-    KnownBy p past (op.Cancel v) (record { state = ops.cancelled s t.0 t.1; answer = answer.Cancelled t.0 })
-cancel_op_known p past s v t live on k place at = cancel_told p past (seen.Op place (answer.Cancelled t.0)) s t (record {
-  queued = λ i. rw (is_answered p place (op.Cancel v) (answer.Cancelled t.0) at) refl;
+    KnownBy p past (Op.Cancel v) (record { state = ops.cancelled s t.0 t.1; answer = Answer.Cancelled t.0 })
+cancel_op_known p past s v t live on k place at = cancel_told p past (Seen.Op place (Answer.Cancelled t.0)) s t (record {
+  queued = λ i. rw (is_answered p place (Op.Cancel v) (Answer.Cancelled t.0) at) refl;
   taken = λ i. refl;
   finished = λ i. refl;
   over = λ i. refl;
-  cancelled = λ i. rw (is_answered p place (op.Cancel v) (answer.Cancelled t.0) at) refl;
-}) (quiet_op p place (op.Cancel v) (answer.Cancelled t.0) at (assumption)) live.holds on k
+  cancelled = λ i. rw (is_answered p place (Op.Cancel v) (Answer.Cancelled t.0) at) refl;
+}) (quiet_op p place (Op.Cancel v) (Answer.Cancelled t.0) at (assumption)) live.holds on k
 
 did_op_known : (p : Program) (past : List Seen) (s : State) (o : Op) (d : ops.Done) → DidOp s o d → Kept s →
     IsUnmade p past s → KnownAt p past s → KnownBy p past o d
 did_op_known p past s o d (which.refused o' c r may) kept unmade k = known_by p past o d (refused_harmless o' c r) k
 did_op_known p past s o d (which.asked o' a is) kept unmade k = known_by p past o d (harmless o' (asked_harmless o' is) a) k
-did_op_known p past s o d which.loop_stopped kept unmade k = known_by p past o d (harmless op.StopLoop refl _) k
-did_op_known p past s o d which.time_updated kept unmade k = known_by p past o d (harmless op.UpdateTime refl _) k
+did_op_known p past s o d which.loop_stopped kept unmade k = known_by p past o d (harmless Op.StopLoop refl _) k
+did_op_known p past s o d which.time_updated kept unmade k = known_by p past o d (harmless Op.UpdateTime refl _) k
 did_op_known p past s o d (which.made v q id e) kept unmade k = new_known p past s v q id e kept unmade k
 did_op_known p past s o d (which.queued v task id e) kept unmade k = queued_known p past s v task id e kept unmade k
 did_op_known p past s o d (which.cancelled v t live on) kept unmade k = cancel_op_known p past s v t live on k
 did_op_known p past s o d (which.started v timeout repeat t e is stays) kept unmade k =
-    known_by p past o d (harmless (op.Start v timeout repeat) refl _)
+    known_by p past o d (harmless (Op.Start v timeout repeat) refl _)
     (twice p past s t (records.stopped t.1) _ (live_held s v t e) refl refl refl refl k)
 did_op_known p past s o d (which.again v t e is stays) kept unmade k =
-    known_by p past o d (harmless (op.Again v) refl _) (again_known p past s t (live_held s v t e) k)
+    known_by p past o d (harmless (Op.Again v) refl _) (again_known p past s t (live_held s v t e) k)
 did_op_known p past s o d (which.watching v q t e is off stays) kept unmade k =
-    known_by p past o d (harmless (op.StartWatcher v) refl _) (by q) where
+    known_by p past o d (harmless (Op.StartWatcher v) refl _) (by q) where
       by : (q : WatcherKind) → KnownAt p past (ops.watcher_started s q t.0 t.1)
-      by watcher.Idle = changed p past s t (records.activated t.1) (live_held s v t e) refl refl k
+      by WatcherKind.Idle = changed p past s t (records.activated t.1) (live_held s v t e) refl refl k
       by each = changed p past s t (records.activated t.1) (live_held s v t e) refl refl k
 did_op_known p past s o d (which.io_started v t e is off stays) kept unmade k =
-    known_by p past o d (harmless (op.StartWatcher v) refl _)
+    known_by p past o d (harmless (Op.StartWatcher v) refl _)
     (changed p past s t (records.activated t.1) (live_held s v t e) refl refl k)
-did_op_known p past s o d (which.watches v t e on) kept unmade k = known_by p past o d (harmless (op.StartWatcher v) refl _) k
+did_op_known p past s o d (which.watches v t e on) kept unmade k = known_by p past o d (harmless (Op.StartWatcher v) refl _) k
 did_op_known p past s o d (which.stopped v t e sync) kept unmade k =
-    known_by p past o d (harmless (op.Stop v) refl _)
+    known_by p past o d (harmless (Op.Stop v) refl _)
     (changed p past s t (records.stopped t.1) (live_held s v t e) refl refl k)
 did_op_known p past s o d (which.closed v t e stays) kept unmade k = λ place at.
     known_close p past place v s.arena s.names t.0 t.1 (records.closed t.1) at (live_bound s v t e) (live_held s v t e) refl refl k
 did_op_known p past s o d (which.repeated v n t e) kept unmade k =
-    known_by p past o d (harmless (op.SetRepeat v n) refl _)
+    known_by p past o d (harmless (Op.SetRepeat v n) refl _)
     (changed p past s t (repeating n t.1) (live_held s v t e) refl refl k)
 did_op_known p past s o d (which.referenced o' u flag t e (which.ref v)) kept unmade k =
-    known_by p past o d (harmless (op.Ref v) refl _)
+    known_by p past o d (harmless (Op.Ref v) refl _)
     (changed p past s t (referenced_as flag t.1) (live_held s u t e) refl refl k)
 did_op_known p past s o d (which.referenced o' u flag t e (which.unref v)) kept unmade k =
-    known_by p past o d (harmless (op.Unref v) refl _)
+    known_by p past o d (harmless (Op.Unref v) refl _)
     (changed p past s t (referenced_as flag t.1) (live_held s u t e) refl refl k)
 did_op_known p past s o d (which.sent_to v t e is stays) kept unmade k =
-    known_by p past o d (harmless (op.Send v) refl _)
+    known_by p past o d (harmless (Op.Send v) refl _)
     (changed p past s t (records.sent t.1) (live_held s v t e) refl refl k)
 
 pub op_known : (p : Program) (past : List Seen) (s : State) (o : Op) → Kept s → IsUnmade p past s → KnownAt p past s →

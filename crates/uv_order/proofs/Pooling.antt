@@ -1,12 +1,7 @@
 -- Each line is the event of the thread pool that it says, by the rules of the pool.
-use Rattle.uv_order.proofs.Names.{arith, ◌≡◌, ℕ, ◌||◌, List, [], ◌∷◌, ◌++◌, map, Bool, true, false, Option, Some, None, Ok, drop, slice_set, refl, ap, sym, subst, ◌∙◌, append_assoc, append-nil, map-append, or_comm, list_any, both_ways, or_right, false_from_ne_true, same_Some, none-some, Id, Var, Code, Answer, Site, Slot, all_yet, held, freed, next_free, Op, Task, Program, arena_size, op_at, text_of, Pool, runs, is_done, has, without, collected_from, after_event, after_events, is_open, Finished, Cancelled, Content, Request, request_in, same_id, without_id, State, request, live_request, do_op, Next, Moves, Refuses, has_id, AreDistinct, run_ids, op_events, outside_events, line_events, was_finished, done_as, pool_of}
-use Rattle.uv_ids.specs.declared.code.Answer.TheVariants as answer
-use Rattle.uv_ids.specs.declared.seen.Seen.TheVariants as seen
-use Rattle.uv_script.specs.declared.op.Op.TheVariants as op
+use Rattle.uv_order.proofs.Names.{arith, ◌≡◌, ℕ, ◌||◌, List, [], ◌∷◌, ◌++◌, map, Bool, true, false, Option, Some, None, Ok, drop, slice_set, refl, ap, sym, subst, ◌∙◌, append_assoc, append-nil, map-append, or_comm, list_any, both_ways, or_right, false_from_ne_true, same_Some, none-some, Id, Var, Code, Answer, Site, Slot, all_yet, held, freed, next_free, Op, Task, Program, arena_size, op_at, text_of, Pool, runs, is_done, has, without, collected_from, after_event, after_events, is_open, Finished, Cancelled, Content, Request, request_in, same_id, without_id, State, request, live_request, do_op, Next, Moves, Refuses, has_id, AreDistinct, run_ids, op_events, outside_events, line_events, was_finished, done_as, pool_of, Seen, PoolEvent}
 use Rattle.uv_work.specs.Digests.{digest_of}
 use Rattle.uv_work.specs.Pool.{Done as Ended, waits}
-use Rattle.uv_work.specs.declared.event.PoolEvent.TheVariants as event
-use Rattle.uv_work.specs.declared.content.Content.TheVariants as content
 use Rattle.uv_model.specs.Ops as ops
 use Rattle.uv_model.specs.Next as step
 use Rattle.uv_model.specs.Next.{next}
@@ -99,7 +94,7 @@ apart_done s t id was is turns opened k = done_same s t (s.done.yet ++ s.done.li
 
 -- a request is queued
 queued_pool : (s : State) (v : Var) (task : Task) (id : Id) → next_free s.arena ≡ Some id → Kept s → Working s →
-    after_event (pool_of s) (event.Queue id) ≡ Some (pool_of (ops.with_queued s v task id))
+    after_event (pool_of s) (PoolEvent.Queue id) ≡ Some (pool_of (ops.with_queued s v task id))
 queued_pool s v task id e kept k = grind (arith, fills, not_in, apart_done)
 
 -- a list without its first one of an id, where none stands twice
@@ -113,20 +108,20 @@ last_done : (s t : State) (id : Id) (b : Bool) → done_as t id ≡ record { id 
     map (done_as t) (s.done.yet ++ (s.done.list ++ id ∷ [])) ≡ map (done_as s) (s.done.yet ++ s.done.list) ++ record { id = id; finished = b } ∷ []
 last_done s t id b e f = grind (arith, append_assoc, map-append)
 
-its_outcome : (s t : State) (id : Id) (r x : Request) → Turns s.arena.slots t.arena.slots id (Some (content.Request r)) (Some (content.Request x)) →
+its_outcome : (s t : State) (id : Id) (r x : Request) → Turns s.arena.slots t.arena.slots id (Some (Content.Request r)) (Some (Content.Request x)) →
     done_as t id ≡ record { id = id; finished = was_finished (Some x) }
 its_outcome s t id r x turns = ap (λ (o : Option Request). record { id = id; finished = was_finished o }) (ap request_in turns.here)
 
 -- a request that waits is cancelled
-cancelled_pool : (s : State) (t : Id × Request) → held s.arena.slots t.0 ≡ Some (content.Request t.1) → list_any (same_id t.0) s.waiting ≡ true →
-    Working s → after_event (pool_of s) (event.Cancel t.0) ≡ Some (pool_of (ops.cancelled s t.0 t.1))
+cancelled_pool : (s : State) (t : Id × Request) → held s.arena.slots t.0 ≡ Some (Content.Request t.1) → list_any (same_id t.0) s.waiting ≡ true →
+    Working s → after_event (pool_of s) (PoolEvent.Cancel t.0) ≡ Some (pool_of (ops.cancelled s t.0 t.1))
 cancelled_pool s t e on k =
     let x : Request = record t.1 { outcome = Cancelled } in
     let u = ops.cancelled s t.0 t.1 in
     let turns = request_turns s.arena.slots t.0 t.1 x e in
     let here : has_id s.waiting t.0 ≡ true = on_list s.waiting t.0 on in
     let opened = waits_open s.arena.slots s.waiting s.running s.done t.0 t.1 e here k in
-    let apart = apart_done s u t.0 (Some (content.Request t.1)) (Some (content.Request x)) turns
+    let apart = apart_done s u t.0 (Some (Content.Request t.1)) (Some (Content.Request x)) turns
     (λ r f. ap (λ (y : Request). is_open y.outcome) (sym (same_Some _ _ f)) ∙ opened) k in
     let distinct = distinct_front s.waiting (run_ids s.running) k.open_ones.distinct in
     rw (waits_has s.waiting t.0, here)
@@ -134,24 +129,24 @@ cancelled_pool s t e on k =
     (its_outcome s u t.0 t.1 x turns) apart))))
 
 -- a worker finishes the one that it runs
-finished_pool : (s : State) (n : ℕ) (t : Id × Request) → RunsWork s n t → Working s → after_event (pool_of s) (event.Finish n t.0)
+finished_pool : (s : State) (n : ℕ) (t : Id × Request) → RunsWork s n t → Working s → after_event (pool_of s) (PoolEvent.Finish n t.0)
     ≡ Some (pool_of (ops.ended (record s { running = slice_set s.running n None }) t.0 t.1 (Finished (digest_of t.1.task.rounds (text_of t.1.task)))))
 finished_pool s n t f k =
     let x : Request = record t.1 { outcome = Finished (digest_of t.1.task.rounds (text_of t.1.task)) } in
     let u = ops.ended (record s { running = slice_set s.running n None }) t.0 t.1 (Finished (digest_of t.1.task.rounds (text_of t.1.task))) in
     let turns = request_turns s.arena.slots t.0 t.1 x f.holds in
     let opened = runs_open s.arena.slots s.waiting s.running s.done t.0 t.1 f.holds (runs_now s.running n t.0 f.busy) k in
-    let apart = apart_done s u t.0 (Some (content.Request t.1)) (Some (content.Request x)) turns
+    let apart = apart_done s u t.0 (Some (Content.Request t.1)) (Some (Content.Request x)) turns
     (λ r h. ap (λ (y : Request). is_open y.outcome) (sym (same_Some _ _ h)) ∙ opened) k in
     rw f.busy (rw (itself t.0 t.0 refl)
     (ap Some (equal_pools _ _ _ _ _ _ refl refl (sym (last_done s u t.0 true (its_outcome s u t.0 t.1 x turns) apart)))))
 
 -- the first of those that are done calls back
-collected_pool : (s : State) (last : ℕ) (t : Id × Request) → FrontRequest s s.done.yet t → Working s → after_event (pool_of s) (event.Collect t.0)
+collected_pool : (s : State) (last : ℕ) (t : Id × Request) → FrontRequest s s.done.yet t → Working s → after_event (pool_of s) (PoolEvent.Collect t.0)
     ≡ Some (pool_of (record s { arena = freed last t.0 s.arena; done = record s.done { yet = drop 1 s.done.yet } }))
 collected_pool s last t f k =
     let u = record s { arena = freed last t.0 s.arena; done = record s.done { yet = drop 1 s.done.yet } } in
-    let turns = freed_turns last s.arena t.0 (content.Request t.1) f.holds in
+    let turns = freed_turns last s.arena t.0 (Content.Request t.1) f.holds in
     let rest = f.rest ++ s.done.list in
     let apart : has_id rest t.0 ≡ false = distinct_round f.rest s.done.list t.0
     (subst (λ (ids : List Id). AreDistinct (s.done.list ++ ids)) f.are k.ended.distinct) in
@@ -178,11 +173,11 @@ quiet_op s o h none kept = ap (after_events (Some (pool_of s))) (none (do_op s o
     ∙ ap Some (sym (pool_same s (do_op s o).state (op_same s o h kept)))
 
 -- a refused one is none
-refused_op : (s : State) (o : Op) (c : Code) → op_events o (answer.Code c) ≡ [] → PoolsBy s o (ops.refuses s c)
+refused_op : (s : State) (o : Op) (c : Code) → op_events o (Answer.Code c) ≡ [] → PoolsBy s o (ops.refuses s c)
 refused_op s o c none = ap (after_events (Some (pool_of s))) none
 
-cancel_pools : (s : State) (v : Var) → Working s → PoolsBy s (op.Cancel v) (ops.cancel s (live_request s v))
-cancel_pools s v k = cancel_both s v (PoolsBy s (op.Cancel v)) (λ c no_success. refused_op s (op.Cancel v) c refl)
+cancel_pools : (s : State) (v : Var) → Working s → PoolsBy s (Op.Cancel v) (ops.cancel s (live_request s v))
+cancel_pools s v k = cancel_both s v (PoolsBy s (Op.Cancel v)) (λ c no_success. refused_op s (Op.Cancel v) c refl)
     (λ t live on. cancelled_pool s t live.holds on k)
 
 op_pools : (s : State) (o : Op) → Kept s → Working s → PoolsBy s o (do_op s o)
@@ -190,7 +185,7 @@ op_pools s each kept k = grind (arith, make_both, refused_op, queued_pool, cance
 
 -- the line of an op
 op_line : (p : Program) (s : State) (place : Site) (o : Op) → op_at p place ≡ Some o → Kept s → Working s →
-    after_events (Some (pool_of s)) (line_events p (seen.Op place (do_op s o).answer)) ≡ Some (pool_of (do_op s o).state)
+    after_events (Some (pool_of s)) (line_events p (Seen.Op place (do_op s o).answer)) ≡ Some (pool_of (do_op s o).state)
 op_line p s place o e kept k = grind (arith, op_pools)
 
 -- ---- the steps

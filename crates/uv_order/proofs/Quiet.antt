@@ -1,10 +1,6 @@
 -- The steps that change no request: those of handles, of the loop's sections but for the requests that are done, and of the clock.
-use Rattle.uv_order.proofs.Names.{◌≡◌, ◌==◌, List, Option, Some, None, drop, refl, ◌∙◌, cond_both, Id, Var, Kind, HandleRecord, Slot, Walk, inited, activated, referenced_as, repeating, taken, next_free, Op, Program, arena_size, Content, State, handle, stopped, restarted, do_op, Next, Moves, Refuses}
-use Rattle.uv_ids.specs.declared.phase.Kind.TheVariants as kind
-use Rattle.uv_records.specs.declared.lists.WatcherKind.TheVariants as watcher
+use Rattle.uv_order.proofs.Names.{◌≡◌, ◌==◌, List, Option, Some, None, drop, refl, ◌∙◌, cond_both, Id, Var, Kind, HandleRecord, Slot, Walk, inited, activated, referenced_as, repeating, taken, next_free, Op, Program, arena_size, Content, State, handle, stopped, restarted, do_op, Next, Moves, Refuses, WatcherKind}
 use Rattle.uv_records.specs.Handles as records
-use Rattle.uv_script.specs.declared.op.Op.TheVariants as op
-use Rattle.uv_work.specs.declared.content.Content.TheVariants as content
 use Rattle.uv_model.specs.Ops as ops
 use Rattle.uv_order.proofs.Contents.{Turns}
 use Rattle.uv_order.proofs.Holding.{put, put_same, is_held}
@@ -57,19 +53,19 @@ again_same s t e = cond_both (t.1.repeat == 0) _ _ (SameWork s) (λ z. changed s
 -- a slot is taken for a handle
 new_same : (s : State) (v : Var) (q : Kind) (id : Id) → next_free s.arena ≡ Some id → Kept s → SameWork s (ops.with_new s v q id)
 new_same s v q id e kept = by q (by_slots s _ (same_requests s.arena.slots _ id _ _ turns refl refl)) where
-  turns : Turns s.arena.slots (taken id (content.Handle (inited v q)) s.arena).slots id None (Some (content.Handle (inited v q)))
-  turns = (fills s.arena s.arena.free id (content.Handle (inited v q)) refl kept.free e).0
+  turns : Turns s.arena.slots (taken id (Content.Handle (inited v q)) s.arena).slots id None (Some (Content.Handle (inited v q)))
+  turns = (fills s.arena s.arena.free id (Content.Handle (inited v q)) refl kept.free e).0
 
-  by : (x : Kind) → SameSlots s (taken id (content.Handle (inited v x)) s.arena).slots → SameWork s (ops.with_new s v x id)
-  by kind.Timer w = w
+  by : (x : Kind) → SameSlots s (taken id (Content.Handle (inited v x)) s.arena).slots → SameWork s (ops.with_new s v x id)
+  by Kind.Timer w = w
   by each w = w
 
 -- ---- the ops
 
 -- an op that isn't one of requests
 abbrev pub IsOfHandles : Op → Type 0
-IsOfHandles (op.Queue v task) = ⊥
-IsOfHandles (op.Cancel v) = ⊥
+IsOfHandles (Op.Queue v task) = ⊥
+IsOfHandles (Op.Cancel v) = ⊥
 IsOfHandles o = Unit {0}
 
 did_op_same : (s : State) (o : Op) (d : ops.Done) → DidOp s o d → IsOfHandles o → Kept s → SameWork s d.state
@@ -78,7 +74,7 @@ did_op_same s o d (which.queued v task id e) h kept = absurd h
 did_op_same s o d (which.cancelled v t live on) h kept = absurd h
 did_op_same s o d (which.started v timeout repeat t e is stays) h kept = twice s t (records.stopped t.1) _ (live_held s v t e)
 did_op_same s o d (which.again v t e is stays) h kept = again_same s t (live_held s v t e)
-did_op_same s o d (which.watching v watcher.Idle t e is off stays) h kept = changed s t (activated t.1) (live_held s v t e)
+did_op_same s o d (which.watching v WatcherKind.Idle t e is off stays) h kept = changed s t (activated t.1) (live_held s v t e)
 did_op_same s o d (which.watching v each t e is off stays) h kept = changed s t (activated t.1) (live_held s v t e)
 did_op_same s o d (which.io_started v t e is off stays) h kept = changed s t (activated t.1) (live_held s v t e)
 did_op_same s o d (which.stopped v t e sync) h kept = changed s t (records.stopped t.1) (live_held s v t e)
@@ -113,18 +109,18 @@ IsOfLoop d = Unit {0}
 pub did_same : (p : Program) (s : State) (n : Next) (d : Did p s n) → IsOfLoop d → Kept s → KeepsWork s n
 did_same p s n (row.refused why) h kept = tt
 did_same p s n (row.still x time clock stop idled l q) h kept = same s
-did_same p s n (row.begun run watcher.Idle e) h kept = same s
+did_same p s n (row.begun run WatcherKind.Idle e) h kept = same s
 did_same p s n (row.begun run each e) h kept = same s
 did_same p s n (row.begun_closing run e) h kept = same s
 did_same p s n (row.collected run part t f) h kept = changed s t (records.stopped t.1) f.holds
 did_same p s n (row.fired run t f) h kept = fired_same s t f
 did_same p s n (row.called_due run t f) h kept = again_same s t f.holds
 did_same p s n (row.answered run time v t e is on) h kept = same s
-did_same p s n (row.walked run watcher.Idle t sync f) h kept = same s
+did_same p s n (row.walked run WatcherKind.Idle t sync f) h kept = same s
 did_same p s n (row.walked run each t sync f) h kept = same s
 did_same p s n (row.passed run t f off) h kept = same s
 did_same p s n (row.woken run t f on) h kept = changed s t (records.woken t.1) f.holds
 did_same p s n (row.closed run t f) h kept = by_slots s _ (same_requests s.arena.slots _ t.0 _ _
-    (freed_turns (arena_size p).last_generation s.arena t.0 (content.Handle t.1) (is_held s.arena.slots t.0 t.1 f.holds)) refl refl)
-did_same p s n (row.sent v) h kept = op_same s (op.Send v) tt kept
+    (freed_turns (arena_size p).last_generation s.arena t.0 (Content.Handle t.1) (is_held s.arena.slots t.0 t.1 f.holds)) refl refl)
+did_same p s n (row.sent v) h kept = op_same s (Op.Send v) tt kept
 did_same p s n each h kept = absurd h

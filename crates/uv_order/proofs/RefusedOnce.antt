@@ -1,7 +1,5 @@
 -- What once refuses.
-use Rattle.uv_order.proofs.Names.{arith, ◌≡◌, ◌||◌, List, [], ◌∷◌, ◌++◌, true, Option, refl, subst, both_ways, Id, Success, Seen, Op, Program, has_take_line, OpSays, MayFollow, OnceFrom, RefusedOnce}
-use Rattle.uv_ids.specs.declared.code.Answer.TheVariants as answer
-use Rattle.uv_ids.specs.declared.seen.Seen.TheVariants as seen
+use Rattle.uv_order.proofs.Names.{arith, ◌≡◌, ◌||◌, List, [], ◌∷◌, ◌++◌, true, Option, refl, subst, both_ways, Id, Success, Seen, Op, Program, has_take_line, OpSays, MayFollow, OnceFrom, RefusedOnce, Answer}
 
 -- the lines before another one, the last one first, in front of those
 abbrev turned : List Seen → List Seen → List Seen
@@ -21,10 +19,10 @@ taken past (x ∷ before) id e = grind (arith, taken (x ∷ past) before id)
 
 pub refused : (p : Program) (before more : List Seen) → RefusedOnce p before more
 refused p before more = record {
-  bare_ok = λ v h. follows p before more [] (seen.Cancel v (answer.Code Success)) h;
+  bare_ok = λ v h. follows p before more [] (Seen.Cancel v (Answer.Code Success)) h;
   bare_ok_op = λ v place e h.
-      subst (λ (o : Option Op). OpSays p (turned [] before) o (answer.Code Success)) e
-      (follows p before more [] (seen.Op place (answer.Code Success)) h);
-  late_cancel = λ v id e h. both_ways (has_take_line (turned [] before) id) (follows p before more [] (seen.Cancel v (answer.Cancelled id)) h).waits
+      subst (λ (o : Option Op). OpSays p (turned [] before) o (Answer.Code Success)) e
+      (follows p before more [] (Seen.Op place (Answer.Code Success)) h);
+  late_cancel = λ v id e h. both_ways (has_take_line (turned [] before) id) (follows p before more [] (Seen.Cancel v (Answer.Cancelled id)) h).waits
       (taken [] before id (rw e refl));
 }

@@ -1,10 +1,5 @@
 -- What the documented order refuses.
 use Rattle.uv_order.proofs.Names.{arith, ◌≡◌, ℕ, List, [], ◌∷◌, ◌++◌, Bool, true, false, Option, Some, refl, ap, sym, subst, ◌∙◌, if◌then◌else◌, not, both_ways, same_Some, Id, Var, Due, Success, Answer, Mode, Phase, Callback, Seen, Site, Op, Program, from_heap, op_at, State, Line, has_id, closes_some, may_wait, bound, Names, names_by, taken_off, Told, nothing_told, told_by, Lasting, lasting, Section, word_of, In, is_called, Standing, IsCallLine, CallsNext, MayAnswer, Within, Position, Between, Running, Goes, GoesOn, line, at_first, past_after, is_within, AllWithin, is_send_op, is_send, AllSilent, RefusedOrder, holds_io}
-use Rattle.uv_ids.specs.declared.code.Answer.TheVariants as answer
-use Rattle.uv_ids.specs.declared.phase.Phase.TheVariants as phase
-use Rattle.uv_ids.specs.declared.seen.Callback.TheVariants as callback
-use Rattle.uv_ids.specs.declared.seen.Seen.TheVariants as seen
-use Rattle.uv_script.specs.declared.op.Op.TheVariants as op
 use Rattle.uv_order.specs.Documented as doc
 use Rattle.uv_order.specs.Documented.{Walk}
 use Rattle.uv_order.proofs.IdLists.{has_both, itself, without_itself, still_absent}
@@ -47,7 +42,7 @@ record Begins (word : Phase) (to : Position) : Type 0 where
   is : to ≡ Running mode number (Within part walk)
   its : word_of part ≡ word
 
-begins : (p : Program) (told : Told) (names : Names) (l : Line) (at to : Position) (word : Phase) → l.seen ≡ seen.Section word →
+begins : (p : Program) (told : Told) (names : Names) (l : Line) (at to : Position) (word : Phase) → l.seen ≡ Seen.Section word →
     Goes p told names at l to → Begins word to
 begins p told names l at to word e g = grind arith
 
@@ -61,7 +56,7 @@ record SectionOn (p : Program) (told : Told) (past : List Seen) (word : Phase) (
   rest : GoesOn p (Running mode number (Within part walk)) told past was ls
 
 section_on : (p : Program) (at : Position) (told : Told) (past : List Seen) (was : Lasting) (l : Line) (word : Phase) (ls : List Line) →
-    l.seen ≡ seen.Section word → GoesOn p at told past was (l ∷ ls) → SectionOn p (told_by p told (names_by p past) l.seen) (l.seen ∷ past) word ls
+    l.seen ≡ Seen.Section word → GoesOn p at told past was (l ∷ ls) → SectionOn p (told_by p told (names_by p past) l.seen) (l.seen ∷ past) word ls
 section_on p at told past was l word ls e (line {to = to} f g h) =
     let b = begins p told (names_by p past) l at to word e g in
     record { mode = b.mode; number = b.number; part = b.part; walk = b.walk; was = lasting l.after; its = b.its; rest = moved b.is h }
@@ -70,10 +65,10 @@ section_on p at told past was l word ls e (line {to = to} f g h) =
 
 -- what the line of a call, of an op or of a callback of I/O says where the walk then is this
 abbrev Tells : Program → Told → Names → Section → Walk → Walk → Seen → Type 0
-Tells p told names part w walk (seen.Call v id) = (from_heap p ≡ false → has_id w.off id ≡ false) × (is_called (word_of part) told id ≡ true)
-Tells p told names part w walk (seen.Op place a) =
+Tells p told names part w walk (Seen.Call v id) = (from_heap p ≡ false → has_id w.off id ≡ false) × (is_called (word_of part) told id ≡ true)
+Tells p told names part w walk (Seen.Op place a) =
     (o : Op) → op_at p place ≡ Some o → (id : Id) → has_id (taken_off (word_of part) names o a) id ≡ true → has_id walk.off id ≡ true
-Tells p told names part w walk (seen.Io v id) = holds_io (word_of part) ≡ true
+Tells p told names part w walk (Seen.Io v id) = holds_io (word_of part) ≡ true
 Tells p told names part w walk each = Unit {0}
 
 -- a walk goes on, and who was taken off stays so
@@ -96,13 +91,13 @@ record Answered (part : Section) (w : Walk) (to : Standing) : Type 0 where
   off : walk.off ≡ w.off
 
 answered : (s : State) (told : Told) (body : List Site) (part : Section) (w : Walk) → Answered part w (doc.answering s told body (Within part w))
-answered s told body (In phase.Async) w = record { walk = record w { ahead = []; body = body }; is = refl; off = refl }
+answered s told body (In Phase.Async) w = record { walk = record w { ahead = []; body = body }; is = refl; off = refl }
 answered s told body part w = record { walk = record w { body = body }; is = refl; off = refl }
 
 answers_in : (part : Section) (w : Walk) → MayAnswer (Within part w) → holds_io (word_of part) ≡ true
-answers_in (In phase.Pending) w a = refl
-answers_in (In phase.Done) w a = refl
-answers_in (In phase.Async) w a = refl
+answers_in (In Phase.Pending) w a = refl
+answers_in (In Phase.Done) w a = refl
+answers_in (In Phase.Async) w a = refl
 answers_in part w a = absurd a
 
 -- who is called in a section wasn't taken off
@@ -128,14 +123,14 @@ stays p told names m i part w l to e g = at to e g where
       let walk : Walk = record w { ahead = behind; body = body kind v } in
       so walk (λ x on. on) l.seen refl (call_tells p told names part w walk l.before kind v id behind l.seen b d)
   at to e (doc.fires v id due others a b c d f g h i) =
-      so (record w { body = body callback.Handle v }) (λ x on. on) (seen.Call v id) h ((λ heap. cc (a, heap)), rw b refl)
+      so (record w { body = body Callback.Handle v }) (λ x on. on) (Seen.Call v id) h ((λ heap. cc (a, heap)), rw b refl)
   at to e (doc.answers v id a b c d f g) =
-      let s = answered l.before told (body callback.Handle v) part w in
+      let s = answered l.before told (body Callback.Handle v) part w in
       subst (λ (y : Standing). Stays p told names m i part w (Running m i y) l.seen) (sym s.is)
-      (so s.walk (λ x on. ap (λ (ids : List Id). has_id ids x) s.off ∙ on) (seen.Io v id) f (answers_in part w b))
+      (so s.walk (λ x on. ap (λ (ids : List Id). has_id ids x) s.off ∙ on) (Seen.Io v id) f (answers_in part w b))
   at to e (doc.body_op place rest o a b c d f) =
       let off : List Id = taken_off (word_of part) names o a in
-      so (record w { off = off ++ w.off; body = rest }) (λ x on. still_off off w.off x on) (seen.Op place a) d
+      so (record w { off = off ++ w.off; body = rest }) (λ x on. still_off off w.off x on) (Seen.Op place a) d
       (λ y is x on. also_off off w.off x
       (subst (λ (z : Op). has_id (taken_off (word_of part) names z a) x ≡ true) (same_Some _ _ (sym is ∙ c)) on))
   at to e (doc.sent v code a b) = so w (λ x on. on) _ a tt
@@ -161,17 +156,17 @@ within_on p m i part (x ∷ xs) ls w told past was a (line {to = to} e g h) =
     record { walk = k.walk; was = k.was; grown = λ id on. k.grown id (s.grown id on); rest = k.rest }
 
 op_on : (p : Program) (m : Mode) (i : ℕ) (part : Section) (w : Walk) (told : Told) (past : List Seen) (was : Lasting) (l : Line) (place : Site)
-    (o : Op) (a : Answer) (ls : List Line) → l.seen ≡ seen.Op place a → op_at p place ≡ Some o →
+    (o : Op) (a : Answer) (ls : List Line) → l.seen ≡ Seen.Op place a → op_at p place ≡ Some o →
     GoesOn p (Running m i (Within part w)) told past was (l ∷ ls) → WalkOn p m i part
     (λ id. has_id (taken_off (word_of part) (names_by p past) o a) id ≡ true) (told_by p told (names_by p past) l.seen) (l.seen ∷ past) ls
 op_on p m i part w told past was l place o a ls e is (line {to = to} f g h) =
     let s = stays p told (names_by p past) m i part w l to (ap is_within e) g in
-    let t : Tells p told (names_by p past) part w s.walk (seen.Op place a) = subst (Tells p told (names_by p past) part w s.walk) e s.tells in
+    let t : Tells p told (names_by p past) part w s.walk (Seen.Op place a) = subst (Tells p told (names_by p past) part w s.walk) e s.tells in
     record { walk = s.walk; was = lasting l.after; grown = λ id on. t o is id on; rest = moved s.is h }
 
 -- who is called wasn't taken off, where due timers are collected first, and in async was sent to
 call_on : (p : Program) (m : Mode) (i : ℕ) (part : Section) (w : Walk) (told : Told) (past : List Seen) (was : Lasting) (l : Line) (v : Var)
-    (id : Id) (ls : List Line) → l.seen ≡ seen.Call v id → GoesOn p (Running m i (Within part w)) told past was (l ∷ ls) →
+    (id : Id) (ls : List Line) → l.seen ≡ Seen.Call v id → GoesOn p (Running m i (Within part w)) told past was (l ∷ ls) →
     (from_heap p ≡ false → has_id w.off id ≡ false) × (is_called (word_of part) told id ≡ true)
 call_on p m i part w told past was l v id ls e (line {to = to} f g h) =
     let s = stays p told (names_by p past) m i part w l to (ap is_within e) g in
@@ -179,7 +174,7 @@ call_on p m i part w told past was l v id ls e (line {to = to} f g h) =
 
 -- behind lines of a section of async
 sent_on : (p : Program) (m : Mode) (i : ℕ) (part : Section) (w : Walk) (told : Told) (past : List Seen) (was : Lasting) (xs : List Line)
-    (l : Line) (v : Var) (id : Id) (ls : List Line) → word_of part ≡ phase.Async → AllWithin xs → l.seen ≡ seen.Call v id →
+    (l : Line) (v : Var) (id : Id) (ls : List Line) → word_of part ≡ Phase.Async → AllWithin xs → l.seen ≡ Seen.Call v id →
     GoesOn p (Running m i (Within part w)) told past was (xs ++ l ∷ ls) → has_id (told_after p told past xs).sent id ≡ true
 sent_on p m i part w told past was xs l v id ls is a e h =
     let k = within_on p m i part xs (l ∷ ls) w told past was a h in
@@ -206,7 +201,7 @@ absent_on p [] told past id a h = h
 absent_on p (x ∷ xs) told past id a h = absent_on p xs _ _ id a.1 (absent_line p told (names_by p past) x.seen id a.0 h)
 
 -- a call takes in what was sent
-absent_called : (p : Program) (told : Told) (names : Names) (l : Seen) (v : Var) (id : Id) → l ≡ seen.Call v id →
+absent_called : (p : Program) (told : Told) (names : Names) (l : Seen) (v : Var) (id : Id) → l ≡ Seen.Call v id →
     has_id (told_by p told names l).sent id ≡ false
 absent_called p told names l v id e = rw e (without_itself told.sent id)
 
@@ -221,20 +216,20 @@ closing_zero s timers m e = grind (arith, no_wait)
 
 -- behind which a poll waits for nothing
 zero_waits : (p : Program) (told : Told) (names : Names) (l : Line) (at to : Position) (timeout : Option ℕ) → closes_some l.before ≡ true →
-    l.seen ≡ seen.Poll timeout → Goes p told names at l to → timeout ≡ Some 0
+    l.seen ≡ Seen.Poll timeout → Goes p told names at l to → timeout ≡ Some 0
 zero_waits p told names l at to timeout shut e g = grind (arith, closing_zero)
 
 zero_on : (p : Program) (at : Position) (told : Told) (past : List Seen) (was : Lasting) (l : Line) (ls : List Line) (timeout : Option ℕ) →
-    closes_some l.before ≡ true → l.seen ≡ seen.Poll timeout → GoesOn p at told past was (l ∷ ls) → timeout ≡ Some 0
+    closes_some l.before ≡ true → l.seen ≡ Seen.Poll timeout → GoesOn p at told past was (l ∷ ls) → timeout ≡ Some 0
 zero_on p at told past was l ls timeout shut e (line {to = to} f g h) = zero_waits p told (names_by p past) l at to timeout shut e g
 
-off_started : (names : Names) (v : Var) (id : Id) (timeout repeat : ℕ) (word : Phase) → word ≡ phase.Timers → names.bound v ≡ Some id →
-    has_id (taken_off word names (op.Start v timeout repeat) (answer.Code Success)) id ≡ true
+off_started : (names : Names) (v : Var) (id : Id) (timeout repeat : ℕ) (word : Phase) → word ≡ Phase.Timers → names.bound v ≡ Some id →
+    has_id (taken_off word names (Op.Start v timeout repeat) (Answer.Code Success)) id ≡ true
 off_started names v id timeout repeat word e f = grind (arith, itself)
 
 -- a callback of I/O stands in such a section
 io_on : (p : Program) (m : Mode) (i : ℕ) (part : Section) (w : Walk) (told : Told) (past : List Seen) (was : Lasting) (l : Line) (v : Var)
-    (id : Id) (ls : List Line) → l.seen ≡ seen.Io v id → GoesOn p (Running m i (Within part w)) told past was (l ∷ ls) →
+    (id : Id) (ls : List Line) → l.seen ≡ Seen.Io v id → GoesOn p (Running m i (Within part w)) told past was (l ∷ ls) →
     holds_io (word_of part) ≡ true
 io_on p m i part w told past was l v id ls e (line {to = to} f g h) =
     let s = stays p told (names_by p past) m i part w l to (ap is_within e) g in
@@ -247,9 +242,9 @@ refused p before more = record {
       d (zero_on p k.at _ _ k.was l more timeout shut e k.goes);
   early_timer = λ s l y front mid v x id place timeout repeat heap es fs el o names ms ek h.
       let k = behind p before (s ∷ (front ++ l ∷ (mid ++ y ∷ more))) (Between 0) nothing_told [] at_first h in
-      let b = section_on p k.at _ _ k.was s phase.Timers (front ++ l ∷ (mid ++ y ∷ more)) es k.goes in
+      let b = section_on p k.at _ _ k.was s Phase.Timers (front ++ l ∷ (mid ++ y ∷ more)) es k.goes in
       let one = within_on p b.mode b.number b.part front (l ∷ (mid ++ y ∷ more)) b.walk _ _ b.was fs b.rest in
-      let two = op_on p b.mode b.number b.part one.walk _ _ one.was l place (op.Start v timeout repeat) _ (mid ++ y ∷ more) el o one.rest in
+      let two = op_on p b.mode b.number b.part one.walk _ _ one.was l place (Op.Start v timeout repeat) _ (mid ++ y ∷ more) el o one.rest in
       let three = within_on p b.mode b.number b.part mid (y ∷ more) two.walk _ _ two.was ms two.rest in
       both_ways (has_id three.walk.off id) ((call_on p b.mode b.number b.part three.walk _ _ three.was y x id more ek three.rest).0 heap)
       (three.grown id (two.grown id (off_started (names_by p (past_after (s.seen ∷ past_after [] before) front)) v id timeout repeat
@@ -260,7 +255,7 @@ refused p before more = record {
       let k = behind p before (a ∷ (mid ++ s ∷ (front ++ b ∷ more))) (Between 0) nothing_told [] at_first h in
       let one = behind p (a ∷ mid) (s ∷ (front ++ b ∷ more)) k.at now past k.was k.goes in
       let told : Told = told_after p now past (a ∷ mid) in
-      let two = section_on p one.at told (past_after past (a ∷ mid)) one.was s phase.Async (front ++ b ∷ more) es one.goes in
+      let two = section_on p one.at told (past_after past (a ∷ mid)) one.was s Phase.Async (front ++ b ∷ more) es one.goes in
       let off : has_id told.sent id ≡ false =
       absent_on p mid _ (a.seen ∷ past) id ms (absent_called p now (names_by p past) a.seen v id ea) in
       both_ways (has_id (told_after p told (past_after past (a ∷ mid)) (s ∷ front)).sent id)
@@ -270,7 +265,7 @@ refused p before more = record {
       let now : Told = told_after p nothing_told [] before in
       let past : List Seen = past_after [] before in
       let k = behind p before (s ∷ (front ++ a ∷ (mid ++ b ∷ more))) (Between 0) nothing_told [] at_first h in
-      let one = section_on p k.at now past k.was s phase.Async (front ++ a ∷ (mid ++ b ∷ more)) es k.goes in
+      let one = section_on p k.at now past k.was s Phase.Async (front ++ a ∷ (mid ++ b ∷ more)) es k.goes in
       let two = within_on p one.mode one.number one.part front (a ∷ (mid ++ b ∷ more)) one.walk _ _ one.was fs one.rest in
       let told : Told = told_after p now past (s ∷ front) in
       let gone : List Seen = past_after past (s ∷ front) in

@@ -1,12 +1,6 @@
 -- Who was sent to, by the lines and by the handles: each step keeps that they agree.
-use Rattle.uv_order.proofs.Names.{arith, ◌≡◌, ℕ, ◌==◌, List, [], ◌∷◌, ◌++◌, Bool, true, false, drop, Option, Some, None, Ok, refl, ap, sym, subst, ◌∙◌, cond_both, both_ways, or_right, false_from_ne_true, Id, Var, Code, Answer, Kind, Op, Task, Program, arena_size, HandleRecord, Slot, inited, referenced_as, repeating, close_refusal, held, freed, taken, next_free, Walk, Content, Request, queued, same_id, without_id, State, fresh, handle, with_request, live, live_handle, stopped, started, restarted, do_op, Next, Moves, Refuses, has_id, Told, told_by, sent_by, sent_after, ids_of, without_ids, taken_off, AllOff, AllOffOrUnsent, handle_in, kind_as, watched}
-use Rattle.uv_ids.specs.declared.code.Answer.TheVariants as answer
-use Rattle.uv_ids.specs.declared.phase.Kind.TheVariants as kind
-use Rattle.uv_ids.specs.declared.phase.Phase.TheVariants as phase
-use Rattle.uv_script.specs.declared.op.Op.TheVariants as op
-use Rattle.uv_records.specs.declared.lists.WatcherKind.TheVariants as watcher
+use Rattle.uv_order.proofs.Names.{arith, ◌≡◌, ℕ, ◌==◌, List, [], ◌∷◌, ◌++◌, Bool, true, false, drop, Option, Some, None, Ok, refl, ap, sym, subst, ◌∙◌, cond_both, both_ways, or_right, false_from_ne_true, Id, Var, Code, Answer, Kind, Op, Task, Program, arena_size, HandleRecord, Slot, inited, referenced_as, repeating, close_refusal, held, freed, taken, next_free, Walk, Content, Request, queued, same_id, without_id, State, fresh, handle, with_request, live, live_handle, stopped, started, restarted, do_op, Next, Moves, Refuses, has_id, Told, told_by, sent_by, sent_after, ids_of, without_ids, taken_off, AllOff, AllOffOrUnsent, handle_in, kind_as, watched, Phase, WatcherKind}
 use Rattle.uv_records.specs.Handles as records
-use Rattle.uv_work.specs.declared.content.Content.TheVariants as content
 use Rattle.uv_model.specs.Ops as ops
 use Rattle.uv_order.proofs.IdLists.{has_both, Each, each_back, same, other, itself, turned, left_of, without_itself, has_without, without_absent, still_there}
 use Rattle.uv_order.proofs.Contents.{Turns, emptied}
@@ -33,7 +27,7 @@ pends slots id = pends_in (held_at slots id)
 -- those that were sent to are pending, and nobody else; and a pending handle is an async one that doesn't close
 pub record Sent (sent : List Id) (slots : List (Slot Content)) : Type 0 where
   pub are : (id : Id) → has_id sent id ≡ pends slots id
-  pub each : (id : Id) (h : HandleRecord) → held_at slots id ≡ Some h → h.pending ≡ true → (h.kind ≡ kind.Async) × (h.closing ≡ false)
+  pub each : (id : Id) (h : HandleRecord) → held_at slots id ≡ Some h → h.pending ≡ true → (h.kind ≡ Kind.Async) × (h.closing ≡ false)
 
 abbrev pub SentAt : List Id → State → Type 0
 SentAt sent s = Sent sent s.arena.slots
@@ -52,8 +46,8 @@ pends_more slots id h x e p i on = grind (arith, same, other, put_same, put_othe
 
 -- a pending handle after a change, where the changed one is such a handle if it is pending
 each_put : (sent : List Id) (slots : List (Slot Content)) (id : Id) (h x : HandleRecord) → held_at slots id ≡ Some h →
-    (x.pending ≡ true → (x.kind ≡ kind.Async) × (x.closing ≡ false)) → Sent sent slots → (i : Id) (y : HandleRecord) →
-    held_at (put slots id x) i ≡ Some y → y.pending ≡ true → (y.kind ≡ kind.Async) × (y.closing ≡ false)
+    (x.pending ≡ true → (x.kind ≡ Kind.Async) × (x.closing ≡ false)) → Sent sent slots → (i : Id) (y : HandleRecord) →
+    held_at (put slots id x) i ≡ Some y → y.pending ≡ true → (y.kind ≡ Kind.Async) × (y.closing ≡ false)
 each_put sent slots id h x e f k i y l on = grind (arith, same, other, put_same, put_other)
 
 -- a handle is changed that is pending as before
@@ -63,7 +57,7 @@ sent_put sent slots id h x e p q o k = grind (arith, same, other, put_same, put_
 
 -- one is sent to
 pub sent_more : (sent : List Id) (slots : List (Slot Content)) (id : Id) (h x : HandleRecord) → held_at slots id ≡ Some h → x.pending ≡ true →
-    x.kind ≡ kind.Async → x.closing ≡ false → Sent sent slots → Sent (id ∷ sent) (put slots id x)
+    x.kind ≡ Kind.Async → x.closing ≡ false → Sent sent slots → Sent (id ∷ sent) (put slots id x)
 sent_more sent slots id h x e p q o k = grind (arith, same, itself, turned, pends_here, pends_there, each_put)
 
 -- one isn't pending any more
@@ -83,7 +77,7 @@ sent_new sent slots more id x g p k = record { are = λ i. are i; each = λ i y 
   are : (i : Id) → has_id (without_id sent id) i ≡ pends more i
   are i = grind (arith, same, without_itself, has_without, grown_at g)
 
-  each : (i : Id) (y : HandleRecord) → held_at more i ≡ Some y → y.pending ≡ true → (y.kind ≡ kind.Async) × (y.closing ≡ false)
+  each : (i : Id) (y : HandleRecord) → held_at more i ≡ Some y → y.pending ≡ true → (y.kind ≡ Kind.Async) × (y.closing ≡ false)
   each i y e on = grind (arith, grown_at g)
 
 -- no handle changes
@@ -106,7 +100,7 @@ abbrev pub SentBy : State → List Id → Op → ops.Done → Type 0
 SentBy s sent o d = SentAt (sent_by o d.answer (names_at s) sent) d.state
 
 -- a refused op sends to nobody, and closes nobody
-refused_sent : (s : State) (sent : List Id) (o : Op) (c : Code) → IsRefusal c → sent_by o (answer.Code c) (names_at s) sent ≡ sent
+refused_sent : (s : State) (sent : List Id) (o : Op) (c : Code) → IsRefusal c → sent_by o (Answer.Code c) (names_at s) sent ≡ sent
 refused_sent s sent o c no_success = grind arith
 
 asked_sent : (s : State) (sent : List Id) (o : Op) (a : Answer) → IsAsked o → sent_by o a (names_at s) sent ≡ sent
@@ -130,25 +124,25 @@ again_sent s sent t e k = cond_both (t.1.repeat == 0) _ _ (SentAt sent) (λ z. c
 new_sent : (s : State) (sent : List Id) (v : Var) (q : Kind) (id : Id) → next_free s.arena ≡ Some id → Kept s → SentAt sent s →
     SentAt (without_id sent id) (ops.with_new s v q id)
 new_sent s sent v q id e kept k = by q where
-  new : (x : Kind) → Sent (without_id sent id) (taken id (content.Handle (inited v x)) s.arena).slots
+  new : (x : Kind) → Sent (without_id sent id) (taken id (Content.Handle (inited v x)) s.arena).slots
   new x = sent_new sent s.arena.slots _ id (inited v x) (takes s.arena s.arena.free id (inited v x) refl kept.free e).0 refl k
 
   by : (x : Kind) → SentAt (without_id sent id) (ops.with_new s v x id)
-  by kind.Timer = new kind.Timer
+  by Kind.Timer = new Kind.Timer
   by each = new each
 
 -- requests change no handle
 queued_sent : (s : State) (sent : List Id) (v : Var) (task : Task) (id : Id) → next_free s.arena ≡ Some id → Kept s → SentAt sent s →
     SentAt sent (ops.with_queued s v task id)
-queued_sent s sent v task id e kept k = sent_turned sent s.arena.slots _ id None (Some (content.Request (queued v task)))
-    (fills s.arena s.arena.free id (content.Request (queued v task)) refl kept.free e).0 refl refl k
+queued_sent s sent v task id e kept k = sent_turned sent s.arena.slots _ id None (Some (Content.Request (queued v task)))
+    (fills s.arena s.arena.free id (Content.Request (queued v task)) refl kept.free e).0 refl refl k
 
-request_sent : (s : State) (sent : List Id) (id : Id) (r x : Request) → held s.arena.slots id ≡ Some (content.Request r) → SentAt sent s →
+request_sent : (s : State) (sent : List Id) (id : Id) (r x : Request) → held s.arena.slots id ≡ Some (Content.Request r) → SentAt sent s →
     SentAt sent (with_request s id x)
 request_sent s sent id r x e k = sent_turned sent s.arena.slots _ id _ _ (request_turns s.arena.slots id r x e) refl refl k
 
 close_sent : (s : State) (sent : List Id) (v : Var) (t : Id × HandleRecord) → live_handle s v ≡ Ok t → SentAt sent s →
-    SentBy s sent (op.Close v) (ops.close s t.0 t.1)
+    SentBy s sent (Op.Close v) (ops.close s t.0 t.1)
 close_sent s sent v t e k =
     subst (λ (ids : List Id). Sent (without_ids sent ids) (put s.arena.slots t.0 (records.closed t.1))) (sym (one_taken s v t e))
     (sent_clear sent s.arena.slots t.0 t.1 (records.closed t.1) (live_held s v t e) refl k)
@@ -164,7 +158,7 @@ did_op_sent s sent o d (which.cancelled v t live on) kept k = request_sent s sen
 did_op_sent s sent o d (which.started v timeout repeat t e is stays) kept k =
     twice s sent t (records.stopped t.1) _ (live_held s v t e) refl refl refl refl refl refl k
 did_op_sent s sent o d (which.again v t e is stays) kept k = again_sent s sent t (live_held s v t e) k
-did_op_sent s sent o d (which.watching v watcher.Idle t e is off stays) kept k =
+did_op_sent s sent o d (which.watching v WatcherKind.Idle t e is off stays) kept k =
     changed s sent t (records.activated t.1) (live_held s v t e) refl refl refl k
 did_op_sent s sent o d (which.watching v each t e is off stays) kept k = changed s sent t (records.activated t.1) (live_held s v t e) refl refl refl k
 did_op_sent s sent o d (which.io_started v t e is off stays) kept k =
@@ -193,15 +187,15 @@ SentFollows p told s (Refuses why) = Unit {0}
 
 -- a handle that isn't an async one isn't pending
 not_pending : (sent : List Id) (slots : List (Slot Content)) (id : Id) (h : HandleRecord) (q : Kind) → held_at slots id ≡ Some h → h.kind ≡ q →
-    (q ≡ kind.Async → ⊥) → Sent sent slots → h.pending ≡ false
+    (q ≡ Kind.Async → ⊥) → Sent sent slots → h.pending ≡ false
 not_pending sent slots id h q e is apart k = false_from_ne_true h.pending (λ on. apart (sym is ∙ (k.each id h e on).0))
 
 fired_sent : (s : State) (sent : List Id) (t : Id × HandleRecord) → FrontOf s s.ready t → Kept s → SentAt sent s →
     SentAt (without_id sent t.0) (restarted (record s { ready = drop 1 s.ready }) t.0 t.1)
 fired_sent s sent t f kept k =
     let each : Fits s.arena.slots Rests t.0 = (subst (Each (Fits s.arena.slots Rests)) f.are kept.ready.each).0 in
-    let is : t.1.kind ≡ kind.Timer = (its_handle s.arena.slots Rests t.0 t.1 f.holds each).kind in
-    let off = not_pending sent s.arena.slots t.0 t.1 kind.Timer f.holds is (λ c. cc c) k in
+    let is : t.1.kind ≡ Kind.Timer = (its_handle s.arena.slots Rests t.0 t.1 f.holds each).kind in
+    let off = not_pending sent s.arena.slots t.0 t.1 Kind.Timer f.holds is (λ c. cc c) k in
     let u : State = record s { ready = drop 1 s.ready } in
     let called : SentAt (without_id sent t.0) u = sent_none sent s.arena.slots t.0 t.1 f.holds off k in
     cond_both (t.1.repeat == 0) u (started u t.0 t.1 t.1.repeat t.1.repeat) (SentAt (without_id sent t.0)) (λ z. called)
@@ -211,7 +205,7 @@ fired_sent s sent t f kept k =
 due_sent : (s : State) (sent : List Id) (t : Id × HandleRecord) → FirstOf s s.timers t → Kept s → SentAt sent s →
     SentAt (without_id sent t.0) (restarted (stopped s t.0 t.1) t.0 t.1)
 due_sent s sent t f kept k =
-    let off = not_pending sent s.arena.slots t.0 t.1 kind.Timer f.holds (first_is s t f kept).set.kind (λ c. cc c) k in
+    let off = not_pending sent s.arena.slots t.0 t.1 Kind.Timer f.holds (first_is s t f kept).set.kind (λ c. cc c) k in
     again_sent s (without_id sent t.0) t f.holds (sent_none sent s.arena.slots t.0 t.1 f.holds off k)
 
 -- who is yet to run is of this kind
@@ -219,7 +213,7 @@ of_kind : (s : State) (q : Kind) (w : Walk Id) (t : Id × HandleRecord) → Ever
     t.1.kind ≡ q
 of_kind s q w t every f = grind (arith, each_back, its_handle)
 
-unsent_called : (s : State) (sent : List Id) (q : Kind) (w : Walk Id) (t : Id × HandleRecord) → (q ≡ kind.Async → ⊥) →
+unsent_called : (s : State) (sent : List Id) (q : Kind) (w : Walk Id) (t : Id × HandleRecord) → (q ≡ Kind.Async → ⊥) →
     Everyone s.arena.slots (Watches q) (members w) → FrontOf s w.yet t → SentAt sent s → Sent (without_id sent t.0) s.arena.slots
 unsent_called s sent q w t apart every f k = sent_none sent s.arena.slots t.0 t.1 f.holds
     (not_pending sent s.arena.slots t.0 t.1 q f.holds (of_kind s q w t every f) apart k) k
@@ -232,7 +226,7 @@ closed_sent p s sent t f kept k = grind (arith, each_back, its_handle, sent_gone
 ended_sent : (p : Program) (s : State) (sent : List Id) (t : Id × Request) → FrontRequest s s.done.yet t → SentAt sent s →
     Sent sent (freed (arena_size p).last_generation t.0 s.arena).slots
 ended_sent p s sent t f k = sent_turned sent s.arena.slots _ t.0 _ _
-    (freed_turns (arena_size p).last_generation s.arena t.0 (content.Request t.1) f.holds) refl refl k
+    (freed_turns (arena_size p).last_generation s.arena t.0 (Content.Request t.1) f.holds) refl refl k
 
 -- an op of a place, by its line
 placed_sent : (p : Program) (s : State) (sent : List Id) (o : Op) (at : Option Op) → at ≡ Some o → Kept s → SentAt sent s →
@@ -243,18 +237,18 @@ pub did_sent : (p : Program) (told : Told) (s : State) (n : Next) → Did p s n 
 did_sent p told s n (row.refused why) kept k = tt
 did_sent p told s n (row.still x time clock stop idled l row.unseen) kept k = k
 did_sent p told s n (row.op x at o e) kept k = placed_sent p s told.sent o _ e kept k
-did_sent p told s n (row.begun run watcher.Idle e) kept k = k
+did_sent p told s n (row.begun run WatcherKind.Idle e) kept k = k
 did_sent p told s n (row.collected run part t f) kept k = changed s told.sent t (records.stopped t.1) f.holds refl refl refl k
 did_sent p told s n (row.fired run t f) kept k = fired_sent s told.sent t f kept k
 did_sent p told s n (row.called_due run t f) kept k = due_sent s told.sent t f kept k
-did_sent p told s n (row.walked run watcher.Async t sync f) kept k = absurd sync
+did_sent p told s n (row.walked run WatcherKind.Async t sync f) kept k = absurd sync
 did_sent p told s n (row.walked run q t sync f) kept k = unsent_called s told.sent (kind_as q) (watched s q) t (λ c. cc c) (kept.watchers q) f k
 did_sent p told s n (row.woken run t f on) kept k = sent_clear told.sent s.arena.slots t.0 t.1 (records.woken t.1) f.holds refl k
 did_sent p told s n (row.closed run t f) kept k = closed_sent p s told.sent t f kept k
 did_sent p told s n (row.ended run t f) kept k = ended_sent p s told.sent t f k
 did_sent p told s n (row.finished n' t f) kept k = request_sent s told.sent t.0 t.1 _ f.holds k
-did_sent p told s n (row.sent v) kept k = op_sent s told.sent (op.Send v) kept k
-did_sent p told s n (row.cancelled v) kept k = op_sent s told.sent (op.Cancel v) kept k
+did_sent p told s n (row.sent v) kept k = op_sent s told.sent (Op.Send v) kept k
+did_sent p told s n (row.cancelled v) kept k = op_sent s told.sent (Op.Cancel v) kept k
 did_sent p told s n each kept k = k
 
 pub sent_fresh : (p : Program) → SentAt [] (fresh p)
@@ -268,27 +262,27 @@ still_closed sent ids one id f g e = grind (arith, still_there, turned)
 
 -- what an op doesn't take off stays sent to, if it is held
 pub stays_sent : (s : State) (sent : List Id) (o : Op) (id : Id) → Kept s → has_id
-    (taken_off phase.Async (names_at s) o (do_op s o).answer) id ≡ false →
+    (taken_off Phase.Async (names_at s) o (do_op s o).answer) id ≡ false →
     pends s.arena.slots id ≡ true → has_id sent id ≡ true → has_id (sent_by o (do_op s o).answer (names_at s) sent) id ≡ true
-stays_sent s sent (op.Init v q) id kept d on e = at (live s v) where
+stays_sent s sent (Op.Init v q) id kept d on e = at (live s v) where
   new : (i : Id) → next_free s.arena ≡ Some i → same_id id i ≡ false
   new i f = false_from_ne_true (same_id id i) (λ g.
       let grown = (takes s.arena s.arena.free i (inited v q) refl kept.free f).0 in
       both_ways (pends s.arena.slots id) (ap (pends s.arena.slots) (same id i g) ∙ ap pends_in grown.new) on)
 
-  at : (t : Option (Id × Content)) → has_id (sent_by (op.Init v q) (ops.make s t (ops.with_new s v q)).answer (names_at s) sent) id ≡ true
-  at t = make_both s t (ops.with_new s v q) (λ (x : ops.Done). has_id (sent_by (op.Init v q) x.answer (names_at s) sent) id ≡ true)
+  at : (t : Option (Id × Content)) → has_id (sent_by (Op.Init v q) (ops.make s t (ops.with_new s v q)).answer (names_at s) sent) id ≡ true
+  at t = make_both s t (ops.with_new s v q) (λ (x : ops.Done). has_id (sent_by (Op.Init v q) x.answer (names_at s) sent) id ≡ true)
       (λ c no_success. e) (λ i f. still_there sent i id (new i f) e)
-stays_sent s sent (op.Close v) id kept d on e =
+stays_sent s sent (Op.Close v) id kept d on e =
     on_handle_both s v close_refusal (ops.close s)
-    (λ (x : ops.Done). has_id (taken_off phase.Async (names_at s) (op.Close v) x.answer) id ≡ false → has_id
-    (sent_by (op.Close v) x.answer (names_at s) sent) id ≡ true)
+    (λ (x : ops.Done). has_id (taken_off Phase.Async (names_at s) (Op.Close v) x.answer) id ≡ false → has_id
+    (sent_by (Op.Close v) x.answer (names_at s) sent) id ≡ true)
     refuses_close
-    (λ c no_success f. subst (λ (ids : List Id). has_id ids id ≡ true) (sym (refused_sent s sent (op.Close v) c no_success)) e)
+    (λ c no_success f. subst (λ (ids : List Id). has_id ids id ≡ true) (sym (refused_sent s sent (Op.Close v) c no_success)) e)
     (λ t f is g. still_closed sent (ids_of (names_at s) (Some v)) t.0 id (one_taken s v t f) g e) d
-stays_sent s sent (op.Send v) id kept d on e = send_both s v
-    (λ (c : ops.Coded). has_id (sent_by (op.Send v) (answer.Code c.code) (names_at s) sent) id ≡ true)
-    (λ c no_success. subst (λ (ids : List Id). has_id ids id ≡ true) (sym (refused_sent s sent (op.Send v) c no_success)) e)
+stays_sent s sent (Op.Send v) id kept d on e = send_both s v
+    (λ (c : ops.Coded). has_id (sent_by (Op.Send v) (Answer.Code c.code) (names_at s) sent) id ≡ true)
+    (λ c no_success. subst (λ (ids : List Id). has_id ids id ≡ true) (sym (refused_sent s sent (Op.Send v) c no_success)) e)
     (λ t f is. subst (λ (ids : List Id). has_id (ids ++ sent) id ≡ true) (sym (one_taken s v t f)) (or_right (same_id t.0 id) (has_id sent id) e))
 stays_sent s sent each id kept d on e = e
 
@@ -299,11 +293,11 @@ has_left (x ∷ ids) off id e = grind (arith, has_left ids off id)
 
 -- an op leaves whoever is left and was sent to before
 pub still_sent : (s : State) (told : Told) (o : Op) (ids now : List Id) (sent : List Id) → Kept s → SentAt told.sent s →
-    now ≡ left_of ids (taken_off phase.Async (names_at s) o (do_op s o).answer) →
+    now ≡ left_of ids (taken_off Phase.Async (names_at s) o (do_op s o).answer) →
     ((id : Id) → has_id ids id ≡ true → has_id sent id ≡ true → pends s.arena.slots id ≡ true) → (id : Id) → has_id now id ≡ true →
     has_id sent id ≡ true → pends (do_op s o).state.arena.slots id ≡ true
 still_sent s told o ids now sent kept k e still id on was =
-    let parts = has_left ids (taken_off phase.Async (names_at s) o (do_op s o).answer) id (sym (ap (λ (x : List Id). has_id x id) e) ∙ on) in
+    let parts = has_left ids (taken_off Phase.Async (names_at s) o (do_op s o).answer) id (sym (ap (λ (x : List Id). has_id x id) e) ∙ on) in
     let pending = still id parts.0 was in
     sym ((op_sent s told.sent o kept k).are id) ∙ stays_sent s told.sent o id kept parts.1 pending (k.are id ∙ pending)
 

@@ -1,9 +1,5 @@
 -- Where a state stands in the documented order, and the lists of the sections there.
 use Rattle.uv_order.proofs.Names.{arith, ◌≡◌, ℕ, List, [], ◌++◌, Bool, true, false, Option, Some, None, refl, ap, subst, ◌∙◌, append-nil, Order, V144, V145, Id, Due, Kind, Mode, Default, Once, Nowait, Phase, Seen, Site, Program, Body, Run, Stage, TimersOf, Turn, AtEntry, Behind, BehindClosing, Way, ToTimers, ToPending, ToEnd, Collecting, Firing, Place, Listed, Slot, Content, State, Next, Moves, Refuses, way, time_at, idled_at, idled_then, from_heap, Line, has_id, IsTimer, AreTimers, AreDistinct, AreActive, AreClosing, IsEnded, AreEnded, IsOpened, AreOpened, run_ids, Told, told_by, AllOffOrUnsent, lasting, Section, Entry, In, word_of, part_after, part_of, Opens, IsOver, Standing, Answering, Begun, Within, Polling, Position, Between, Running, Goes, WatcherKind, phase_of}
-use Rattle.uv_ids.specs.declared.phase.Phase.TheVariants as phase
-use Rattle.uv_model.specs.declared.place.Stage.TheVariants as stage
-use Rattle.uv_model.specs.declared.place.TimersOf.TheVariants as timers_of
-use Rattle.uv_model.specs.declared.place.Place.TheVariants as place
 use Rattle.uv_order.specs.Documented as doc
 use Rattle.uv_order.specs.Documented.{Walk}
 use Rattle.uv_order.proofs.OpCases.{names_at}
@@ -24,42 +20,42 @@ abbrev pub begun_with : Bool → List Id → Walk
 begun_with woken ids = record { ahead = ids; off = []; sent = []; body = []; woken = woken }
 
 abbrev pub section_of : TimersOf → Section
-section_of timers_of.Entry = Entry
-section_of timers_of.Iteration = In phase.Timers
+section_of TimersOf.Entry = Entry
+section_of TimersOf.Iteration = In Phase.Timers
 
 -- by the body and the stage of a run
 pub data StandsIn (p : Program) : Option Body → Stage → Standing → Type 0 where
-  begun : StandsIn p None stage.Entry Begun
-  pending : {w : Walk} {body : Option Body} → w.ahead ≡ [] → IsBody p body w.body → StandsIn p body stage.Pending (Within (In phase.Pending) w)
-  walking : {q : WatcherKind} {w : Walk} {body : Option Body} → IsBody p body w.body → StandsIn p body (stage.Walking q) (Within (In (phase_of q)) w)
-  polls : {deadline : Option ℕ} → StandsIn p None (stage.Poll deadline) (Polling deadline)
+  begun : StandsIn p None Stage.Entry Begun
+  pending : {w : Walk} {body : Option Body} → w.ahead ≡ [] → IsBody p body w.body → StandsIn p body Stage.Pending (Within (In Phase.Pending) w)
+  walking : {q : WatcherKind} {w : Walk} {body : Option Body} → IsBody p body w.body → StandsIn p body (Stage.Walking q) (Within (In (phase_of q)) w)
+  polls : {deadline : Option ℕ} → StandsIn p None (Stage.Poll deadline) (Polling deadline)
   polled : {woken : Bool} {sites : List Site} {body : Option Body} → IsBody p body sites →
-      StandsIn p body (stage.Polled woken) (Answering woken sites)
-  done : {w : Walk} {body : Option Body} → w.woken ≡ true → IsBody p body w.body → StandsIn p body stage.Done (Within (In phase.Done) w)
+      StandsIn p body (Stage.Polled woken) (Answering woken sites)
+  done : {w : Walk} {body : Option Body} → w.woken ≡ true → IsBody p body w.body → StandsIn p body Stage.Done (Within (In Phase.Done) w)
   unwoken : {w : Walk} {body : Option Body} → w.woken ≡ false → w.ahead ≡ [] → IsBody p body w.body →
-      StandsIn p body stage.DoneUnwoken (Within (In phase.Done) w)
-  closing : {w : Walk} {body : Option Body} → IsBody p body w.body → StandsIn p body stage.Closing (Within (In phase.Closing) w)
+      StandsIn p body Stage.DoneUnwoken (Within (In Phase.Done) w)
+  closing : {w : Walk} {body : Option Body} → IsBody p body w.body → StandsIn p body Stage.Closing (Within (In Phase.Closing) w)
   collects : {part : TimersOf} {w : Walk} → from_heap p ≡ false → w.body ≡ [] →
-      StandsIn p None (stage.Timers part Collecting) (Within (section_of part) w)
+      StandsIn p None (Stage.Timers part Collecting) (Within (section_of part) w)
   fires : {part : TimersOf} {w : Walk} {body : Option Body} → from_heap p ≡ false → IsBody p body w.body →
-      StandsIn p body (stage.Timers part Firing) (Within (section_of part) w)
+      StandsIn p body (Stage.Timers part Firing) (Within (section_of part) w)
   -- where due timers are called straight from their heap, none is set aside
   calls_due : {part : TimersOf} {w : Walk} {body : Option Body} → from_heap p ≡ true → w.ahead ≡ [] → IsBody p body w.body →
-      StandsIn p body (stage.Timers part Collecting) (Within (section_of part) w)
+      StandsIn p body (Stage.Timers part Collecting) (Within (section_of part) w)
 
 -- the timers that a section has yet to call: while it collects, those that are due too
 abbrev pub waiting : Stage → Bool → List Id → List Id → List Id
-waiting (stage.Timers part Collecting) false ready due = ready ++ due
+waiting (Stage.Timers part Collecting) false ready due = ready ++ due
 waiting x heap ready due = ready
 
 -- who is left of the list of a section with this word, in a section with that word
 abbrev pub rest_in : Phase → Phase → Walk → List Id
-rest_in phase.Idle phase.Idle w = left_of w.ahead w.off
-rest_in phase.Prepare phase.Prepare w = left_of w.ahead w.off
-rest_in phase.Check phase.Check w = left_of w.ahead w.off
-rest_in phase.Timers phase.Timers w = left_of w.ahead w.off
-rest_in phase.Closing phase.Closing w = left_of w.ahead w.off
-rest_in phase.Done phase.Done w = left_of w.ahead w.off
+rest_in Phase.Idle Phase.Idle w = left_of w.ahead w.off
+rest_in Phase.Prepare Phase.Prepare w = left_of w.ahead w.off
+rest_in Phase.Check Phase.Check w = left_of w.ahead w.off
+rest_in Phase.Timers Phase.Timers w = left_of w.ahead w.off
+rest_in Phase.Closing Phase.Closing w = left_of w.ahead w.off
+rest_in Phase.Done Phase.Done w = left_of w.ahead w.off
 rest_in x y w = []
 
 abbrev pub rest_of : Phase → Standing → List Id
@@ -80,7 +76,7 @@ pub record IsBehind (slots : List (Slot Content)) (w : Walk) (ids : List Id) : T
   pub still : (id : Id) → has_id ids id ≡ true → has_id w.sent id ≡ true → pends slots id ≡ true
 
 abbrev pub AsyncIn : Phase → List (Slot Content) → Walk → List Id → Type 0
-AsyncIn phase.Async slots w ids = IsBehind slots w ids
+AsyncIn Phase.Async slots w ids = IsBehind slots w ids
 AsyncIn word slots w ids = ids ≡ []
 
 abbrev pub AsyncLeft : List (Slot Content) → Standing → List Id → Type 0
@@ -123,17 +119,17 @@ rest ready s = record {
 
 -- the list of the section under way has who is left of it, and the others nobody
 pub record Leaves (r : Rest) (at : Standing) : Type 0 where
-  pub timers : r.ready ≡ rest_of phase.Timers at
-  pub idle : r.idle ≡ rest_of phase.Idle at
-  pub prepare : r.prepare ≡ rest_of phase.Prepare at
-  pub check : r.check ≡ rest_of phase.Check at
+  pub timers : r.ready ≡ rest_of Phase.Timers at
+  pub idle : r.idle ≡ rest_of Phase.Idle at
+  pub prepare : r.prepare ≡ rest_of Phase.Prepare at
+  pub check : r.check ≡ rest_of Phase.Check at
   pub async : AsyncLeft r.slots at r.async
-  pub closing : r.closing ≡ rest_of phase.Closing at
-  pub done : r.done ≡ rest_of phase.Done at
+  pub closing : r.closing ≡ rest_of Phase.Closing at
+  pub done : r.done ≡ rest_of Phase.Done at
 
-pub left_all : {r : Rest} {at : Standing} → r.ready ≡ rest_of phase.Timers at → r.idle ≡ rest_of phase.Idle at →
-    r.prepare ≡ rest_of phase.Prepare at → r.check ≡ rest_of phase.Check at → AsyncLeft r.slots at r.async → r.closing ≡ rest_of phase.Closing at →
-    r.done ≡ rest_of phase.Done at → Leaves r at
+pub left_all : {r : Rest} {at : Standing} → r.ready ≡ rest_of Phase.Timers at → r.idle ≡ rest_of Phase.Idle at →
+    r.prepare ≡ rest_of Phase.Prepare at → r.check ≡ rest_of Phase.Check at → AsyncLeft r.slots at r.async → r.closing ≡ rest_of Phase.Closing at →
+    r.done ≡ rest_of Phase.Done at → Leaves r at
 left_all t i p c a cl d = record { timers = t; idle = i; prepare = p; check = c; async = a; closing = cl; done = d }
 
 -- nobody is left
@@ -144,9 +140,9 @@ abbrev pub due_now : State → List Id
 due_now s = due_ids s.time s.timers
 
 pub data StandsAt (p : Program) (s : State) : Place → Position → Type 0 where
-  between : {i : ℕ} → NobodyLeft (rest s.ready s) → StandsAt p s (place.Main i) (Between i)
+  between : {i : ℕ} → NobodyLeft (rest s.ready s) → StandsAt p s (Place.Main i) (Between i)
   running : {run : Run} {at : Standing} → StandsIn p run.body run.stage at →
-      Leaves (rest (waiting run.stage (from_heap p) s.ready (due_now s)) s) at → StandsAt p s (place.Running run) (Running run.mode run.line at)
+      Leaves (rest (waiting run.stage (from_heap p) s.ready (due_now s)) s) at → StandsAt p s (Place.Running run) (Running run.mode run.line at)
 
 pub record Stands (p : Program) (told : Told) (s : State) (at : Position) : Type 0 where
   pub stands : StandsAt p s s.place at
@@ -170,38 +166,38 @@ Follows p told at s (Refuses why) = Unit {0}
 abbrev pub left : Turn → doc.Part
 left AtEntry = doc.Start
 left (Behind part) = doc.Of (section_of part)
-left BehindClosing = doc.Of (In phase.Closing)
+left BehindClosing = doc.Of (In Phase.Closing)
 
 abbrev pub reached_by : Way → doc.Part
 reached_by (ToTimers part) = doc.Of (section_of part)
-reached_by ToPending = doc.Of (In phase.Pending)
+reached_by ToPending = doc.Of (In Phase.Pending)
 reached_by ToEnd = doc.End
 
 -- the table of the step is that of the documented order
 pub ways_agree : (o : Order) (m : Mode) (go : Bool) (turn : Turn) → part_after o m go (left turn) ≡ reached_by (way o m go turn)
-ways_agree V144 Default true (Behind timers_of.Entry) = refl
-ways_agree V144 Default false (Behind timers_of.Entry) = refl
-ways_agree V144 Once true (Behind timers_of.Entry) = refl
-ways_agree V144 Once false (Behind timers_of.Entry) = refl
-ways_agree V144 Nowait true (Behind timers_of.Entry) = refl
-ways_agree V144 Nowait false (Behind timers_of.Entry) = refl
-ways_agree V145 Default true (Behind timers_of.Entry) = refl
-ways_agree V145 Default false (Behind timers_of.Entry) = refl
-ways_agree V145 Once true (Behind timers_of.Entry) = refl
-ways_agree V145 Once false (Behind timers_of.Entry) = refl
-ways_agree V145 Nowait true (Behind timers_of.Entry) = refl
-ways_agree V145 Nowait false (Behind timers_of.Entry) = refl
+ways_agree V144 Default true (Behind TimersOf.Entry) = refl
+ways_agree V144 Default false (Behind TimersOf.Entry) = refl
+ways_agree V144 Once true (Behind TimersOf.Entry) = refl
+ways_agree V144 Once false (Behind TimersOf.Entry) = refl
+ways_agree V144 Nowait true (Behind TimersOf.Entry) = refl
+ways_agree V144 Nowait false (Behind TimersOf.Entry) = refl
+ways_agree V145 Default true (Behind TimersOf.Entry) = refl
+ways_agree V145 Default false (Behind TimersOf.Entry) = refl
+ways_agree V145 Once true (Behind TimersOf.Entry) = refl
+ways_agree V145 Once false (Behind TimersOf.Entry) = refl
+ways_agree V145 Nowait true (Behind TimersOf.Entry) = refl
+ways_agree V145 Nowait false (Behind TimersOf.Entry) = refl
 ways_agree o m go turn = refl
 
 -- so is what the lines of the sections set
 pub timers_last : (o : Order) (part : TimersOf) (s : State) →
     record (lasting s) { time = time_at o part s; idled = idled_at o part s } ≡ doc.after_word o (section_of part) s
-timers_last V144 timers_of.Entry s = refl
-timers_last V144 timers_of.Iteration s = refl
-timers_last V145 timers_of.Entry s = refl
-timers_last V145 timers_of.Iteration s = refl
+timers_last V144 TimersOf.Entry s = refl
+timers_last V144 TimersOf.Iteration s = refl
+timers_last V145 TimersOf.Entry s = refl
+timers_last V145 TimersOf.Iteration s = refl
 
-pub pending_lasts : (o : Order) (s : State) → record (lasting s) { idled = idled_then o s } ≡ doc.after_word o (In phase.Pending) s
+pub pending_lasts : (o : Order) (s : State) → record (lasting s) { idled = idled_then o s } ≡ doc.after_word o (In Phase.Pending) s
 pending_lasts V144 s = refl
 pending_lasts V145 s = refl
 
@@ -223,25 +219,25 @@ IsNext a b = (o : Order) (m : Mode) (go : Bool) → part_after o m go a ≡ b
 abbrev pub section_at : Phase → doc.Part
 section_at word = doc.Of (In word)
 
-pub idle_next : IsNext (section_at phase.Pending) (section_at phase.Idle)
+pub idle_next : IsNext (section_at Phase.Pending) (section_at Phase.Idle)
 idle_next o m go = refl
 
-pub prepare_next : IsNext (section_at phase.Idle) (section_at phase.Prepare)
+pub prepare_next : IsNext (section_at Phase.Idle) (section_at Phase.Prepare)
 prepare_next o m go = refl
 
-pub poll_next : IsNext (section_at phase.Prepare) doc.Poll
+pub poll_next : IsNext (section_at Phase.Prepare) doc.Poll
 poll_next o m go = refl
 
-pub done_next : IsNext doc.Poll (section_at phase.Done)
+pub done_next : IsNext doc.Poll (section_at Phase.Done)
 done_next o m go = refl
 
-pub async_next : IsNext (section_at phase.Done) (section_at phase.Async)
+pub async_next : IsNext (section_at Phase.Done) (section_at Phase.Async)
 async_next o m go = refl
 
-pub check_next : IsNext (section_at phase.Async) (section_at phase.Check)
+pub check_next : IsNext (section_at Phase.Async) (section_at Phase.Check)
 check_next o m go = refl
 
-pub closing_next : IsNext (section_at phase.Check) (section_at phase.Closing)
+pub closing_next : IsNext (section_at Phase.Check) (section_at Phase.Closing)
 closing_next o m go = refl
 
 -- ---- lists of sections
@@ -276,11 +272,11 @@ empty_over word w e b = grind arith
 
 -- the section of the requests that are done begins behind a poll that was woken, and has them all
 pub opens_done : (p : Program) (told : Told) (l : Line) → AreEnded l.before l.before.done.list →
-    Opens p phase.Done told true l (begun_with true l.before.done.list)
+    Opens p Phase.Done told true l (begun_with true l.before.done.list)
 opens_done p told l are = record { list = (refl, are); off = refl; sent = refl; body = refl; kept = refl }
 
 -- and behind one that nobody woke it has none, nor has that of async handles
-pub opens_unwoken : (p : Program) (told : Told) (l : Line) → Opens p phase.Done told false l (begun_with false [])
+pub opens_unwoken : (p : Program) (told : Told) (l : Line) → Opens p Phase.Done told false l (begun_with false [])
 opens_unwoken p told l = record { list = refl; off = refl; sent = refl; body = refl; kept = refl }
 
 pub all_ended : (s : State) (ids : List Id) → AllAsk s.arena.slots HasEnded ids → AreEnded s ids

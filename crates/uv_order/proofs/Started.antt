@@ -1,12 +1,5 @@
 -- Who was started, as the lines tell it and as the handles say it, and which ids were made: each step keeps that they agree.
 use Rattle.uv_order.proofs.Names.{arith, ◌≡◌, ◌⊎◌, inl, inr, ℕ, ◌==◌, ◌||◌, ◌&&◌, List, [], ◌∷◌, ◌++◌, Bool, true, false, drop, if◌then◌else◌, Option, Some, None, Ok, refl, ap, sym, subst, ◌∙◌, cond_both, or-true, or_right, same_Some, none-some, Id, Var, Code, Answer, Kind, Seen, Site, Op, Program, op_at, arena_size, Task, Request, queued, Content, HandleRecord, WatcherKind, Slot, inited, is_timer, referenced_as, repeating, Slots, held, freed, taken, next_free, handle_in, same_id, without_id, State, fresh, handle, live_handle, live_request, with_handle, with_request, watched, stopped, started, restarted, do_op, Next, Moves, Refuses, has_id, Activity, Answered, activity, activity_answered, activity_done, activity_by, activity_called, new_activity, is_some_id, bound, makes, made_by, made_as, first_of, kind_as}
-use Rattle.uv_ids.specs.declared.code.Code.TheVariants as code
-use Rattle.uv_ids.specs.declared.code.Answer.TheVariants as answer
-use Rattle.uv_ids.specs.declared.phase.Kind.TheVariants as kind
-use Rattle.uv_ids.specs.declared.seen.Seen.TheVariants as seen
-use Rattle.uv_script.specs.declared.op.Op.TheVariants as op
-use Rattle.uv_work.specs.declared.content.Content.TheVariants as content
-use Rattle.uv_records.specs.declared.lists.WatcherKind.TheVariants as watcher
 use Rattle.uv_records.specs.Handles as records
 use Rattle.uv_model.specs.Ops as ops
 use Rattle.uv_order.proofs.IdLists.{Each, each_back, absent, same, other, itself, turned, has_without, has_new_middle, without_itself}
@@ -59,7 +52,7 @@ StaysGone arena now = (i : Id) → IsGone arena.slots arena.free i → IsGone no
 
 -- the record of a handle changes
 pub started_turned : (p : Program) (past more : List Seen) (arena now : Slots Content) (ready list : List Id) (id : Id) (h x : HandleRecord) →
-    Turns arena.slots now.slots id (Some (content.Handle h)) (Some (content.Handle x)) → StaysGone arena now → Adds p past more id →
+    Turns arena.slots now.slots id (Some (Content.Handle h)) (Some (Content.Handle x)) → StaysGone arena now → Adds p past more id →
     ((i : Id) → same_id i id ≡ false → has_id list i ≡ has_id ready i) →
     (activity p past id ≡ shown h (has_id ready id) → activity p more id ≡ shown x (has_id list id)) → Started p past arena ready →
     Started p more now list
@@ -103,7 +96,7 @@ still_started p past more s id h x e alike q k =
 
 -- it changes twice
 twice_turns : (slots : List (Slot Content)) (id : Id) (h x y : HandleRecord) → held_at slots id ≡ Some h →
-    Turns slots (put (put slots id x) id y) id (Some (content.Handle h)) (Some (content.Handle y))
+    Turns slots (put (put slots id x) id y) id (Some (Content.Handle h)) (Some (Content.Handle y))
 twice_turns slots id h x y e =
     let t = put_turns slots id h x e in
     let u = put_turns (put slots id x) id x y (put_same slots id h x e) in
@@ -117,22 +110,22 @@ twice_gone slots free id h x y i e g = gone_put (put slots id x) free id x y i (
 
 -- the line of an op
 pub op_tells : (p : Program) (past : List Seen) (place : Site) (o : Op) (a : Answer) (i : Id) → op_at p place ≡ Some o →
-    activity p (seen.Op place a ∷ past) i ≡ activity_done p past o a i (activity p past i)
+    activity p (Seen.Op place a ∷ past) i ≡ activity_done p past o a i (activity p past i)
 op_tells p past place o a i e = ap (λ (d : Option Answered). activity_answered p past d i (activity p past i)) (is_answered p place o a e)
 
 op_makes : (p : Program) (past : List Seen) (place : Site) (o : Op) (a : Answer) (i : Id) → op_at p place ≡ Some o →
-    made_as p (seen.Op place a ∷ past) i ≡ first_of (makes o a i) (made_as p past i)
+    made_as p (Seen.Op place a ∷ past) i ≡ first_of (makes o a i) (made_as p past i)
 op_makes p past place o a i e =
     ap (λ (d : Option Answered). first_of (made_by d i) (made_as p past i)) (is_answered p place o a e)
 
 makes_none : (p : Program) (past : List Seen) (place : Site) (o : Op) (a : Answer) (i : Id) (v : Var) → op_at p place ≡ Some o →
-    makes o a i ≡ None → made_as p (seen.Op place a ∷ past) i ≡ Some v → made_as p past i ≡ Some v
+    makes o a i ≡ None → made_as p (Seen.Op place a ∷ past) i ≡ Some v → made_as p past i ≡ Some v
 makes_none p past place o a i v e none m =
     sym (op_makes p past place o a i e ∙ ap (λ (d : Option Var). first_of d (made_as p past i)) none) ∙ m
 
 -- that of an op which makes no id, starts and stops nobody
 silent_op : (p : Program) (past : List Seen) (place : Site) (o : Op) (a : Answer) → op_at p place ≡ Some o → ((i : Id) → makes o a i ≡ None) →
-    ((i : Id) (x : Activity) → activity_done p past o a i x ≡ x) → Silent p past (seen.Op place a ∷ past)
+    ((i : Id) (x : Activity) → activity_done p past o a i x ≡ x) → Silent p past (Seen.Op place a ∷ past)
 silent_op p past place o a e none still = record {
   made = λ i v m. makes_none p past place o a i v e (none i) m;
   same = λ i. op_tells p past place o a i e ∙ still i (activity p past i);
@@ -143,9 +136,9 @@ nobody true x y = refl
 nobody false x y = refl
 
 refused_still : (p : Program) (past : List Seen) (o : Op) (c : Code) (i : Id) (x : Activity) → IsRefusal c →
-    activity_done p past o (answer.Code c) i x ≡ x
-refused_still p past (op.Init v q) c i x r = refl
-refused_still p past o code.Ok i x r = absurd (r refl)
+    activity_done p past o (Answer.Code c) i x ≡ x
+refused_still p past (Op.Init v q) c i x r = refl
+refused_still p past o Code.Ok i x r = absurd (r refl)
 refused_still p past o each i x r = grind (arith, nobody)
 
 asked_still : (p : Program) (past : List Seen) (o : Op) (a : Answer) (i : Id) (x : Activity) → IsAsked o → activity_done p past o a i x ≡ x
@@ -154,21 +147,21 @@ asked_still p past o a i x each = refl
 
 -- an op on the handle of a name
 pub record IsOn (p : Program) (past : List Seen) (o : Op) (v : Var) : Type 0 where
-  pub makes : (i : Id) → makes o (answer.Code code.Ok) i ≡ None
+  pub makes : (i : Id) → makes o (Answer.Code Code.Ok) i ≡ None
   pub does : (i : Id) (x : Activity) →
-      activity_done p past o (answer.Code code.Ok) i x ≡ (if is_some_id i (bound p past v) && true then activity_by o x else x)
+      activity_done p past o (Answer.Code Code.Ok) i x ≡ (if is_some_id i (bound p past v) && true then activity_by o x else x)
 
 -- the line of such an op that was done, with the handle's record after it
 pub op_started : (p : Program) (past : List Seen) (s : State) (place : Site) (o : Op) (v : Var) (t : Id × HandleRecord) (x : HandleRecord)
     (now : Slots Content) (list : List Id) → op_at p place ≡ Some o → IsOn p past o v → bound p past v ≡ Some t.0 →
-    Turns s.arena.slots now.slots t.0 (Some (content.Handle t.1)) (Some (content.Handle x)) → StaysGone s.arena now →
+    Turns s.arena.slots now.slots t.0 (Some (Content.Handle t.1)) (Some (Content.Handle x)) → StaysGone s.arena now →
     ((i : Id) → same_id i t.0 ≡ false → has_id list i ≡ has_id s.ready i) →
     activity_by o (shown t.1 (has_id s.ready t.0)) ≡ shown x (has_id list t.0) → StartedAt p past s →
-    Started p (seen.Op place (answer.Code code.Ok) ∷ past) now list
+    Started p (Seen.Op place (Answer.Code Code.Ok) ∷ past) now list
 op_started p past s place o v t x now list at on is turns gone lists own k =
-    started_turned p past (seen.Op place (answer.Code code.Ok) ∷ past) s.arena now s.ready list t.0 t.1 x turns gone
+    started_turned p past (Seen.Op place (Answer.Code Code.Ok) ∷ past) s.arena now s.ready list t.0 t.1 x turns gone
     (record {
-      made = λ i u m. makes_none p past place o (answer.Code code.Ok) i u at (on.makes i) m;
+      made = λ i u m. makes_none p past place o (Answer.Code Code.Ok) i u at (on.makes i) m;
       others = λ i d. told i ∙ chosen i false is (turned t.0 i ∙ d);
     }) lists (λ f. told t.0 ∙ chosen t.0 true is (itself t.0 t.0 refl) ∙ ap (activity_by o) f ∙ own) k
   where
@@ -178,38 +171,38 @@ op_started p past s place o v t x now list at on is turns gone lists own k =
     chosen i true e d = ap (λ (b : Bool). if b && true then activity_by o (activity p past i) else activity p past i) (ap (is_some_id i) e ∙ d)
     chosen i false e d = ap (λ (b : Bool). if b && true then activity_by o (activity p past i) else activity p past i) (ap (is_some_id i) e ∙ d)
 
-    told : (i : Id) → activity p (seen.Op place (answer.Code code.Ok) ∷ past) i ≡
+    told : (i : Id) → activity p (Seen.Op place (Answer.Code Code.Ok) ∷ past) i ≡
         (if is_some_id i (bound p past v) && true then activity_by o (activity p past i) else activity p past i)
-    told i = op_tells p past place o (answer.Code code.Ok) i at ∙ on.does i (activity p past i)
+    told i = op_tells p past place o (Answer.Code Code.Ok) i at ∙ on.does i (activity p past i)
 
 -- ---- ops
 
 -- what agrees with the line of an op
 abbrev pub StartedBy : Program → List Seen → Op → ops.Done → Type 0
-StartedBy p past o d = (place : Site) → op_at p place ≡ Some o → StartedAt p (seen.Op place d.answer ∷ past) d.state
+StartedBy p past o d = (place : Site) → op_at p place ≡ Some o → StartedAt p (Seen.Op place d.answer ∷ past) d.state
 
 -- a timer is started
 timer_started : (p : Program) (past : List Seen) (s : State) (v : Var) (timeout repeat : ℕ) (t : Id × HandleRecord) → live_handle s v ≡ Ok t →
-    bound p past v ≡ Some t.0 → StartedAt p past s → StartedBy p past (op.Start v timeout repeat) (ops.start s timeout repeat t.0 t.1)
+    bound p past v ≡ Some t.0 → StartedAt p past s → StartedBy p past (Op.Start v timeout repeat) (ops.start s timeout repeat t.0 t.1)
 timer_started p past s v timeout repeat t e is k place at =
     let h = live_held s v t e in
-    op_started p past s place (op.Start v timeout repeat) v t _ _ (without_id s.ready t.0) at
+    op_started p past s place (Op.Start v timeout repeat) v t _ _ (without_id s.ready t.0) at
     (record { makes = λ i. refl; does = λ i x. refl }) is (twice_turns s.arena.slots t.0 t.1 (records.stopped t.1) _ h)
     (λ i g. twice_gone s.arena.slots s.arena.free t.0 t.1 (records.stopped t.1) _ i h g) (λ i d. has_without s.ready t.0 i d)
     (rw (without_itself s.ready t.0) refl) k
 
 -- a timer is stopped, and started again where it repeats
 timer_again : (p : Program) (past : List Seen) (s : State) (v : Var) (t : Id × HandleRecord) → live_handle s v ≡ Ok t →
-    bound p past v ≡ Some t.0 → StartedAt p past s → StartedBy p past (op.Again v) (ops.again s t.0 t.1)
+    bound p past v ≡ Some t.0 → StartedAt p past s → StartedBy p past (Op.Again v) (ops.again s t.0 t.1)
 timer_again p past s v t e is k place at =
     let h = live_held s v t e in
-    let on : IsOn p past (op.Again v) v = record { makes = λ i. refl; does = λ i x. refl } in
+    let on : IsOn p past (Op.Again v) v = record { makes = λ i. refl; does = λ i x. refl } in
     let u : State = stopped s t.0 t.1 in
-    cond_both (t.1.repeat == 0) u (started u t.0 t.1 t.1.repeat t.1.repeat) (StartedAt p (seen.Op place (answer.Code code.Ok) ∷ past))
-    (λ z. op_started p past s place (op.Again v) v t (records.stopped t.1) _ (without_id s.ready t.0) at on is (put_turns s.arena.slots t.0 t.1 _ h)
+    cond_both (t.1.repeat == 0) u (started u t.0 t.1 t.1.repeat t.1.repeat) (StartedAt p (Seen.Op place (Answer.Code Code.Ok) ∷ past))
+    (λ z. op_started p past s place (Op.Again v) v t (records.stopped t.1) _ (without_id s.ready t.0) at on is (put_turns s.arena.slots t.0 t.1 _ h)
     (λ i g. gone_put s.arena.slots s.arena.free t.0 t.1 _ i h g) (λ i d. has_without s.ready t.0 i d)
     (rw z (rw (without_itself s.ready t.0) refl)) k)
-    (λ z. op_started p past s place (op.Again v) v t _ _ (without_id s.ready t.0) at on is
+    (λ z. op_started p past s place (Op.Again v) v t _ _ (without_id s.ready t.0) at on is
     (twice_turns s.arena.slots t.0 t.1 (records.stopped t.1) _ h)
     (λ i g. twice_gone s.arena.slots s.arena.free t.0 t.1 (records.stopped t.1) _ i h g) (λ i d. has_without s.ready t.0 i d)
     (rw z (rw (without_itself s.ready t.0) refl)) k)
@@ -218,7 +211,7 @@ timer_again p past s v t e is k place at =
 handle_stopped : (p : Program) (past : List Seen) (s : State) (o : Op) (v : Var) (t : Id × HandleRecord) (x : HandleRecord) → live_handle s v ≡ Ok t →
     bound p past v ≡ Some t.0 → IsOn p past o v → ((y : Activity) → activity_by o y ≡ record y { started = false }) →
     shown x false ≡ record (shown t.1 false) { started = false } → StartedAt p past s → (place : Site) → op_at p place ≡ Some o →
-    Started p (seen.Op place (answer.Code code.Ok) ∷ past) (record s.arena { slots = put s.arena.slots t.0 x }) (without_id s.ready t.0)
+    Started p (Seen.Op place (Answer.Code Code.Ok) ∷ past) (record s.arena { slots = put s.arena.slots t.0 x }) (without_id s.ready t.0)
 handle_stopped p past s o v t x e is on stops off k place at =
     let h = live_held s v t e in
     op_started p past s place o v t x _ (without_id s.ready t.0) at on is (put_turns s.arena.slots t.0 t.1 x h)
@@ -227,68 +220,68 @@ handle_stopped p past s o v t x e is on stops off k place at =
 
 -- a handle of I/O is started
 io_started : (p : Program) (past : List Seen) (s : State) (v : Var) (t : Id × HandleRecord) → live_handle s v ≡ Ok t →
-    bound p past v ≡ Some t.0 → StartedAt p past s → StartedBy p past (op.StartWatcher v)
+    bound p past v ≡ Some t.0 → StartedAt p past s → StartedBy p past (Op.StartWatcher v)
     (ops.succeeds (with_handle s t.0 (records.activated t.1)))
 io_started p past s v t e is k place at =
     let h = live_held s v t e in
-    op_started p past s place (op.StartWatcher v) v t (records.activated t.1) _ s.ready at (record { makes = λ i. refl; does = λ i x. refl }) is
+    op_started p past s place (Op.StartWatcher v) v t (records.activated t.1) _ s.ready at (record { makes = λ i. refl; does = λ i x. refl }) is
     (put_turns s.arena.slots t.0 t.1 _ h) (λ i g. gone_put s.arena.slots s.arena.free t.0 t.1 _ i h g) (λ i d. refl)
     (on (has_id s.ready t.0)) k
   where
-    on : (b : Bool) → activity_by (op.StartWatcher v) (shown t.1 b) ≡ shown (records.activated t.1) b
+    on : (b : Bool) → activity_by (Op.StartWatcher v) (shown t.1 b) ≡ shown (records.activated t.1) b
     on true = refl
     on false = refl
 
 -- a watcher is started, with its list
 watcher_started : (p : Program) (past : List Seen) (s : State) (v : Var) (q : WatcherKind) (t : Id × HandleRecord) → live_handle s v ≡ Ok t →
-    bound p past v ≡ Some t.0 → StartedAt p past s → StartedBy p past (op.StartWatcher v) (ops.succeeds (ops.watcher_started s q t.0 t.1))
+    bound p past v ≡ Some t.0 → StartedAt p past s → StartedBy p past (Op.StartWatcher v) (ops.succeeds (ops.watcher_started s q t.0 t.1))
 watcher_started p past s v q t e is k place at = by q where
-  begun : StartedAt p (seen.Op place (answer.Code code.Ok) ∷ past) (with_handle s t.0 (records.activated t.1))
+  begun : StartedAt p (Seen.Op place (Answer.Code Code.Ok) ∷ past) (with_handle s t.0 (records.activated t.1))
   begun = io_started p past s v t e is k place at
 
-  by : (x : WatcherKind) → StartedAt p (seen.Op place (answer.Code code.Ok) ∷ past) (ops.watcher_started s x t.0 t.1)
-  by watcher.Idle = begun
+  by : (x : WatcherKind) → StartedAt p (Seen.Op place (Answer.Code Code.Ok) ∷ past) (ops.watcher_started s x t.0 t.1)
+  by WatcherKind.Idle = begun
   by each = begun
 
 -- one that is active isn't started again
 still_watches : (p : Program) (past : List Seen) (s : State) (v : Var) (t : Id × HandleRecord) → live_handle s v ≡ Ok t → t.1.active ≡ true →
-    bound p past v ≡ Some t.0 → StartedAt p past s → StartedBy p past (op.StartWatcher v) (ops.succeeds s)
+    bound p past v ≡ Some t.0 → StartedAt p past s → StartedBy p past (Op.StartWatcher v) (ops.succeeds s)
 still_watches p past s v t e on is k place at =
     let h = live_held s v t e in
-    op_started p past s place (op.StartWatcher v) v t t.1 s.arena s.ready at (record { makes = λ i. refl; does = λ i x. refl }) is
+    op_started p past s place (Op.StartWatcher v) v t t.1 s.arena s.ready at (record { makes = λ i. refl; does = λ i x. refl }) is
     (record { before = is_held s.arena.slots t.0 t.1 h; here = is_held s.arena.slots t.0 t.1 h; others = λ i d. refl })
     (λ i g. g) (λ i d. refl) (active (has_id s.ready t.0)) k
   where
-    active : (b : Bool) → activity_by (op.StartWatcher v) (shown t.1 b) ≡ shown t.1 b
+    active : (b : Bool) → activity_by (Op.StartWatcher v) (shown t.1 b) ≡ shown t.1 b
     active true = refl
     active false = rw on refl
 
 -- its repeat is set
 timer_repeats : (p : Program) (past : List Seen) (s : State) (v : Var) (n : ℕ) (t : Id × HandleRecord) → live_handle s v ≡ Ok t →
-    bound p past v ≡ Some t.0 → StartedAt p past s → StartedBy p past (op.SetRepeat v n) (ops.set_repeat s n t.0 t.1)
+    bound p past v ≡ Some t.0 → StartedAt p past s → StartedBy p past (Op.SetRepeat v n) (ops.set_repeat s n t.0 t.1)
 timer_repeats p past s v n t e is k place at =
     let h = live_held s v t e in
-    op_started p past s place (op.SetRepeat v n) v t (repeating n t.1) _ s.ready at (record { makes = λ i. refl; does = λ i x. refl }) is
+    op_started p past s place (Op.SetRepeat v n) v t (repeating n t.1) _ s.ready at (record { makes = λ i. refl; does = λ i x. refl }) is
     (put_turns s.arena.slots t.0 t.1 _ h) (λ i g. gone_put s.arena.slots s.arena.free t.0 t.1 _ i h g) (λ i d. refl) refl k
 
 -- an op that starts and stops nobody, and makes no id
 still_op : (p : Program) (past : List Seen) (s : State) (o : Op) (d : ops.Done) → ((i : Id) → makes o d.answer i ≡ None) →
     ((i : Id) (x : Activity) → activity_done p past o d.answer i x ≡ x) →
     ((now : List Seen) → Silent p past now → StartedAt p now d.state) → StartedBy p past o d
-still_op p past s o d none still k place at = k (seen.Op place d.answer ∷ past) (silent_op p past place o d.answer at none still)
+still_op p past s o d none still k place at = k (Seen.Op place d.answer ∷ past) (silent_op p past place o d.answer at none still)
 
 -- it changes nothing
 unchanged : (p : Program) (past now : List Seen) (s : State) → Silent p past now → StartedAt p past s → StartedAt p now s
 unchanged p past now s q k = started_same p past now s.arena s.arena s.ready (λ i. refl) (λ i g. g) q k
 
 -- the record of a request
-request_started : (p : Program) (past now : List Seen) (s : State) (id : Id) (r x : Request) → held s.arena.slots id ≡ Some (content.Request r) →
+request_started : (p : Program) (past now : List Seen) (s : State) (id : Id) (r x : Request) → held s.arena.slots id ≡ Some (Content.Request r) →
     Silent p past now → StartedAt p past s → StartedAt p now (with_request s id x)
 request_started p past now s id r x e q k =
     let t = request_turns s.arena.slots id r x e in
     started_same p past now s.arena (with_request s id x).arena s.ready (same_handles s.arena.slots _ id _ _ t refl refl)
     (λ i o. old_turned s.arena (with_request s id x).arena id i _ _ t
-    (λ j g. gone_turned s.arena.slots s.arena.free id (content.Request r) (Some (content.Request x)) j e g) o) q k
+    (λ j g. gone_turned s.arena.slots s.arena.free id (Content.Request r) (Some (Content.Request x)) j e g) o) q k
 
 -- ---- what is made
 
@@ -300,14 +293,14 @@ new_id p past s id e kept k = by (made_as p past id) refl where
   by None f = refl
   by (Some v) f = absurd (not_old (k.old id v f)) where
     not_old : IsOld s.arena id → ⊥
-    not_old (inl here) = let c = content.Handle (inited v kind.Idle) in
+    not_old (inl here) = let c = Content.Handle (inited v Kind.Idle) in
         cc (here.holds, (fills s.arena s.arena.free id c refl kept.free e).0.before)
-    not_old (inr g) = next_not_gone s.arena s.arena.free id (content.Handle (inited v kind.Timer)) refl kept.free e g
+    not_old (inr g) = next_not_gone s.arena s.arena.free id (Content.Handle (inited v Kind.Timer)) refl kept.free e g
 
 -- it is made of what the line says
 new_old : (p : Program) (past : List Seen) (s : State) (place : Site) (o : Op) (v : Var) (id : Id) (c : Content) → op_at p place ≡ Some o →
-    ((i : Id) → makes o (answer.Id id) i ≡ (if same_id id i then Some v else None)) → next_free s.arena ≡ Some id → Kept s → StartedAt p past s →
-    (i : Id) (u : Var) → made_as p (seen.Op place (answer.Id id) ∷ past) i ≡ Some u → IsOld (taken id c s.arena) i
+    ((i : Id) → makes o (Answer.Id id) i ≡ (if same_id id i then Some v else None)) → next_free s.arena ≡ Some id → Kept s → StartedAt p past s →
+    (i : Id) (u : Var) → made_as p (Seen.Op place (Answer.Id id) ∷ past) i ≡ Some u → IsOld (taken id c s.arena) i
 new_old p past s place o v id c at m e kept k i u f = by (same_id id i) refl where
   t : Turns s.arena.slots (taken id c s.arena).slots id None (Some c)
   t = (fills s.arena s.arena.free id c refl kept.free e).0
@@ -315,50 +308,50 @@ new_old p past s place o v id c at m e kept k i u f = by (same_id id i) refl whe
   by : (b : Bool) → same_id id i ≡ b → IsOld (taken id c s.arena) i
   by true d = inl (record { content = c; holds = ap (held (taken id c s.arena).slots) (sym (same id i d)) ∙ t.here })
   by false d = old_turned s.arena (taken id c s.arena) id i None c t (gone_taken s.arena s.arena.free id c refl kept.free e)
-      (k.old i u (sym (op_makes p past place o (answer.Id id) i at
+      (k.old i u (sym (op_makes p past place o (Answer.Id id) i at
       ∙ ap (λ (x : Option Var). first_of x (made_as p past i)) (m i ∙ ap (λ (b : Bool). if b then Some v else None) d)) ∙ f))
 
 -- a handle is
 handle_made : (p : Program) (past : List Seen) (s : State) (v : Var) (q : Kind) (id : Id) → next_free s.arena ≡ Some id → Kept s →
-    StartedAt p past s → StartedBy p past (op.Init v q) (record { state = ops.with_new s v q id; answer = answer.Id id })
+    StartedAt p past s → StartedBy p past (Op.Init v q) (record { state = ops.with_new s v q id; answer = Answer.Id id })
 handle_made p past s v q id e kept k place at = by q at where
-  made : (x : Kind) → op_at p place ≡ Some (op.Init v x) →
-      Started p (seen.Op place (answer.Id id) ∷ past) (taken id (content.Handle (inited v x)) s.arena) s.ready
+  made : (x : Kind) → op_at p place ≡ Some (Op.Init v x) →
+      Started p (Seen.Op place (Answer.Id id) ∷ past) (taken id (Content.Handle (inited v x)) s.arena) s.ready
   made x f = record {
     active = λ i y g. active i y g (same_id id i) refl;
-    old = new_old p past s place (op.Init v x) v id (content.Handle (inited v x)) f (λ i. refl) e kept k;
+    old = new_old p past s place (Op.Init v x) v id (Content.Handle (inited v x)) f (λ i. refl) e kept k;
   } where
-    t : Turns s.arena.slots (taken id (content.Handle (inited v x)) s.arena).slots id None (Some (content.Handle (inited v x)))
-    t = (fills s.arena s.arena.free id (content.Handle (inited v x)) refl kept.free e).0
+    t : Turns s.arena.slots (taken id (Content.Handle (inited v x)) s.arena).slots id None (Some (Content.Handle (inited v x)))
+    t = (fills s.arena s.arena.free id (Content.Handle (inited v x)) refl kept.free e).0
 
     away : has_id s.ready id ≡ false
     away = absent (Fits s.arena.slots Rests) id (λ g. cc (is_held s.arena.slots id g.handle g.holds, t.before)) s.ready kept.ready.each
 
-    active : (i : Id) (y : HandleRecord) → held_at (taken id (content.Handle (inited v x)) s.arena).slots i ≡ Some y → (b : Bool) →
-        same_id id i ≡ b → activity p (seen.Op place (answer.Id id) ∷ past) i ≡ shown y (has_id s.ready i)
+    active : (i : Id) (y : HandleRecord) → held_at (taken id (Content.Handle (inited v x)) s.arena).slots i ≡ Some y → (b : Bool) →
+        same_id id i ≡ b → activity p (Seen.Op place (Answer.Id id) ∷ past) i ≡ shown y (has_id s.ready i)
     active i y g true d =
         let is : id ≡ i = same id i d in
         let new : inited v x ≡ y = same_Some _ _ (sym (ap handle_in t.here)
-        ∙ ap (held_at (taken id (content.Handle (inited v x)) s.arena).slots) is ∙ g) in
-        op_tells p past place (op.Init v x) (answer.Id id) i f
+        ∙ ap (held_at (taken id (Content.Handle (inited v x)) s.arena).slots) is ∙ g) in
+        op_tells p past place (Op.Init v x) (Answer.Id id) i f
         ∙ ap (λ (b : Bool). if b then new_activity x else activity p past i) d
         ∙ ap (shown (inited v x)) (sym (ap (has_id s.ready) (sym is) ∙ away))
         ∙ ap (λ (h : HandleRecord). shown h (has_id s.ready i)) new
-    active i y g false d = op_tells p past place (op.Init v x) (answer.Id id) i f
+    active i y g false d = op_tells p past place (Op.Init v x) (Answer.Id id) i f
         ∙ ap (λ (b : Bool). if b then new_activity x else activity p past i) d
         ∙ k.active i y (sym (ap handle_in (t.others i (λ is. other id i d (sym is)))) ∙ g)
 
-  by : (x : Kind) → op_at p place ≡ Some (op.Init v x) → StartedAt p (seen.Op place (answer.Id id) ∷ past) (ops.with_new s v x id)
-  by kind.Timer f = made kind.Timer f
+  by : (x : Kind) → op_at p place ≡ Some (Op.Init v x) → StartedAt p (Seen.Op place (Answer.Id id) ∷ past) (ops.with_new s v x id)
+  by Kind.Timer f = made Kind.Timer f
   by each f = made each f
 
 -- a request is
 request_made : (p : Program) (past : List Seen) (s : State) (v : Var) (task : Task) (id : Id) → next_free s.arena ≡ Some id → Kept s →
-    StartedAt p past s → StartedBy p past (op.Queue v task) (record { state = ops.with_queued s v task id; answer = answer.Id id })
+    StartedAt p past s → StartedBy p past (Op.Queue v task) (record { state = ops.with_queued s v task id; answer = Answer.Id id })
 request_made p past s v task id e kept k place at = record {
-  active = λ i y g. op_tells p past place (op.Queue v task) (answer.Id id) i at ∙ k.active i y (sym (same_handles s.arena.slots _ id _ _
-      (fills s.arena s.arena.free id (content.Request (queued v task)) refl kept.free e).0 refl refl i) ∙ g);
-  old = new_old p past s place (op.Queue v task) v id (content.Request (queued v task)) at (λ i. refl) e kept k;
+  active = λ i y g. op_tells p past place (Op.Queue v task) (Answer.Id id) i at ∙ k.active i y (sym (same_handles s.arena.slots _ id _ _
+      (fills s.arena s.arena.free id (Content.Request (queued v task)) refl kept.free e).0 refl refl i) ∙ g);
+  old = new_old p past s place (Op.Queue v task) v id (Content.Request (queued v task)) at (λ i. refl) e kept k;
 }
 
 -- ---- any op
@@ -370,12 +363,12 @@ did_op_started p past s o d (which.refused o' c r may) kept w k = still_op p pas
 did_op_started p past s o d (which.asked o' a is) kept w k = still_op p past s o' d (harmless o' (asked_harmless o' is) a).0.made
     (λ i x. asked_still p past o' a i x is) (λ now q. unchanged p past now s q k)
 did_op_started p past s o d which.loop_stopped kept w k =
-    still_op p past s op.StopLoop d (λ i. refl) (λ i x. refl) (λ now q. unchanged p past now s q k)
+    still_op p past s Op.StopLoop d (λ i. refl) (λ i x. refl) (λ now q. unchanged p past now s q k)
 did_op_started p past s o d which.time_updated kept w k =
-    still_op p past s op.UpdateTime d (λ i. refl) (λ i x. refl) (λ now q. unchanged p past now s q k)
+    still_op p past s Op.UpdateTime d (λ i. refl) (λ i x. refl) (λ now q. unchanged p past now s q k)
 did_op_started p past s o d (which.made v q id e) kept w k = handle_made p past s v q id e kept k
 did_op_started p past s o d (which.queued v task id e) kept w k = request_made p past s v task id e kept k
-did_op_started p past s o d (which.cancelled v t live on) kept w k = still_op p past s (op.Cancel v) d (λ i. refl) (λ i x. refl)
+did_op_started p past s o d (which.cancelled v t live on) kept w k = still_op p past s (Op.Cancel v) d (λ i. refl) (λ i x. refl)
     (λ now q. request_started p past now s t.0 t.1 _ live.holds q k)
 did_op_started p past s o d (which.started v timeout repeat t e is stays) kept w k =
     timer_started p past s v timeout repeat t e (w.binding v t.0 (live_bound s v t e)) k
@@ -385,16 +378,16 @@ did_op_started p past s o d (which.watching v q t e is off stays) kept w k =
 did_op_started p past s o d (which.io_started v t e is off stays) kept w k =
     io_started p past s v t e (w.binding v t.0 (live_bound s v t e)) k
 did_op_started p past s o d (which.watches v t e on) kept w k = still_watches p past s v t e on (w.binding v t.0 (live_bound s v t e)) k
-did_op_started p past s o d (which.stopped v t e sync) kept w k = handle_stopped p past s (op.Stop v) v t (records.stopped t.1) e
+did_op_started p past s o d (which.stopped v t e sync) kept w k = handle_stopped p past s (Op.Stop v) v t (records.stopped t.1) e
     (w.binding v t.0 (live_bound s v t e)) (record { makes = λ i. refl; does = λ i x. refl }) (λ y. refl) refl k
-did_op_started p past s o d (which.closed v t e stays) kept w k = handle_stopped p past s (op.Close v) v t (records.closed t.1) e
+did_op_started p past s o d (which.closed v t e stays) kept w k = handle_stopped p past s (Op.Close v) v t (records.closed t.1) e
     (w.binding v t.0 (live_bound s v t e)) (record { makes = λ i. refl; does = λ i x. refl }) (λ y. refl) refl k
 did_op_started p past s o d (which.repeated v n t e) kept w k = timer_repeats p past s v n t e (w.binding v t.0 (live_bound s v t e)) k
-did_op_started p past s o d (which.referenced o' u flag t e (which.ref v)) kept w k = still_op p past s (op.Ref v) d (λ i. refl) (λ i x. refl)
+did_op_started p past s o d (which.referenced o' u flag t e (which.ref v)) kept w k = still_op p past s (Op.Ref v) d (λ i. refl) (λ i x. refl)
     (λ now q. still_started p past now s t.0 t.1 (referenced_as flag t.1) (live_held s u t e) (λ b. refl) q k)
-did_op_started p past s o d (which.referenced o' u flag t e (which.unref v)) kept w k = still_op p past s (op.Unref v) d (λ i. refl) (λ i x. refl)
+did_op_started p past s o d (which.referenced o' u flag t e (which.unref v)) kept w k = still_op p past s (Op.Unref v) d (λ i. refl) (λ i x. refl)
     (λ now q. still_started p past now s t.0 t.1 (referenced_as flag t.1) (live_held s u t e) (λ b. refl) q k)
-did_op_started p past s o d (which.sent_to v t e is stays) kept w k = still_op p past s (op.Send v) d (λ i. refl) (λ i x. refl)
+did_op_started p past s o d (which.sent_to v t e is stays) kept w k = still_op p past s (Op.Send v) d (λ i. refl) (λ i x. refl)
     (λ now q. still_started p past now s t.0 t.1 (records.sent t.1) (live_held s v t e) (λ b. refl) q k)
 
 -- ---- steps
@@ -417,15 +410,15 @@ still_follows p past s t (Some l) a r q k = subst (λ (x : Slots Content). Start
     (subst (Started p (l ∷ past) s.arena) (sym r) (unchanged p past (l ∷ past) s (told_nothing p past l q) k))
 
 -- the line of a callback
-call_adds : (p : Program) (past : List Seen) (v : Var) (id : Id) → Adds p past (seen.Call v id ∷ past) id
+call_adds : (p : Program) (past : List Seen) (v : Var) (id : Id) → Adds p past (Seen.Call v id ∷ past) id
 call_adds p past v id = record { made = λ i u m. m; others = λ i d. rw (turned id i ∙ d) refl }
 
-call_tells : (p : Program) (past : List Seen) (v : Var) (id : Id) → activity p (seen.Call v id ∷ past) id ≡ activity_called (activity p past id)
+call_tells : (p : Program) (past : List Seen) (v : Var) (id : Id) → activity p (Seen.Call v id ∷ past) id ≡ activity_called (activity p past id)
 call_tells p past v id = rw (itself id id refl) refl
 
 -- the front of the ready list is called: it is over, or it is started again
 fired_started : (p : Program) (past : List Seen) (s : State) (t : Id × HandleRecord) → FrontOf s s.ready t → Kept s → StartedAt p past s →
-    StartedAt p (seen.Call t.1.name t.0 ∷ past) (restarted (record s { ready = drop 1 s.ready }) t.0 t.1)
+    StartedAt p (Seen.Call t.1.name t.0 ∷ past) (restarted (record s { ready = drop 1 s.ready }) t.0 t.1)
 fired_started p past s t f kept k = subst (λ (rest : List Id). StartedAt p more (restarted (record s { ready = rest }) t.0 t.1)) (sym f.behind) (
     let l : Lists s.arena.slots Rests (t.0 ∷ f.rest) = subst (Lists s.arena.slots Rests) f.are kept.ready in
     let rests : Rests t.1 = its_handle s.arena.slots Rests t.0 t.1 f.holds l.each.0 in
@@ -439,7 +432,7 @@ fired_started p past s t f kept k = subst (λ (rest : List Id). StartedAt p more
     (λ e. grind (arith, call_tells)) k))
   where
     more : List Seen
-    more = seen.Call t.1.name t.0 ∷ past
+    more = Seen.Call t.1.name t.0 ∷ past
 
     behind : has_id f.rest t.0 ≡ false → (i : Id) → same_id i t.0 ≡ false → has_id f.rest i ≡ has_id s.ready i
     behind away i d = sym (ap (λ (ids : List Id). has_id ids i) f.are ∙ rw (turned t.0 i ∙ d) refl)
@@ -466,7 +459,7 @@ collected_started p past s t f kept k =
 
 -- one that is due is called straight from the order of timers: it is over, or it is started again
 due_started : (p : Program) (past : List Seen) (s : State) (t : Id × HandleRecord) → FirstOf s s.timers t → Kept s → StartedAt p past s →
-    StartedAt p (seen.Call t.1.name t.0 ∷ past) (restarted (stopped s t.0 t.1) t.0 t.1)
+    StartedAt p (Seen.Call t.1.name t.0 ∷ past) (restarted (stopped s t.0 t.1) t.0 t.1)
 due_started p past s t f kept k =
     let set = (first_is s t f kept).set in
     let timer : is_timer t.1.kind ≡ true = ap is_timer set.kind in
@@ -483,7 +476,7 @@ due_started p past s t f kept k =
     (rw (without_itself s.ready t.0, set.active, or-true (has_id s.ready t.0)) refl)) k)
   where
     more : List Seen
-    more = seen.Call t.1.name t.0 ∷ past
+    more = Seen.Call t.1.name t.0 ∷ past
 
 -- one of a list of watchers is active, and no timer
 front_watches : (s : State) (q : WatcherKind) (t : Id × HandleRecord) → FrontOf s (watched s q).yet t → Kept s → Watches (kind_as q) t.1
@@ -493,27 +486,27 @@ front_watches s q t f kept =
     its_handle s.arena.slots (Watches (kind_as q)) t.0 t.1 f.holds (subst (Each (Fits s.arena.slots (Watches (kind_as q)))) f.are yet).0
 
 no_timers : (q : WatcherKind) → is_timer (kind_as q) ≡ false
-no_timers watcher.Idle = refl
+no_timers WatcherKind.Idle = refl
 no_timers each = refl
 
 -- a watcher is called, with its record as it was, or no longer pending
 walked_started : (p : Program) (past : List Seen) (s : State) (q : WatcherKind) (t : Id × HandleRecord) (x : HandleRecord) →
     FrontOf s (watched s q).yet t → ((ready : Bool) → shown x ready ≡ shown t.1 ready) → Kept s → StartedAt p past s →
-    Started p (seen.Call t.1.name t.0 ∷ past) (record s.arena { slots = put s.arena.slots t.0 x }) s.ready
+    Started p (Seen.Call t.1.name t.0 ∷ past) (record s.arena { slots = put s.arena.slots t.0 x }) s.ready
 walked_started p past s q t x f alike kept k =
     let w = front_watches s q t f kept in
     let timer : is_timer t.1.kind ≡ false = ap is_timer w.kind ∙ no_timers q in
-    started_turned p past (seen.Call t.1.name t.0 ∷ past) s.arena _ s.ready s.ready t.0 t.1 x (put_turns s.arena.slots t.0 t.1 x f.holds)
+    started_turned p past (Seen.Call t.1.name t.0 ∷ past) s.arena _ s.ready s.ready t.0 t.1 x (put_turns s.arena.slots t.0 t.1 x f.holds)
     (λ i g. gone_put s.arena.slots s.arena.free t.0 t.1 x i f.holds g) (call_adds p past t.1.name t.0) (λ i d. refl)
     (λ e. call_tells p past t.1.name t.0 ∙ ap activity_called e ∙ rw timer refl ∙ sym (alike (has_id s.ready t.0))) k
 
 -- its record stays
 same_started : (p : Program) (past : List Seen) (s : State) (q : WatcherKind) (t : Id × HandleRecord) → FrontOf s (watched s q).yet t →
-    Kept s → StartedAt p past s → Started p (seen.Call t.1.name t.0 ∷ past) s.arena s.ready
+    Kept s → StartedAt p past s → Started p (Seen.Call t.1.name t.0 ∷ past) s.arena s.ready
 same_started p past s q t f kept k =
     let w = front_watches s q t f kept in
     let timer : is_timer t.1.kind ≡ false = ap is_timer w.kind ∙ no_timers q in
-    started_turned p past (seen.Call t.1.name t.0 ∷ past) s.arena s.arena s.ready s.ready t.0 t.1 t.1
+    started_turned p past (Seen.Call t.1.name t.0 ∷ past) s.arena s.arena s.ready s.ready t.0 t.1 t.1
     (record { before = is_held s.arena.slots t.0 t.1 f.holds; here = is_held s.arena.slots t.0 t.1 f.holds; others = λ i d. refl })
     (λ i g. g) (call_adds p past t.1.name t.0) (λ i d. refl)
     (λ e. call_tells p past t.1.name t.0 ∙ ap activity_called e ∙ rw timer refl) k
@@ -552,14 +545,14 @@ freed_started p past more s last id c e kept q k = record {
 -- ---- each step
 
 sent_started : (p : Program) (past : List Seen) (s : State) (v : Var) → StartedAt p past s →
-    StartedAt p (seen.Send v (ops.send s (live_handle s v)).code ∷ past) (ops.send s (live_handle s v)).state
-sent_started p past s v k = send_both s v (λ (c : ops.Coded). StartedAt p (seen.Send v c.code ∷ past) c.state)
+    StartedAt p (Seen.Send v (ops.send s (live_handle s v)).code ∷ past) (ops.send s (live_handle s v)).state
+sent_started p past s v k = send_both s v (λ (c : ops.Coded). StartedAt p (Seen.Send v c.code ∷ past) c.state)
     (λ c r. unchanged p past _ s (record { made = λ i u m. m; same = λ i. refl }) k)
     (λ t e is. still_started p past _ s t.0 t.1 (records.sent t.1) (live_held s v t e) (λ b. refl) (record { made = λ i u m. m; same = λ i. refl }) k)
 
 cancelled_started : (p : Program) (past : List Seen) (s : State) (v : Var) → StartedAt p past s →
-    StartedAt p (seen.Cancel v (ops.cancel s (live_request s v)).answer ∷ past) (ops.cancel s (live_request s v)).state
-cancelled_started p past s v k = cancel_both s v (λ (d : ops.Done). StartedAt p (seen.Cancel v d.answer ∷ past) d.state)
+    StartedAt p (Seen.Cancel v (ops.cancel s (live_request s v)).answer ∷ past) (ops.cancel s (live_request s v)).state
+cancelled_started p past s v k = cancel_both s v (λ (d : ops.Done). StartedAt p (Seen.Cancel v d.answer ∷ past) d.state)
     (λ c r. unchanged p past _ s (record { made = λ i u m. m; same = λ i. refl }) k)
     (λ t live on. request_started p past _ s t.0 t.1 _ live.holds (record { made = λ i u m. m; same = λ i. refl }) k)
 
@@ -569,7 +562,7 @@ did_started p past s n (row.refused why) kept w k = tt
 did_started p past s n (row.still x time clock stop idled l q) kept w k =
     still_follows p past s (timed s x time clock stop idled) l refl refl q k
 did_started p past s n (row.op x at o e) kept w k = did_op_started p past s o (do_op s o) (op_did s o) kept w k at e
-did_started p past s n (row.begun run watcher.Idle e) kept w k = unchanged p past _ s (record { made = λ i v m. m; same = λ i. refl }) k
+did_started p past s n (row.begun run WatcherKind.Idle e) kept w k = unchanged p past _ s (record { made = λ i v m. m; same = λ i. refl }) k
 did_started p past s n (row.begun run each e) kept w k = unchanged p past _ s (record { made = λ i v m. m; same = λ i. refl }) k
 did_started p past s n (row.begun_closing run e) kept w k = unchanged p past _ s (record { made = λ i v m. m; same = λ i. refl }) k
 did_started p past s n (row.begun_done run time e) kept w k = unchanged p past _ s (record { made = λ i v m. m; same = λ i. refl }) k
@@ -577,14 +570,14 @@ did_started p past s n (row.collected run part t f) kept w k = collected_started
 did_started p past s n (row.fired run t f) kept w k = fired_started p past s t f kept k
 did_started p past s n (row.called_due run t f) kept w k = due_started p past s t f kept k
 did_started p past s n (row.answered run time v t e is on) kept w k = unchanged p past _ s (record { made = λ i u m. m; same = λ i. refl }) k
-did_started p past s n (row.walked run watcher.Idle t sync f) kept w k = same_started p past s watcher.Idle t f kept k
+did_started p past s n (row.walked run WatcherKind.Idle t sync f) kept w k = same_started p past s WatcherKind.Idle t f kept k
 did_started p past s n (row.walked run each t sync f) kept w k = same_started p past s each t f kept k
 did_started p past s n (row.passed run t f off) kept w k = k
 did_started p past s n (row.woken run t f on) kept w k =
-    walked_started p past s watcher.Async t (records.woken t.1) f (λ b. refl) kept k
-did_started p past s n (row.closed run t f) kept w k = freed_started p past _ s (arena_size p).last_generation t.0 (content.Handle t.1)
+    walked_started p past s WatcherKind.Async t (records.woken t.1) f (λ b. refl) kept k
+did_started p past s n (row.closed run t f) kept w k = freed_started p past _ s (arena_size p).last_generation t.0 (Content.Handle t.1)
     (is_held s.arena.slots t.0 t.1 f.holds) kept (record { made = λ i v m. m; same = λ i. refl }) k
-did_started p past s n (row.ended run t f) kept w k = freed_started p past _ s (arena_size p).last_generation t.0 (content.Request t.1)
+did_started p past s n (row.ended run t f) kept w k = freed_started p past _ s (arena_size p).last_generation t.0 (Content.Request t.1)
     f.holds kept (record { made = λ i v m. m; same = λ i. refl }) k
 did_started p past s n (row.taken n' t f) kept w k = unchanged p past _ s (record { made = λ i v m. m; same = λ i. refl }) k
 did_started p past s n (row.finished n' t f) kept w k =

@@ -1,12 +1,6 @@
 -- The timers of the entry and of an iteration, and callbacks: each step goes on from where the state stands.
-use Rattle.uv_order.proofs.Names.{arith, ◌≡◌, inl, ℕ, ◌+◌, ◌==◌, List, [], ◌∷◌, ◌++◌, Bool, true, false, drop, subst, without_id, nat_tests, Option, Some, None, nat_le, refl, ap, sym, ◌∙◌, append_assoc, append-nil, if◌then◌else◌, cond_both, not, Id, Var, Due, Callback, Program, order_of, from_heap, HandleRecord, Named, Run, TimersOf, Turn, Behind, Way, ToTimers, ToPending, ToEnd, Collecting, Firing, State, handle, with_id, front, named, with_named, counted, count_of, stopped, started, restarted, is_alive, Moves, goes, call, first_due, collected, body_from, lives, Told, AreDue, AreTimers, NoneDue, lasting, Section, Entry, In, word_of, part_after, part_of, Opens, IsOver, CallsNext, callback_in, Standing, Within, MayLeave, Between, Running, body_of, next_call, found_both}
+use Rattle.uv_order.proofs.Names.{arith, ◌≡◌, inl, ℕ, ◌+◌, ◌==◌, List, [], ◌∷◌, ◌++◌, Bool, true, false, drop, subst, without_id, nat_tests, Option, Some, None, nat_le, refl, ap, sym, ◌∙◌, append_assoc, append-nil, if◌then◌else◌, cond_both, not, Id, Var, Due, Callback, Program, order_of, from_heap, HandleRecord, Named, Run, TimersOf, Turn, Behind, Way, ToTimers, ToPending, ToEnd, Collecting, Firing, State, handle, with_id, front, named, with_named, counted, count_of, stopped, started, restarted, is_alive, Moves, goes, call, first_due, collected, body_from, lives, Told, AreDue, AreTimers, NoneDue, lasting, Section, Entry, In, word_of, part_after, part_of, Opens, IsOver, CallsNext, callback_in, Standing, Within, MayLeave, Between, Running, body_of, next_call, found_both, Phase, Seen, Place, Stage}
 use Rattle.std.specs.Prelude.{option_map}
-use Rattle.uv_ids.specs.declared.phase.Phase.TheVariants as phase
-use Rattle.uv_ids.specs.declared.seen.Seen.TheVariants as seen
-use Rattle.uv_ids.specs.declared.seen.Callback.TheVariants as callback
-use Rattle.uv_model.specs.declared.place.Place.TheVariants as place
-use Rattle.uv_model.specs.declared.place.Stage.TheVariants as stage
-use Rattle.uv_model.specs.declared.place.TimersOf.TheVariants as timers_of
 use Rattle.uv_model.specs.Next as step
 use Rattle.uv_model.specs.Next.{next}
 use Rattle.uv_order.specs.Documented as doc
@@ -52,25 +46,25 @@ called p told kind w behind v = record w { ahead = behind; body = body_of p kind
 
 -- the state in which the callback of a handle has begun
 abbrev pub begun_call : Program → State → Run → Var → State
-begun_call p u r v = record (with_named u v (record (named u v) { calls = counted callback.Handle (named u v).calls })) {
-  place = place.Running (record r { body = body_from p callback.Handle v (count_of callback.Handle (counted callback.Handle (named u v).calls)) 0 });
+begun_call p u r v = record (with_named u v (record (named u v) { calls = counted Callback.Handle (named u v).calls })) {
+  place = Place.Running (record r { body = body_from p Callback.Handle v (count_of Callback.Handle (counted Callback.Handle (named u v).calls)) 0 });
 }
 
 -- the callback of a handle begins in a section, in a state that may have changed
 pub call_follows : (p : Program) (told : Told) (s u : State) (run r : Run) (part : Section) (w : Walk) (t : Id × HandleRecord) (behind : List Id) →
-    callback_in (word_of part) ≡ callback.Handle → CallsNext (word_of part) told w t.0 behind → handle s t.0 ≡ Some t.1 → u.names ≡ s.names →
-    lasting u ≡ lasting s → Counted p s.names told → (IsBody p (body_from p callback.Handle t.1.name
-    (count_of callback.Handle (counted callback.Handle (named u t.1.name).calls)) 0) (called p told callback.Handle w behind t.1.name).body →
+    callback_in (word_of part) ≡ Callback.Handle → CallsNext (word_of part) told w t.0 behind → handle s t.0 ≡ Some t.1 → u.names ≡ s.names →
+    lasting u ≡ lasting s → Counted p s.names told → (IsBody p (body_from p Callback.Handle t.1.name
+    (count_of Callback.Handle (counted Callback.Handle (named u t.1.name).calls)) 0) (called p told Callback.Handle w behind t.1.name).body →
     StandsAt p (begun_call p u r t.1.name) (begun_call p u r t.1.name).place
-    (Running run.mode run.line (Within part (called p told callback.Handle w behind t.1.name)))) →
+    (Running run.mode run.line (Within part (called p told Callback.Handle w behind t.1.name)))) →
     Follows p told (Running run.mode run.line (Within part w)) s (call p u r t.0 t.1.name)
 call_follows p told s u run r part w t behind is next h names lasts c stands =
     let v = t.1.name in
     let cu : Counted p u.names told = rw names c in
     record {
-      to = Running run.mode run.line (Within part (called p told callback.Handle w behind v));
-      goes = doc.call callback.Handle v t.0 behind is next (named_of s t h) refl lasts;
-      stands = record { stands = stands (its_body p told u callback.Handle v cu); counted = call_counted p told u callback.Handle v t.0 cu };
+      to = Running run.mode run.line (Within part (called p told Callback.Handle w behind v));
+      goes = doc.call Callback.Handle v t.0 behind is next (named_of s t h) refl lasts;
+      stands = record { stands = stands (its_body p told u Callback.Handle v cu); counted = call_counted p told u Callback.Handle v t.0 cu };
     }
 
 -- ---- timers
@@ -110,7 +104,7 @@ turn_follows p told s run turn at alive is over k c e =
 
     begun : TimersOf → State
     begun part = step.at (record s { time = step.time_at (order_of p) part s; idled = step.idled_at (order_of p) part s }) run
-        (stage.Timers part Collecting)
+        (Stage.Timers part Collecting)
 
     woken : Bool
     woken = doc.woken_at at
@@ -123,9 +117,9 @@ turn_follows p told s run turn at alive is over k c e =
     walk : TimersOf → Walk
     walk part = begun_with woken (ahead (from_heap p) part)
 
-    list : (part : TimersOf) (heap : Bool) → doc.ListIf (not heap) phase.Timers (record {
+    list : (part : TimersOf) (heap : Bool) → doc.ListIf (not heap) Phase.Timers (record {
       before = s;
-      seen = seen.Section phase.Timers;
+      seen = Seen.Section Phase.Timers;
       after = begun part;
     }) (ahead heap part)
     list part true = refl
@@ -137,7 +131,7 @@ turn_follows p told s run turn at alive is over k c e =
     }
 
     opens : (part : TimersOf) →
-        Opens p phase.Timers told woken (record { before = s; seen = seen.Section phase.Timers; after = begun part }) (walk part)
+        Opens p Phase.Timers told woken (record { before = s; seen = Seen.Section Phase.Timers; after = begun part }) (walk part)
     opens part = record { list = list part (from_heap p); off = refl; sent = refl; body = refl; kept = refl }
 
     stands_by : (part : TimersOf) (heap : Bool) → from_heap p ≡ heap →
@@ -151,33 +145,33 @@ turn_follows p told s run turn at alive is over k c e =
 
     by : (w : Way) → part_after (order_of p) run.mode (doc.goes_on s) (part_of at) ≡ reached_by w →
         Follows p told (Running run.mode run.line at) s (step.goes_by (order_of p) s run w)
-    by (ToTimers timers_of.Entry) g = record {
-      to = Running run.mode run.line (Within Entry (walk timers_of.Entry));
-      goes = doc.section Entry over g refl (opens timers_of.Entry)
-          (timers_last (order_of p) timers_of.Entry s ∙ no_answer (order_of p) at turn Entry s is);
-      stands = stands timers_of.Entry;
+    by (ToTimers TimersOf.Entry) g = record {
+      to = Running run.mode run.line (Within Entry (walk TimersOf.Entry));
+      goes = doc.section Entry over g refl (opens TimersOf.Entry)
+          (timers_last (order_of p) TimersOf.Entry s ∙ no_answer (order_of p) at turn Entry s is);
+      stands = stands TimersOf.Entry;
     }
-    by (ToTimers timers_of.Iteration) g = record {
-      to = Running run.mode run.line (Within (In phase.Timers) (walk timers_of.Iteration));
-      goes = doc.section (In phase.Timers) over g refl (opens timers_of.Iteration)
-          (timers_last (order_of p) timers_of.Iteration s ∙ no_answer (order_of p) at turn (In phase.Timers) s is);
-      stands = stands timers_of.Iteration;
+    by (ToTimers TimersOf.Iteration) g = record {
+      to = Running run.mode run.line (Within (In Phase.Timers) (walk TimersOf.Iteration));
+      goes = doc.section (In Phase.Timers) over g refl (opens TimersOf.Iteration)
+          (timers_last (order_of p) TimersOf.Iteration s ∙ no_answer (order_of p) at turn (In Phase.Timers) s is);
+      stands = stands TimersOf.Iteration;
     }
     by ToPending g = record {
-      to = Running run.mode run.line (Within (In phase.Pending) (begun_with woken []));
-      goes = doc.section (In phase.Pending) over g refl (record { list = refl; off = refl; sent = refl; body = refl; kept = refl })
-          (pending_lasts (order_of p) s ∙ no_answer (order_of p) at turn (In phase.Pending) s is);
+      to = Running run.mode run.line (Within (In Phase.Pending) (begun_with woken []));
+      goes = doc.section (In Phase.Pending) over g refl (record { list = refl; off = refl; sent = refl; body = refl; kept = refl })
+          (pending_lasts (order_of p) s ∙ no_answer (order_of p) at turn (In Phase.Pending) s is);
       stands = record { stands = running (pending refl refl) (left_all e.timers e.idle e.prepare e.check e.async e.closing e.done); counted = c };
     }
     by ToEnd g = record {
       to = Between (run.line + 1);
-      goes = doc.ends over g (ap seen.End (sym alive)) refl;
+      goes = doc.ends over g (ap Seen.End (sym alive)) refl;
       stands = record { stands = between nobody; counted = c };
     }
 
 -- ---- the calls of timers
 
-pub timers_word : (part : TimersOf) → callback_in (word_of (section_of part)) ≡ callback.Handle
+pub timers_word : (part : TimersOf) → callback_in (word_of (section_of part)) ≡ Callback.Handle
 timers_word part = grind arith
 
 pub timers_over : (part : TimersOf) (w : Walk) → w.body ≡ [] → doc.AllOff w.off w.ahead → IsOver (word_of (section_of part)) w
@@ -188,10 +182,10 @@ pub none_due_now : (part : TimersOf) (p : Program) (s : State) → (from_heap p 
     NoneDue (word_of (section_of part)) (from_heap p) s
 none_due_now part p s none = by part (from_heap p) refl where
   by : (part : TimersOf) (heap : Bool) → from_heap p ≡ heap → NoneDue (word_of (section_of part)) heap s
-  by timers_of.Entry true heap = none heap
-  by timers_of.Entry false heap = tt
-  by timers_of.Iteration true heap = none heap
-  by timers_of.Iteration false heap = tt
+  by TimersOf.Entry true heap = none heap
+  by TimersOf.Entry false heap = tt
+  by TimersOf.Iteration true heap = none heap
+  by TimersOf.Iteration false heap = tt
 
 pub timers_call : (part : TimersOf) (told : Told) (w : Walk) (id : Id) (more : List Id) (n : NextCall w id more) → w.body ≡ [] → CallsNext (word_of
     (section_of part)) told w id n.behind
@@ -201,12 +195,12 @@ timers_call part told w id more n b = grind arith
 pub call_timer : (p : Program) (told : Told) (s u : State) (run : Run) (part : TimersOf) (w : Walk) (t : Id × HandleRecord) (more : List Id) →
     handle s t.0 ≡ Some t.1 → u.names ≡ s.names → lasting u ≡ lasting s → OnlyReady (rest (t.0 ∷ more) u) w → u.ready ≡ more → w.body ≡ [] →
     from_heap p ≡ false → Counted p s.names told → Follows p told (Running run.mode run.line (Within (section_of part) w)) s
-    (call p u (record run { stage = stage.Timers part Firing }) t.0 t.1.name)
+    (call p u (record run { stage = Stage.Timers part Firing }) t.0 t.1.name)
 call_timer p told s u run part w t more h names lasts o ready b heap c =
     let next = next_of w t.0 more (sym o.ready) in
-    call_follows p told s u run (record run { stage = stage.Timers part Firing }) (section_of part) w t next.behind (timers_word part)
+    call_follows p told s u run (record run { stage = Stage.Timers part Firing }) (section_of part) w t next.behind (timers_word part)
     (timers_call part told w t.0 more next b) h names lasts c
-    (λ is. running (fires heap is) (timers_left part (rest u.ready u) (called p told callback.Handle w next.behind t.1.name)
+    (λ is. running (fires heap is) (timers_left part (rest u.ready u) (called p told Callback.Handle w next.behind t.1.name)
     (assumption (ready ∙ next.left, o))))
 
 pub fire_follows : (p : Program) (told : Told) (s : State) (run : Run) (part : TimersOf) (w : Walk) → lives s ≡ is_alive s → Kept s →
@@ -222,10 +216,10 @@ fire_follows p told s run part w alive k c l b heap =
   where
     fired : OnlyReady (rest s.ready s) w → (t : Id × HandleRecord) → FrontOf s s.ready t →
         Follows p told (Running run.mode run.line (Within (section_of part) w)) s
-        (call p (restarted (record s { ready = drop 1 s.ready }) t.0 t.1) (record run { stage = stage.Timers part Firing }) t.0 t.1.name)
+        (call p (restarted (record s { ready = drop 1 s.ready }) t.0 t.1) (record run { stage = Stage.Timers part Firing }) t.0 t.1.name)
     fired o t f =
         let u : State = record s { ready = drop 1 s.ready } in
-        let firing : Run = record run { stage = stage.Timers part Firing } in
+        let firing : Run = record run { stage = Stage.Timers part Firing } in
         let only : OnlyReady (rest (t.0 ∷ f.rest) u) w = assumption (sym f.are ∙ o.ready, o) in
         cond_both (t.1.repeat == 0) u (started u t.0 t.1 t.1.repeat t.1.repeat)
         (λ (x : State). Follows p told (Running run.mode run.line (Within (section_of part) w)) s (call p x firing t.0 t.1.name))
@@ -257,7 +251,7 @@ collect_follows p told s run part w alive k c l b heap =
     (sym (append-nil s.ready) ∙ ap (λ (ids : List Id). s.ready ++ ids) (sym (late_due s s.timers s.next_start k.timers e)) ∙ o.ready, o))) b heap)
   where
     moved : OnlyReady (rest (s.ready ++ due_now s) s) w → (t : Id × HandleRecord) → FirstOf s s.timers t →
-        Follows p told (Running run.mode run.line (Within (section_of part) w)) s (Moves (step.at (collected s t.0 t.1) run (stage.Timers part
+        Follows p told (Running run.mode run.line (Within (section_of part) w)) s (Moves (step.at (collected s t.0 t.1) run (Stage.Timers part
         Collecting)) None)
     moved o t f =
         let later : List (Due × Id) = drop 1 s.timers in
@@ -299,25 +293,25 @@ call_due_timer : (p : Program) (told : Told) (s u : State) (run : Run) (part : T
     FirstOf s s.timers t → u.names ≡ s.names → lasting u ≡ lasting s → NobodyLeft (rest u.ready u) → w.ahead ≡ [] → w.body ≡ [] →
     from_heap p ≡ true → Kept s → Counted p s.names told →
     Follows p told (Running run.mode run.line (Within (section_of part) w)) s
-    (call p u (record run { stage = stage.Timers part Collecting }) t.0 t.1.name)
+    (call p u (record run { stage = Stage.Timers part Collecting }) t.0 t.1.name)
 call_due_timer p told s u run part w t f names lasts e none b heap k c =
     let v = t.1.name in
     let cu : Counted p u.names told = rw names c in
     record {
-      to = Running run.mode run.line (Within (section_of part) (record w { body = body_of p callback.Handle v (next_call told callback.Handle v) }));
+      to = Running run.mode run.line (Within (section_of part) (record w { body = body_of p Callback.Handle v (next_call told Callback.Handle v) }));
       goes = doc.fires v t.0 f.key f.rest heap (timers_are part) b
           (subst (AreTimers s) f.are (are_timers s s.timers s.next_start k.timers)) (grind (arith, nat_tests, f.due))
           (named_of s t f.holds) refl lasts;
       stands = record {
-        stands = running (calls_due heap none (its_body p told u callback.Handle v cu)) (rw heap (timers_left part (rest u.ready u) _
+        stands = running (calls_due heap none (its_body p told u Callback.Handle v cu)) (rw heap (timers_left part (rest u.ready u) _
             (assumption (e.timers ∙ sym (ap (λ (ids : List Id). left_of ids w.off) none), e))));
-        counted = call_counted p told u callback.Handle v t.0 cu;
+        counted = call_counted p told u Callback.Handle v t.0 cu;
       };
     }
   where
-    timers_are : (part : TimersOf) → word_of (section_of part) ≡ phase.Timers
-    timers_are timers_of.Entry = refl
-    timers_are timers_of.Iteration = refl
+    timers_are : (part : TimersOf) → word_of (section_of part) ≡ Phase.Timers
+    timers_are TimersOf.Entry = refl
+    timers_are TimersOf.Iteration = refl
 
 pub call_due_follows : (p : Program) (told : Told) (s : State) (run : Run) (part : TimersOf) (w : Walk) → lives s ≡ is_alive s → Kept s →
     Counted p s.names told → Leaves (rest s.ready s) (Within (section_of part) w) → w.ahead ≡ [] → w.body ≡ [] → from_heap p ≡ true →
@@ -331,13 +325,13 @@ call_due_follows p told s run part w alive k c l none b heap =
   where
     called : NobodyLeft (rest s.ready s) → (t : Id × HandleRecord) → FirstOf s s.timers t →
         Follows p told (Running run.mode run.line (Within (section_of part) w)) s
-        (call p (restarted (stopped s t.0 t.1) t.0 t.1) (record run { stage = stage.Timers part Collecting }) t.0 t.1.name)
+        (call p (restarted (stopped s t.0 t.1) t.0 t.1) (record run { stage = Stage.Timers part Collecting }) t.0 t.1.name)
     called e t f =
         let u : State = stopped s t.0 t.1 in
         let off = none_stopped s t.0 t.1 e in
         cond_both (t.1.repeat == 0) u (started u t.0 t.1 t.1.repeat t.1.repeat)
         (λ (x : State). Follows p told (Running run.mode run.line (Within (section_of part) w)) s
-        (call p x (record run { stage = stage.Timers part Collecting }) t.0 t.1.name))
+        (call p x (record run { stage = Stage.Timers part Collecting }) t.0 t.1.name))
         (λ z. call_due_timer p told s u run part w t f refl refl off none b heap k c)
         (λ z. call_due_timer p told s (started u t.0 t.1 t.1.repeat t.1.repeat) run part w t f refl refl
         (left_all off.timers off.idle off.prepare off.check off.async off.closing off.done) none b heap k c)

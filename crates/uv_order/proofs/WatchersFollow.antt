@@ -1,14 +1,7 @@
 -- The sections of watchers, of async handles and of closing ones: each step goes on from where the state stands.
-use Rattle.uv_order.proofs.Names.{arith, ◌≡◌, ◌||◌, Bool, true, false, subst, List, [], ◌∷◌, ◌++◌, drop, Option, None, refl, ap, sym, ◌∙◌, append_assoc, if◌then◌else◌, cond_both, not, Id, Program, arena_size, order_of, HandleRecord, Run, BehindClosing, WatcherKind, phase_of, freed, Slot, Content, Request, digest_in, request_in, same_id, State, with_handle, front, front_request, watched, is_alive, poll_timeout, deadline_of, Moves, call, calls, front_moved, has_id, AreDistinct, lives, Told, AllOff, AllOffOrUnsent, lasting, In, part_of, Opens, IsOver, CallsNext, Standing, Answering, Begun, Within, Polling, MayLeave, Running, found_both, kind_as, with_watched, all_yet, Order, AreActive}
+use Rattle.uv_order.proofs.Names.{arith, ◌≡◌, ◌||◌, Bool, true, false, subst, List, [], ◌∷◌, ◌++◌, drop, Option, None, refl, ap, sym, ◌∙◌, append_assoc, if◌then◌else◌, cond_both, not, Id, Program, arena_size, order_of, HandleRecord, Run, BehindClosing, WatcherKind, phase_of, freed, Slot, Content, Request, digest_in, request_in, same_id, State, with_handle, front, front_request, watched, is_alive, poll_timeout, deadline_of, Moves, call, calls, front_moved, has_id, AreDistinct, lives, Told, AllOff, AllOffOrUnsent, lasting, In, part_of, Opens, IsOver, CallsNext, Standing, Answering, Begun, Within, Polling, MayLeave, Running, found_both, kind_as, with_watched, all_yet, Order, AreActive, Kind, Phase, Seen, Callback, Stage}
 use Rattle.std.specs.Prelude.{option_map}
-use Rattle.uv_ids.specs.declared.phase.Kind.TheVariants as kind
-use Rattle.uv_ids.specs.declared.phase.Phase.TheVariants as phase
-use Rattle.uv_ids.specs.declared.seen.Seen.TheVariants as seen
-use Rattle.uv_ids.specs.declared.seen.Callback.TheVariants as callback
-use Rattle.uv_model.specs.declared.place.Stage.TheVariants as stage
-use Rattle.uv_records.specs.declared.lists.WatcherKind.TheVariants as watcher
 use Rattle.uv_records.specs.Handles as records
-use Rattle.uv_work.specs.declared.content.Content.TheVariants as content
 use Rattle.uv_model.specs.Next as step
 use Rattle.uv_model.specs.Next.{next}
 use Rattle.uv_order.specs.Documented as doc
@@ -37,7 +30,7 @@ walk_with told q woken ids = record { ahead = ids; off = []; sent = doc.sent_at 
 -- it has its list, that of async handles behind a poll that was woken
 pub opens_watched : (p : Program) (told : Told) (s t : State) (q : WatcherKind) (woken : Bool) → doc.has_list p (phase_of q) woken ≡ true → Kept s →
     (watched s q).yet ≡ [] →
-    Opens p (phase_of q) told woken (record { before = s; seen = seen.Section (phase_of q); after = t }) (walk_with told q woken (watched s q).list)
+    Opens p (phase_of q) told woken (record { before = s; seen = Seen.Section (phase_of q); after = t }) (walk_with told q woken (watched s q).list)
 opens_watched p told s t q woken has k e = record {
   list = rw has (at q (are_active s (kind_as q) (watched s q) e (k.watchers q)));
   off = refl;
@@ -46,24 +39,24 @@ opens_watched p told s t q woken has k e = record {
   kept = refl;
 } where
   at : (q : WatcherKind) → AreActive s (kind_as q) (watched s q).list →
-      doc.HasList (phase_of q) (record { before = s; seen = seen.Section (phase_of q); after = t }) (watched s q).list
-  at watcher.Idle are = (refl, are)
+      doc.HasList (phase_of q) (record { before = s; seen = Seen.Section (phase_of q); after = t }) (watched s q).list
+  at WatcherKind.Idle are = (refl, are)
   at each are = (refl, are)
 
 -- where nobody is left, none of a kind is yet to run
 none_yet : (s : State) (q : WatcherKind) → NobodyLeft (rest s.ready s) → (watched s q).yet ≡ []
-none_yet s watcher.Idle e = e.idle
-none_yet s watcher.Prepare e = e.prepare
-none_yet s watcher.Check e = e.check
-none_yet s watcher.Async e = e.async
+none_yet s WatcherKind.Idle e = e.idle
+none_yet s WatcherKind.Prepare e = e.prepare
+none_yet s WatcherKind.Check e = e.check
+none_yet s WatcherKind.Async e = e.async
 
 -- then as its section begins all of its list are left, and of the others nobody
 begun_left : (told : Told) (s : State) (q : WatcherKind) (woken : Bool) → SentAt told.sent s → NobodyLeft (rest s.ready s) →
     Leaves (rest s.ready (with_watched s q (all_yet (watched s q)))) (Within (In (phase_of q)) (walk_with told q woken (watched s q).list))
-begun_left told s watcher.Idle woken h e = left_all e.timers (sym (none_off s.watchers.idle.list)) e.prepare e.check e.async e.closing e.done
-begun_left told s watcher.Prepare woken h e = left_all e.timers e.idle (sym (none_off s.watchers.prepare.list)) e.check e.async e.closing e.done
-begun_left told s watcher.Check woken h e = left_all e.timers e.idle e.prepare (sym (none_off s.watchers.check.list)) e.async e.closing e.done
-begun_left told s watcher.Async woken h e = left_all e.timers e.idle e.prepare e.check (record {
+begun_left told s WatcherKind.Idle woken h e = left_all e.timers (sym (none_off s.watchers.idle.list)) e.prepare e.check e.async e.closing e.done
+begun_left told s WatcherKind.Prepare woken h e = left_all e.timers e.idle (sym (none_off s.watchers.prepare.list)) e.check e.async e.closing e.done
+begun_left told s WatcherKind.Check woken h e = left_all e.timers e.idle e.prepare (sym (none_off s.watchers.check.list)) e.async e.closing e.done
+begun_left told s WatcherKind.Async woken h e = left_all e.timers e.idle e.prepare e.check (record {
   gone = [];
   behind = s.watchers.async.list;
   all = refl;
@@ -74,7 +67,7 @@ begun_left told s watcher.Async woken h e = left_all e.timers e.idle e.prepare e
 
 -- the line of such a section sets nothing
 sets_nothing : (o : Order) (q : WatcherKind) (s : State) → lasting s ≡ doc.after_word o (In (phase_of q)) s
-sets_nothing o watcher.Idle s = refl
+sets_nothing o WatcherKind.Idle s = refl
 sets_nothing o each s = refl
 
 section_lasts : (o : Order) (at : Standing) (q : WatcherKind) (s : State) → lasting s ≡ doc.after_section o at (In (phase_of q)) s
@@ -109,23 +102,23 @@ begin_follows p told s run q at over follows has k h c e = record {
 -- that of async handles behind a poll that nobody woke, where it has no list
 pub unwoken_follows : (p : Program) (told : Told) (s : State) (run : Run) (w : Walk) → w.woken ≡ false → w.ahead ≡ [] → w.body ≡ [] →
     Counted p s.names told → NobodyLeft (rest s.ready s) →
-    Follows p told (Running run.mode run.line (Within (In phase.Done) w)) s (step.begins s run (stage.Walking watcher.Async) phase.Async)
+    Follows p told (Running run.mode run.line (Within (In Phase.Done) w)) s (step.begins s run (Stage.Walking WatcherKind.Async) Phase.Async)
 unwoken_follows p told s run w unwoken none b c e = record {
-  to = Running run.mode run.line (Within (In phase.Async) (walk_with told watcher.Async w.woken []));
-  goes = doc.section (In phase.Async) (empty_over phase.Done w none b, tt) (async_next (order_of p) run.mode (doc.goes_on s)) refl
+  to = Running run.mode run.line (Within (In Phase.Async) (walk_with told WatcherKind.Async w.woken []));
+  goes = doc.section (In Phase.Async) (empty_over Phase.Done w none b, tt) (async_next (order_of p) run.mode (doc.goes_on s)) refl
       (record { list = rw unwoken refl; off = refl; sent = refl; body = refl; kept = refl }) refl;
   stands = record {
-    stands = running (walking {q = watcher.Async} refl) (left_all e.timers e.idle e.prepare e.check
-        (none_behind s.arena.slots (walk_with told watcher.Async w.woken []) s.watchers.async.yet refl e.async) e.closing e.done);
+    stands = running (walking {q = WatcherKind.Async} refl) (left_all e.timers e.idle e.prepare e.check
+        (none_behind s.arena.slots (walk_with told WatcherKind.Async w.woken []) s.watchers.async.yet refl e.async) e.closing e.done);
     counted = c;
   };
 }
 
 -- the poll begins
-pub poll_follows : (p : Program) (told : Told) (s : State) (run : Run) (w : Walk) → lives s ≡ is_alive s → IsOver phase.Prepare w → Kept s →
+pub poll_follows : (p : Program) (told : Told) (s : State) (run : Run) (w : Walk) → lives s ≡ is_alive s → IsOver Phase.Prepare w → Kept s →
     Counted p s.names told →
     NobodyLeft (rest s.ready s) →
-    Follows p told (Running run.mode run.line (Within (In phase.Prepare) w)) s (step.begin_poll s run)
+    Follows p told (Running run.mode run.line (Within (In Phase.Prepare) w)) s (step.begin_poll s run)
 poll_follows p told s run w alive over k c e = record {
   to = Running run.mode run.line (Polling (deadline_of s (poll_timeout s run.mode)));
   goes = doc.poll (poll_timeout s run.mode) (over, tt) (poll_next (order_of p) run.mode (doc.goes_on s))
@@ -137,12 +130,12 @@ poll_follows p told s run w alive over k c e = record {
 }
 
 -- the closing section begins
-pub closing_begins : (p : Program) (told : Told) (s : State) (run : Run) (w : Walk) → IsOver phase.Check w → Kept s → Counted p s.names told →
+pub closing_begins : (p : Program) (told : Told) (s : State) (run : Run) (w : Walk) → IsOver Phase.Check w → Kept s → Counted p s.names told →
     NobodyLeft (rest s.ready s) →
-    Follows p told (Running run.mode run.line (Within (In phase.Check) w)) s (step.begin_closing s run)
+    Follows p told (Running run.mode run.line (Within (In Phase.Check) w)) s (step.begin_closing s run)
 closing_begins p told s run w over k c e = record {
-  to = Running run.mode run.line (Within (In phase.Closing) (begun_with w.woken s.closing.list));
-  goes = doc.section (In phase.Closing) (over, tt) (closing_next (order_of p) run.mode (doc.goes_on s)) refl
+  to = Running run.mode run.line (Within (In Phase.Closing) (begun_with w.woken s.closing.list));
+  goes = doc.section (In Phase.Closing) (over, tt) (closing_next (order_of p) run.mode (doc.goes_on s)) refl
       (record { list = (refl, are_closing s e.closing k); off = refl; sent = refl; body = refl; kept = refl }) refl;
   stands = record {
     stands = running (closing refl) (left_all e.timers e.idle e.prepare e.check e.async (sym (none_off s.closing.list)) e.done);
@@ -154,64 +147,64 @@ pub after_follows : (p : Program) (told : Told) (s : State) (run : Run) (q : Wat
     Kept s →
     SentAt told.sent s → Counted p s.names told →
     NobodyLeft (rest s.ready s) → Follows p told (Running run.mode run.line (Within (In (phase_of q)) w)) s (step.after_walk s run q)
-after_follows p told s run watcher.Idle w alive over k h c e =
-    begin_follows p told s run watcher.Prepare (Within (In phase.Idle) w) (over, tt) prepare_next refl k h c e
-after_follows p told s run watcher.Prepare w alive over k h c e = poll_follows p told s run w alive over k c e
-after_follows p told s run watcher.Check w alive over k h c e = closing_begins p told s run w over k c e
-after_follows p told s run watcher.Async w alive over k h c e = begin_follows p told s run watcher.Check
-    (Within (In phase.Async) w) (over, tt) check_next refl k h c e
+after_follows p told s run WatcherKind.Idle w alive over k h c e =
+    begin_follows p told s run WatcherKind.Prepare (Within (In Phase.Idle) w) (over, tt) prepare_next refl k h c e
+after_follows p told s run WatcherKind.Prepare w alive over k h c e = poll_follows p told s run w alive over k c e
+after_follows p told s run WatcherKind.Check w alive over k h c e = closing_begins p told s run w over k c e
+after_follows p told s run WatcherKind.Async w alive over k h c e = begin_follows p told s run WatcherKind.Check
+    (Within (In Phase.Async) w) (over, tt) check_next refl k h c e
 
 plain_calls : (q : WatcherKind) (told : Told) (w : Walk) (id : Id) (more : List Id) (n : NextCall w id more) → IsSync q → w.body ≡ [] →
     CallsNext (phase_of q) told w id n.behind
-plain_calls watcher.Async told w id more n d b = absurd d
+plain_calls WatcherKind.Async told w id more n d b = absurd d
 plain_calls each told w id more n d b =
     record { done = b; passed = n.passed; list = n.list; may_pass = n.off; may_call = record { on = n.on; called = refl } }
 
 -- the next watcher is called
 pub call_watcher : (p : Program) (told : Told) (s : State) (run : Run) (q : WatcherKind) (w : Walk) (t : Id × HandleRecord) → IsSync q → run.stage ≡
-    stage.Walking q →
+    Stage.Walking q →
     FrontOf s (watched s q).yet t → Leaves (rest s.ready s) (Within (In (phase_of q)) w) → w.body ≡ [] → Counted p s.names told →
     Follows p told (Running run.mode run.line (Within (In (phase_of q)) w)) s (call p (front_moved s q t.0) run t.0 t.1.name)
-call_watcher p told s run watcher.Async w t d st f l b c = absurd d
-call_watcher p told s run watcher.Idle w t d st f l b c =
+call_watcher p told s run WatcherKind.Async w t d st f l b c = absurd d
+call_watcher p told s run WatcherKind.Idle w t d st f l b c =
     let next = next_of w t.0 f.rest (sym l.idle ∙ f.are) in
-    call_follows p told s (front_moved s watcher.Idle t.0) run run (In phase.Idle) w t next.behind refl
-    (plain_calls watcher.Idle told w t.0 f.rest next tt b) f.holds refl refl c
+    call_follows p told s (front_moved s WatcherKind.Idle t.0) run run (In Phase.Idle) w t next.behind refl
+    (plain_calls WatcherKind.Idle told w t.0 f.rest next tt b) f.holds refl refl c
     (λ is. rw st (running (walking is) (left_all l.timers (f.behind ∙ next.left) l.prepare l.check l.async l.closing l.done)))
-call_watcher p told s run watcher.Prepare w t d st f l b c =
+call_watcher p told s run WatcherKind.Prepare w t d st f l b c =
     let next = next_of w t.0 f.rest (sym l.prepare ∙ f.are) in
-    call_follows p told s (front_moved s watcher.Prepare t.0) run run (In phase.Prepare) w t next.behind refl
-    (plain_calls watcher.Prepare told w t.0 f.rest next tt b) f.holds refl refl c
+    call_follows p told s (front_moved s WatcherKind.Prepare t.0) run run (In Phase.Prepare) w t next.behind refl
+    (plain_calls WatcherKind.Prepare told w t.0 f.rest next tt b) f.holds refl refl c
     (λ is. rw st (running (walking is) (left_all l.timers l.idle (f.behind ∙ next.left) l.check l.async l.closing l.done)))
-call_watcher p told s run watcher.Check w t d st f l b c =
+call_watcher p told s run WatcherKind.Check w t d st f l b c =
     let next = next_of w t.0 f.rest (sym l.check ∙ f.are) in
-    call_follows p told s (front_moved s watcher.Check t.0) run run (In phase.Check) w t next.behind refl
-    (plain_calls watcher.Check told w t.0 f.rest next tt b) f.holds refl refl c
+    call_follows p told s (front_moved s WatcherKind.Check t.0) run run (In Phase.Check) w t next.behind refl
+    (plain_calls WatcherKind.Check told w t.0 f.rest next tt b) f.holds refl refl c
     (λ is. rw st (running (walking is) (left_all l.timers l.idle l.prepare (f.behind ∙ next.left) l.async l.closing l.done)))
 
 -- the list of a kind is the one that its section walks
 pub own_list : (s : State) (q : WatcherKind) (w : Walk) → IsSync q → Leaves (rest s.ready s) (Within (In (phase_of q)) w) →
     (watched s q).yet ≡ left_of
     w.ahead w.off
-own_list s watcher.Idle w d l = l.idle
-own_list s watcher.Prepare w d l = l.prepare
-own_list s watcher.Check w d l = l.check
-own_list s watcher.Async w d l = absurd d
+own_list s WatcherKind.Idle w d l = l.idle
+own_list s WatcherKind.Prepare w d l = l.prepare
+own_list s WatcherKind.Check w d l = l.check
+own_list s WatcherKind.Async w d l = absurd d
 
 -- with none of its own left, nobody is left
 pub none_own : (s : State) (q : WatcherKind) (w : Walk) → IsSync q → (watched s q).yet ≡ [] → Leaves (rest s.ready s) (Within (In (phase_of q)) w) →
     NobodyLeft (rest s.ready s)
-none_own s watcher.Idle w d e l = (left_all l.timers e l.prepare l.check l.async l.closing l.done)
-none_own s watcher.Prepare w d e l = (left_all l.timers l.idle e l.check l.async l.closing l.done)
-none_own s watcher.Check w d e l = (left_all l.timers l.idle l.prepare e l.async l.closing l.done)
-none_own s watcher.Async w d e l = absurd d
+none_own s WatcherKind.Idle w d e l = (left_all l.timers e l.prepare l.check l.async l.closing l.done)
+none_own s WatcherKind.Prepare w d e l = (left_all l.timers l.idle e l.check l.async l.closing l.done)
+none_own s WatcherKind.Check w d e l = (left_all l.timers l.idle l.prepare e l.async l.closing l.done)
+none_own s WatcherKind.Async w d e l = absurd d
 
 pub plain_over : (q : WatcherKind) (w : Walk) → IsSync q → w.body ≡ [] → doc.AllOff w.off w.ahead → IsOver (phase_of q) w
-plain_over watcher.Async w d b o = absurd d
+plain_over WatcherKind.Async w d b o = absurd d
 plain_over each w d b o = record { done = b; may_pass = o }
 
 pub walk_follows : (p : Program) (told : Told) (s : State) (run : Run) (q : WatcherKind) (w : Walk) → lives s ≡ is_alive s → IsSync q →
-    run.stage ≡ stage.Walking q → Kept s →
+    run.stage ≡ Stage.Walking q → Kept s →
     SentAt told.sent s → Counted p s.names told →
     Leaves (rest s.ready s) (Within (In (phase_of q)) w) → w.body ≡ [] → Follows p told (Running run.mode run.line (Within (In (phase_of q)) w)) s
     (step.walk p s run q)
@@ -241,32 +234,29 @@ not_sent : (slots : List (Slot Content)) (w : Walk) (t : Id × HandleRecord) →
 not_sent slots w t off is still on = grind arith
 
 -- with none of the async list yet to run, its section is over
-pub async_over : (slots : List (Slot Content)) (w : Walk) (yet : List Id) → IsBehind slots w yet → yet ≡ [] → w.body ≡ [] → IsOver phase.Async w
+pub async_over : (slots : List (Slot Content)) (w : Walk) (yet : List Id) → IsBehind slots w yet → yet ≡ [] → w.body ≡ [] → IsOver Phase.Async w
 async_over slots w yet a none b =
     let off : AllOff w.off a.behind = all_off a.behind w.off (sym a.left ∙ none) in
     let passes = pass_both w.off w.sent a.gone a.behind a.passed (pass_off w.off w.sent a.behind off) in
     record { done = b; may_pass = subst (AllOffOrUnsent w.off w.sent) (sym a.all) passes }
 
 -- an async handle is called, or passed by without a line
-pub async_follows : (p : Program) (told : Told) (s : State) (run : Run) (w : Walk) → lives s ≡ is_alive s → run.stage ≡ stage.Walking watcher.Async →
-    Kept s →
-    SentAt told.sent s →
-    Counted p s.names told →
-    Leaves (rest s.ready s) (Within (In phase.Async) w) → w.body ≡ [] → Follows p told (Running run.mode run.line (Within (In phase.Async) w)) s
+pub async_follows : (p : Program) (told : Told) (s : State) (run : Run) (w : Walk) → lives s ≡ is_alive s →
+    run.stage ≡ Stage.Walking WatcherKind.Async → Kept s → SentAt told.sent s → Counted p s.names told → Leaves (rest s.ready s) (Within (In Phase.Async) w) → w.body ≡ [] → Follows p told (Running run.mode run.line (Within (In Phase.Async) w)) s
     (step.walk_async p s run)
 async_follows p told s run w alive st k h c l b = found_both (front s s.watchers.async.yet) _ _
-    (Follows p told (Running run.mode run.line (Within (In phase.Async)
+    (Follows p told (Running run.mode run.line (Within (In Phase.Async)
     w)) s)
     (λ t e. at t (front_of s s.watchers.async.yet t e))
     (λ e. let all = s.watchers.async in
-    let each = each_back (Fits s.arena.slots (Watches kind.Async)) all.list all.yet (k.watchers watcher.Async).lists.each in
-    let none : s.watchers.async.yet ≡ [] = no_front s (Watches kind.Async) s.watchers.async.yet each e in
-    after_follows p told s run watcher.Async w alive (async_over s.arena.slots w s.watchers.async.yet l.async none b) k h c
+    let each = each_back (Fits s.arena.slots (Watches Kind.Async)) all.list all.yet (k.watchers WatcherKind.Async).lists.each in
+    let none : s.watchers.async.yet ≡ [] = no_front s (Watches Kind.Async) s.watchers.async.yet each e in
+    after_follows p told s run WatcherKind.Async w alive (async_over s.arena.slots w s.watchers.async.yet l.async none b) k h c
     (left_all l.timers l.idle l.prepare l.check none l.closing l.done))
   where
-    at : (t : Id × HandleRecord) → FrontOf s s.watchers.async.yet t → Follows p told (Running run.mode run.line (Within (In phase.Async) w)) s
-        (if t.1.pending then call p (with_handle (front_moved s watcher.Async t.0) t.0 (records.woken t.1)) run t.0 t.1.name
-        else Moves (step.at (front_moved s watcher.Async t.0) run (stage.Walking watcher.Async)) None)
+    at : (t : Id × HandleRecord) → FrontOf s s.watchers.async.yet t → Follows p told (Running run.mode run.line (Within (In Phase.Async) w)) s
+        (if t.1.pending then call p (with_handle (front_moved s WatcherKind.Async t.0) t.0 (records.woken t.1)) run t.0 t.1.name
+        else Moves (step.at (front_moved s WatcherKind.Async t.0) run (Stage.Walking WatcherKind.Async)) None)
     at t f =
         let a = l.async in
         let later : Walk = record w { ahead = a.behind } in
@@ -274,20 +264,19 @@ async_follows p told s run w alive st k h c l b = found_both (front s s.watchers
         let all : w.ahead ≡ (a.gone ++ next.passed) ++ t.0 ∷ next.behind =
         a.all ∙ ap (λ (ids : List Id). a.gone ++ ids) next.list ∙ sym (append_assoc a.gone next.passed (t.0 ∷ next.behind)) in
         let passes = pass_both w.off w.sent a.gone next.passed a.passed (pass_off w.off w.sent next.passed next.off) in
-        let distinct = distinct_back s.watchers.async.list s.watchers.async.yet (k.watchers watcher.Async).lists.distinct in
+        let distinct = distinct_back s.watchers.async.list s.watchers.async.yet (k.watchers WatcherKind.Async).lists.distinct in
         let unsent : t.1.pending ≡ false → (has_id w.off t.0 || not (has_id w.sent t.0)) ≡ true =
         λ off. not_sent s.arena.slots w t off (ap pends_in f.holds) (a.still t.0 (in_front s s.watchers.async.yet t f)) next.on in
-        cond_both t.1.pending _ _ (Follows p told (Running run.mode run.line (Within (In phase.Async) w)) s)
-        (λ on. call_follows p told s (with_handle (front_moved s watcher.Async t.0) t.0 (records.woken t.1)) run run (In phase.Async) w t next.behind
-        refl
-        (record {
+        cond_both t.1.pending _ _ (Follows p told (Running run.mode run.line (Within (In Phase.Async) w)) s)
+        (λ on. call_follows p told s (with_handle (front_moved s WatcherKind.Async t.0) t.0 (records.woken t.1)) run run (In Phase.Async) w t
+        next.behind refl (record {
           done = b;
           passed = a.gone ++ next.passed;
           list = all;
           may_pass = passes;
           may_call = record { on = next.on; called = h.are t.0 ∙ ap pends_in f.holds ∙ on };
         }) f.holds refl refl c
-        (λ is. rw st (running (walking {q = watcher.Async} is) (left_all l.timers l.idle l.prepare l.check (record {
+        (λ is. rw st (running (walking {q = WatcherKind.Async} is) (left_all l.timers l.idle l.prepare l.check (record {
           gone = [];
           behind = next.behind;
           all = refl;
@@ -299,7 +288,7 @@ async_follows p told s run w alive st k h c l b = found_both (front s s.watchers
         }) l.closing l.done))))
         (λ off. (
           record {
-            stands = running (walking {q = watcher.Async} b) (left_all l.timers l.idle l.prepare l.check (record {
+            stands = running (walking {q = WatcherKind.Async} b) (left_all l.timers l.idle l.prepare l.check (record {
               gone = (a.gone ++ next.passed) ++ t.0 ∷ [];
               behind = next.behind;
               all = all ∙ sym (append_assoc (a.gone ++ next.passed) (t.0 ∷ []) next.behind);
@@ -314,28 +303,28 @@ async_follows p told s run w alive st k h c l b = found_both (front s s.watchers
 
 -- ---- the section of the requests that are done
 
-pub done_follows : (p : Program) (told : Told) (s : State) (run : Run) (w : Walk) → run.stage ≡ stage.Done → Kept s → SentAt told.sent s → Working s →
-    Counted p s.names told → Leaves (rest s.ready s) (Within (In phase.Done) w) → w.woken ≡ true → w.body ≡ [] →
-    Follows p told (Running run.mode run.line (Within (In phase.Done) w)) s (step.collect_request p s run)
+pub done_follows : (p : Program) (told : Told) (s : State) (run : Run) (w : Walk) → run.stage ≡ Stage.Done → Kept s → SentAt told.sent s → Working s →
+    Counted p s.names told → Leaves (rest s.ready s) (Within (In Phase.Done) w) → w.woken ≡ true → w.body ≡ [] →
+    Follows p told (Running run.mode run.line (Within (In Phase.Done) w)) s (step.collect_request p s run)
 done_follows p told s run w st k h g c l woken b = found_both (front_request s s.done.yet) _ _ (Follows p told (Running run.mode run.line (Within (In
-    phase.Done) w)) s)
+    Phase.Done) w)) s)
     (λ t e. at t (request_front s s.done.yet t e))
     (λ e. let none : s.done.yet ≡ [] = no_request s HasEnded s.done.list s.done.yet g.ended e in
-    begin_follows p told s run watcher.Async (Within (In phase.Done) w)
+    begin_follows p told s run WatcherKind.Async (Within (In Phase.Done) w)
     (record { done = b; may_pass = all_off w.ahead w.off (sym l.done ∙ none) }, tt) async_next woken k h c
     (left_all l.timers l.idle l.prepare l.check l.async l.closing none))
   where
-    at : (t : Id × Request) → FrontRequest s s.done.yet t → Follows p told (Running run.mode run.line (Within (In phase.Done) w)) s
+    at : (t : Id × Request) → FrontRequest s s.done.yet t → Follows p told (Running run.mode run.line (Within (In Phase.Done) w)) s
         (calls p (record s {
           arena = freed (arena_size p).last_generation t.0 s.arena;
           done = record s.done { yet = drop 1 s.done.yet };
-        }) run callback.After t.1.name (seen.After (digest_in t.1.outcome) t.1.name t.0))
+        }) run Callback.After t.1.name (Seen.After (digest_in t.1.outcome) t.1.name t.0))
     at t f =
         let v = t.1.name in
         let next = next_of w t.0 f.rest (sym l.done ∙ f.are) in
         record {
-          to = Running run.mode run.line (Within (In phase.Done) (called p told callback.After w next.behind v));
-          goes = doc.call callback.After v t.0 next.behind refl
+          to = Running run.mode run.line (Within (In Phase.Done) (called p told Callback.After w next.behind v));
+          goes = doc.call Callback.After v t.0 next.behind refl
               (record {
                 done = b;
                 passed = next.passed;
@@ -346,45 +335,45 @@ done_follows p told s run w st k h g c l woken b = found_both (front_request s s
                   called = refl;
                 };
               }) (ap (option_map name_in) f.holds)
-              (ap (λ (o : Option Content). option_map (λ (r : Request). seen.After (digest_in r.outcome) v t.0) (request_in o)) f.holds) refl;
+              (ap (λ (o : Option Content). option_map (λ (r : Request). Seen.After (digest_in r.outcome) v t.0) (request_in o)) f.holds) refl;
           stands = record {
-            stands = rw st (running (done woken (its_body p told s callback.After v c)) (left_all l.timers l.idle l.prepare l.check
-                (async_moved s.arena.slots _ (λ i on. ap pends_in (same t f i) ∙ on) (Within (In phase.Done) w) s.watchers.async.yet l.async)
+            stands = rw st (running (done woken (its_body p told s Callback.After v c)) (left_all l.timers l.idle l.prepare l.check
+                (async_moved s.arena.slots _ (λ i on. ap pends_in (same t f i) ∙ on) (Within (In Phase.Done) w) s.watchers.async.yet l.async)
                 l.closing (f.behind ∙ next.left)));
-            counted = call_counted p told s callback.After v t.0 c;
+            counted = call_counted p told s Callback.After v t.0 c;
           };
         }
       where
         same : (u : Id × Request) → FrontRequest s s.done.yet u → SameHandles (freed (arena_size p).last_generation u.0 s.arena).slots s.arena.slots
         same u r = same_handles s.arena.slots _ u.0 _ _ (freed_turns (arena_size p).last_generation s.arena u.0
-            (content.Request u.1) r.holds) refl refl
+            (Content.Request u.1) r.holds) refl refl
 
 -- ---- the closing section
 
-pub closing_follows : (p : Program) (told : Told) (s : State) (run : Run) (w : Walk) → lives s ≡ is_alive s → run.stage ≡ stage.Closing → Kept s →
+pub closing_follows : (p : Program) (told : Told) (s : State) (run : Run) (w : Walk) → lives s ≡ is_alive s → run.stage ≡ Stage.Closing → Kept s →
     Counted p s.names told →
-    Leaves (rest s.ready s) (Within (In phase.Closing) w) → w.body ≡ [] → Follows p told (Running run.mode run.line (Within (In phase.Closing) w)) s
+    Leaves (rest s.ready s) (Within (In Phase.Closing) w) → w.body ≡ [] → Follows p told (Running run.mode run.line (Within (In Phase.Closing) w)) s
     (step.close_front p s run)
 closing_follows p told s run w alive st k c l b = found_both (front s s.closing.yet) _ _ (Follows p told (Running run.mode run.line (Within (In
-    phase.Closing) w)) s)
+    Phase.Closing) w)) s)
     (λ t e. at t (front_of s s.closing.yet t e))
     (λ e. let each = each_back (Fits s.arena.slots Closes) s.closing.list s.closing.yet k.closing.lists.each in
     let none : s.closing.yet ≡ [] = no_front s Closes s.closing.yet each e in
-    turn_follows p told s run BehindClosing (Within (In phase.Closing) w) alive refl
+    turn_follows p told s run BehindClosing (Within (In Phase.Closing) w) alive refl
     (record { done = b; may_pass = all_off w.ahead w.off (sym l.closing ∙ none) }, tt) k c
     (left_all l.timers l.idle l.prepare l.check l.async none l.done))
   where
-    at : (t : Id × HandleRecord) → FrontOf s s.closing.yet t → Follows p told (Running run.mode run.line (Within (In phase.Closing) w)) s
+    at : (t : Id × HandleRecord) → FrontOf s s.closing.yet t → Follows p told (Running run.mode run.line (Within (In Phase.Closing) w)) s
         (calls p (record s {
           arena = freed (arena_size p).last_generation t.0 s.arena;
           closing = record s.closing { yet = drop 1 s.closing.yet };
-        }) run callback.Close t.1.name (seen.Closed t.1.name t.0))
+        }) run Callback.Close t.1.name (Seen.Closed t.1.name t.0))
     at t f =
         let v = t.1.name in
         let next = next_of w t.0 f.rest (sym l.closing ∙ f.are) in
         record {
-          to = Running run.mode run.line (Within (In phase.Closing) (called p told callback.Close w next.behind v));
-          goes = doc.call callback.Close v t.0 next.behind refl
+          to = Running run.mode run.line (Within (In Phase.Closing) (called p told Callback.Close w next.behind v));
+          goes = doc.call Callback.Close v t.0 next.behind refl
               (record {
                 done = b;
                 passed = next.passed;
@@ -396,8 +385,8 @@ closing_follows p told s run w alive st k c l b = found_both (front s s.closing.
                 };
               }) (named_of s t f.holds) refl refl;
           stands = record {
-            stands = rw st (running (closing (its_body p told s callback.Close v c)) (left_all l.timers l.idle l.prepare l.check l.async
+            stands = rw st (running (closing (its_body p told s Callback.Close v c)) (left_all l.timers l.idle l.prepare l.check l.async
                 (f.behind ∙ next.left) l.done));
-            counted = call_counted p told s callback.Close v t.0 c;
+            counted = call_counted p told s Callback.Close v t.0 c;
           };
         }

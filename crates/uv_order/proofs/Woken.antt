@@ -1,13 +1,12 @@
 -- Whether a poll is woken by an async handle, as the lines tell it and as the handles say it.
 use Rattle.uv_order.proofs.Names.{arith, ◌≡◌, ℕ, zero, suc, ◌||◌, List, [], ◌∷◌, Bool, true, false, Option, Some, None, refl, sym, ◌∙◌, list_any, eq-eqb, or-true, Id, Slot, held_in, Content, content_pends, handle_in, has_some, has_pending, State, Told}
-use Rattle.uv_work.specs.declared.content.Content.TheVariants as content
 use Rattle.uv_order.proofs.Lives.{either_way, some_of, first}
 use Rattle.uv_order.proofs.Sends.{pends_in, pends, SentAt}
 
 pends_content : (c : Option Content) → content_pends c ≡ true → pends_in (handle_in c) ≡ true
 pends_content None e = cc e
-pends_content (Some (content.Handle h)) e = e
-pends_content (Some (content.Request r)) e = cc e
+pends_content (Some (Content.Handle h)) e = e
+pends_content (Some (Content.Request r)) e = cc e
 
 found_pending : (slots : List (Slot Content)) → list_any (λ (slot : Slot Content). content_pends slot.content) slots ≡ true →
     (id : Id) × (pends slots id ≡ true)

@@ -1,9 +1,5 @@
 -- What the lines of a trace tell of requests, and how each change keeps it.
-use Rattle.uv_order.proofs.Names.{arith, ◌≡◌, ◌⊎◌, inl, inr, ℕ, List, ◌∷◌, Bool, true, false, Option, Some, None, refl, ap, sym, subst, ◌∙◌, if◌then◌else◌, false_from_ne_true, same_Some, none-some, Id, Var, Seen, Site, Task, Program, op_at, Slots, held, is_open, queued, digest_in, Outcome, Open, Finished, Cancelled, Content, Request, request_in, same_id, has_id, answered, queued_by, first_of, queued_task, is_take_line, has_take_line, is_cancel_line, has_cancel_line, is_finish_line, has_finish_line, is_after_line, has_after_line, SaysTrue, Slot}
-use Rattle.uv_ids.specs.declared.code.Answer.TheVariants as answer
-use Rattle.uv_ids.specs.declared.seen.Seen.TheVariants as seen
-use Rattle.uv_script.specs.declared.op.Op.TheVariants as op
-use Rattle.uv_work.specs.declared.content.Content.TheVariants as content
+use Rattle.uv_order.proofs.Names.{arith, ◌≡◌, ◌⊎◌, inl, inr, ℕ, List, ◌∷◌, Bool, true, false, Option, Some, None, refl, ap, sym, subst, ◌∙◌, if◌then◌else◌, false_from_ne_true, same_Some, none-some, Id, Var, Seen, Site, Task, Program, op_at, Slots, held, is_open, queued, digest_in, Outcome, Open, Finished, Cancelled, Content, Request, request_in, same_id, has_id, answered, queued_by, first_of, queued_task, is_take_line, has_take_line, is_cancel_line, has_cancel_line, is_finish_line, has_finish_line, is_after_line, has_after_line, SaysTrue, Slot, Answer, Op}
 use Rattle.uv_order.proofs.IdLists.{same, itself, turned}
 use Rattle.uv_order.proofs.Contents.{Turns, turned_to}
 use Rattle.uv_order.proofs.Works.{asked_at, SameRequests}
@@ -38,12 +34,12 @@ pub record Worked (p : Program) (past : List Seen) (arena : Slots Content) (wait
   pub uncancelled : (id : Id) → has_id waiting id ≡ true → has_cancel_line p past id ≡ false
 
 -- a held request isn't gone
-not_gone : (arena : Slots Content) (id : Id) (r : Request) → held arena.slots id ≡ Some (content.Request r) → IsGone arena.slots arena.free id → ⊥
-not_gone arena id r e g = not_held arena.slots arena.free id (content.Request r) g e
+not_gone : (arena : Slots Content) (id : Id) (r : Request) → held arena.slots id ≡ Some (Content.Request r) → IsGone arena.slots arena.free id → ⊥
+not_gone arena id r e g = not_held arena.slots arena.free id (Content.Request r) g e
 
 -- so it has had no after callback
 pub not_called : (p : Program) (past : List Seen) (arena : Slots Content) (waiting runs : List Id) (id : Id) (r : Request) →
-    held arena.slots id ≡ Some (content.Request r) → Worked p past arena waiting runs → has_after_line past id ≡ false
+    held arena.slots id ≡ Some (Content.Request r) → Worked p past arena waiting runs → has_after_line past id ≡ false
 not_called p past arena waiting runs id r e k = false_from_ne_true (has_after_line past id) (λ h. not_gone arena id r e (k.over id h))
 
 -- ---- lines
@@ -124,7 +120,7 @@ worked_fewer p past arena waiting runs few_waiting few_runs f g k = grind arith
 
 -- a request ends, as the lines tell
 pub worked_ended : (p : Program) (past : List Seen) (arena more : Slots Content) (waiting runs : List Id) (id : Id) (r x : Request) →
-    Turns arena.slots more.slots id (Some (content.Request r)) (Some (content.Request x)) → x.task ≡ r.task → EndsTrue p past id x.task x.outcome →
+    Turns arena.slots more.slots id (Some (Content.Request r)) (Some (Content.Request x)) → x.task ≡ r.task → EndsTrue p past id x.task x.outcome →
     ((i : Id) → IsGone arena.slots arena.free i → IsGone more.slots more.free i) → Worked p past arena waiting runs → Worked p past more waiting runs
 worked_ended p past arena more waiting runs id r x t same_task ends gone k =
     let asks = turned_asks arena.slots more.slots id _ _ t in
@@ -139,13 +135,13 @@ pub worked_taken : (p : Program) (past : List Seen) (arena : Slots Content) (wai
     (r : Request) → asked_at arena.slots id ≡ Some r → is_open r.outcome ≡ true → has_id waiting id ≡ true →
     ((i : Id) → has_id rest i ≡ true → (has_id waiting i ≡ true) × (same_id id i ≡ false)) →
     ((i : Id) → has_id more i ≡ true → (id ≡ i) ⊎ (has_id runs i ≡ true)) → Worked p past arena waiting runs →
-    Worked p (seen.Take n v id ∷ past) arena rest more
+    Worked p (Seen.Take n v id ∷ past) arena rest more
 worked_taken p past arena waiting runs rest more n v id r holds opened waits fewer most k = grind (arith, same, itself)
 
 -- a worker finishes a request that it runs
 pub worked_finished : (p : Program) (past : List Seen) (arena : Slots Content) (waiting runs few : List Id) (n : ℕ) (v : Var) (id : Id) →
     has_id runs id ≡ true → ((i : Id) → has_id few i ≡ true → (has_id runs i ≡ true) × (same_id id i ≡ false)) →
-    Worked p past arena waiting runs → Worked p (seen.Finish n v id ∷ past) arena waiting few
+    Worked p past arena waiting runs → Worked p (Seen.Finish n v id ∷ past) arena waiting few
 worked_finished p past arena waiting runs few n v id on fewer k = grind arith
 
 -- an id under which nothing is held, and which isn't gone, wasn't queued
@@ -159,8 +155,8 @@ queued_now : (task : Task) (id : Id) (x : Request) (was now : Id → Option Requ
 queued_now task id x was now told e f k i y h = grind (arith, turned)
 
 -- the line of a `queue` changes nothing that others ended by
-still_ended : (p : Program) (past : List Seen) (place : Site) (v : Var) (task : Task) (id : Id) → op_at p place ≡ Some (op.Queue v task) → (i : Id)
-    (x : Task) (o : Outcome) → EndsTrue p past i x o → EndsTrue p (seen.Op place (answer.Id id) ∷ past) i x o
+still_ended : (p : Program) (past : List Seen) (place : Site) (v : Var) (task : Task) (id : Id) → op_at p place ≡ Some (Op.Queue v task) → (i : Id)
+    (x : Task) (o : Outcome) → EndsTrue p past i x o → EndsTrue p (Seen.Op place (Answer.Id id) ∷ past) i x o
 still_ended p past place v task id e i x o g = grind arith
 
 of_both : (f : Id → Bool) (waiting : List Id) (id : Id) → f id ≡ false → ((i : Id) → has_id waiting i ≡ true → f i ≡ false) → (i : Id) →
@@ -170,10 +166,10 @@ of_both f waiting id e k i h = grind arith
 -- a request is queued under an id that isn't gone and stands for nothing
 pub worked_queued : (p : Program) (past : List Seen) (place : Site) (v : Var) (task : Task) (arena more : Slots Content)
     (waiting runs listed : List Id)
-    (id : Id) → op_at p place ≡ Some (op.Queue v task) → Turns arena.slots more.slots id None (Some (content.Request (queued v task))) →
+    (id : Id) → op_at p place ≡ Some (Op.Queue v task) → Turns arena.slots more.slots id None (Some (Content.Request (queued v task))) →
     (IsGone arena.slots arena.free id → ⊥) → ((i : Id) → has_id listed i ≡ true → (id ≡ i) ⊎ (has_id waiting i ≡ true)) →
     ((i : Id) → IsGone arena.slots arena.free i → IsGone more.slots more.free i) → Worked p past arena waiting runs →
-    Worked p (seen.Op place (answer.Id id) ∷ past) more listed runs
+    Worked p (Seen.Op place (Answer.Id id) ∷ past) more listed runs
 worked_queued p past place v task arena more waiting runs listed id e t fresh most gone k = record {
   queued = λ i y h. rw (asked i) (queued_now task id x (asked_at arena.slots) (asked_at more.slots) (queued_task p past) refl asks k.queued i y h);
   known = λ i z h. known_now i z (sym (asked i) ∙ h) (same_id id i) refl;
@@ -182,7 +178,7 @@ worked_queued p past place v task arena more waiting runs listed id e t fresh mo
   finished = k.finished;
   waits = λ i h. of_both (has_take_line past) waiting id (false_from_ne_true _ (λ f. k.taken id f never)) k.waits i (most i h);
   runs_now = k.runs_now;
-  ended = λ i y h. elim (ends_now p (seen.Op place (answer.Id id) ∷ past) id x (asked_at arena.slots) (asked_at more.slots) asks
+  ended = λ i y h. elim (ends_now p (Seen.Op place (Answer.Id id) ∷ past) id x (asked_at arena.slots) (asked_at more.slots) asks
       (asked id ∙ rw (itself id id refl) refl) tt i y h) [
         | inl old ↦ still_ended p past place v task id e i y.task y.outcome (k.ended i y old)
         | inr new ↦ new.1
@@ -200,10 +196,10 @@ worked_queued p past place v task arena more waiting runs listed id e t fresh mo
   never : queued_task p past id ≡ None
   never = not_queued p past arena waiting runs id t.before fresh k
 
-  no_cancel : (i : Id) → has_cancel_line p (seen.Op place (answer.Id id) ∷ past) i ≡ has_cancel_line p past i
+  no_cancel : (i : Id) → has_cancel_line p (Seen.Op place (Answer.Id id) ∷ past) i ≡ has_cancel_line p past i
   no_cancel i = rw e refl
 
-  asked : (i : Id) → queued_task p (seen.Op place (answer.Id id) ∷ past) i ≡ first_of (if same_id id i then Some task else None)
+  asked : (i : Id) → queued_task p (Seen.Op place (Answer.Id id) ∷ past) i ≡ first_of (if same_id id i then Some task else None)
       (queued_task p past i)
   asked i = rw e refl
 
@@ -233,14 +229,14 @@ asked_or_gone arena more id asks now i a = at (same_id i id) refl where
 
 -- the line of an after callback whose request is gone
 called_back : (p : Program) (past : List Seen) (arena : Slots Content) (waiting runs : List Id) (digest : Option (List ℕ)) (v : Var) (id : Id) →
-    IsGone arena.slots arena.free id → Worked p past arena waiting runs → Worked p (seen.After digest v id ∷ past) arena waiting runs
+    IsGone arena.slots arena.free id → Worked p past arena waiting runs → Worked p (Seen.After digest v id ∷ past) arena waiting runs
 called_back p past arena waiting runs digest v id g k = grind (arith, same)
 
 -- the request's after callback begins, and its slot is freed
 pub worked_collected : (p : Program) (past : List Seen) (arena more : Slots Content) (waiting runs : List Id) (digest : Option (List ℕ)) (v : Var)
-    (id : Id) (r : Request) → Turns arena.slots more.slots id (Some (content.Request r)) None → IsGone more.slots more.free id →
+    (id : Id) (r : Request) → Turns arena.slots more.slots id (Some (Content.Request r)) None → IsGone more.slots more.free id →
     ((i : Id) → IsGone arena.slots arena.free i → IsGone more.slots more.free i) → Worked p past arena waiting runs →
-    Worked p (seen.After digest v id ∷ past) more waiting runs
+    Worked p (Seen.After digest v id ∷ past) more waiting runs
 worked_collected p past arena more waiting runs digest v id r t now gone k =
     let asks = turned_asks arena.slots more.slots id _ _ t in
     called_back p past more waiting runs digest v id now (worked_held p past arena more waiting runs

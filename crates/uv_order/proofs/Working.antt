@@ -1,8 +1,6 @@
 -- Each op and each step of the loop keeps that the requests agree with their lists.
-use Rattle.uv_order.proofs.Names.{arith, drop, ◌≡◌, ℕ, List, [], ◌∷◌, ◌++◌, true, Some, None, Ok, slice_set, refl, ap, sym, subst, ◌∙◌, list_any, Id, Var, held, freed, next_free, Op, Task, Program, arena_size, text_of, Finished, Cancelled, Request, queued, same_id, State, fresh, live_request, with_id, front_request, do_op, Next, Moves, Refuses}
-use Rattle.uv_script.specs.declared.op.Op.TheVariants as op
+use Rattle.uv_order.proofs.Names.{arith, drop, ◌≡◌, ℕ, List, [], ◌∷◌, ◌++◌, true, Some, None, Ok, slice_set, refl, ap, sym, subst, ◌∙◌, list_any, Id, Var, held, freed, next_free, Op, Task, Program, arena_size, text_of, Finished, Cancelled, Request, queued, same_id, State, fresh, live_request, with_id, front_request, do_op, Next, Moves, Refuses, Content}
 use Rattle.uv_work.specs.Digests.{digest_of}
-use Rattle.uv_work.specs.declared.content.Content.TheVariants as content
 use Rattle.uv_model.specs.Ops as ops
 use Rattle.uv_model.specs.Next as step
 use Rattle.uv_model.specs.Next.{next}
@@ -29,9 +27,9 @@ queued_working : (s : State) (v : Var) (task : Task) (id : Id) → next_free s.a
     Working (ops.with_queued s v task id)
 queued_working s v task id e kept k =
     works_queued s.arena.slots _ s.waiting s.running s.done id (queued v task)
-    (fills s.arena s.arena.free id (content.Request (queued v task)) refl kept.free e).0 refl k
+    (fills s.arena s.arena.free id (Content.Request (queued v task)) refl kept.free e).0 refl k
 
-cancelled_working : (s : State) (t : Id × Request) → held s.arena.slots t.0 ≡ Some (content.Request t.1) →
+cancelled_working : (s : State) (t : Id × Request) → held s.arena.slots t.0 ≡ Some (Content.Request t.1) →
     list_any (same_id t.0) s.waiting ≡ true → Working s → Working (ops.cancelled s t.0 t.1)
 cancelled_working s t e on k =
     works_cancelled s.arena.slots _ s.waiting s.running s.done t.0 t.1 (record t.1 { outcome = Cancelled })
@@ -49,9 +47,9 @@ handles_working : (s : State) (o : Op) → IsOfHandles o → Kept s → Working 
 handles_working s o h kept k = works_quiet s (do_op s o).state (op_same s o h kept) k
 
 pub op_working : (s : State) (o : Op) → Kept s → Working s → Working (do_op s o).state
-op_working s (op.Queue v task) kept k =
+op_working s (Op.Queue v task) kept k =
     make_both s _ (ops.with_queued s v task) WorkingBy (λ c no_success. k) (λ id e. queued_working s v task id e kept k)
-op_working s (op.Cancel v) kept k = cancel_working s v k
+op_working s (Op.Cancel v) kept k = cancel_working s v k
 op_working s each kept k = handles_working s each tt kept k
 
 -- ---- fronts of lists
@@ -75,7 +73,7 @@ collected_working : (p : Program) (s : State) (t : Id × Request) → FrontReque
 collected_working p s t f k =
     subst (λ (rest : List Id). Works (freed (arena_size p).last_generation t.0 s.arena).slots s.waiting s.running (record s.done { yet = rest }))
     (sym f.behind) (works_collected s.arena.slots _ s.waiting s.running s.done t.0 f.rest t.1
-    (freed_turns (arena_size p).last_generation s.arena t.0 (content.Request t.1) f.holds) f.are k)
+    (freed_turns (arena_size p).last_generation s.arena t.0 (Content.Request t.1) f.holds) f.are k)
 
 taken_working : (s : State) (n : ℕ) (t : Id × Request) → TakesFront s n t → Working s → StaysWorking (step.take s n (Ok t))
 taken_working s n t f k = subst (λ (rest : List Id). Works s.arena.slots rest (slice_set s.running n (Some t.0)) s.done) (sym f.front.behind)

@@ -1,7 +1,6 @@
 -- The requests: those that wait for a worker or are run by one are open, those that are done are ended; none stands twice, and no other
 -- request is held.
 use Rattle.uv_order.proofs.Names.{arith, ◌≡◌, ◌⊎◌, inl, inr, ℕ, zero, suc, List, [], ◌∷◌, ◌++◌, Bool, true, false, Option, Some, None, slice_get, slice_set, replicate, refl, ap, sym, subst, ◌∙◌, append_assoc, append-nil, list_any, or-true, both_ways, false_from_ne_true, same_Some, Id, HandleRecord, Slot, held, Walk, is_open, Content, Request, request_in, same_id, without_id, has_id, AreDistinct, run_ids, not, ◌&&◌}
-use Rattle.uv_work.specs.declared.content.Content.TheVariants as content
 use Rattle.uv_order.proofs.IdLists.{has_both, has_but_one, on_list, same, other, turned, has_new_middle, has_old_middle, distinct_middle, distinct_but}
 use Rattle.uv_order.proofs.Contents.{Turns}
 use Rattle.uv_order.proofs.Holding.{held_at, put, put_turns}
@@ -223,7 +222,7 @@ pub none_fits : (P : Request → Type 0) → FitsNot P None
 none_fits P r e f = cc e
 
 -- a request that doesn't fit
-pub request_fits_not : (P : Request → Type 0) (x : Request) → (P x → ⊥) → FitsNot P (Some (content.Request x))
+pub request_fits_not : (P : Request → Type 0) (x : Request) → (P x → ⊥) → FitsNot P (Some (Content.Request x))
 request_fits_not P x d r e f = d (subst P (sym (same_Some _ _ e)) f)
 
 open_over : (r : Request) → IsOpen r → HasEnded r → ⊥
@@ -231,20 +230,20 @@ open_over r a b = both_ways (is_open r.outcome) b a
 
 -- a new request waits behind the others
 pub works_queued : (slots more : List (Slot Content)) (waiting : List Id) (running : List (Option Id)) (done : Walk Id) (id : Id) (r : Request) →
-    Turns slots more id None (Some (content.Request r)) → IsOpen r → Works slots waiting running done → Works more (waiting ++ id ∷ []) running done
+    Turns slots more id None (Some (Content.Request r)) → IsOpen r → Works slots waiting running done → Works more (waiting ++ id ∷ []) running done
 works_queued slots more waiting running done id r t opened k = record {
   open_ones = subst (AllAsk more IsOpen) (sym (append_assoc waiting (id ∷ []) (run_ids running)))
-      (more_middle slots more IsOpen id None (Some (content.Request r)) r waiting (run_ids running) t (none_fits IsOpen) refl opened k.open_ones);
-  ended = all_apart slots more HasEnded id None (Some (content.Request r)) (done.list ++ done.yet) t (none_fits HasEnded)
+      (more_middle slots more IsOpen id None (Some (Content.Request r)) r waiting (run_ids running) t (none_fits IsOpen) refl opened k.open_ones);
+  ended = all_apart slots more HasEnded id None (Some (Content.Request r)) (done.list ++ done.yet) t (none_fits HasEnded)
       (request_fits_not HasEnded r (open_over r opened)) k.ended;
 }
 
 -- a request ends
-ended_by : (slots more : List (Slot Content)) (done : Walk Id) (id : Id) (r x : Request) → Turns slots more id (Some (content.Request r))
-    (Some (content.Request x)) → IsOpen r → HasEnded x → AllAsk slots HasEnded (done.list ++ done.yet) →
+ended_by : (slots more : List (Slot Content)) (done : Walk Id) (id : Id) (r x : Request) → Turns slots more id (Some (Content.Request r))
+    (Some (Content.Request x)) → IsOpen r → HasEnded x → AllAsk slots HasEnded (done.list ++ done.yet) →
     AllAsk more HasEnded ((done.list ++ id ∷ []) ++ done.yet)
 ended_by slots more done id r x t opened over k = subst (AllAsk more HasEnded) (sym (append_assoc done.list (id ∷ []) done.yet))
-    (more_middle slots more HasEnded id (Some (content.Request r)) (Some (content.Request x)) x done.list done.yet t
+    (more_middle slots more HasEnded id (Some (Content.Request r)) (Some (Content.Request x)) x done.list done.yet t
     (request_fits_not HasEnded r (open_over r opened)) refl over k)
 
 -- the request that stands there fits
@@ -254,18 +253,18 @@ its_fit slots P ids id r e h k = let a = k.each id h in subst P (same_Some _ _ (
 
 -- so one that waits, or is run, is open
 pub waits_open : (slots : List (Slot Content)) (waiting : List Id) (running : List (Option Id)) (done : Walk Id) (id : Id) (r : Request) →
-    held slots id ≡ Some (content.Request r) → has_id waiting id ≡ true → Works slots waiting running done → IsOpen r
+    held slots id ≡ Some (Content.Request r) → has_id waiting id ≡ true → Works slots waiting running done → IsOpen r
 waits_open slots waiting running done id r e on k =
     its_fit slots IsOpen (waiting ++ run_ids running) id r (ap request_in e) (has_both waiting (run_ids running) id ∙ rw on refl) k.open_ones
 
 pub runs_open : (slots : List (Slot Content)) (waiting : List Id) (running : List (Option Id)) (done : Walk Id) (id : Id) (r : Request) →
-    held slots id ≡ Some (content.Request r) → has_id (run_ids running) id ≡ true → Works slots waiting running done → IsOpen r
+    held slots id ≡ Some (Content.Request r) → has_id (run_ids running) id ≡ true → Works slots waiting running done → IsOpen r
 runs_open slots waiting running done id r e on k = its_fit slots IsOpen (waiting ++ run_ids running) id r (ap request_in e)
     (has_both waiting (run_ids running) id ∙ rw on (or-true (has_id waiting id))) k.open_ones
 
 -- a request that waits is cancelled
 pub works_cancelled : (slots more : List (Slot Content)) (waiting : List Id) (running : List (Option Id)) (done : Walk Id) (id : Id)
-    (r x : Request) → Turns slots more id (Some (content.Request r)) (Some (content.Request x)) → list_any (same_id id) waiting ≡ true → HasEnded x →
+    (r x : Request) → Turns slots more id (Some (Content.Request r)) (Some (Content.Request x)) → list_any (same_id id) waiting ≡ true → HasEnded x →
     Works slots waiting running done → Works more (without_id waiting id) running (record done { list = done.list ++ id ∷ [] })
 works_cancelled slots more waiting running done id r x t on over k =
     let runs = run_ids running in
@@ -293,7 +292,7 @@ works_taken slots id rest running done n e k =
 
 -- a worker finishes the one that it runs
 pub works_finished : (slots more : List (Slot Content)) (waiting : List Id) (running : List (Option Id)) (done : Walk Id) (n : ℕ) (id : Id)
-    (r x : Request) → Turns slots more id (Some (content.Request r)) (Some (content.Request x)) → slice_get running n ≡ Some (Some id) → HasEnded x →
+    (r x : Request) → Turns slots more id (Some (Content.Request r)) (Some (Content.Request x)) → slice_get running n ≡ Some (Some id) → HasEnded x →
     Works slots waiting running done → Works more waiting (slice_set running n None) (record done { list = done.list ++ id ∷ [] })
 works_finished slots more waiting running done n id r x t e over k =
     let g = worker running n (Some id) e in
@@ -305,14 +304,14 @@ works_finished slots more waiting running done n id r x t e over k =
     listed in
     record {
       open_ones = subst (AllAsk more IsOpen) (append_assoc waiting g.front g.behind ∙ ap (λ (ids : List Id). waiting ++ ids) (sym (g.are None)))
-          (less_middle slots more IsOpen id (Some (content.Request r)) (Some (content.Request x)) (waiting ++ g.front) g.behind t
+          (less_middle slots more IsOpen id (Some (Content.Request r)) (Some (Content.Request x)) (waiting ++ g.front) g.behind t
           (request_fits_not IsOpen x (λ o. open_over x o over)) listed);
       ended = ended_by slots more done id r x t opened over k.ended;
     }
 
 -- the first of those that are done calls back, and its slot is freed
 pub works_collected : (slots more : List (Slot Content)) (waiting : List Id) (running : List (Option Id)) (done : Walk Id) (id : Id) (rest : List Id)
-    (r : Request) → Turns slots more id (Some (content.Request r)) None → done.yet ≡ id ∷ rest → Works slots waiting running done →
+    (r : Request) → Turns slots more id (Some (Content.Request r)) None → done.yet ≡ id ∷ rest → Works slots waiting running done →
     Works more waiting running (record done { yet = rest })
 works_collected slots more waiting running done id rest r t e k =
     let listed : AllAsk slots HasEnded (done.list ++ id ∷ rest) =
@@ -320,9 +319,9 @@ works_collected slots more waiting running done id rest r t e k =
     let a = listed.each id (has_new_middle done.list rest id) in
     let over : HasEnded r = subst HasEnded (same_Some _ _ (sym a.holds ∙ ap request_in t.before)) a.fits in
     record {
-      open_ones = all_apart slots more IsOpen id (Some (content.Request r)) None (waiting ++ run_ids running) t
+      open_ones = all_apart slots more IsOpen id (Some (Content.Request r)) None (waiting ++ run_ids running) t
           (request_fits_not IsOpen r (λ o. open_over r o over)) (none_fits IsOpen) k.open_ones;
-      ended = less_middle slots more HasEnded id (Some (content.Request r)) None done.list rest t (none_fits HasEnded) listed;
+      ended = less_middle slots more HasEnded id (Some (Content.Request r)) None done.list rest t (none_fits HasEnded) listed;
     }
 
 -- the section of those that are done begins
