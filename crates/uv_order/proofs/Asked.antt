@@ -23,8 +23,7 @@ pub record FrontRequest (s : State) (ids : List Id) (t : Id × Request) : Type 0
   pub holds : held s.arena.slots t.0 ≡ Some (Content.Request t.1)
 
 pub request_front : (s : State) (ids : List Id) (t : Id × Request) → front_request s ids ≡ Some t → FrontRequest s ids t
-request_front s [] t e = cc e
-request_front s (id ∷ ids) t e = grind (arith, holds, as_request, with_id_is)
+request_front s ids t e = grind arith
 
 -- what a worker may take
 pub record TakesFront (s : State) (n : ℕ) (t : Id × Request) : Type 0 where

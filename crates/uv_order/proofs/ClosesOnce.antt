@@ -38,8 +38,7 @@ still_line : (p : Program) (l : Seen) → IsStill (Some l) → IsQuiet p l × Is
 still_line p l each = grind arith
 
 still_may : (p : Program) (past : List Seen) (l : Seen) → IsStill (Some l) → MayFollow p past l
-still_may p past l (row.section word) = tt
-still_may p past l each = tt
+still_may p past l e3 = grind arith
 
 still_known : (p : Program) (past : List Seen) (t : State) (l : Option Seen) → IsStill l → KnownAt p past t → Follows p past (Moves t l)
 still_known p past t l q k = grind (arith, plain, still_may, still_line)
@@ -56,17 +55,12 @@ called_known p past s v x e k = known_names p past s.arena (slice_set s.names v.
 -- the callback of a handle that was started, and doesn't close
 call_known : (p : Program) (past : List Seen) (s : State) (run : Run) (id : Id) (v : Var) (h : HandleRecord) → handle s id ≡ Some h →
     h.closing ≡ false → (activity p past id).started ≡ true → KnownAt p past s → Follows p past (call p s run id v)
-call_known p past s run id v h e stays begun k = (
-  (not_closed p past s.arena s.names id h e stays k, begun),
-  known_quiet p past (Seen.Call v id) s.arena _ (assumption)
-      (assumption) (called_known p past s v _ refl k),
-)
+call_known p past s run id v h e stays begun k = search (not_closed, past, stays, known_quiet, called_known)
 
 -- what holds of each of a list holds of the front of its end
 front_fits : (s : State) (P : HandleRecord → Type 0) (xs ids : List Id) (t : Id × HandleRecord) → Each (Fits s.arena.slots P) (xs ++ ids) →
     FrontOf s ids t → P t.1
-front_fits s P xs ids t each f =
-    its_handle s.arena.slots P t.0 t.1 f.holds (subst (Each (Fits s.arena.slots P)) f.are (each_back (Fits s.arena.slots P) xs ids each)).0
+front_fits s P xs ids t each f = grind (arith, its_handle, each_back)
 
 -- the front of the ready list is called
 fired_known : (p : Program) (past : List Seen) (s : State) (run : Run) (t : Id × HandleRecord) → FrontOf s s.ready t → Kept s →
@@ -130,9 +124,7 @@ watched_stays s q t f kept = front_stays s (kind_as q) (watched s q) t (kept.wat
 
 walked_known : (p : Program) (past : List Seen) (s : State) (run : Run) (q : WatcherKind) (t : Id × HandleRecord) → FrontOf s (watched s q).yet t →
     Kept s → StartedAt p past s → KnownAt p past s → Follows p past (call p (front_moved s q t.0) run t.0 t.1.name)
-walked_known p past s run q t f kept begun k =
-    call_known p past (front_moved s q t.0) run t.0 t.1.name t.1 (moved_holds s q t.0 t.0 ∙ f.holds) (watched_stays s q t f kept)
-    (watcher_is_started p past s q t f kept begun) (moved_known p past s q t.0 k)
+walked_known p past s run q t f kept begun k = search (call_known, past, moved_holds, watched_stays, watcher_is_started, moved_known)
 
 woken_known : (p : Program) (past : List Seen) (s : State) (run : Run) (t : Id × HandleRecord) → FrontOf s s.watchers.async.yet t → Kept s →
     StartedAt p past s → KnownAt p past s →
@@ -202,8 +194,7 @@ ended_known p past s run t f kept work k =
 
 -- a cancel answers the id of what it cancelled, or why it is refused
 refused_says : (p : Program) (past : List Seen) (v : Var) (c : Code) → IsRefusal c → CancelSays p past v (Answer.Code c)
-refused_says p past v Code.Ok no_success = absurd (no_success refl)
-refused_says p past v each no_success = tt
+refused_says p past v c no_success = grind arith
 
 cancel_says : (p : Program) (past : List Seen) (s : State) (v : Var) → KnownAt p past s → CancelSays p past v (ops.cancel s (live_request s v)).answer
 cancel_says p past s v k = cancel_both s v (λ (d : ops.Done). CancelSays p past v d.answer) (refused_says p past v)
@@ -219,15 +210,11 @@ cancel_says p past s v k = cancel_both s v (λ (d : ops.Done). CancelSays p past
 -- what is made has a new id
 make_says : (p : Program) (past : List Seen) (s : State) (o : Option (Id × Content)) (made : Id → State) → Kept s → StartedAt p past s →
     MakesNew p past (ops.make s o made).answer
-make_says p past s o made kept begun = make_both s o made (λ (d : ops.Done). MakesNew p past d.answer) (λ c r. tt)
-    (λ id e. new_id p past s id e kept begun)
+make_says p past s o made kept begun = grind (arith, make_both, past, new_id)
 
 op_says : (p : Program) (past : List Seen) (s : State) (o : Op) → Kept s → StartedAt p past s → KnownAt p past s →
     OpSays p past (Some o) (do_op s o).answer
-op_says p past s (Op.Init v q) kept begun k = make_says p past s (live s v) (ops.with_new s v q) kept begun
-op_says p past s (Op.Queue v task) kept begun k = make_says p past s (live s v) (ops.with_queued s v task) kept begun
-op_says p past s (Op.Cancel v) kept begun k = cancel_says p past s v k
-op_says p past s each kept begun k = tt
+op_says p past s o kept begun k = grind (arith, make_says, past, cancel_says)
 
 -- the line of an op that is done
 op_line : (p : Program) (past : List Seen) (s : State) (place : Site) (o : Op) → op_at p place ≡ Some o → Kept s → StartedAt p past s →
@@ -292,8 +279,7 @@ did_known p past s n (row.still x time clock stop idled l q) kept work begun k =
 did_known p past s n (row.op x at o e) kept work begun k =
     (op_line p past s at o e kept begun k, op_known p past s o kept (λ id f. new_id p past s id f kept begun) k at e)
 did_known p past s n (row.begun run q e) kept work begun k = begin_known p past s run q k
-did_known p past s n (row.begun_closing run e) kept work begun k = begins_known p past (record s { closing = all_yet s.closing }) run Closing
-    Phase.Closing k
+did_known p past s n (row.begun_closing run e) kept work begun k = assumption
 did_known p past s n (row.begun_done run time e) kept work begun k =
     begins_known p past (record s { time = time; done = all_yet s.done }) run Done Phase.Done k
 did_known p past s n (row.collected run part t f) kept work begun k = changed p past s t (records.stopped t.1) f.holds refl refl k

@@ -104,9 +104,7 @@ pushed_held slots id i c e = grind (arith, elements)
 
 pub pushed_turns : (slots : List (Slot Content)) (c : Option Content) →
     Turns slots (slots ++ slot_with (record { slot = length slots; generation = 0 }) c ∷ []) (record { slot = length slots; generation = 0 }) None c
-pushed_turns slots c =
-    let id : Id = record { slot = length slots; generation = 0 } in
-    turns slots _ id _ _ (ap (look id) (none_at_end slots)) (λ i. pushed_held slots id i c refl)
+pushed_turns slots c = search (turns, none_at_end, pushed_held)
 
 -- ---- handles and requests
 

@@ -22,8 +22,7 @@ pub record FrontOf (s : State) (ids : List Id) (t : Id × HandleRecord) : Type 0
   pub holds : handle s t.0 ≡ Some t.1
 
 pub front_of : (s : State) (ids : List Id) (t : Id × HandleRecord) → front s ids ≡ Some t → FrontOf s ids t
-front_of s [] t e = cc e
-front_of s (id ∷ ids) t e = grind (arith, same_Some, holds)
+front_of s ids t e = grind arith
 
 pub record FirstOf (s : State) (ts : List (Due × Id)) (t : Id × HandleRecord) : Type 0 where
   pub key : Due
@@ -34,8 +33,7 @@ pub record FirstOf (s : State) (ts : List (Due × Id)) (t : Id × HandleRecord) 
   pub holds : handle s t.0 ≡ Some t.1
 
 pub first_of : (s : State) (ts : List (Due × Id)) (t : Id × HandleRecord) → first_due s ts ≡ Some t → FirstOf s ts t
-first_of s [] t e = cc e
-first_of s (x ∷ ts) t e = grind (arith, same_Some, holds)
+first_of s ts t e = grind arith
 
 -- ---- what a step does
 
@@ -170,8 +168,7 @@ place_did : (p : Program) (s : State) (x : Place) → BeginsAt x s → Did p s (
 place_did p s x r = grind (arith, main_did, run_did)
 
 take_did : (p : Program) (s : State) (n : ℕ) (t : Result (Id × Request) Why) → next_work s (slice_get s.running n) ≡ t → Did p s (step.take s n t)
-take_did p s n (Err why) e = refused why
-take_did p s n (Ok t) e = taken n t (takes_front s n t e)
+take_did p s n t e = grind (arith, refused, taken, takes_front)
 
 finish_did : (p : Program) (s : State) (n : ℕ) (t : Result (Id × Request) Why) → work_of s (slice_get s.running n) ≡ t → Did p s (step.finish s n t)
 finish_did p s n (Err why) e = refused why

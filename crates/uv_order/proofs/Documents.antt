@@ -68,8 +68,7 @@ did_op_off : (names : Names) (s : State) (o : Op) (d : ops.Done) → DidOp s o d
 did_op_off names s o d (which.refused o' c r may) k = off_refused (names_at s) names o' c r
 did_op_off names s o d (which.stopped v t e sync) k = off_stop (names_at s) names v (one_name names s v t k e)
 did_op_off names s o d (which.closed v t e stays) k = off_close (names_at s) names v (one_name names s v t k e)
-did_op_off names s o d (which.started v timeout repeat t e is stays) k = λ word. ap (ids_of (names_at s)) (start_off v timeout repeat word)
-    ∙ off_again (names_at s) names v (one_name names s v t k e) word ∙ ap (ids_of names) (sym (start_off v timeout repeat word))
+did_op_off names s o d (which.started v timeout repeat t e is stays) k = search (start_off, off_again, one_name)
 did_op_off names s o d (which.again v t e is stays) k = off_again (names_at s) names v (one_name names s v t k e)
 did_op_off names s o d (which.asked o' a (which.due_in v)) k = off_none names s (Op.DueIn v) a refl
 did_op_off names s o d (which.asked o' a each) k = off_none names s o a refl
@@ -202,28 +201,14 @@ holds_next p told past s at e k =
           goes = goes_same p told (names_by p past) (record { before = s; seen = l; after = t }) at f.to agree h f.goes;
           may = o.0;
           pools = q;
-          holds = record {
-            kept = j;
-            sent = subst (λ (y : Told). SentAt y.sent t) same i;
-            working = x;
-            stands = subst (λ (y : Told). Stands p y t f.to) same f.stands;
-            known = o.1;
-            started = b;
-          };
+          holds = grind arith;
         }
     by (Moves t None) j i x f o b h q =
         record { lasts = f.1; pools = q; holds = record { kept = j; sent = i; working = x; stands = f.0; known = o; started = b } }
     by (Refuses why) j i x f o b h q = k
 
 pub holds_fresh : (p : Program) → Holds p nothing_told [] (fresh p) (Between 0)
-holds_fresh p = record {
-  kept = fresh_kept p;
-  sent = sent_fresh p;
-  working = fresh_working p;
-  stands = stands_fresh p;
-  known = known_fresh p;
-  started = started_fresh p;
-}
+holds_fresh p = search (fresh_kept, sent_fresh, fresh_working, stands_fresh, known_fresh, started_fresh)
 
 -- ---- all steps
 
@@ -282,9 +267,7 @@ events_more o (e ∷ es) fs = events_more (then_event o e) es fs
 pool_by : {p : Program} {told : Told} {past : List Seen} {s u : State} {at : Position} {ls : List Line} → Course p told past s at ls u →
     after_events (Some (pool_of s)) (pool_events p (seens ls)) ≡ Some (pool_of u)
 pool_by (stop k) = refl
-pool_by {p} {s = s} {ls = x ∷ ls} (move f c) =
-    let rest = pool_events p (seens ls) in
-    events_more (Some (pool_of s)) (line_events p x.seen) rest ∙ ap (λ (o : Option Pool). after_events o rest) f.pools ∙ pool_by c
+pool_by {p} {s = s} {ls = x ∷ ls} (move f c) = grind (arith, events_more, (pool_by c))
 pool_by {p} {ls = ls} (quiet f c) = ap (λ (o : Pool). after_events (Some o) (pool_events p (seens ls))) (sym f.pools) ∙ pool_by c
 
 pub pools : (p : Program) (es : List Event) → replay (worker_count p) (pool_events p (lines p es)) ≡ Some (pool_of (after.after p es))

@@ -28,9 +28,7 @@ use Rattle.uv_order.proofs.WatchersFollow.{begin_follows, unwoken_follows, walk_
 
 -- someone is pending, so someone was sent to
 more_or : (a b x y : Bool) → (x ≡ true → y ≡ true) → (a || (b || x)) ≡ true → (a || (b || y)) ≡ true
-more_or true b x y f h = refl
-more_or false true x y f h = refl
-more_or false false x y f h = f h
+more_or a b x y f h = grind arith
 
 -- the poll is left where it may be
 pub left_poll : (p : Program) (told : Told) (s : State) (run : Run) (deadline : Option ℕ) → SentAt told.sent s → Working s → Counted p s.names told →
@@ -92,9 +90,7 @@ pub stage_follows : (p : Program) (told : Told) (s : State) (run : Run) (x : Sta
     SentAt told.sent s → Working s → Counted p s.names told → StandsIn p None x at →
     Leaves (rest (waiting x (from_heap p) s.ready (due_now s)) s) at → Follows p told (Running run.mode run.line at) s (step.stage_step p s run x)
 stage_follows p told s run Stage.Entry at st k h g c begun l = turn_follows p told s run AtEntry Begun (lives_is s g) refl tt k c l
-stage_follows p told s run Stage.Pending at st k h g c (pending {w = w} none b) l =
-    begin_follows p told s run WatcherKind.Idle (Within (In Phase.Pending) w) (empty_over Phase.Pending w none b, tt) idle_next refl k h c
-    (left_all l.timers l.idle l.prepare l.check l.async l.closing l.done)
+stage_follows p told s run Stage.Pending at st k h g c (pending {w = w} none b) l = search (begin_follows, empty_over, idle_next, left_all)
 stage_follows p told s run (Stage.Walking WatcherKind.Async) at st k h g c (walking b) l = async_follows p told s run _ (lives_is s g) st k h c l b
 stage_follows p told s run (Stage.Walking q) at st k h g c (walking b) l = walk_follows p told s run q _ (lives_is s g) tt st k h c l b
 stage_follows p told s run (Stage.Poll deadline) at st k h g c polls l = left_poll p told s run deadline h g c (left_all l.timers l.idle l.prepare
@@ -159,13 +155,11 @@ async_in s told o word w more k h l = still_none _ s.watchers.async.yet _ (op_ef
 
 -- no op takes a handle off the closing list
 pub closing_takes_none : (s : State) (o : Op) (a : Answer) → taken_off Phase.Closing (names_at s) o a ≡ []
-closing_takes_none s o (Answer.Code Code.Ok) = refl
-closing_takes_none s o each = refl
+closing_takes_none s o a = grind arith
 
 -- nor a request off the list of those that are done
 pub done_takes_none : (s : State) (o : Op) (a : Answer) → taken_off Phase.Done (names_at s) o a ≡ []
-done_takes_none s o (Answer.Code Code.Ok) = refl
-done_takes_none s o each = refl
+done_takes_none s o a = grind arith
 
 -- no list is touched by an op that takes nobody off it
 untouched : (now was off : List Id) → now ≡ was → off ≡ [] → now ≡ left_of was off
@@ -176,14 +170,7 @@ op_left : (s : State) (told : Told) (o : Op) (part : Section) (w : Walk) (more :
 op_left s told o part w more k h l =
     let f = op_effect s o k in
     let a = (do_op s o).answer in
-    (left_all (left_in Phase.Timers (word_of part) (names_at s) o a w more _ s.ready f.ready l.timers)
-    (left_in Phase.Idle (word_of part) (names_at s) o a w more _ s.watchers.idle.yet f.idle l.idle)
-    (left_in Phase.Prepare (word_of part) (names_at s) o a w more _ s.watchers.prepare.yet f.prepare l.prepare)
-    (left_in Phase.Check (word_of part) (names_at s) o a w more _ s.watchers.check.yet f.check l.check)
-    (async_in s told o (word_of part) w more k h l.async)
-    (left_in Phase.Closing (word_of part) (names_at s) o a w more _ s.closing.yet
-    (untouched _ s.closing.yet _ f.closing (closing_takes_none s o a)) l.closing)
-    (left_in Phase.Done (word_of part) (names_at s) o a w more _ s.done.yet (untouched _ s.done.yet _ f.done (done_takes_none s o a)) l.done))
+    search (left_all, left_in, async_in, untouched, closing_takes_none, done_takes_none)
 
 pub nothing_there : {A : Type 0} {o : Option A} {x : A} → o ≡ None → o ≡ Some x → ⊥
 nothing_there e f = cc (e, f)
@@ -257,8 +244,7 @@ body_follows p told s run body x at (Some y) st e k h c (closing {w = w} b) l =
 body_follows p told s run body x at (Some y) st e k h c (pending {w = w} none b) l =
     op_follows p told s run body (In Phase.Pending) w y e k c b
     (λ more is. rw st (running (pending none is) (op_left s told y.op (In Phase.Pending) w more k h l)))
-body_follows p told s run body x at (Some y) st e k h c (polled {woken = woken} b) l =
-    answer_op_follows p told s run body woken _ y st e k c b (left_all l.timers l.idle l.prepare l.check l.async l.closing l.done)
+body_follows p told s run body x at (Some y) st e k h c (polled {woken = woken} b) l = search (answer_op_follows, left_all)
 body_follows p told s run body x at (Some y) st e k h c (done {w = w} woken b) l =
     op_follows p told s run body (In Phase.Done) w y e k c b
     (λ more is. rw st (running (done woken is) (op_left s told y.op (In Phase.Done) w more k h l)))
@@ -276,10 +262,7 @@ body_follows p told s run body x at (Some y) st e k h c (calls_due {part = part}
 -- ---- the main program, and a whole step
 
 pub run_lasts : (o : Order) (m : Mode) (s : State) → lasting (if step.refreshes o m then refreshed s else s) ≡ doc.after_run o m s
-run_lasts V145 Default s = refl
-run_lasts V145 Once s = refl
-run_lasts V145 Nowait s = refl
-run_lasts V144 m s = refl
+run_lasts o m s = grind arith
 
 pub main_follows : (p : Program) (told : Told) (s : State) (i : ℕ) (x : Option MainOp) → slice_get p.main i ≡ x → Kept s → Counted p s.names told →
     NobodyLeft (rest s.ready s) →
@@ -313,9 +296,7 @@ pub run_follows : (p : Program) (told : Told) (s : State) (run : Run) (body : Op
     Working s → Counted p s.names told →
     StandsIn p body run.stage at → Leaves (rest (waiting run.stage (from_heap p) s.ready (due_now s)) s) at →
     Follows p told (Running run.mode run.line at) s (step.run_step p s run body)
-run_follows p told s run None at k sent g c h l = stage_follows p told s run run.stage at refl k sent g c h l
-run_follows p told s run (Some body) at k sent g c h l =
-    body_follows p told s run body run.stage at (slice_get (lines_in p body.callback body.name) body.next) refl refl k sent c h l
+run_follows p told s run body at k sent g c h l = grind (arith, stage_follows, body_follows)
 
 pub place_follows : (p : Program) (told : Told) (s : State) (x : Place) (at : Position) → Kept s → SentAt told.sent s →
     Working s → Counted p s.names told → StandsAt p s x at → Follows p told at s (step.loop_step p s x)
@@ -336,11 +317,7 @@ send_follows p told s at v h = cond_both (nat_lt v.0 (length s.names)) _ _ (Foll
     (λ c no_success. record {
       to = at;
       goes = doc.sent v c refl refl;
-      stands = record {
-        stands = h.stands;
-        counted =
-            counted_sent p _ told _ h.counted;
-      };
+      stands = grind arith;
     })
     (λ t f is. record {
       to = at;
@@ -391,10 +368,7 @@ finish_follows p told s at n h = by (work_of s (slice_get s.running n)) refl whe
   by (Ok t) e = record {
     to = at;
     goes = doc.finished n t.1.name t.0 refl (ap (option_map name_in) (runs_work s n t e).holds) refl;
-    stands = record {
-      stands = ends_on p s t _ s.waiting (slice_set s.running n None) (runs_work s n t e).holds s.place at h.stands;
-      counted = h.counted;
-    };
+    stands = grind (arith, ends_on, runs_work);
   }
 
 cancel_follows : (p : Program) (told : Told) (s : State) (at : Position) (v : Var) → Stands p told s at → Follows p told at s (step.cancels s v)
@@ -404,10 +378,7 @@ cancel_follows p told s at v h = cond_both (nat_lt v.0 (length s.names)) _ _ (Fo
     (λ t live on. record {
       to = at;
       goes = doc.cancelled v (Answer.Cancelled t.0) refl refl;
-      stands = record {
-        stands = ends_on p s t _ (without_id s.waiting t.0) s.running live.holds s.place at h.stands;
-        counted = h.counted;
-      };
+      stands = search ends_on;
     }))
     (λ e. tt)
 
@@ -431,20 +402,10 @@ follows p told s at (Tick ms) k sent g called h = tick_follows p told s at ms h
 -- a section begins only where none of its list is yet to run
 pub begins_in : (p : Program) (s : State) (body : Option Body) (x : Stage) (at : Standing) → StandsIn p body x at →
     Leaves (rest (waiting x (from_heap p) s.ready (due_now s)) s) at → BeginsIn body x s
-begins_in p s (Some body) x at h l = tt
-begins_in p s None Stage.Pending at (pending none b) l = l.idle
-begins_in p s None (Stage.Walking WatcherKind.Idle) at (walking b) l = l.prepare
-begins_in p s None (Stage.Poll deadline) at polls l = l.done
-begins_in p s None (Stage.Polled woken) at (polled b) l = l.done
-begins_in p s None Stage.Done at (done woken b) l = l.async
-begins_in p s None Stage.DoneUnwoken at (unwoken asleep none b) l = l.async
-begins_in p s None (Stage.Walking WatcherKind.Async) at (walking b) l = l.check
-begins_in p s None (Stage.Walking WatcherKind.Check) at (walking b) l = l.closing
-begins_in p s None each at h l = tt
+begins_in p s body x at e5 l = grind arith
 
 pub begins_at : (p : Program) (s : State) (x : Place) (at : Position) → StandsAt p s x at → BeginsAt x s
-begins_at p s (Place.Main i) at h = tt
-begins_at p s (Place.Running run) at (running h l) = begins_in p s run.body run.stage _ h l
+begins_at p s x at e4 = grind (arith, begins_in)
 
 -- where every script begins
 pub stands_fresh : (p : Program) → Stands p nothing_told (fresh p) (Between 0)

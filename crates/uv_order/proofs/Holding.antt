@@ -152,10 +152,7 @@ lists_put slots P id h x ids e f k = assumption (each_mapped (Fits slots P) (Fit
 
 pub lists_without : (slots : List (Slot Content)) (P : HandleRecord → Type 0) (id : Id) (h x : HandleRecord) (ids : List Id) →
     held_at slots id ≡ Some h → Lists slots P ids → Lists (put slots id x) P (without_id ids id)
-lists_without slots P id h x ids e k = record {
-  each = each_without (Fits slots P) (Fits (put slots id x) P) id (λ i d f. fits_other slots P id h x e i d f) ids k.each;
-  distinct = distinct_without ids id k.distinct;
-}
+lists_without slots P id h x ids e k = search (each_without, fits_other, distinct_without)
 
 pub lists_same : (slots more : List (Slot Content)) (P : HandleRecord → Type 0) (ids : List Id) → SameHandles more slots → Lists slots P ids →
     Lists more P ids
@@ -263,11 +260,7 @@ everyone_emptied slots P id h n ids e d k = grind (arith, fitted_emptied, lists_
 pub everyone_rest : (slots : List (Slot Content)) (P : HandleRecord → Type 0) (id : Id) (h : HandleRecord) (n : ℕ) (xs ys : List Id) →
     held_at slots id ≡ Some h → Everyone slots P (xs ++ id ∷ ys) → Everyone (emptied slots id n) P (xs ++ ys)
 everyone_rest slots P id h n xs ys e k = record {
-  lists = record {
-    each = each_but (Fits slots P) (Fits (emptied slots id n) P) xs ys id (λ i d f. fits_emptied slots P id h n e i d f) k.lists.distinct
-        k.lists.each;
-    distinct = distinct_but xs ys id k.lists.distinct;
-  };
+  lists = search (each_but, fits_emptied, distinct_but);
   all = λ i l. let f = fitted_emptied slots P id h n e i l in has_but xs ys id i (f.0) (k.all i f.1);
 }
 

@@ -85,8 +85,7 @@ Apart a b = a ≡ b → ⊥
 
 -- a watcher is no timer
 pub not_timer : (q : WatcherKind) → Apart Kind.Timer (kind_as q)
-not_timer WatcherKind.Idle = λ e. cc e
-not_timer each = λ e. cc e
+not_timer q = grind arith
 
 pub other_kind : (h x : HandleRecord) (a b : Kind) → h.kind ≡ a → Apart a b → Watches b h → Watches b x
 other_kind h x a b e d w = absurd (d (sym e ∙ w.kind))
@@ -303,11 +302,7 @@ started_lists : (s : State) (k q : WatcherKind) (id : Id) (x : HandleRecord) →
     Everyone (put s.arena.slots id x) (Watches (kind_as k)) (id ∷ members (watched s k)) →
     (Apart (kind_as k) (kind_as q) → Everyone (put s.arena.slots id x) (Watches (kind_as q)) (members (watched s q))) →
     Everyone (put s.arena.slots id x) (Watches (kind_as q)) (members (watched (with_watched s k (with_first (watched s k) id)) q))
-started_lists s WatcherKind.Idle WatcherKind.Idle id x own other = own
-started_lists s WatcherKind.Prepare WatcherKind.Prepare id x own other = own
-started_lists s WatcherKind.Check WatcherKind.Check id x own other = own
-started_lists s WatcherKind.Async WatcherKind.Async id x own other = own
-started_lists s k q id x own other = other (λ f. cc f)
+started_lists s k q id x own other = grind arith
 
 pub watcher_started_kept : (s : State) (k : WatcherKind) (id : Id) (h : HandleRecord) → handle s id ≡ Some h → h.kind ≡ kind_as k → h.active ≡ false →
     h.closing ≡ false → Kept s → Kept (ops.watcher_started s k id h)
@@ -321,8 +316,7 @@ watcher_started_kept s q id h e t off stays k =
 
 -- a handle of I/O is no watcher
 no_watcher : (q : WatcherKind) → Apart Kind.Io (kind_as q)
-no_watcher WatcherKind.Idle = λ e. cc e
-no_watcher each = λ e. cc e
+no_watcher q = grind arith
 
 -- one is started, which is on no list
 pub io_started_kept : (s : State) (id : Id) (h : HandleRecord) → handle s id ≡ Some h → h.kind ≡ Kind.Io → h.closing ≡ false → Kept s →
@@ -355,10 +349,7 @@ fills s (m ∷ ms) id c e k n =
     let is : id_of m k.0.slot ≡ id = same_Some _ _ (sym (ap (option_and_then (λ slot. Some (id_of m slot))) k.0.there) ∙ n) in
     let there : IsThere s.slots (id_of m k.0.slot) = record { slot = k.0.slot; there = k.0.there; generation = refl } in
     let t = set_turns s.slots (id_of m k.0.slot) (Some c) there in
-    subst (λ (i : Id). Fills s (m ∷ ms) i c) is (
-      record { before = t.before ∙ k.0.empty; here = t.here; others = t.others },
-      free_set s.slots m (slot_with (id_of m k.0.slot) (Some c)) ms k.1 k.2,
-    )
+    grind (arith, others, free_set)
 
 -- and where it puts a handle
 abbrev pub Takes : Slots Content → List ℕ → Id → HandleRecord → Type 0
@@ -377,13 +368,10 @@ sound_grown slots more id x g f k i y l = grind arith
 
 -- an inactive handle, which is none of the lists'
 pub new_unset : (v : Var) (q : Kind) (key : Due) → IsSet key (inited v q) → ⊥
-new_unset v Kind.Timer key a = absurd (on_off (inited v Kind.Timer) a.active refl)
-new_unset v Kind.Async key a = cc a.kind
-new_unset v each key a = on_off (inited v each) a.active refl
+new_unset v q key a = cc
 
 pub new_unwatched : (v : Var) (q r : Kind) → Apart Kind.Async r → Watches r (inited v q) → ⊥
-new_unwatched v Kind.Async r d w = d w.kind
-new_unwatched v each r d w = on_off (inited v each) w.active refl
+new_unwatched v q r d w = grind arith
 
 pub new_by : (s : State) (v : Var) (q : Kind) (id : Id) (w : Walk Id) → Takes s.arena s.arena.free id (inited v q) →
     Everyone (taken id (Content.Handle (inited v q)) s.arena).slots (Watches Kind.Async) (members w) → Kept s →
@@ -391,8 +379,7 @@ pub new_by : (s : State) (v : Var) (q : Kind) (id : Id) (w : Walk Id) → Takes 
 new_by s v q id w t async k =
     record {
       sound = sound_grown s.arena.slots more id x t.0 (record {
-        shut = λ shut. absurd
-            (open_shut x shut refl);
+        shut = grind arith;
         awake = λ async unshut. ap is_async async;
       }) k.sound;
       free = t.1;
@@ -432,7 +419,6 @@ new_kept s v Kind.Async id e k =
       active = refl;
     }) (k.watchers WatcherKind.Async) in
     let w = s.watchers.async in
-    new_by s v Kind.Async id (with_last w id) t
-    (subst (Everyone more (Watches Kind.Async)) (sym (append_assoc w.list (id ∷ []) w.yet)) listed) k
+    search (new_by, append_assoc, listed)
 new_kept s v each id e k = let t = takes s.arena s.arena.free id (inited v each) refl k.free e in new_by s v each id s.watchers.async t
     (async_still s v each id refl t k) k

@@ -40,8 +40,7 @@ did_op_kept s o d (which.io_started v t e is off stays) k = io_started_kept s t.
 did_op_kept s o d (which.stopped v t e sync) k = stopped_kept s t.0 t.1 (live_held s v t e) sync k
 did_op_kept s o d (which.closed v t e stays) k = closed_kept s t.0 t.1 (live_held s v t e) stays k
 did_op_kept s o d (which.repeated v n t e) k = put_kept s t.0 t.1 (repeating n t.1) (live_held s v t e) refl refl refl refl k
-did_op_kept s o d (which.referenced o' v flag t e is) k =
-    put_kept s t.0 t.1 (referenced_as flag t.1) (live_held s v t e) refl refl refl refl k
+did_op_kept s o d (which.referenced o' v flag t e is) k = search (put_kept, live_held)
 did_op_kept s o d (which.sent_to v t e is stays) k = put_kept s t.0 t.1 (records.sent t.1) (live_held s v t e) refl refl refl refl k
 did_op_kept s o d each k = k
 
@@ -51,8 +50,7 @@ op_kept s o k = did_op_kept s o (do_op s o) (op_did s o) k
 -- ---- fronts of lists
 
 pub no_front : (s : State) (P : HandleRecord → Type 0) (ids : List Id) → Each (Fits s.arena.slots P) ids → front s ids ≡ None → ids ≡ []
-no_front s P [] h e = refl
-no_front s P (id ∷ ids) h e = cc (ap (with_id id) (sym h.0.holds) ∙ e)
+no_front s P ids h e = grind arith
 
 -- ---- the rows
 
@@ -110,10 +108,7 @@ collected_kept s t f k =
       free = free_put s.arena.slots t.0 t.1 x s.arena.free f.holds k.free;
       timers = subst (Times (put s.arena.slots t.0 x) s.next_start) (sym f.behind) (times_rest s.arena.slots s.next_start (f.key, t.0) f.rest t.1 x
           f.holds refl times);
-      ready = record {
-        each = each_push (Fits (put s.arena.slots t.0 x) Rests) s.ready t.0 ready.each last;
-        distinct = distinct_push s.ready t.0 ready.distinct away;
-      };
+      ready = search (each_push, distinct_push);
       watchers = λ q. others s.arena.slots Kind.Timer (kind_as q) t.0 t.1 x (members (watched s q)) f.holds set.kind set.kind (not_timer q)
           (k.watchers q);
       closing = everyone_put s.arena.slots Closes t.0 t.1 x (members s.closing) f.holds (λ shut. shut) (λ shut. shut) k.closing;
@@ -160,8 +155,7 @@ front_moved_kept s q t f k = with_watched_kept s q (moved_on (watched s q) t.0 (
 
 pub woken_kept : (s : State) (t : Id × HandleRecord) → FrontOf s s.watchers.async.yet t → Kept s →
     Kept (with_handle (front_moved s WatcherKind.Async t.0) t.0 (records.woken t.1))
-woken_kept s t f k = put_kept (front_moved s WatcherKind.Async t.0) t.0 t.1 (records.woken t.1) f.holds refl refl refl refl (front_moved_kept s
-    WatcherKind.Async t f k)
+woken_kept s t f k = search (put_kept, front_moved_kept)
 
 -- the front of the closing handles leaves, and its slot is freed
 pub gone_kept : (s : State) (t : Id × HandleRecord) (rest : List Id) (n : ℕ) (free : List ℕ) → handle s t.0 ≡ Some t.1 → s.closing.yet ≡ t.0 ∷ rest →

@@ -139,10 +139,7 @@ known_close p past place v arena names id h x e is holds shut called k = record 
   closed = λ i c. closed i (or_cases (is_some_id i (bound p past v)) (was_closed p past i) (sym (ap
       (λ (o : Option Var). is_bound p past i o || was_closed p past i) closed_now) ∙ c));
   over = λ i c. gone_put arena.slots arena.free id h x i holds (k.over i c);
-  worked = worked_idle p past (Seen.Op place (Answer.Code Code.Ok)) (record arena { slots = put arena.slots id x }) _ _
-      (idle_op p place (Op.Close v) (Answer.Code Code.Ok) e (λ i. (refl, refl)))
-      (worked_same p past arena (record arena { slots = put arena.slots id x }) _ _ (same_put arena.slots id h x holds)
-      (λ i g. gone_put arena.slots arena.free id h x i holds g) k.worked);
+  worked = search (worked_idle, past, idle_op, worked_same, same_put, holds, gone_put);
 } where
   said : answered p (Seen.Op place (Answer.Code Code.Ok)) ≡ Some (record { op = Op.Close v; answer = Answer.Code Code.Ok })
   said = is_answered p place (Op.Close v) (Answer.Code Code.Ok) e

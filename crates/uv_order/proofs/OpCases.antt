@@ -19,8 +19,7 @@ as_watcher each k e = grind (arith, same_Some)
 
 -- what is found under an id
 pub with_id_is : {X : Type 0} (id : Id) (o : Option X) (t : Id × X) → with_id id o ≡ Some t → (id ≡ t.0) × (o ≡ Some t.1)
-with_id_is id None t e = cc e
-with_id_is {X} id (Some x) t e = grind (arith, same_Some)
+with_id_is id o t e = grind arith
 
 -- what the names of a state are bound to, and what is held is called
 abbrev pub names_at : State → Names
@@ -231,8 +230,7 @@ op_did s (Op.Queue v task) =
 op_did s (Op.Cancel v) = cancel_both s v (DidOp s (Op.Cancel v)) (λ c r. refused _ c r tt) (λ t live on. cancelled v t live on)
 op_did s (Op.Start v timeout repeat) = held_did s (Op.Start v timeout repeat) v start_timer_refusal _ tt refuses_start
     (λ t e is. let p = start_passes t.1 is in started v timeout repeat t e p.0 p.1)
-op_did s (Op.StartWatcher v) = held_did s (Op.StartWatcher v) v start_watcher_refusal _ tt refuses_start_watcher
-    (λ t e is. watcher_did s v t e (start_watcher_passes t.1 is))
+op_did s (Op.StartWatcher v) = grind (arith, held_did, refuses_start_watcher, watcher_did, start_watcher_passes)
 op_did s (Op.Stop v) = held_did s (Op.Stop v) v stop_refusal _ tt refuses_stop (λ t e is. stopped v t e (stop_passes t.1 is))
 op_did s (Op.Again v) = held_did s (Op.Again v) v again_refusal _ tt refuses_again
     (λ t e is. let p = again_passes t.1 is in again v t e p.0 p.1)

@@ -146,9 +146,7 @@ start_off v timeout repeat word = grind arith
 
 start_effect : (s : State) (v : Var) (timeout repeat : ℕ) (t : Id × HandleRecord) → live_handle s v ≡ Ok t → t.1.kind ≡ Kind.Timer → Kept s →
     Effect s (Op.Start v timeout repeat) (ops.start s timeout repeat t.0 t.1)
-start_effect s v timeout repeat t e is k =
-    timer_effect s (started (stopped s t.0 t.1) t.0 t.1 timeout repeat) (Op.Start v timeout repeat) v t e is k
-    (start_off v timeout repeat) refl refl refl (assumption)
+start_effect s v timeout repeat t e is k = search (timer_effect, start_off)
 
 again_effect : (s : State) (v : Var) (t : Id × HandleRecord) → live_handle s v ≡ Ok t → t.1.kind ≡ Kind.Timer → Kept s → Effect s (Op.Again v)
     (ops.again s t.0 t.1)
@@ -188,8 +186,7 @@ simple : (s : State) (o : Op) (d : ops.Done) → takes o ≡ false → lasting d
 simple s o d e lasts names lists = still s o d e lasts (rw names (same_calls s.names)) lists
 
 new_effect : (s : State) (v : Var) (q : Kind) (id : Id) → Effect s (Op.Init v q) (record { state = ops.with_new s v q id; answer = Answer.Id id })
-new_effect s v Kind.Timer id = still s (Op.Init v Kind.Timer) _ refl refl (bound_calls s.names v.0 _ refl)
-    (assumption)
+new_effect s v Kind.Timer id = search (still, bound_calls)
 new_effect s v each id = still s (Op.Init v each) _ refl refl (bound_calls s.names v.0 _ refl) (assumption)
 
 asked_effect : (s : State) (o : Op) (a : Answer) → IsAsked o → Effect s o (ops.says s a)

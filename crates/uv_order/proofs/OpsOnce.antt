@@ -33,8 +33,7 @@ Harmless o = (a : Answer) → IsQuietOp o a × IsIdleOp o a
 
 pub known_by : (p : Program) (past : List Seen) (o : Op) (d : ops.Done) → IsQuietOp o d.answer × IsIdleOp o d.answer → KnownAt p past d.state →
     KnownBy p past o d
-known_by p past o d q k place e = known_quiet p past (Seen.Op place d.answer) d.state.arena d.state.names (quiet_op p place o d.answer e q.0)
-    (idle_op p place o d.answer e q.1) k
+known_by p past o d q k place e = search (known_quiet, past, quiet_op, idle_op)
 
 -- the record of a handle changes, which goes on closing or not as before
 pub changed : (p : Program) (past : List Seen) (s : State) (t : Id × HandleRecord) (x : HandleRecord) → handle s t.0 ≡ Some t.1 →
@@ -125,9 +124,7 @@ queued_known p past s v task id e kept unmade k place at =
     let w : Worked p (Seen.Op place (Answer.Id id) ∷ past) now (s.waiting ++ id ∷ []) (run_ids s.running) =
     worked_queued p past place v task s.arena now s.waiting (run_ids s.running) (s.waiting ++ id ∷ []) id at t fresh (listed s.waiting id) gone
     k.worked in
-    known_bound p past place v (Op.Queue v task) s.arena now s.names id (record (named s v) { id = Some id }) at (λ u b. refl) (λ i. refl)
-    (unmade id e) (λ i u h. new_or_old s.arena.slots now.slots id c v i u refl t h) refl refl
-    (same_handles s.arena.slots now.slots id None (Some c) t refl refl) gone w k
+    search (known_bound, past, new_or_old, same_handles, gone)
 
 pub fewer : (ids : List Id) (id i : Id) → has_id (without_id ids id) i ≡ true → has_id ids i ≡ true
 fewer ids id i e = grind (arith, still_absent)
@@ -204,11 +201,7 @@ did_op_known p past s o d (which.started v timeout repeat t e is stays) kept unm
     (twice p past s t (records.stopped t.1) _ (live_held s v t e) refl refl refl refl k)
 did_op_known p past s o d (which.again v t e is stays) kept unmade k =
     known_by p past o d (harmless (Op.Again v) refl _) (again_known p past s t (live_held s v t e) k)
-did_op_known p past s o d (which.watching v q t e is off stays) kept unmade k =
-    known_by p past o d (harmless (Op.StartWatcher v) refl _) (by q) where
-      by : (q : WatcherKind) → KnownAt p past (ops.watcher_started s q t.0 t.1)
-      by WatcherKind.Idle = changed p past s t (records.activated t.1) (live_held s v t e) refl refl k
-      by each = changed p past s t (records.activated t.1) (live_held s v t e) refl refl k
+did_op_known p past s o d (which.watching v q t e is off stays) kept unmade k = search (known_by, past, harmless, changed, live_held)
 did_op_known p past s o d (which.io_started v t e is off stays) kept unmade k =
     known_by p past o d (harmless (Op.StartWatcher v) refl _)
     (changed p past s t (records.activated t.1) (live_held s v t e) refl refl k)

@@ -124,9 +124,7 @@ cancelled_pool s t e on k =
     let apart = apart_done s u t.0 (Some (Content.Request t.1)) (Some (Content.Request x)) turns
     (λ r f. ap (λ (y : Request). is_open y.outcome) (sym (same_Some _ _ f)) ∙ opened) k in
     let distinct = distinct_front s.waiting (run_ids s.running) k.open_ones.distinct in
-    rw (waits_has s.waiting t.0, here)
-    (ap Some (equal_pools _ _ _ _ _ _ (without_first s.waiting t.0 distinct) refl (sym (last_done s u t.0 false
-    (its_outcome s u t.0 t.1 x turns) apart))))
+    grind (arith, waits_has, equal_pools, without_first, last_done, its_outcome, turns, apart)
 
 -- a worker finishes the one that it runs
 finished_pool : (s : State) (n : ℕ) (t : Id × Request) → RunsWork s n t → Working s → after_event (pool_of s) (PoolEvent.Finish n t.0)
@@ -138,8 +136,7 @@ finished_pool s n t f k =
     let opened = runs_open s.arena.slots s.waiting s.running s.done t.0 t.1 f.holds (runs_now s.running n t.0 f.busy) k in
     let apart = apart_done s u t.0 (Some (Content.Request t.1)) (Some (Content.Request x)) turns
     (λ r h. ap (λ (y : Request). is_open y.outcome) (sym (same_Some _ _ h)) ∙ opened) k in
-    rw f.busy (rw (itself t.0 t.0 refl)
-    (ap Some (equal_pools _ _ _ _ _ _ refl refl (sym (last_done s u t.0 true (its_outcome s u t.0 t.1 x turns) apart)))))
+    grind (arith, itself, equal_pools, last_done, its_outcome, turns, apart)
 
 -- the first of those that are done calls back
 collected_pool : (s : State) (last : ℕ) (t : Id × Request) → FrontRequest s s.done.yet t → Working s → after_event (pool_of s) (PoolEvent.Collect t.0)
@@ -169,8 +166,7 @@ PoolsBy s o d = after_events (Some (pool_of s)) (op_events o d.answer) ≡ Some 
 
 -- one that isn't one of requests is none
 quiet_op : (s : State) (o : Op) → IsOfHandles o → ((a : Answer) → op_events o a ≡ []) → Kept s → PoolsBy s o (do_op s o)
-quiet_op s o h none kept = ap (after_events (Some (pool_of s))) (none (do_op s o).answer)
-    ∙ ap Some (sym (pool_same s (do_op s o).state (op_same s o h kept)))
+quiet_op s o h none kept = grind (arith, pool_same, op_same)
 
 -- a refused one is none
 refused_op : (s : State) (o : Op) (c : Code) → op_events o (Answer.Code c) ≡ [] → PoolsBy s o (ops.refuses s c)
@@ -218,8 +214,7 @@ did_quiet p s n each h = absurd h
 
 -- the section of those that are done begins
 begun_pool : (s : State) → s.done.yet ≡ [] → pool_of (record s { done = all_yet s.done }) ≡ pool_of s
-begun_pool s e = equal_pools _ _ _ _ _ _ refl refl
-    (ap (map (done_as s)) (append-nil s.done.list) ∙ ap (λ (ids : List Id). map (done_as s) (ids ++ s.done.list)) (sym e))
+begun_pool s e = grind (arith, equal_pools, append-nil)
 
 outside_pools : (p : Program) (s : State) (v : Var) → Working s →
     after_events (Some (pool_of s)) (outside_events (ops.cancel s (live_request s v)).answer) ≡ Some (pool_of (ops.cancel s (live_request s v)).state)

@@ -18,11 +18,4 @@ taken past [] id e = e
 taken past (x ∷ before) id e = grind (arith, taken (x ∷ past) before id)
 
 pub refused : (p : Program) (before more : List Seen) → RefusedOnce p before more
-refused p before more = record {
-  bare_ok = λ v h. follows p before more [] (Seen.Cancel v (Answer.Code Success)) h;
-  bare_ok_op = λ v place e h.
-      subst (λ (o : Option Op). OpSays p (turned [] before) o (Answer.Code Success)) e
-      (follows p before more [] (Seen.Op place (Answer.Code Success)) h);
-  late_cancel = λ v id e h. both_ways (has_take_line (turned [] before) id) (follows p before more [] (Seen.Cancel v (Answer.Cancelled id)) h).waits
-      (taken [] before id (rw e refl));
-}
+refused p before more = grind (arith, follows, turned, both_ways, taken)

@@ -91,14 +91,10 @@ record Answered (part : Section) (w : Walk) (to : Standing) : Type 0 where
   off : walk.off ≡ w.off
 
 answered : (s : State) (told : Told) (body : List Site) (part : Section) (w : Walk) → Answered part w (doc.answering s told body (Within part w))
-answered s told body (In Phase.Async) w = record { walk = record w { ahead = []; body = body }; is = refl; off = refl }
-answered s told body part w = record { walk = record w { body = body }; is = refl; off = refl }
+answered s told body part w = grind arith
 
 answers_in : (part : Section) (w : Walk) → MayAnswer (Within part w) → holds_io (word_of part) ≡ true
-answers_in (In Phase.Pending) w a = refl
-answers_in (In Phase.Done) w a = refl
-answers_in (In Phase.Async) w a = refl
-answers_in part w a = absurd a
+answers_in part w a = grind arith
 
 -- who is called in a section wasn't taken off
 call_tells : (p : Program) (told : Told) (names : Names) (part : Section) (w walk : Walk) (s : State) (kind : Callback) (v : Var) (id : Id)

@@ -113,13 +113,11 @@ changed s sent t x e p q o k = sent_put sent s.arena.slots t.0 t.1 x e p q o k
 twice : (s : State) (sent : List Id) (t : Id × HandleRecord) (x y : HandleRecord) → handle s t.0 ≡ Some t.1 → x.pending ≡ t.1.pending →
     x.kind ≡ t.1.kind → x.closing ≡ t.1.closing → y.pending ≡ x.pending → y.kind ≡ x.kind → y.closing ≡ x.closing → SentAt sent s →
     Sent sent (put (put s.arena.slots t.0 x) t.0 y)
-twice s sent t x y e p q o p' q' o' k = sent_put sent (put s.arena.slots t.0 x) t.0 x y (put_same s.arena.slots t.0 t.1 x e) p' q' o'
-    (changed s sent t x e p q o k)
+twice s sent t x y e p q o p' q' o' k = search (sent_put, put_same, changed)
 
 again_sent : (s : State) (sent : List Id) (t : Id × HandleRecord) → handle s t.0 ≡ Some t.1 → SentAt sent s →
     SentAt sent (restarted (stopped s t.0 t.1) t.0 t.1)
-again_sent s sent t e k = cond_both (t.1.repeat == 0) _ _ (SentAt sent) (λ z. changed s sent t (records.stopped t.1) e refl refl refl k)
-    (λ z. twice s sent t (records.stopped t.1) _ e refl refl refl refl refl refl k)
+again_sent s sent t e k = grind (arith, cond_both, changed, twice)
 
 new_sent : (s : State) (sent : List Id) (v : Var) (q : Kind) (id : Id) → next_free s.arena ≡ Some id → Kept s → SentAt sent s →
     SentAt (without_id sent id) (ops.with_new s v q id)
@@ -155,8 +153,7 @@ did_op_sent s sent o d which.time_updated kept k = k
 did_op_sent s sent o d (which.made v q id e) kept k = new_sent s sent v q id e kept k
 did_op_sent s sent o d (which.queued v task id e) kept k = queued_sent s sent v task id e kept k
 did_op_sent s sent o d (which.cancelled v t live on) kept k = request_sent s sent t.0 t.1 _ live.holds k
-did_op_sent s sent o d (which.started v timeout repeat t e is stays) kept k =
-    twice s sent t (records.stopped t.1) _ (live_held s v t e) refl refl refl refl refl refl k
+did_op_sent s sent o d (which.started v timeout repeat t e is stays) kept k = search (twice, live_held)
 did_op_sent s sent o d (which.again v t e is stays) kept k = again_sent s sent t (live_held s v t e) k
 did_op_sent s sent o d (which.watching v WatcherKind.Idle t e is off stays) kept k =
     changed s sent t (records.activated t.1) (live_held s v t e) refl refl refl k
@@ -198,8 +195,7 @@ fired_sent s sent t f kept k =
     let off = not_pending sent s.arena.slots t.0 t.1 Kind.Timer f.holds is (λ c. cc c) k in
     let u : State = record s { ready = drop 1 s.ready } in
     let called : SentAt (without_id sent t.0) u = sent_none sent s.arena.slots t.0 t.1 f.holds off k in
-    cond_both (t.1.repeat == 0) u (started u t.0 t.1 t.1.repeat t.1.repeat) (SentAt (without_id sent t.0)) (λ z. called)
-    (λ z. changed u (without_id sent t.0) t _ f.holds refl refl refl called)
+    grind (arith, cond_both, changed)
 
 -- a timer that is due is called straight from the order of timers
 due_sent : (s : State) (sent : List Id) (t : Id × HandleRecord) → FirstOf s s.timers t → Kept s → SentAt sent s →
@@ -280,10 +276,7 @@ stays_sent s sent (Op.Close v) id kept d on e =
     refuses_close
     (λ c no_success f. subst (λ (ids : List Id). has_id ids id ≡ true) (sym (refused_sent s sent (Op.Close v) c no_success)) e)
     (λ t f is g. still_closed sent (ids_of (names_at s) (Some v)) t.0 id (one_taken s v t f) g e) d
-stays_sent s sent (Op.Send v) id kept d on e = send_both s v
-    (λ (c : ops.Coded). has_id (sent_by (Op.Send v) (Answer.Code c.code) (names_at s) sent) id ≡ true)
-    (λ c no_success. subst (λ (ids : List Id). has_id ids id ≡ true) (sym (refused_sent s sent (Op.Send v) c no_success)) e)
-    (λ t f is. subst (λ (ids : List Id). has_id (ids ++ sent) id ≡ true) (sym (one_taken s v t f)) (or_right (same_id t.0 id) (has_id sent id) e))
+stays_sent s sent (Op.Send v) id kept d on e = grind arith
 stays_sent s sent each id kept d on e = e
 
 -- who is left after an op

@@ -88,10 +88,7 @@ AsyncLeft slots (Answering woken body) ids = ids ≡ []
 -- handles change, and who was pending still is
 pub async_moved : (slots more : List (Slot Content)) → ((id : Id) → pends slots id ≡ true → pends more id ≡ true) → (at : Standing) (ids : List Id) →
     AsyncLeft slots at ids → AsyncLeft more at ids
-async_moved slots more f Begun ids k = k
-async_moved slots more f (Within part w) ids k = grind arith
-async_moved slots more f (Polling deadline) ids k = k
-async_moved slots more f (Answering woken body) ids k = k
+async_moved slots more f at ids k = grind arith
 
 -- the members of the lists that sections walk, but for those that were called
 pub record Rest : Type 0 where
@@ -175,41 +172,20 @@ reached_by ToEnd = doc.End
 
 -- the table of the step is that of the documented order
 pub ways_agree : (o : Order) (m : Mode) (go : Bool) (turn : Turn) → part_after o m go (left turn) ≡ reached_by (way o m go turn)
-ways_agree V144 Default true (Behind TimersOf.Entry) = refl
-ways_agree V144 Default false (Behind TimersOf.Entry) = refl
-ways_agree V144 Once true (Behind TimersOf.Entry) = refl
-ways_agree V144 Once false (Behind TimersOf.Entry) = refl
-ways_agree V144 Nowait true (Behind TimersOf.Entry) = refl
-ways_agree V144 Nowait false (Behind TimersOf.Entry) = refl
-ways_agree V145 Default true (Behind TimersOf.Entry) = refl
-ways_agree V145 Default false (Behind TimersOf.Entry) = refl
-ways_agree V145 Once true (Behind TimersOf.Entry) = refl
-ways_agree V145 Once false (Behind TimersOf.Entry) = refl
-ways_agree V145 Nowait true (Behind TimersOf.Entry) = refl
-ways_agree V145 Nowait false (Behind TimersOf.Entry) = refl
-ways_agree o m go turn = refl
+ways_agree o m go turn = grind arith
 
 -- so is what the lines of the sections set
 pub timers_last : (o : Order) (part : TimersOf) (s : State) →
     record (lasting s) { time = time_at o part s; idled = idled_at o part s } ≡ doc.after_word o (section_of part) s
-timers_last V144 TimersOf.Entry s = refl
-timers_last V144 TimersOf.Iteration s = refl
-timers_last V145 TimersOf.Entry s = refl
-timers_last V145 TimersOf.Iteration s = refl
+timers_last o part s = grind arith
 
 pub pending_lasts : (o : Order) (s : State) → record (lasting s) { idled = idled_then o s } ≡ doc.after_word o (In Phase.Pending) s
-pending_lasts V144 s = refl
-pending_lasts V145 s = refl
+pending_lasts o s = assumption
 
 -- behind no turn of a run stands a callback of I/O that left the poll
 pub no_answer : (o : Order) (at : Standing) (turn : Turn) (part : Section) (s : State) → part_of at ≡ left turn →
     doc.after_word o part s ≡ doc.after_section o at part s
-no_answer o (Answering woken body) AtEntry part s e = cc e
-no_answer o (Answering woken body) (Behind x) part s e = cc e
-no_answer o (Answering woken body) BehindClosing part s e = cc e
-no_answer o Begun turn part s e = refl
-no_answer o (Within x w) turn part s e = refl
-no_answer o (Polling deadline) turn part s e = refl
+no_answer o at turn part s e = grind arith
 
 -- a part that one part follows, whether the loop goes on or not
 abbrev pub IsNext : doc.Part → doc.Part → Type 0

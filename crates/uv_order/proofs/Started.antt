@@ -115,31 +115,23 @@ op_tells p past place o a i e = ap (λ (d : Option Answered). activity_answered 
 
 op_makes : (p : Program) (past : List Seen) (place : Site) (o : Op) (a : Answer) (i : Id) → op_at p place ≡ Some o →
     made_as p (Seen.Op place a ∷ past) i ≡ first_of (makes o a i) (made_as p past i)
-op_makes p past place o a i e =
-    ap (λ (d : Option Answered). first_of (made_by d i) (made_as p past i)) (is_answered p place o a e)
+op_makes p past place o a i e = cc
 
 makes_none : (p : Program) (past : List Seen) (place : Site) (o : Op) (a : Answer) (i : Id) (v : Var) → op_at p place ≡ Some o →
     makes o a i ≡ None → made_as p (Seen.Op place a ∷ past) i ≡ Some v → made_as p past i ≡ Some v
-makes_none p past place o a i v e none m =
-    sym (op_makes p past place o a i e ∙ ap (λ (d : Option Var). first_of d (made_as p past i)) none) ∙ m
+makes_none p past place o a i v e none m = cc
 
 -- that of an op which makes no id, starts and stops nobody
 silent_op : (p : Program) (past : List Seen) (place : Site) (o : Op) (a : Answer) → op_at p place ≡ Some o → ((i : Id) → makes o a i ≡ None) →
     ((i : Id) (x : Activity) → activity_done p past o a i x ≡ x) → Silent p past (Seen.Op place a ∷ past)
-silent_op p past place o a e none still = record {
-  made = λ i v m. makes_none p past place o a i v e (none i) m;
-  same = λ i. op_tells p past place o a i e ∙ still i (activity p past i);
-}
+silent_op p past place o a e none still = grind arith
 
 nobody : (b : Bool) (x y : Activity) → (if b && false then x else y) ≡ y
-nobody true x y = refl
-nobody false x y = refl
+nobody b x y = grind arith
 
 refused_still : (p : Program) (past : List Seen) (o : Op) (c : Code) (i : Id) (x : Activity) → IsRefusal c →
     activity_done p past o (Answer.Code c) i x ≡ x
-refused_still p past (Op.Init v q) c i x r = refl
-refused_still p past o Code.Ok i x r = absurd (r refl)
-refused_still p past o each i x r = grind (arith, nobody)
+refused_still p past o c i x r = grind (arith, nobody)
 
 asked_still : (p : Program) (past : List Seen) (o : Op) (a : Answer) (i : Id) (x : Activity) → IsAsked o → activity_done p past o a i x ≡ x
 asked_still p past o a i x (which.due_in v) = refl
@@ -235,13 +227,7 @@ io_started p past s v t e is k place at =
 -- a watcher is started, with its list
 watcher_started : (p : Program) (past : List Seen) (s : State) (v : Var) (q : WatcherKind) (t : Id × HandleRecord) → live_handle s v ≡ Ok t →
     bound p past v ≡ Some t.0 → StartedAt p past s → StartedBy p past (Op.StartWatcher v) (ops.succeeds (ops.watcher_started s q t.0 t.1))
-watcher_started p past s v q t e is k place at = by q where
-  begun : StartedAt p (Seen.Op place (Answer.Code Code.Ok) ∷ past) (with_handle s t.0 (records.activated t.1))
-  begun = io_started p past s v t e is k place at
-
-  by : (x : WatcherKind) → StartedAt p (Seen.Op place (Answer.Code Code.Ok) ∷ past) (ops.watcher_started s x t.0 t.1)
-  by WatcherKind.Idle = begun
-  by each = begun
+watcher_started p past s v q t e is k place at = search (past, io_started)
 
 -- one that is active isn't started again
 still_watches : (p : Program) (past : List Seen) (s : State) (v : Var) (t : Id × HandleRecord) → live_handle s v ≡ Ok t → t.1.active ≡ true →
@@ -279,9 +265,7 @@ request_started : (p : Program) (past now : List Seen) (s : State) (id : Id) (r 
     Silent p past now → StartedAt p past s → StartedAt p now (with_request s id x)
 request_started p past now s id r x e q k =
     let t = request_turns s.arena.slots id r x e in
-    started_same p past now s.arena (with_request s id x).arena s.ready (same_handles s.arena.slots _ id _ _ t refl refl)
-    (λ i o. old_turned s.arena (with_request s id x).arena id i _ _ t
-    (λ j g. gone_turned s.arena.slots s.arena.free id (Content.Request r) (Some (Content.Request x)) j e g) o) q k
+    search (started_same, past, same_handles, old_turned, gone_turned)
 
 -- ---- what is made
 
@@ -362,8 +346,7 @@ did_op_started p past s o d (which.refused o' c r may) kept w k = still_op p pas
     (λ i x. refused_still p past o' c i x r) (λ now q. unchanged p past now s q k)
 did_op_started p past s o d (which.asked o' a is) kept w k = still_op p past s o' d (harmless o' (asked_harmless o' is) a).0.made
     (λ i x. asked_still p past o' a i x is) (λ now q. unchanged p past now s q k)
-did_op_started p past s o d which.loop_stopped kept w k =
-    still_op p past s Op.StopLoop d (λ i. refl) (λ i x. refl) (λ now q. unchanged p past now s q k)
+did_op_started p past s o d which.loop_stopped kept w k = search (still_op, past, unchanged)
 did_op_started p past s o d which.time_updated kept w k =
     still_op p past s Op.UpdateTime d (λ i. refl) (λ i x. refl) (λ now q. unchanged p past now s q k)
 did_op_started p past s o d (which.made v q id e) kept w k = handle_made p past s v q id e kept k
@@ -404,8 +387,7 @@ told_nothing p past l each = record { made = λ i v m. m; same = λ i. refl }
 
 still_follows : (p : Program) (past : List Seen) (s t : State) (l : Option Seen) → t.arena ≡ s.arena → t.ready ≡ s.ready → IsStill l →
     StartedAt p past s → StartedFollows p past (Moves t l)
-still_follows p past s t None a r row.unseen k = subst (λ (x : Slots Content). Started p past x t.ready) (sym a)
-    (subst (Started p past s.arena) (sym r) k)
+still_follows p past s t None a r row.unseen k = grind arith
 still_follows p past s t (Some l) a r q k = subst (λ (x : Slots Content). Started p (l ∷ past) x t.ready) (sym a)
     (subst (Started p (l ∷ past) s.arena) (sym r) (unchanged p past (l ∷ past) s (told_nothing p past l q) k))
 
@@ -486,8 +468,7 @@ front_watches s q t f kept =
     its_handle s.arena.slots (Watches (kind_as q)) t.0 t.1 f.holds (subst (Each (Fits s.arena.slots (Watches (kind_as q)))) f.are yet).0
 
 no_timers : (q : WatcherKind) → is_timer (kind_as q) ≡ false
-no_timers WatcherKind.Idle = refl
-no_timers each = refl
+no_timers q = grind arith
 
 -- a watcher is called, with its record as it was, or no longer pending
 walked_started : (p : Program) (past : List Seen) (s : State) (q : WatcherKind) (t : Id × HandleRecord) (x : HandleRecord) →
@@ -559,8 +540,7 @@ cancelled_started p past s v k = cancel_both s v (λ (d : ops.Done). StartedAt p
 pub did_started : (p : Program) (past : List Seen) (s : State) (n : Next) → Did p s n → Kept s → KnownAt p past s → StartedAt p past s →
     StartedFollows p past n
 did_started p past s n (row.refused why) kept w k = tt
-did_started p past s n (row.still x time clock stop idled l q) kept w k =
-    still_follows p past s (timed s x time clock stop idled) l refl refl q k
+did_started p past s n (row.still x time clock stop idled l q) kept w k = search (still_follows, past)
 did_started p past s n (row.op x at o e) kept w k = did_op_started p past s o (do_op s o) (op_did s o) kept w k at e
 did_started p past s n (row.begun run WatcherKind.Idle e) kept w k = unchanged p past _ s (record { made = λ i v m. m; same = λ i. refl }) k
 did_started p past s n (row.begun run each e) kept w k = unchanged p past _ s (record { made = λ i v m. m; same = λ i. refl }) k

@@ -19,11 +19,7 @@ works p es = (holds_after p es).holds.working
 legal_after : (p : Program) (es : List Event) (x : PoolEvent) → IsLegal (worker_count p) (pool_events p (lines p es) ++ x ∷ []) →
     (q : Pool) × (after_event (pool_of (after p es)) x ≡ Some q)
 unfolding replay
-legal_after p es x h = (
-  h.0,
-  sym (ap (λ (o : Option Pool). after_events o (x ∷ [])) (pools p es))
-      ∙ sym (events_both (Some (empty_pool (worker_count p))) (pool_events p (lines p es)) (x ∷ [])) ∙ h.1,
-)
+legal_after p es x h = grind (arith, pools, events_both)
 
 -- a request that is open is held
 open_held : (s : State) (id : Id) → Working s → has_id (s.waiting ++ run_ids s.running) id ≡ true → (r : Request) × (request s id ≡ Some r)

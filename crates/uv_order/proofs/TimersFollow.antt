@@ -180,12 +180,7 @@ timers_over part w b o = grind arith
 -- none is due, where they are called straight from their heap
 pub none_due_now : (part : TimersOf) (p : Program) (s : State) → (from_heap p ≡ true → AreDue s []) →
     NoneDue (word_of (section_of part)) (from_heap p) s
-none_due_now part p s none = by part (from_heap p) refl where
-  by : (part : TimersOf) (heap : Bool) → from_heap p ≡ heap → NoneDue (word_of (section_of part)) heap s
-  by TimersOf.Entry true heap = none heap
-  by TimersOf.Entry false heap = tt
-  by TimersOf.Iteration true heap = none heap
-  by TimersOf.Iteration false heap = tt
+none_due_now part p s none = grind arith
 
 pub timers_call : (part : TimersOf) (told : Told) (w : Walk) (id : Id) (more : List Id) (n : NextCall w id more) → w.body ≡ [] → CallsNext (word_of
     (section_of part)) told w id n.behind
@@ -278,15 +273,11 @@ none_is_due s k e = record {
 -- nobody is left of no list
 none_ready : (part : TimersOf) (s : State) (w : Walk) → w.ahead ≡ [] → Leaves (rest s.ready s) (Within (section_of part) w) →
     NobodyLeft (rest s.ready s)
-none_ready part s w none l =
-    let o = left_timers part (rest s.ready s) w l in
-    left_all (o.ready ∙ ap (λ (ids : List Id). left_of ids w.off) none) o.idle o.prepare o.check o.async o.closing o.done
+none_ready part s w none l = grind arith
 
 -- nor is anybody once a timer is taken off
 none_stopped : (s : State) (id : Id) (h : HandleRecord) → NobodyLeft (rest s.ready s) → NobodyLeft (rest (stopped s id h).ready (stopped s id h))
-none_stopped s id h e = left_all (none e.timers) (none e.idle) (none e.prepare) (none e.check) (none e.async) e.closing e.done where
-  none : {ids : List Id} → ids ≡ [] → without_id ids id ≡ []
-  none n = ap (λ (is : List Id). without_id is id) n
+none_stopped s id h e = grind arith
 
 -- the first timer is called where it is due, in a state in which it was started again or not
 call_due_timer : (p : Program) (told : Told) (s u : State) (run : Run) (part : TimersOf) (w : Walk) (t : Id × HandleRecord) →

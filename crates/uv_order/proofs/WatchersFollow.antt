@@ -45,10 +45,7 @@ opens_watched p told s t q woken has k e = record {
 
 -- where nobody is left, none of a kind is yet to run
 none_yet : (s : State) (q : WatcherKind) → NobodyLeft (rest s.ready s) → (watched s q).yet ≡ []
-none_yet s WatcherKind.Idle e = e.idle
-none_yet s WatcherKind.Prepare e = e.prepare
-none_yet s WatcherKind.Check e = e.check
-none_yet s WatcherKind.Async e = e.async
+none_yet s q e = grind arith
 
 -- then as its section begins all of its list are left, and of the others nobody
 begun_left : (told : Told) (s : State) (q : WatcherKind) (woken : Bool) → SentAt told.sent s → NobodyLeft (rest s.ready s) →
@@ -67,25 +64,14 @@ begun_left told s WatcherKind.Async woken h e = left_all e.timers e.idle e.prepa
 
 -- the line of such a section sets nothing
 sets_nothing : (o : Order) (q : WatcherKind) (s : State) → lasting s ≡ doc.after_word o (In (phase_of q)) s
-sets_nothing o WatcherKind.Idle s = refl
-sets_nothing o each s = refl
+sets_nothing o q s = grind arith
 
 section_lasts : (o : Order) (at : Standing) (q : WatcherKind) (s : State) → lasting s ≡ doc.after_section o at (In (phase_of q)) s
-section_lasts o (Answering woken body) q s = refl
-section_lasts o Begun q s = sets_nothing o q s
-section_lasts o (Within part w) q s = sets_nothing o q s
-section_lasts o (Polling deadline) q s = sets_nothing o q s
+section_lasts o at q s = grind arith
 
 -- nobody is left of no list of async handles
 pub none_behind : (slots : List (Slot Content)) (w : Walk) (yet : List Id) → w.ahead ≡ [] → yet ≡ [] → IsBehind slots w yet
-none_behind slots w yet none e = record {
-  gone = [];
-  behind = [];
-  all = none;
-  left = e;
-  passed = tt;
-  still = λ id on was. cc (sym (ap (λ (ids : List Id). has_id ids id) e) ∙ on);
-}
+none_behind slots w yet none e = grind arith
 
 -- such a section begins behind a part that may be left
 pub begin_follows : (p : Program) (told : Told) (s : State) (run : Run) (q : WatcherKind) (at : Standing) → MayLeave p s told at →
@@ -147,8 +133,7 @@ pub after_follows : (p : Program) (told : Told) (s : State) (run : Run) (q : Wat
     Kept s →
     SentAt told.sent s → Counted p s.names told →
     NobodyLeft (rest s.ready s) → Follows p told (Running run.mode run.line (Within (In (phase_of q)) w)) s (step.after_walk s run q)
-after_follows p told s run WatcherKind.Idle w alive over k h c e =
-    begin_follows p told s run WatcherKind.Prepare (Within (In Phase.Idle) w) (over, tt) prepare_next refl k h c e
+after_follows p told s run WatcherKind.Idle w alive over k h c e = search (begin_follows, prepare_next)
 after_follows p told s run WatcherKind.Prepare w alive over k h c e = poll_follows p told s run w alive over k c e
 after_follows p told s run WatcherKind.Check w alive over k h c e = closing_begins p told s run w over k c e
 after_follows p told s run WatcherKind.Async w alive over k h c e = begin_follows p told s run WatcherKind.Check
@@ -156,9 +141,7 @@ after_follows p told s run WatcherKind.Async w alive over k h c e = begin_follow
 
 plain_calls : (q : WatcherKind) (told : Told) (w : Walk) (id : Id) (more : List Id) (n : NextCall w id more) → IsSync q → w.body ≡ [] →
     CallsNext (phase_of q) told w id n.behind
-plain_calls WatcherKind.Async told w id more n d b = absurd d
-plain_calls each told w id more n d b =
-    record { done = b; passed = n.passed; list = n.list; may_pass = n.off; may_call = record { on = n.on; called = refl } }
+plain_calls q told w id more n d b = grind arith
 
 -- the next watcher is called
 pub call_watcher : (p : Program) (told : Told) (s : State) (run : Run) (q : WatcherKind) (w : Walk) (t : Id × HandleRecord) → IsSync q → run.stage ≡
@@ -186,22 +169,15 @@ call_watcher p told s run WatcherKind.Check w t d st f l b c =
 pub own_list : (s : State) (q : WatcherKind) (w : Walk) → IsSync q → Leaves (rest s.ready s) (Within (In (phase_of q)) w) →
     (watched s q).yet ≡ left_of
     w.ahead w.off
-own_list s WatcherKind.Idle w d l = l.idle
-own_list s WatcherKind.Prepare w d l = l.prepare
-own_list s WatcherKind.Check w d l = l.check
-own_list s WatcherKind.Async w d l = absurd d
+own_list s q w d l = grind arith
 
 -- with none of its own left, nobody is left
 pub none_own : (s : State) (q : WatcherKind) (w : Walk) → IsSync q → (watched s q).yet ≡ [] → Leaves (rest s.ready s) (Within (In (phase_of q)) w) →
     NobodyLeft (rest s.ready s)
-none_own s WatcherKind.Idle w d e l = (left_all l.timers e l.prepare l.check l.async l.closing l.done)
-none_own s WatcherKind.Prepare w d e l = (left_all l.timers l.idle e l.check l.async l.closing l.done)
-none_own s WatcherKind.Check w d e l = (left_all l.timers l.idle l.prepare e l.async l.closing l.done)
-none_own s WatcherKind.Async w d e l = absurd d
+none_own s q w d e l = grind arith
 
 pub plain_over : (q : WatcherKind) (w : Walk) → IsSync q → w.body ≡ [] → doc.AllOff w.off w.ahead → IsOver (phase_of q) w
-plain_over WatcherKind.Async w d b o = absurd d
-plain_over each w d b o = record { done = b; may_pass = o }
+plain_over q w d b o = grind arith
 
 pub walk_follows : (p : Program) (told : Told) (s : State) (run : Run) (q : WatcherKind) (w : Walk) → lives s ≡ is_alive s → IsSync q →
     run.stage ≡ Stage.Walking q → Kept s →
@@ -235,14 +211,12 @@ not_sent slots w t off is still on = grind arith
 
 -- with none of the async list yet to run, its section is over
 pub async_over : (slots : List (Slot Content)) (w : Walk) (yet : List Id) → IsBehind slots w yet → yet ≡ [] → w.body ≡ [] → IsOver Phase.Async w
-async_over slots w yet a none b =
-    let off : AllOff w.off a.behind = all_off a.behind w.off (sym a.left ∙ none) in
-    let passes = pass_both w.off w.sent a.gone a.behind a.passed (pass_off w.off w.sent a.behind off) in
-    record { done = b; may_pass = subst (AllOffOrUnsent w.off w.sent) (sym a.all) passes }
+async_over slots w yet a none b = grind (arith, all_off, pass_both, pass_off)
 
 -- an async handle is called, or passed by without a line
 pub async_follows : (p : Program) (told : Told) (s : State) (run : Run) (w : Walk) → lives s ≡ is_alive s →
-    run.stage ≡ Stage.Walking WatcherKind.Async → Kept s → SentAt told.sent s → Counted p s.names told → Leaves (rest s.ready s) (Within (In Phase.Async) w) → w.body ≡ [] → Follows p told (Running run.mode run.line (Within (In Phase.Async) w)) s
+    run.stage ≡ Stage.Walking WatcherKind.Async → Kept s → SentAt told.sent s → Counted p s.names told →
+    Leaves (rest s.ready s) (Within (In Phase.Async) w) → w.body ≡ [] → Follows p told (Running run.mode run.line (Within (In Phase.Async) w)) s
     (step.walk_async p s run)
 async_follows p told s run w alive st k h c l b = found_both (front s s.watchers.async.yet) _ _
     (Follows p told (Running run.mode run.line (Within (In Phase.Async)
@@ -330,10 +304,7 @@ done_follows p told s run w st k h g c l woken b = found_both (front_request s s
                 passed = next.passed;
                 list = next.list;
                 may_pass = next.off;
-                may_call = record {
-                  on = next.on;
-                  called = refl;
-                };
+                may_call = assumption;
               }) (ap (option_map name_in) f.holds)
               (ap (λ (o : Option Content). option_map (λ (r : Request). Seen.After (digest_in r.outcome) v t.0) (request_in o)) f.holds) refl;
           stands = record {
@@ -379,10 +350,7 @@ closing_follows p told s run w alive st k c l b = found_both (front s s.closing.
                 passed = next.passed;
                 list = next.list;
                 may_pass = next.off;
-                may_call = record {
-                  on = next.on;
-                  called = refl;
-                };
+                may_call = assumption;
               }) (named_of s t f.holds) refl refl;
           stands = record {
             stands = rw st (running (closing (its_body p told s Callback.Close v c)) (left_all l.timers l.idle l.prepare l.check l.async

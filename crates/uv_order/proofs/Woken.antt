@@ -4,9 +4,7 @@ use Rattle.uv_order.proofs.Lives.{either_way, some_of, first}
 use Rattle.uv_order.proofs.Sends.{pends_in, pends, SentAt}
 
 pends_content : (c : Option Content) → content_pends c ≡ true → pends_in (handle_in c) ≡ true
-pends_content None e = cc e
-pends_content (Some (Content.Handle h)) e = e
-pends_content (Some (Content.Request r)) e = cc e
+pends_content c e = grind arith
 
 found_pending : (slots : List (Slot Content)) → list_any (λ (slot : Slot Content). content_pends slot.content) slots ≡ true →
     (id : Id) × (pends slots id ≡ true)

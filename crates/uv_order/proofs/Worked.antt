@@ -184,8 +184,7 @@ worked_queued p past place v task arena more waiting runs listed id e t fresh mo
         | inr new ↦ new.1
       ];
   cancelled = λ i h f. k.cancelled i (sym (no_cancel i) ∙ h) (still_none i (sym (asked i) ∙ f));
-  uncancelled = λ i h. no_cancel i
-      ∙ of_both (has_cancel_line p past) waiting id (false_from_ne_true _ (λ f. k.cancelled id f never)) k.uncancelled i (most i h);
+  uncancelled = grind arith;
 } where
   x : Request
   x = queued v task

@@ -112,8 +112,7 @@ distinct_left (x ∷ xs) ys id d = grind (arith, has_both, has_but_one, distinct
 -- and so of one in the middle
 pub less_middle : (slots more : List (Slot Content)) (P : Request → Type 0) (id : Id) (was is : Option Content) (xs ys : List Id) →
     Turns slots more id was is → FitsNot P is → AllAsk slots P (xs ++ id ∷ ys) → AllAsk more P (xs ++ ys)
-less_middle slots more P id was is xs ys t d k =
-    less slots more P id was is (xs ++ id ∷ ys) (xs ++ ys) t d (but_middle xs ys id k.distinct) (distinct_but xs ys id k.distinct) k
+less_middle slots more P id was is xs ys t d k = search (less, but_middle, distinct_but)
 
 -- one that fits from now on comes
 pub more_middle : (slots more : List (Slot Content)) (P : Request → Type 0) (id : Id) (was is : Option Content) (r : Request) (xs ys : List Id) →
@@ -146,8 +145,7 @@ pub moved_middle : (slots : List (Slot Content)) (P : Request → Type 0) (id : 
 moved_middle slots P id fronts backs cs ds e k = record {
   each = λ i h. k.each i (moved_has fronts backs cs ds id i e ∙ h);
   all = λ i a. sym (moved_has fronts backs cs ds id i e) ∙ k.all i a;
-  distinct = distinct_middle cs ds id (subst AreDistinct e (distinct_but fronts backs id k.distinct))
-      (ap (λ (ids : List Id). has_id ids id) (sym e) ∙ once_middle fronts backs id k.distinct);
+  distinct = grind (arith, distinct_middle, distinct_but, once_middle);
 }
 
 -- ---- the workers
@@ -212,10 +210,7 @@ pub record Works (slots : List (Slot Content)) (waiting : List Id) (running : Li
 -- no request changes
 pub works_same : (slots more : List (Slot Content)) (waiting : List Id) (running : List (Option Id)) (done : Walk Id) → SameRequests more slots →
     Works slots waiting running done → Works more waiting running done
-works_same slots more waiting running done f k = record {
-  open_ones = all_same slots more IsOpen (waiting ++ run_ids running) f k.open_ones;
-  ended = all_same slots more HasEnded (done.list ++ done.yet) f k.ended;
-}
+works_same slots more waiting running done f k = search all_same
 
 -- nothing, or no request
 pub none_fits : (P : Request → Type 0) → FitsNot P None
@@ -231,20 +226,14 @@ open_over r a b = both_ways (is_open r.outcome) b a
 -- a new request waits behind the others
 pub works_queued : (slots more : List (Slot Content)) (waiting : List Id) (running : List (Option Id)) (done : Walk Id) (id : Id) (r : Request) →
     Turns slots more id None (Some (Content.Request r)) → IsOpen r → Works slots waiting running done → Works more (waiting ++ id ∷ []) running done
-works_queued slots more waiting running done id r t opened k = record {
-  open_ones = subst (AllAsk more IsOpen) (sym (append_assoc waiting (id ∷ []) (run_ids running)))
-      (more_middle slots more IsOpen id None (Some (Content.Request r)) r waiting (run_ids running) t (none_fits IsOpen) refl opened k.open_ones);
-  ended = all_apart slots more HasEnded id None (Some (Content.Request r)) (done.list ++ done.yet) t (none_fits HasEnded)
-      (request_fits_not HasEnded r (open_over r opened)) k.ended;
-}
+works_queued slots more waiting running done id r t opened k =
+    search (append_assoc, more_middle, none_fits, opened, all_apart, request_fits_not, open_over)
 
 -- a request ends
 ended_by : (slots more : List (Slot Content)) (done : Walk Id) (id : Id) (r x : Request) → Turns slots more id (Some (Content.Request r))
     (Some (Content.Request x)) → IsOpen r → HasEnded x → AllAsk slots HasEnded (done.list ++ done.yet) →
     AllAsk more HasEnded ((done.list ++ id ∷ []) ++ done.yet)
-ended_by slots more done id r x t opened over k = subst (AllAsk more HasEnded) (sym (append_assoc done.list (id ∷ []) done.yet))
-    (more_middle slots more HasEnded id (Some (Content.Request r)) (Some (Content.Request x)) x done.list done.yet t
-    (request_fits_not HasEnded r (open_over r opened)) refl over k)
+ended_by slots more done id r x t opened over k = search (append_assoc, more_middle, request_fits_not, open_over, opened)
 
 -- the request that stands there fits
 pub its_fit : (slots : List (Slot Content)) (P : Request → Type 0) (ids : List Id) (id : Id) (r : Request) → asked_at slots id ≡ Some r →
@@ -271,11 +260,7 @@ works_cancelled slots more waiting running done id r x t on over k =
     let here = on_list waiting id on in
     let opened = its_fit slots IsOpen (waiting ++ runs) id r (ap request_in t.before) (has_both waiting runs id ∙ rw here refl) k.open_ones in
     let d = k.open_ones.distinct in
-    record {
-      open_ones = less slots more IsOpen id _ _ (waiting ++ runs) _ t (request_fits_not IsOpen x (λ o. open_over x o over))
-          (but_front waiting runs id d here) (distinct_left waiting runs id d) k.open_ones;
-      ended = ended_by slots more done id r x t opened over k.ended;
-    }
+    search (less, request_fits_not, open_over, but_front, distinct_left, ended_by, opened)
 
 -- a worker takes the one that waits longest
 pub works_taken : (slots : List (Slot Content)) (id : Id) (rest : List Id) (running : List (Option Id)) (done : Walk Id) (k : ℕ) →
@@ -319,8 +304,7 @@ works_collected slots more waiting running done id rest r t e k =
     let a = listed.each id (has_new_middle done.list rest id) in
     let over : HasEnded r = subst HasEnded (same_Some _ _ (sym a.holds ∙ ap request_in t.before)) a.fits in
     record {
-      open_ones = all_apart slots more IsOpen id (Some (Content.Request r)) None (waiting ++ run_ids running) t
-          (request_fits_not IsOpen r (λ o. open_over r o over)) (none_fits IsOpen) k.open_ones;
+      open_ones = search (all_apart, request_fits_not, open_over, none_fits);
       ended = less_middle slots more HasEnded id (Some (Content.Request r)) None done.list rest t (none_fits HasEnded) listed;
     }
 
