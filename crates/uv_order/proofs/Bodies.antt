@@ -18,10 +18,8 @@ Found lines kind v call (Some next) sites = IsAt lines kind v call next sites
 -- the first line of what is left, and what is left behind it
 first_left : (n : ℕ) (lines : List CallbackLine) (x : CallbackLine) (xs : List CallbackLine) → drop n lines ≡ x ∷ xs →
     (slice_get lines n ≡ Some x) × (drop (suc n) lines ≡ xs)
-first_left zero [] x xs e = cc e
-first_left zero (y ∷ ys) x xs e = let a : y ≡ x = cc e in let b : ys ≡ xs = cc e in (ap Some a, b)
-first_left (suc n) [] x xs e = cc e
 first_left (suc n) (y ∷ ys) x xs e = first_left n ys x xs e
+first_left each e1 x xs e = grind arith
 
 found : (kind : Callback) (v : Var) (call n : ℕ) (lines left : List CallbackLine) → drop n lines ≡ left →
     Found lines kind v call (next_line call n left) (sites_from kind v call n left)

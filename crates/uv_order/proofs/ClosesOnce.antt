@@ -303,9 +303,8 @@ fresh_worked : (p : Program) → Worked p [] (fresh p).arena (fresh p).waiting (
 fresh_worked p = grind (arith, none_run)
 
 unbound_id : (n i : ℕ) → (unwrap_or (slice_get (replicate n unbound) i) unbound).id ≡ None
-unbound_id zero i = refl
-unbound_id (suc n) zero = refl
 unbound_id (suc n) (suc i) = unbound_id n i
+unbound_id each e1 = assumption
 
 pub known_fresh : (p : Program) → KnownAt p [] (fresh p)
 known_fresh p = grind (arith, unbound_id, none-some, fresh_worked)

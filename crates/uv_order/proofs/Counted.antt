@@ -15,9 +15,8 @@ pub counted_kept : (p : Program) (now was : List Named) (told : Told) → SameCa
 counted_kept p now was told same k = record { long = same.long ∙ k.long; calls = λ kind v l. ap (count_of kind) (same.each v) ∙ k.calls kind v l }
 
 no_calls : (kind : Callback) (n : ℕ) (i : ℕ) → count_of kind (unwrap_or (slice_get (replicate n unbound) i) unbound).calls ≡ 0
-no_calls kind zero i = grind arith
-no_calls kind (suc n) zero = grind arith
 no_calls kind (suc n) (suc i) = no_calls kind n i
+no_calls kind each e2 = grind arith
 
 replicate_long : (n : ℕ) → length (replicate n unbound) ≡ n
 replicate_long zero = refl
@@ -30,9 +29,8 @@ pub counted_fresh : (p : Program) → Counted p (fresh p).names nothing_told
 counted_fresh p = grind (arith, replicate_long, no_calls, none_told)
 
 set_here : (names : List Named) (i : ℕ) (x : Named) → i < length names → (unwrap_or (slice_get (slice_set names i x) i) unbound).calls ≡ x.calls
-set_here [] i x l = absurd (omega arith)
-set_here (n ∷ names) zero x l = refl
 set_here (n ∷ names) (suc i) x l = set_here names i x (omega arith)
+set_here each e1 x l = grind arith
 
 pub set_there : (names : List Named) (i j : ℕ) (x : Named) → (j ≡ i → ⊥) → slice_get (slice_set names i x) j ≡ slice_get names j
 set_there names i j x d = grind (arith, elements)
@@ -64,9 +62,8 @@ counted_call p names told kind v id x e k = grind (arith, eqb-true, eq-eqb, set_
 
 -- a name without lines has the same body in each call
 past : (all : List Callbacks) (i : ℕ) → length all ≤ i → unwrap_or (slice_get all i) no_callbacks ≡ no_callbacks
-past [] i l = refl
-past (x ∷ all) zero l = absurd (omega arith)
 past (x ∷ all) (suc i) l = past all i (omega arith)
+past each e1 l = grind arith
 
 none_in : (kind : Callback) → lines_of kind no_callbacks ≡ []
 none_in kind = grind arith

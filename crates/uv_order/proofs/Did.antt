@@ -186,11 +186,8 @@ io_did p s v = by (io_run p s s.place) (live_handle s v) refl where
 
 pub did : (p : Program) (s : State) (e : Event) → BeginsAt s.place s → Did p s (next p s e)
 unfolding next
-did p s Loop r = place_did p s s.place r
-did p s (Take n) r = take_did p s n _ refl
-did p s (Finish n) r = finish_did p s n _ refl
 did p s (Cancel v) r = cond_both (nat_lt v.0 (length s.names)) _ _ (Did p s) (λ h. cancelled v) (λ h. refused Range)
 did p s (Send v) r = cond_both (nat_lt v.0 (length s.names)) _ _ (Did p s) (λ h. sent v) (λ h. refused Range)
-did p s (Io v) r = cond_both (nat_lt v.0 (length s.names)) _ _ (Did p s) (λ h. io_did p s v) (λ h. refused Range)
 did p s (Tick ms) r = cond_both (nat_le (s.clock + ms) 4611686018427387904) _ _ (Did p s)
     (λ h. still s.place s.time (s.clock + ms) s.stop_flag s.idled _ (tick ms)) (λ h. refused Range)
+did p s each r = grind (arith, place_did, take_did, finish_did, cond_both, refused, io_did, still)

@@ -322,10 +322,7 @@ send_follows p told s at v h = cond_both (nat_lt v.0 (length s.names)) _ _ (Foll
     (λ t f is. record {
       to = at;
       goes = doc.sent v Code.Ok refl refl;
-      stands = record {
-        stands = moved t (live_held s v t f) s.place at h.stands;
-        counted = counted_sent p _ told _ h.counted;
-      };
+      stands = search (moved, live_held, counted_sent);
     }))
     (λ e. tt)
   where

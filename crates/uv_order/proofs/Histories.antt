@@ -7,8 +7,7 @@ use Rattle.uv_order.specs.History.{history}
 line_of_next : (s : State) (n : Next) (ls : List Seen) (hs : List Line) → ls ≡ map (λ (l : Line). l.seen) hs →
     option_to_list (seen_of n) ++ ls ≡ map (λ (l : Line). l.seen) (line_of_step s n ++ hs)
 line_of_next s (Moves t (Some seen)) ls hs h = ap (λ (xs : List Seen). seen ∷ xs) h
-line_of_next s (Moves t None) ls hs h = h
-line_of_next s (Refuses why) ls hs h = h
+line_of_next s each ls hs h = assumption
 
 lines-history_from : (p : Program) (s : State) (es : List Event) → flat_map option_to_list (seen_from p s es) ≡ map (λ (l : Line). l.seen)
     (history_from p s es)

@@ -33,7 +33,6 @@ answers : (p : Program) (told : Told) (s : State) (m : Mode) (i : ℕ) (x : Stag
     takes_io s x body ≡ true → SentAt told.sent s → Counted p s.names told → StandsIn p body x at →
     Leaves (rest (waiting x (from_heap p) s.ready (due_now s)) s) at →
     Answers p told s (record { mode = m; line = i; stage = x; body = body }) v at
-answers p told s m i x (Some body) v at on h c stands l = cc on
 answers p told s m i Stage.Pending None v at on h c (pending none b) l = record {
   may = b;
   lasts = refl;
@@ -72,7 +71,7 @@ answers p told s m i (Stage.Walking WatcherKind.Async) None v at on h c (walking
       stands = running (walking {q = WatcherKind.Async} (its_body p told s Callback.Handle v c)) (left_all l.timers l.idle l.prepare l.check
           (none_behind s.arena.slots (record w { ahead = []; body = io_body p told v }) s.watchers.async.yet refl none) l.closing l.done);
     }
-answers p told s m i x None v at on h c stands l = cc on
+answers p told s m i x each v at on h c stands l = grind arith
 
 -- the step goes on, or is refused
 pub io_follows : (p : Program) (told : Told) (s : State) (at : Position) (v : Var) → SentAt told.sent s → Counted p s.names told →

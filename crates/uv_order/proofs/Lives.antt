@@ -35,13 +35,12 @@ record Found (slots : List (Slot Content)) : Type 0 where
   holds : asked_at slots id ≡ Some request
 
 found_here : (x : Slot Content) (xs : List (Slot Content)) (c : Option Content) → x.content ≡ c → is_asked c ≡ true → Found (x ∷ xs)
-found_here x xs None e f = absurd (cc f)
-found_here x xs (Some (Content.Handle h)) e f = absurd (cc f)
 found_here x xs (Some (Content.Request r)) e f = record {
   id = record { slot = 0; generation = x.generation };
   request = r;
   holds = rw (eq-eqb x.generation x.generation refl) (ap request_in e);
 }
+found_here x xs each e f = grind arith
 
 found : (slots : List (Slot Content)) → any_asked slots ≡ true → Found slots
 found [] e = cc e
@@ -57,9 +56,8 @@ asked_slot x id r e = grind arith
 
 is_any : (slots : List (Slot Content)) (n g : ℕ) (r : Request) → asked_at slots (record { slot = n; generation = g }) ≡ Some r →
     any_asked slots ≡ true
-is_any [] n g r e = cc e
-is_any (x ∷ xs) zero g r e = rw (asked_slot x (record { slot = zero; generation = g }) r e) refl
 is_any (x ∷ xs) (suc n) g r e = rw (is_any xs n g r e) (or-true (is_asked x.content))
+is_any each e1 g r e = grind arith
 
 -- ---- lists with members
 
@@ -78,9 +76,8 @@ some_both : (xs ys : List Id) → has_some (xs ++ ys) ≡ (has_some xs || has_so
 some_both xs ys = grind arith
 
 some_runs : (running : List (Option Id)) → has_some (run_ids running) ≡ has_run running
-some_runs [] = refl
 some_runs (None ∷ running) = some_runs running
-some_runs (Some id ∷ running) = refl
+some_runs each = assumption
 
 -- those of both lists are all requests that are held
 listed : (slots : List (Slot Content)) (open_ones ended : List Id) → AllAsk slots IsOpen open_ones → AllAsk slots HasEnded ended →

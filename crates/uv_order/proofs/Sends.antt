@@ -276,8 +276,7 @@ stays_sent s sent (Op.Close v) id kept d on e =
     refuses_close
     (λ c no_success f. subst (λ (ids : List Id). has_id ids id ≡ true) (sym (refused_sent s sent (Op.Close v) c no_success)) e)
     (λ t f is g. still_closed sent (ids_of (names_at s) (Some v)) t.0 id (one_taken s v t f) g e) d
-stays_sent s sent (Op.Send v) id kept d on e = grind arith
-stays_sent s sent each id kept d on e = e
+stays_sent s sent each id kept d on e = grind arith
 
 -- who is left after an op
 pub has_left : (ids off : List Id) (id : Id) → has_id (left_of ids off) id ≡ true → (has_id ids id ≡ true) × (has_id off id ≡ false)

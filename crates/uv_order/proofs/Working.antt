@@ -49,8 +49,7 @@ handles_working s o h kept k = works_quiet s (do_op s o).state (op_same s o h ke
 pub op_working : (s : State) (o : Op) → Kept s → Working s → Working (do_op s o).state
 op_working s (Op.Queue v task) kept k =
     make_both s _ (ops.with_queued s v task) WorkingBy (λ c no_success. k) (λ id e. queued_working s v task id e kept k)
-op_working s (Op.Cancel v) kept k = cancel_working s v k
-op_working s each kept k = handles_working s each tt kept k
+op_working s each kept k = search (make_both, queued_working, cancel_working, handles_working)
 
 -- ---- fronts of lists
 
