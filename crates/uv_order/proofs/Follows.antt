@@ -19,7 +19,7 @@ use Rattle.uv_order.proofs.Bodies.{IsBody, is_body}
 use Rattle.uv_order.proofs.OpEffects.{op_effect}
 use Rattle.uv_order.proofs.Counted.{Counted, counted_kept, counted_sent, counted_fresh}
 use Rattle.uv_order.proofs.Sends.{pends_in, SentAt, still_sent, pass_more, pends_more}
-use Rattle.uv_order.proofs.Standing.{left_all, begun_with, are_ended, section_of, StandsIn, waiting, rest_in, AsyncIn, rest, Leaves, NobodyLeft, due_now, StandsAt, Stands, FollowsLine, Follows, idle_next, done_next, empty_over, opens_done, opens_unwoken, async_moved, begun, pending, walking, polls, polled, done, unwoken, closing, collects, fires, calls_due, between, running}
+use Rattle.uv_order.proofs.Standing.{left_all, begun_with, are_ended, section_of, StandsIn, waiting, rest_in, AsyncIn, rest, Leaves, NobodyLeft, due_now, StandsAt, Stands, FollowsLine, follows_to, Follows, idle_next, done_next, empty_over, opens_done, opens_unwoken, async_moved, begun, pending, walking, polls, polled, done, unwoken, closing, collects, fires, calls_due, between, running}
 use Rattle.uv_order.proofs.TimersFollow.{turn_follows, fire_follows, collect_follows, call_due_follows}
 use Rattle.uv_order.proofs.IoFollows.{io_follows}
 use Rattle.uv_order.proofs.WatchersFollow.{begin_follows, unwoken_follows, walk_follows, async_follows, done_follows, closing_follows}
@@ -34,39 +34,22 @@ more_or a b x y f h = grind arith
 pub left_poll : (p : Program) (told : Told) (s : State) (run : Run) (deadline : Option ℕ) → SentAt told.sent s → Working s → Counted p s.names told →
     NobodyLeft (rest s.ready s) → Follows p told (Running run.mode run.line (Polling deadline)) s (step.poll s run deadline)
 left_poll p told s run deadline sent g c e = cond_both (may_leave s deadline) _ _ (Follows p told (Running run.mode run.line (Polling deadline)) s)
-    (λ h. record {
-      to = Running run.mode run.line (Within (In Phase.Done) (begun_with true s.done.list));
-      goes = doc.section (In Phase.Done) (more_or (has_passed s.clock deadline) (has_some s.done.list) (has_pending s)
-          (has_some told.sent && has_pending s)
-          (λ on. rw (sym (pending_is told s sent) ∙ on, on) refl) h)
-          (done_next (order_of p) run.mode (doc.goes_on s)) refl (opens_done p told _ (are_ended s e.done g)) refl;
-      stands = record {
-        stands = running (done refl refl) (left_all e.timers e.idle e.prepare e.check e.async e.closing (sym (none_off s.done.list)));
-        counted = c;
-      };
-    })
+    (λ h. follows_to (doc.section (In Phase.Done) (more_or (has_passed s.clock deadline) (has_some s.done.list) (has_pending s)
+        (has_some told.sent && has_pending s) (λ on. rw (sym (pending_is told s sent) ∙ on, on) refl) h)
+        (done_next (order_of p) run.mode (doc.goes_on s)) refl (opens_done p told _ (are_ended s e.done g)) refl)
+        (running (done refl refl) (assumption (sym (none_off s.done.list), e))) c)
     (λ h. tt)
 
 -- where a callback of I/O left it, done follows once its ops are done, with a list where the poll was woken
 left_polled : (p : Program) (told : Told) (s : State) (run : Run) (woken : Bool) (sites : List Site) → sites ≡ [] → Working s →
     Counted p s.names told → NobodyLeft (rest s.ready s) →
     Follows p told (Running run.mode run.line (Answering woken sites)) s (step.leave_polled s run woken)
-left_polled p told s run true sites b g c e = record {
-  to = Running run.mode run.line (Within (In Phase.Done) (begun_with true s.done.list));
-  goes = doc.section (In Phase.Done) b (done_next (order_of p) run.mode (doc.goes_on s)) refl (opens_done p told _ (are_ended s e.done g)) refl;
-  stands = record {
-    stands = running (done refl refl) (left_all e.timers e.idle e.prepare e.check e.async e.closing (sym (none_off s.done.list)));
-    counted = c;
-  };
-}
-left_polled p told s run false sites b g c e = record {
-  to = Running run.mode run.line (Within (In Phase.Done) (begun_with false []));
-  goes = doc.section (In Phase.Done) b (done_next (order_of p) run.mode (doc.goes_on s)) refl (opens_unwoken p told _) refl;
-  stands = record {
-    stands = running (unwoken refl refl refl) (left_all e.timers e.idle e.prepare e.check e.async e.closing e.done);
-    counted = c;
-  };
-}
+left_polled p told s run true sites b g c e =
+    follows_to (doc.section (In Phase.Done) b (done_next (order_of p) run.mode (doc.goes_on s)) refl
+    (opens_done p told _ (are_ended s e.done g)) refl) (running (done refl refl) (assumption (sym (none_off s.done.list), e))) c
+left_polled p told s run false sites b g c e =
+    follows_to (doc.section (In Phase.Done) b (done_next (order_of p) run.mode (doc.goes_on s)) refl (opens_unwoken p told _) refl)
+    (running (unwoken refl refl refl) (assumption e)) c
 
 -- the timers of a section are collected, or called straight from their heap
 timers_follow : (p : Program) (told : Told) (s : State) (run : Run) (part : TimersOf) (at : Standing) → Kept s → Working s → Counted p s.names told →
@@ -191,15 +174,10 @@ pub op_follows : (p : Program) (told : Told) (s : State) (run : Run) (body : Bod
     StandsAt p (after_body p s run body x.op) (after_body p s run body x.op).place (Running run.mode run.line (Within part (done_one s x.op part w
     more)))) →
     Follows p told (Running run.mode run.line (Within part w)) s (step.body_step p s run body (Some x))
-op_follows p told s run body part w x e k c b stands = record {
-  to = _;
-  goes = doc.body_op (Site.In body.callback body.name body.next) _ x.op _ b.are (ap (option_map (λ (l : CallbackLine). l.op)) e) refl (op_effect s
-      x.op k).lasts;
-  stands = record {
-    stands = stands _ (is_body p body.callback body.name body.call (body.next + 1));
-    counted = counted_sent p _ told _ (counted_kept p _ s.names told (op_effect s x.op k).calls c);
-  };
-}
+op_follows p told s run body part w x e k c b stands = follows_to (doc.body_op (Site.In body.callback body.name body.next) _ x.op _ b.are
+    (ap (option_map (λ (l : CallbackLine). l.op)) e) refl (op_effect s x.op k).lasts)
+    (stands _ (is_body p body.callback body.name body.call (body.next + 1)))
+    (counted_sent p _ told _ (counted_kept p _ s.names told (op_effect s x.op k).calls c))
 
 -- that of a callback of I/O that left the poll
 answer_op_follows : (p : Program) (told : Told) (s : State) (run : Run) (body : Body) (woken : Bool) (sites : List Site) (x : CallbackLine) →
@@ -209,16 +187,10 @@ answer_op_follows : (p : Program) (told : Told) (s : State) (run : Run) (body : 
 answer_op_follows p told s run body woken sites x st e k c b l =
     let left = none_left s x.op k l in
     let more = sites_from body.callback body.name body.call (body.next + 1) (drop (body.next + 1) (lines_in p body.callback body.name)) in
-    record {
-      to = Running run.mode run.line (Answering woken more);
-      goes = rw b.are (doc.answer_op (Site.In body.callback body.name body.next) _ x.op _ (ap (option_map (λ (l : CallbackLine). l.op)) e) refl
-          (op_effect s x.op k).lasts);
-      stands = record {
-        stands = rw st (running (polled (is_body p body.callback body.name body.call (body.next + 1))) (left_all left.timers left.idle left.prepare
-            left.check left.async left.closing left.done));
-        counted = counted_sent p _ told _ (counted_kept p _ s.names told (op_effect s x.op k).calls c);
-      };
-    }
+    follows_to {to = Running run.mode run.line (Answering woken more)} (rw b.are (doc.answer_op (Site.In body.callback body.name body.next) _ x.op _
+        (ap (option_map (λ (l : CallbackLine). l.op)) e) refl (op_effect s x.op k).lasts))
+    (rw st (running (polled {woken = woken} (is_body p body.callback body.name body.call (body.next + 1))) (assumption left)))
+    (counted_sent p _ told _ (counted_kept p _ s.names told (op_effect s x.op k).calls c))
 
 pub body_follows : (p : Program) (told : Told) (s : State) (run : Run) (body : Body) (x : Stage) (at : Standing) (l : Option CallbackLine) →
     run.stage ≡
@@ -278,19 +250,9 @@ main_follows p told s i (Some (MainOp.Run m)) e k c l = record {
   begun_in t = record t { place = Place.Running (record { mode = m; line = i; stage = Stage.Entry; body = None }) }
 
   begun_at : (time : ℕ) → Stands p told (begun_in (record s { time = time })) (Running m i Begun)
-  begun_at time = record {
-    stands = running begun l;
-    counted = c;
-  }
-main_follows p told s i (Some (MainOp.Op o)) e k c l = record {
-  to = Between (i + 1);
-  goes = doc.main_line o _ (ap main_op e) refl (op_effect s o k).lasts;
-  stands = record {
-    stands = between (none_left s o k l);
-    counted =
-        counted_sent p _ told _ (counted_kept p _ s.names told (op_effect s o k).calls c);
-  };
-}
+  begun_at time = record { stands = running begun l; counted = c }
+main_follows p told s i (Some (MainOp.Op o)) e k c l = follows_to (doc.main_line o _ (ap main_op e) refl (op_effect s o k).lasts)
+    (between (none_left s o k l)) (counted_sent p _ told _ (counted_kept p _ s.names told (op_effect s o k).calls c))
 
 pub run_follows : (p : Program) (told : Told) (s : State) (run : Run) (body : Option Body) (at : Standing) → Kept s → SentAt told.sent s →
     Working s → Counted p s.names told →

@@ -152,6 +152,12 @@ pub record FollowsLine (p : Program) (told : Told) (from : Position) (s : State)
   pub goes : Goes p told (names_at s) from (record { before = s; seen = what; after = t }) to
   pub stands : Stands p (told_by p told (names_at s) what) t to
 
+-- a line goes on to where the state behind it stands
+pub follows_to : {p : Program} {told : Told} {from to : Position} {s t : State} {what : Seen} →
+    Goes p told (names_at s) from (record { before = s; seen = what; after = t }) to → StandsAt p t t.place to →
+    Counted p t.names (told_by p told (names_at s) what) → FollowsLine p told from s what t
+follows_to {to = to} g a c = record { to = to; goes = g; stands = record { stands = a; counted = c } }
+
 abbrev pub Follows : Program → Told → Position → State → Next → Type 0
 Follows p told at s (Moves t (Some what)) = FollowsLine p told at s what t
 Follows p told at s (Moves t None) = Stands p told t at × (lasting t ≡ lasting s)

@@ -14,7 +14,7 @@ use Rattle.uv_order.proofs.KeptSteps.{no_front}
 use Rattle.uv_order.proofs.Bodies.{IsBody}
 use Rattle.uv_order.proofs.Lives.{goes_is}
 use Rattle.uv_order.proofs.Counted.{Counted, counted_call, told_call, next_body}
-use Rattle.uv_order.proofs.Standing.{StandsAt, left_all, begun_with, section_of, Rest, rest, Leaves, NobodyLeft, due_now, Stands, Follows, left, reached_by, ways_agree, timers_last, pending_lasts, no_answer, are_timers, due_distinct, pending, collects, fires, calls_due, between, running}
+use Rattle.uv_order.proofs.Standing.{follows_to, StandsAt, left_all, begun_with, section_of, Rest, rest, Leaves, NobodyLeft, due_now, Stands, Follows, left, reached_by, ways_agree, timers_last, pending_lasts, no_answer, are_timers, due_distinct, pending, collects, fires, calls_due, between, running}
 
 -- ---- callbacks
 
@@ -61,11 +61,8 @@ pub call_follows : (p : Program) (told : Told) (s u : State) (run r : Run) (part
 call_follows p told s u run r part w t behind is next h names lasts c stands =
     let v = t.1.name in
     let cu : Counted p u.names told = rw names c in
-    record {
-      to = Running run.mode run.line (Within part (called p told Callback.Handle w behind v));
-      goes = doc.call Callback.Handle v t.0 behind is next (named_of s t h) refl lasts;
-      stands = record { stands = stands (its_body p told u Callback.Handle v cu); counted = call_counted p told u Callback.Handle v t.0 cu };
-    }
+    follows_to (doc.call Callback.Handle v t.0 behind is next (named_of s t h) refl lasts) (stands (its_body p told u Callback.Handle v cu))
+    (call_counted p told u Callback.Handle v t.0 cu)
 
 -- ---- timers
 
@@ -96,9 +93,6 @@ turn_follows p told s run turn at alive is over k c e =
     (ap (part_after (order_of p) run.mode (doc.goes_on s)) is
     ∙ ap (λ (go : Bool). part_after (order_of p) run.mode go (left turn)) (goes_is s alive) ∙ ways_agree (order_of p) run.mode (goes s) turn)
   where
-    nobody : NobodyLeft (rest s.ready s)
-    nobody = (left_all e.timers e.idle e.prepare e.check e.async e.closing e.done)
-
     due : TimersOf → List Id
     due part = due_ids (step.time_at (order_of p) part s) s.timers
 
@@ -140,34 +134,20 @@ turn_follows p told s run turn at alive is over k c e =
     stands_by part false heap = running (collects heap refl) (rw heap (timers_left part _ _
         (assumption (ap (λ (ids : List Id). ids ++ due part) e.timers ∙ sym (none_off (due part)), e))))
 
-    stands : (part : TimersOf) → Stands p told (begun part) (Running run.mode run.line (Within (section_of part) (walk part)))
-    stands part = record { stands = stands_by part (from_heap p) refl; counted = c }
+    stands : (part : TimersOf) →
+        StandsAt p (begun part) (begun part).place (Running run.mode run.line (Within (section_of part) (walk part)))
+    stands part = stands_by part (from_heap p) refl
 
     by : (w : Way) → part_after (order_of p) run.mode (doc.goes_on s) (part_of at) ≡ reached_by w →
         Follows p told (Running run.mode run.line at) s (step.goes_by (order_of p) s run w)
-    by (ToTimers TimersOf.Entry) g = record {
-      to = Running run.mode run.line (Within Entry (walk TimersOf.Entry));
-      goes = doc.section Entry over g refl (opens TimersOf.Entry)
-          (timers_last (order_of p) TimersOf.Entry s ∙ no_answer (order_of p) at turn Entry s is);
-      stands = stands TimersOf.Entry;
-    }
-    by (ToTimers TimersOf.Iteration) g = record {
-      to = Running run.mode run.line (Within (In Phase.Timers) (walk TimersOf.Iteration));
-      goes = doc.section (In Phase.Timers) over g refl (opens TimersOf.Iteration)
-          (timers_last (order_of p) TimersOf.Iteration s ∙ no_answer (order_of p) at turn (In Phase.Timers) s is);
-      stands = stands TimersOf.Iteration;
-    }
-    by ToPending g = record {
-      to = Running run.mode run.line (Within (In Phase.Pending) (begun_with woken []));
-      goes = doc.section (In Phase.Pending) over g refl (record { list = refl; off = refl; sent = refl; body = refl; kept = refl })
-          (pending_lasts (order_of p) s ∙ no_answer (order_of p) at turn (In Phase.Pending) s is);
-      stands = record { stands = running (pending refl refl) (left_all e.timers e.idle e.prepare e.check e.async e.closing e.done); counted = c };
-    }
-    by ToEnd g = record {
-      to = Between (run.line + 1);
-      goes = doc.ends over g (ap Seen.End (sym alive)) refl;
-      stands = record { stands = between nobody; counted = c };
-    }
+    by (ToTimers TimersOf.Entry) g = follows_to (doc.section Entry over g refl (opens TimersOf.Entry)
+        (timers_last (order_of p) TimersOf.Entry s ∙ no_answer (order_of p) at turn Entry s is)) (stands TimersOf.Entry) c
+    by (ToTimers TimersOf.Iteration) g = follows_to (doc.section (In Phase.Timers) over g refl (opens TimersOf.Iteration)
+        (timers_last (order_of p) TimersOf.Iteration s ∙ no_answer (order_of p) at turn (In Phase.Timers) s is)) (stands TimersOf.Iteration) c
+    by ToPending g = follows_to (doc.section (In Phase.Pending) over g refl
+        (record { list = refl; off = refl; sent = refl; body = refl; kept = refl }) (pending_lasts (order_of p) s
+        ∙ no_answer (order_of p) at turn (In Phase.Pending) s is)) (running (pending refl refl) (assumption e)) c
+    by ToEnd g = follows_to (doc.ends over g (ap Seen.End (sym alive)) refl) (between (assumption e)) c
 
 -- ---- the calls of timers
 
@@ -288,17 +268,10 @@ call_due_timer : (p : Program) (told : Told) (s u : State) (run : Run) (part : T
 call_due_timer p told s u run part w t f names lasts e none b heap k c =
     let v = t.1.name in
     let cu : Counted p u.names told = rw names c in
-    record {
-      to = Running run.mode run.line (Within (section_of part) (record w { body = body_of p Callback.Handle v (next_call told Callback.Handle v) }));
-      goes = doc.fires v t.0 f.key f.rest heap (timers_are part) b
-          (subst (AreTimers s) f.are (are_timers s s.timers s.next_start k.timers)) (grind (arith, nat_tests, f.due))
-          (named_of s t f.holds) refl lasts;
-      stands = record {
-        stands = running (calls_due heap none (its_body p told u Callback.Handle v cu)) (rw heap (timers_left part (rest u.ready u) _
-            (assumption (e.timers ∙ sym (ap (λ (ids : List Id). left_of ids w.off) none), e))));
-        counted = call_counted p told u Callback.Handle v t.0 cu;
-      };
-    }
+    follows_to (doc.fires v t.0 f.key f.rest heap (timers_are part) b
+        (subst (AreTimers s) f.are (are_timers s s.timers s.next_start k.timers)) (grind (arith, nat_tests, f.due)) (named_of s t f.holds) refl lasts)
+    (running (calls_due heap none (its_body p told u Callback.Handle v cu)) (rw heap (timers_left part (rest u.ready u) _
+        (assumption (e.timers ∙ sym (ap (λ (ids : List Id). left_of ids w.off) none), e))))) (call_counted p told u Callback.Handle v t.0 cu)
   where
     timers_are : (part : TimersOf) → word_of (section_of part) ≡ Phase.Timers
     timers_are TimersOf.Entry = refl

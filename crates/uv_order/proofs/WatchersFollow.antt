@@ -18,7 +18,7 @@ use Rattle.uv_order.proofs.KeptSteps.{no_front}
 use Rattle.uv_order.proofs.Lives.{may_wait_is}
 use Rattle.uv_order.proofs.Counted.{Counted}
 use Rattle.uv_order.proofs.Sends.{pends, pends_in, pends_there, SentAt, pass_both, pass_off}
-use Rattle.uv_order.proofs.Standing.{left_all, begun_with, rest, Leaves, NobodyLeft, IsBehind, Follows, empty_over, IsNext, async_next, async_moved, prepare_next, poll_next, check_next, closing_next, are_timers, are_active, are_closing, walking, polls, done, closing, running}
+use Rattle.uv_order.proofs.Standing.{left_all, begun_with, rest, Leaves, NobodyLeft, IsBehind, follows_to, Follows, empty_over, IsNext, async_next, async_moved, prepare_next, poll_next, check_next, closing_next, are_timers, are_active, are_closing, walking, polls, done, closing, running}
 use Rattle.uv_order.proofs.TimersFollow.{call_follows, NextCall, turn_follows, named_of, next_of, call_counted, its_body, called}
 
 -- ---- sections of watchers, and of async handles
@@ -78,56 +78,38 @@ pub begin_follows : (p : Program) (told : Told) (s : State) (run : Run) (q : Wat
     IsNext (part_of at) (doc.Of (In (phase_of q))) → doc.has_list p (phase_of q) (doc.woken_at at) ≡ true → Kept s →
     SentAt told.sent s → Counted p s.names told → NobodyLeft (rest s.ready s) →
     Follows p told (Running run.mode run.line at) s (step.begin_walk s run q)
-begin_follows p told s run q at over follows has k h c e = record {
-  to = Running run.mode run.line (Within (In (phase_of q)) (walk_with told q (doc.woken_at at) (watched s q).list));
-  goes = doc.section (In (phase_of q)) over (follows (order_of p) run.mode (doc.goes_on s)) refl
-      (opens_watched p told s _ q (doc.woken_at at) has k (none_yet s q e)) (section_lasts (order_of p) at q s);
-  stands = record { stands = running (walking refl) (begun_left told s q (doc.woken_at at) h e); counted = c };
-}
+begin_follows p told s run q at over follows has k h c e = follows_to (doc.section (In (phase_of q)) over
+    (follows (order_of p) run.mode (doc.goes_on s)) refl (opens_watched p told s _ q (doc.woken_at at) has k (none_yet s q e))
+    (section_lasts (order_of p) at q s)) (running (walking refl) (begun_left told s q (doc.woken_at at) h e)) c
 
 -- that of async handles behind a poll that nobody woke, where it has no list
 pub unwoken_follows : (p : Program) (told : Told) (s : State) (run : Run) (w : Walk) → w.woken ≡ false → w.ahead ≡ [] → w.body ≡ [] →
     Counted p s.names told → NobodyLeft (rest s.ready s) →
     Follows p told (Running run.mode run.line (Within (In Phase.Done) w)) s (step.begins s run (Stage.Walking WatcherKind.Async) Phase.Async)
-unwoken_follows p told s run w unwoken none b c e = record {
-  to = Running run.mode run.line (Within (In Phase.Async) (walk_with told WatcherKind.Async w.woken []));
-  goes = doc.section (In Phase.Async) (empty_over Phase.Done w none b, tt) (async_next (order_of p) run.mode (doc.goes_on s)) refl
-      (record { list = rw unwoken refl; off = refl; sent = refl; body = refl; kept = refl }) refl;
-  stands = record {
-    stands = running (walking {q = WatcherKind.Async} refl) (left_all e.timers e.idle e.prepare e.check
-        (none_behind s.arena.slots (walk_with told WatcherKind.Async w.woken []) s.watchers.async.yet refl e.async) e.closing e.done);
-    counted = c;
-  };
-}
+unwoken_follows p told s run w unwoken none b c e =
+    follows_to (doc.section (In Phase.Async) (empty_over Phase.Done w none b, tt) (async_next (order_of p) run.mode (doc.goes_on s)) refl
+    (record { list = rw unwoken refl; off = refl; sent = refl; body = refl; kept = refl }) refl)
+    (running (walking {q = WatcherKind.Async} {w = walk_with told WatcherKind.Async w.woken []} refl)
+    (assumption (none_behind s.arena.slots (walk_with told WatcherKind.Async w.woken []) s.watchers.async.yet refl e.async, e))) c
 
 -- the poll begins
 pub poll_follows : (p : Program) (told : Told) (s : State) (run : Run) (w : Walk) → lives s ≡ is_alive s → IsOver Phase.Prepare w → Kept s →
     Counted p s.names told →
     NobodyLeft (rest s.ready s) →
     Follows p told (Running run.mode run.line (Within (In Phase.Prepare) w)) s (step.begin_poll s run)
-poll_follows p told s run w alive over k c e = record {
-  to = Running run.mode run.line (Polling (deadline_of s (poll_timeout s run.mode)));
-  goes = doc.poll (poll_timeout s run.mode) (over, tt) (poll_next (order_of p) run.mode (doc.goes_on s))
-      (record { timers = s.timers; are = are_timers s s.timers s.next_start k.timers; is = may_wait_is s s.timers run.mode alive }) refl refl;
-  stands = record {
-    stands = running polls (left_all e.timers e.idle e.prepare e.check e.async e.closing e.done);
-    counted = c;
-  };
-}
+poll_follows p told s run w alive over k c e =
+    follows_to (doc.poll (poll_timeout s run.mode) (over, tt) (poll_next (order_of p) run.mode (doc.goes_on s))
+    (record { timers = s.timers; are = are_timers s s.timers s.next_start k.timers; is = may_wait_is s s.timers run.mode alive }) refl refl)
+    (running polls (assumption e)) c
 
 -- the closing section begins
 pub closing_begins : (p : Program) (told : Told) (s : State) (run : Run) (w : Walk) → IsOver Phase.Check w → Kept s → Counted p s.names told →
     NobodyLeft (rest s.ready s) →
     Follows p told (Running run.mode run.line (Within (In Phase.Check) w)) s (step.begin_closing s run)
-closing_begins p told s run w over k c e = record {
-  to = Running run.mode run.line (Within (In Phase.Closing) (begun_with w.woken s.closing.list));
-  goes = doc.section (In Phase.Closing) (over, tt) (closing_next (order_of p) run.mode (doc.goes_on s)) refl
-      (record { list = (refl, are_closing s e.closing k); off = refl; sent = refl; body = refl; kept = refl }) refl;
-  stands = record {
-    stands = running (closing refl) (left_all e.timers e.idle e.prepare e.check e.async (sym (none_off s.closing.list)) e.done);
-    counted = c;
-  };
-}
+closing_begins p told s run w over k c e =
+    follows_to (doc.section (In Phase.Closing) (over, tt) (closing_next (order_of p) run.mode (doc.goes_on s)) refl
+    (record { list = (refl, are_closing s e.closing k); off = refl; sent = refl; body = refl; kept = refl }) refl)
+    (running (closing refl) (assumption (sym (none_off s.closing.list), e))) c
 
 pub after_follows : (p : Program) (told : Told) (s : State) (run : Run) (q : WatcherKind) (w : Walk) → lives s ≡ is_alive s → IsOver (phase_of q) w →
     Kept s →
@@ -296,24 +278,14 @@ done_follows p told s run w st k h g c l woken b = found_both (front_request s s
     at t f =
         let v = t.1.name in
         let next = next_of w t.0 f.rest (sym l.done ∙ f.are) in
-        record {
-          to = Running run.mode run.line (Within (In Phase.Done) (called p told Callback.After w next.behind v));
-          goes = doc.call Callback.After v t.0 next.behind refl
-              (record {
-                done = b;
-                passed = next.passed;
-                list = next.list;
-                may_pass = next.off;
-                may_call = assumption;
-              }) (ap (option_map name_in) f.holds)
-              (ap (λ (o : Option Content). option_map (λ (r : Request). Seen.After (digest_in r.outcome) v t.0) (request_in o)) f.holds) refl;
-          stands = record {
-            stands = rw st (running (done woken (its_body p told s Callback.After v c)) (left_all l.timers l.idle l.prepare l.check
-                (async_moved s.arena.slots _ (λ i on. ap pends_in (same t f i) ∙ on) (Within (In Phase.Done) w) s.watchers.async.yet l.async)
-                l.closing (f.behind ∙ next.left)));
-            counted = call_counted p told s Callback.After v t.0 c;
-          };
-        }
+        follows_to (doc.call Callback.After v t.0 next.behind refl
+            (record { done = b; passed = next.passed; list = next.list; may_pass = next.off; may_call = assumption })
+            (ap (option_map name_in) f.holds)
+            (ap (λ (o : Option Content). option_map (λ (r : Request). Seen.After (digest_in r.outcome) v t.0) (request_in o)) f.holds) refl)
+        (rw st (running (done {w = called p told Callback.After w next.behind v} woken (its_body p told s Callback.After v c))
+            (assumption (f.behind ∙ next.left,
+            async_moved s.arena.slots _ (λ i on. ap pends_in (same t f i) ∙ on) (Within (In Phase.Done) w) s.watchers.async.yet l.async, l))))
+        (call_counted p told s Callback.After v t.0 c)
       where
         same : (u : Id × Request) → FrontRequest s s.done.yet u → SameHandles (freed (arena_size p).last_generation u.0 s.arena).slots s.arena.slots
         same u r = same_handles s.arena.slots _ u.0 _ _ (freed_turns (arena_size p).last_generation s.arena u.0
@@ -342,19 +314,9 @@ closing_follows p told s run w alive st k c l b = found_both (front s s.closing.
     at t f =
         let v = t.1.name in
         let next = next_of w t.0 f.rest (sym l.closing ∙ f.are) in
-        record {
-          to = Running run.mode run.line (Within (In Phase.Closing) (called p told Callback.Close w next.behind v));
-          goes = doc.call Callback.Close v t.0 next.behind refl
-              (record {
-                done = b;
-                passed = next.passed;
-                list = next.list;
-                may_pass = next.off;
-                may_call = assumption;
-              }) (named_of s t f.holds) refl refl;
-          stands = record {
-            stands = rw st (running (closing (its_body p told s Callback.Close v c)) (left_all l.timers l.idle l.prepare l.check l.async
-                (f.behind ∙ next.left) l.done));
-            counted = call_counted p told s Callback.Close v t.0 c;
-          };
-        }
+        follows_to (doc.call Callback.Close v t.0 next.behind refl
+            (record { done = b; passed = next.passed; list = next.list; may_pass = next.off; may_call = assumption })
+            (named_of s t f.holds) refl refl)
+        (rw st (running (closing {w = called p told Callback.Close w next.behind v} (its_body p told s Callback.Close v c))
+            (assumption (f.behind ∙ next.left, l))))
+        (call_counted p told s Callback.Close v t.0 c)
