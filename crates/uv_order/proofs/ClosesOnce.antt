@@ -12,7 +12,6 @@ use Rattle.uv_order.proofs.Asked.{request_turns, freed_turns, FrontRequest, Take
 use Rattle.uv_order.proofs.Works.{HasEnded, its_fit, once_middle, worker, none_run, waits_open, runs_now, fewer_wait, more_run, fewer_run}
 use Rattle.uv_order.proofs.Working.{Working}
 use Rattle.uv_order.proofs.Keeping.{has_number, Watches, Closes, Rests, Kept, members, not_free}
-use Rattle.uv_order.proofs.Did as row
 use Rattle.uv_order.proofs.Did.{Did, did, FrontOf, FirstOf, IsStill, timed}
 use Rattle.uv_order.proofs.KeptSteps.{opened, first_is}
 use Rattle.uv_order.proofs.Gone.{IsGone, gone_turned}
@@ -45,7 +44,7 @@ still_known p past t l q k = grind (arith, plain, still_may, still_line)
 
 begins_known : (p : Program) (past : List Seen) (s : State) (run : Run) (x : Stage) (word : Phase) → KnownAt p past s →
     Follows p past (step.begins s run x word)
-begins_known p past s run x word k = still_known p past (step.at s run x) (Some (Seen.Section word)) (row.section word) k
+begins_known p past s run x word k = still_known p past (step.at s run x) (Some (Seen.Section word)) (IsStill.section word) k
 
 -- a callback counts one call more of its name
 called_known : (p : Program) (past : List Seen) (s : State) (v : Var) (x : Named) → x.id ≡ id_in s.names v → KnownAt p past s →
@@ -274,28 +273,28 @@ cancel_outside p past s v k = cancel_both s v (λ (d : ops.Done). KnownAt p (See
 
 pub did_known : (p : Program) (past : List Seen) (s : State) (n : Next) → Did p s n → Kept s → Working s → StartedAt p past s → KnownAt p past s →
     Follows p past n
-did_known p past s n (row.refused why) kept work begun k = tt
-did_known p past s n (row.still x time clock stop idled l q) kept work begun k = still_known p past (timed s x time clock stop idled) l q k
-did_known p past s n (row.op x at o e) kept work begun k =
+did_known p past s n (Did.refused why) kept work begun k = tt
+did_known p past s n (Did.still x time clock stop idled l q) kept work begun k = still_known p past (timed s x time clock stop idled) l q k
+did_known p past s n (Did.op x at o e) kept work begun k =
     (op_line p past s at o e kept begun k, op_known p past s o kept (λ id f. new_id p past s id f kept begun) k at e)
-did_known p past s n (row.begun run q e) kept work begun k = begin_known p past s run q k
-did_known p past s n (row.begun_closing run e) kept work begun k = assumption
-did_known p past s n (row.begun_done run time e) kept work begun k =
+did_known p past s n (Did.begun run q e) kept work begun k = begin_known p past s run q k
+did_known p past s n (Did.begun_closing run e) kept work begun k = assumption
+did_known p past s n (Did.begun_done run time e) kept work begun k =
     begins_known p past (record s { time = time; done = all_yet s.done }) run Done Phase.Done k
-did_known p past s n (row.collected run part t f) kept work begun k = changed p past s t (records.stopped t.1) f.holds refl refl k
-did_known p past s n (row.fired run t f) kept work begun k = fired_known p past s run t f kept begun k
-did_known p past s n (row.called_due run t f) kept work begun k = due_known p past s run t f kept begun k
-did_known p past s n (row.answered run time v t e is on) kept work begun k = answered_known p past s run time v t e on kept begun k
-did_known p past s n (row.walked run q t sync f) kept work begun k = walked_known p past s run q t f kept begun k
-did_known p past s n (row.passed run t f off) kept work begun k = k
-did_known p past s n (row.woken run t f on) kept work begun k = woken_known p past s run t f kept begun k
-did_known p past s n (row.closed run t f) kept work begun k = closed_known p past s run t f kept k
-did_known p past s n (row.ended run t f) kept work begun k = ended_known p past s run t f kept work k
-did_known p past s n (row.taken n' t f) kept work begun k = taken_known p past s n' t f work k
-did_known p past s n (row.finished n' t f) kept work begun k = finished_known p past s n' t f work k
-did_known p past s n (row.sent v) kept work begun k =
+did_known p past s n (Did.collected run part t f) kept work begun k = changed p past s t (records.stopped t.1) f.holds refl refl k
+did_known p past s n (Did.fired run t f) kept work begun k = fired_known p past s run t f kept begun k
+did_known p past s n (Did.called_due run t f) kept work begun k = due_known p past s run t f kept begun k
+did_known p past s n (Did.answered run time v t e is on) kept work begun k = answered_known p past s run time v t e on kept begun k
+did_known p past s n (Did.walked run q t sync f) kept work begun k = walked_known p past s run q t f kept begun k
+did_known p past s n (Did.passed run t f off) kept work begun k = k
+did_known p past s n (Did.woken run t f on) kept work begun k = woken_known p past s run t f kept begun k
+did_known p past s n (Did.closed run t f) kept work begun k = closed_known p past s run t f kept k
+did_known p past s n (Did.ended run t f) kept work begun k = ended_known p past s run t f kept work k
+did_known p past s n (Did.taken n' t f) kept work begun k = taken_known p past s n' t f work k
+did_known p past s n (Did.finished n' t f) kept work begun k = finished_known p past s n' t f work k
+did_known p past s n (Did.sent v) kept work begun k =
     plain p past (Seen.Send v (ops.send s (live_handle s v)).code) (ops.send s (live_handle s v)).state tt (grind arith) (send_known p past s v k)
-did_known p past s n (row.cancelled v) kept work begun k = (cancel_says p past s v k, cancel_outside p past s v k)
+did_known p past s n (Did.cancelled v) kept work begun k = (cancel_says p past s v k, cancel_outside p past s v k)
 
 -- ---- all steps
 

@@ -11,10 +11,8 @@ use Rattle.uv_work.specs.Pool.{replay}
 use Rattle.uv_order.proofs.Histories.{lines-history}
 use Rattle.uv_order.proofs.Pooling.{Pools, did_pools}
 use Rattle.uv_order.proofs.Holding.{name_at}
-use Rattle.uv_order.proofs.OpCases as which
-use Rattle.uv_order.proofs.OpCases.{DidOp, op_did, names_at, live_bound, IsRefusal, refuses_stop, refuses_start, refuses_again, refuses_close, on_handle_both, send_both, make_both}
+use Rattle.uv_order.proofs.OpCases.{DidOp, op_did, names_at, live_bound, IsRefusal, refuses_stop, refuses_start, refuses_again, refuses_close, on_handle_both, send_both, make_both, IsAsked, IsRef}
 use Rattle.uv_order.proofs.Keeping.{Kept}
-use Rattle.uv_order.proofs.Did as row
 use Rattle.uv_order.proofs.Did.{Did, did, IsStill, timed}
 use Rattle.uv_order.proofs.KeptSteps.{StaysKept, did_kept, fresh_kept}
 use Rattle.uv_order.proofs.Working.{Working, StaysWorking, did_working, fresh_working}
@@ -65,14 +63,14 @@ off_close : (a b : Names) (v : Var) → ids_of a (Some v) ≡ ids_of b (Some v) 
 off_close a b v e each = grind arith
 
 did_op_off : (names : Names) (s : State) (o : Op) (d : ops.Done) → DidOp s o d → Agrees names s → SameOff (names_at s) names o d.answer
-did_op_off names s o d (which.refused o' c r may) k = off_refused (names_at s) names o' c r
-did_op_off names s o d (which.stopped v t e sync) k = off_stop (names_at s) names v (one_name names s v t k e)
-did_op_off names s o d (which.closed v t e stays) k = off_close (names_at s) names v (one_name names s v t k e)
-did_op_off names s o d (which.started v timeout repeat t e is stays) k = search (start_off, off_again, one_name)
-did_op_off names s o d (which.again v t e is stays) k = off_again (names_at s) names v (one_name names s v t k e)
-did_op_off names s o d (which.asked o' a (which.due_in v)) k = off_none names s (Op.DueIn v) a refl
-did_op_off names s o d (which.asked o' a each) k = off_none names s o a refl
-did_op_off names s o d (which.referenced o' u flag t e (which.ref v)) k = off_none names s o d.answer refl
+did_op_off names s o d (DidOp.refused o' c r may) k = off_refused (names_at s) names o' c r
+did_op_off names s o d (DidOp.stopped v t e sync) k = off_stop (names_at s) names v (one_name names s v t k e)
+did_op_off names s o d (DidOp.closed v t e stays) k = off_close (names_at s) names v (one_name names s v t k e)
+did_op_off names s o d (DidOp.started v timeout repeat t e is stays) k = search (start_off, off_again, one_name)
+did_op_off names s o d (DidOp.again v t e is stays) k = off_again (names_at s) names v (one_name names s v t k e)
+did_op_off names s o d (DidOp.asked o' a (IsAsked.due_in v)) k = off_none names s (Op.DueIn v) a refl
+did_op_off names s o d (DidOp.asked o' a each) k = off_none names s o a refl
+did_op_off names s o d (DidOp.referenced o' u flag t e (IsRef.ref v)) k = off_none names s o d.answer refl
 did_op_off names s o d each k = off_none names s o d.answer refl
 
 op_off : (names : Names) (s : State) (o : Op) → Agrees names s → SameOff (names_at s) names o (do_op s o).answer
@@ -105,10 +103,10 @@ Told_by p s (Moves t None) = Unit {0}
 Told_by p s (Refuses why) = Unit {0}
 
 says : (p : Program) (s : State) (n : Next) → Did p s n → Told_by p s n
-says p s n (row.still x time clock stop idled l row.unseen) = tt
-says p s n (row.still x time clock stop idled l each) = tt
-says p s n (row.op x at o e) = λ y is. ap (λ (z : Op). (do_op s z).answer) (same_Some _ _ (sym e ∙ is))
-says p s n (row.sent v) = refl
+says p s n (Did.still x time clock stop idled l IsStill.unseen) = tt
+says p s n (Did.still x time clock stop idled l each) = tt
+says p s n (Did.op x at o e) = λ y is. ap (λ (z : Op). (do_op s z).answer) (same_Some _ _ (sym e ∙ is))
+says p s n (Did.sent v) = refl
 says p s n each = tt
 
 -- ---- so its line goes on by the names that the lines tell

@@ -5,10 +5,8 @@ use Rattle.uv_model.specs.Ops as ops
 use Rattle.uv_order.proofs.IdLists.{Each, each_push, distinct_push, member, has_new_middle}
 use Rattle.uv_order.proofs.Contents.{holds, emptied, get_set_same}
 use Rattle.uv_order.proofs.Holding.{is_held, put, same_handles, Fits, its_handle, Lists, lists_emptied, not_listed, Everyone, everyone_put, everyone_emptied, everyone_rest, fitted_emptied, IsSet, Times, times_rest, times_emptied, put_same}
-use Rattle.uv_order.proofs.OpCases as which
 use Rattle.uv_order.proofs.OpCases.{DidOp, op_did, as_watcher, live_held, refuses_none, refuses_timer, refuses_start, refuses_start_watcher, refuses_stop, refuses_again, refuses_close, start_passes, again_passes, start_watcher_passes, close_passes, stop_passes, on_handle_both, send_both, cancel_both, make_both}
 use Rattle.uv_order.proofs.Asked.{request_turns, freed_turns, FrontRequest}
-use Rattle.uv_order.proofs.Did as row
 use Rattle.uv_order.proofs.Did.{Did, FrontOf, FirstOf}
 use Rattle.uv_order.proofs.Keeping.{kept_all, fills, agree_same, free_held, Rests, Watches, Closes, IsSound, AreFree, members, Agree, Kept, on_off, open_shut, others, off_list, sound_put, free_put, free_set, not_free, put_kept, stopped_kept, closed_kept, started_kept, started_again_kept, restarted_again_kept, watcher_started_kept, io_started_kept, new_kept, not_timer}
 
@@ -30,18 +28,18 @@ request_kept s id r x e k =
     (free_held s.arena.slots id (Content.Request r) _ s.arena.free e k.free) k
 
 did_op_kept : (s : State) (o : Op) (d : ops.Done) → DidOp s o d → Kept s → Kept d.state
-did_op_kept s o d (which.made v q id e) k = new_kept s v q id e k
-did_op_kept s o d (which.queued v task id e) k = queued_kept s v task id e k
-did_op_kept s o d (which.cancelled v t live on) k = request_kept s t.0 t.1 _ live.holds k
-did_op_kept s o d (which.started v timeout repeat t e is stays) k = started_again_kept s t.0 t.1 timeout repeat (live_held s v t e) is stays k
-did_op_kept s o d (which.again v t e is stays) k = restarted_again_kept s t.0 t.1 (live_held s v t e) is stays k
-did_op_kept s o d (which.watching v q t e is off stays) k = watcher_started_kept s q t.0 t.1 (live_held s v t e) is off stays k
-did_op_kept s o d (which.io_started v t e is off stays) k = io_started_kept s t.0 t.1 (live_held s v t e) is stays k
-did_op_kept s o d (which.stopped v t e sync) k = stopped_kept s t.0 t.1 (live_held s v t e) sync k
-did_op_kept s o d (which.closed v t e stays) k = closed_kept s t.0 t.1 (live_held s v t e) stays k
-did_op_kept s o d (which.repeated v n t e) k = put_kept s t.0 t.1 (repeating n t.1) (live_held s v t e) refl refl refl refl k
-did_op_kept s o d (which.referenced o' v flag t e is) k = search (put_kept, live_held)
-did_op_kept s o d (which.sent_to v t e is stays) k = put_kept s t.0 t.1 (records.sent t.1) (live_held s v t e) refl refl refl refl k
+did_op_kept s o d (DidOp.made v q id e) k = new_kept s v q id e k
+did_op_kept s o d (DidOp.queued v task id e) k = queued_kept s v task id e k
+did_op_kept s o d (DidOp.cancelled v t live on) k = request_kept s t.0 t.1 _ live.holds k
+did_op_kept s o d (DidOp.started v timeout repeat t e is stays) k = started_again_kept s t.0 t.1 timeout repeat (live_held s v t e) is stays k
+did_op_kept s o d (DidOp.again v t e is stays) k = restarted_again_kept s t.0 t.1 (live_held s v t e) is stays k
+did_op_kept s o d (DidOp.watching v q t e is off stays) k = watcher_started_kept s q t.0 t.1 (live_held s v t e) is off stays k
+did_op_kept s o d (DidOp.io_started v t e is off stays) k = io_started_kept s t.0 t.1 (live_held s v t e) is stays k
+did_op_kept s o d (DidOp.stopped v t e sync) k = stopped_kept s t.0 t.1 (live_held s v t e) sync k
+did_op_kept s o d (DidOp.closed v t e stays) k = closed_kept s t.0 t.1 (live_held s v t e) stays k
+did_op_kept s o d (DidOp.repeated v n t e) k = put_kept s t.0 t.1 (repeating n t.1) (live_held s v t e) refl refl refl refl k
+did_op_kept s o d (DidOp.referenced o' v flag t e is) k = search (put_kept, live_held)
+did_op_kept s o d (DidOp.sent_to v t e is stays) k = put_kept s t.0 t.1 (records.sent t.1) (live_held s v t e) refl refl refl refl k
 did_op_kept s o d each k = k
 
 pub op_kept : (s : State) (o : Op) → Kept s → Kept (do_op s o).state
@@ -239,25 +237,25 @@ gone_ended p s t f k =
     (same_handles s.arena.slots (freed last t.0 s.arena).slots t.0 _ _ (freed_turns last s.arena t.0 c f.holds) refl refl) free k
 
 pub did_kept : (p : Program) (s : State) (n : Next) → Did p s n → Kept s → StaysKept n
-did_kept p s n (row.refused why) k = tt
-did_kept p s n (row.still x time clock stop idled l q) k = k
-did_kept p s n (row.op x at o e) k = op_kept s o k
-did_kept p s n (row.begun run q e) k = begin_kept s run q e k
-did_kept p s n (row.begun_closing run e) k = begin_closing_kept s e k
-did_kept p s n (row.begun_done run time e) k = k
-did_kept p s n (row.collected run part t f) k = collected_kept s t f k
-did_kept p s n (row.fired run t f) k = fired_kept s t f k
-did_kept p s n (row.called_due run t f) k = called_due_kept s t f k
-did_kept p s n (row.walked run q t sync f) k = front_moved_kept s q t f k
-did_kept p s n (row.passed run t f off) k = front_moved_kept s WatcherKind.Async t f k
-did_kept p s n (row.woken run t f on) k = woken_kept s t f k
-did_kept p s n (row.answered run time v t e is on) k = k
-did_kept p s n (row.closed run t f) k = gone_closed p s t f k
-did_kept p s n (row.ended run t f) k = gone_ended p s t f k
-did_kept p s n (row.taken n' t f) k = k
-did_kept p s n (row.finished n' t f) k = request_kept s t.0 t.1 _ f.holds k
-did_kept p s n (row.sent v) k = op_kept s (Op.Send v) k
-did_kept p s n (row.cancelled v) k = op_kept s (Op.Cancel v) k
+did_kept p s n (Did.refused why) k = tt
+did_kept p s n (Did.still x time clock stop idled l q) k = k
+did_kept p s n (Did.op x at o e) k = op_kept s o k
+did_kept p s n (Did.begun run q e) k = begin_kept s run q e k
+did_kept p s n (Did.begun_closing run e) k = begin_closing_kept s e k
+did_kept p s n (Did.begun_done run time e) k = k
+did_kept p s n (Did.collected run part t f) k = collected_kept s t f k
+did_kept p s n (Did.fired run t f) k = fired_kept s t f k
+did_kept p s n (Did.called_due run t f) k = called_due_kept s t f k
+did_kept p s n (Did.walked run q t sync f) k = front_moved_kept s q t f k
+did_kept p s n (Did.passed run t f off) k = front_moved_kept s WatcherKind.Async t f k
+did_kept p s n (Did.woken run t f on) k = woken_kept s t f k
+did_kept p s n (Did.answered run time v t e is on) k = k
+did_kept p s n (Did.closed run t f) k = gone_closed p s t f k
+did_kept p s n (Did.ended run t f) k = gone_ended p s t f k
+did_kept p s n (Did.taken n' t f) k = k
+did_kept p s n (Did.finished n' t f) k = request_kept s t.0 t.1 _ f.holds k
+did_kept p s n (Did.sent v) k = op_kept s (Op.Send v) k
+did_kept p s n (Did.cancelled v) k = op_kept s (Op.Cancel v) k
 
 pub fresh_kept : (p : Program) → Kept (fresh p)
 fresh_kept p = grind arith

@@ -4,8 +4,7 @@ use Rattle.uv_model.specs.Ops as ops
 use Rattle.uv_order.proofs.IdLists.{left_of, none_off, one_off, without_absent, has_back}
 use Rattle.uv_order.proofs.Holding.{Everyone, not_listed}
 use Rattle.uv_order.proofs.Keeping.{Kept, Watches, members}
-use Rattle.uv_order.proofs.OpCases as which
-use Rattle.uv_order.proofs.OpCases.{DidOp, IsAsked, MayRefuse, op_did, names_at, live_held, live_bound, IsRefusal, refuses_none, refuses_timer, refuses_start, refuses_start_watcher, refuses_stop, refuses_again, refuses_close, start_passes, again_passes, on_handle_both, send_both, cancel_both, make_both}
+use Rattle.uv_order.proofs.OpCases.{DidOp, IsAsked, MayRefuse, op_did, names_at, live_held, live_bound, IsRefusal, refuses_none, refuses_timer, refuses_start, refuses_start_watcher, refuses_stop, refuses_again, refuses_close, start_passes, again_passes, on_handle_both, send_both, cancel_both, make_both, IsRef}
 
 -- ---- counts of calls
 
@@ -189,24 +188,24 @@ new_effect s v Kind.Timer id = search (still, bound_calls)
 new_effect s v each id = still s (Op.Init v each) _ refl refl (bound_calls s.names v.0 _ refl) (assumption)
 
 asked_effect : (s : State) (o : Op) (a : Answer) → IsAsked o → Effect s o (ops.says s a)
-asked_effect s o a (which.due_in v) = simple s (Op.DueIn v) _ refl refl refl (same_lists s)
+asked_effect s o a (IsAsked.due_in v) = simple s (Op.DueIn v) _ refl refl refl (same_lists s)
 asked_effect s o a each = simple s o _ refl refl refl (same_lists s)
 
 lasts_refused : (s : State) (o : Op) → MayRefuse o → after_op o s ≡ lasting s
 lasts_refused s o may = grind arith
 
 did_op_effect : (s : State) (o : Op) (d : ops.Done) → DidOp s o d → Kept s → Effect s o d
-did_op_effect s o d (which.refused o' c r may) k = refused_effect s o' (lasts_refused s o' may) c r
-did_op_effect s o d (which.asked o' a is) k = asked_effect s o' a is
-did_op_effect s o d (which.made v q id e) k = new_effect s v q id
-did_op_effect s o d (which.queued v task id e) k = still s (Op.Queue v task) _ refl refl (bound_calls s.names v.0 _ refl) (assumption)
-did_op_effect s o d (which.started v timeout repeat t e is stays) k = start_effect s v timeout repeat t e is k
-did_op_effect s o d (which.again v t e is stays) k = again_effect s v t e is k
-did_op_effect s o d (which.stopped v t e sync) k = stop_effect s v t e sync k
-did_op_effect s o d (which.closed v t e stays) k = close_effect s v t e
-did_op_effect s o d (which.watching v WatcherKind.Idle t e is off stays) k = simple s (Op.StartWatcher v) _ refl refl refl (assumption)
-did_op_effect s o d (which.watching v each t e is off stays) k = simple s (Op.StartWatcher v) _ refl refl refl (assumption)
-did_op_effect s o d (which.referenced o' u flag t e (which.ref v)) k = simple s o _ refl refl refl (assumption)
+did_op_effect s o d (DidOp.refused o' c r may) k = refused_effect s o' (lasts_refused s o' may) c r
+did_op_effect s o d (DidOp.asked o' a is) k = asked_effect s o' a is
+did_op_effect s o d (DidOp.made v q id e) k = new_effect s v q id
+did_op_effect s o d (DidOp.queued v task id e) k = still s (Op.Queue v task) _ refl refl (bound_calls s.names v.0 _ refl) (assumption)
+did_op_effect s o d (DidOp.started v timeout repeat t e is stays) k = start_effect s v timeout repeat t e is k
+did_op_effect s o d (DidOp.again v t e is stays) k = again_effect s v t e is k
+did_op_effect s o d (DidOp.stopped v t e sync) k = stop_effect s v t e sync k
+did_op_effect s o d (DidOp.closed v t e stays) k = close_effect s v t e
+did_op_effect s o d (DidOp.watching v WatcherKind.Idle t e is off stays) k = simple s (Op.StartWatcher v) _ refl refl refl (assumption)
+did_op_effect s o d (DidOp.watching v each t e is off stays) k = simple s (Op.StartWatcher v) _ refl refl refl (assumption)
+did_op_effect s o d (DidOp.referenced o' u flag t e (IsRef.ref v)) k = simple s o _ refl refl refl (assumption)
 did_op_effect s o d each k = simple s o d refl refl refl (assumption)
 
 pub op_effect : (s : State) (o : Op) → Kept s → Effect s o (do_op s o)

@@ -5,8 +5,7 @@ use Rattle.uv_model.specs.Ops as ops
 use Rattle.uv_order.proofs.IdLists.{has_both, has_but_one, on_list, same, itself, turned, still_absent}
 use Rattle.uv_order.proofs.Contents.{Turns}
 use Rattle.uv_order.proofs.Holding.{name_in, name_at, names_turned, same_handles, put, put_same}
-use Rattle.uv_order.proofs.OpCases as which
-use Rattle.uv_order.proofs.OpCases.{DidOp, IsAsked, IsLive, op_did, live_as_handle, live_held, live_bound, IsRefusal, refuses_none, refuses_timer, refuses_start, refuses_start_watcher, refuses_stop, refuses_again, refuses_close, on_handle_both, send_both, cancel_both, make_both}
+use Rattle.uv_order.proofs.OpCases.{DidOp, IsAsked, IsLive, op_did, live_as_handle, live_held, live_bound, IsRefusal, refuses_none, refuses_timer, refuses_start, refuses_start_watcher, refuses_stop, refuses_again, refuses_close, on_handle_both, send_both, cancel_both, make_both, IsRef}
 use Rattle.uv_order.proofs.Asked.{request_turns}
 use Rattle.uv_order.proofs.Works.{same_requests}
 use Rattle.uv_order.proofs.Keeping.{AreFree, Kept, fills, takes as taken_handle}
@@ -189,38 +188,38 @@ cancel_op_known p past s v t live on k place at = cancel_told p past (Seen.Op pl
 
 did_op_known : (p : Program) (past : List Seen) (s : State) (o : Op) (d : ops.Done) → DidOp s o d → Kept s →
     IsUnmade p past s → KnownAt p past s → KnownBy p past o d
-did_op_known p past s o d (which.refused o' c r may) kept unmade k = known_by p past o d (refused_harmless o' c r) k
-did_op_known p past s o d (which.asked o' a is) kept unmade k = known_by p past o d (harmless o' (asked_harmless o' is) a) k
-did_op_known p past s o d which.loop_stopped kept unmade k = known_by p past o d (harmless Op.StopLoop refl _) k
-did_op_known p past s o d which.time_updated kept unmade k = known_by p past o d (harmless Op.UpdateTime refl _) k
-did_op_known p past s o d (which.made v q id e) kept unmade k = new_known p past s v q id e kept unmade k
-did_op_known p past s o d (which.queued v task id e) kept unmade k = queued_known p past s v task id e kept unmade k
-did_op_known p past s o d (which.cancelled v t live on) kept unmade k = cancel_op_known p past s v t live on k
-did_op_known p past s o d (which.started v timeout repeat t e is stays) kept unmade k =
+did_op_known p past s o d (DidOp.refused o' c r may) kept unmade k = known_by p past o d (refused_harmless o' c r) k
+did_op_known p past s o d (DidOp.asked o' a is) kept unmade k = known_by p past o d (harmless o' (asked_harmless o' is) a) k
+did_op_known p past s o d DidOp.loop_stopped kept unmade k = known_by p past o d (harmless Op.StopLoop refl _) k
+did_op_known p past s o d DidOp.time_updated kept unmade k = known_by p past o d (harmless Op.UpdateTime refl _) k
+did_op_known p past s o d (DidOp.made v q id e) kept unmade k = new_known p past s v q id e kept unmade k
+did_op_known p past s o d (DidOp.queued v task id e) kept unmade k = queued_known p past s v task id e kept unmade k
+did_op_known p past s o d (DidOp.cancelled v t live on) kept unmade k = cancel_op_known p past s v t live on k
+did_op_known p past s o d (DidOp.started v timeout repeat t e is stays) kept unmade k =
     known_by p past o d (harmless (Op.Start v timeout repeat) refl _)
     (twice p past s t (records.stopped t.1) _ (live_held s v t e) refl refl refl refl k)
-did_op_known p past s o d (which.again v t e is stays) kept unmade k =
+did_op_known p past s o d (DidOp.again v t e is stays) kept unmade k =
     known_by p past o d (harmless (Op.Again v) refl _) (again_known p past s t (live_held s v t e) k)
-did_op_known p past s o d (which.watching v q t e is off stays) kept unmade k = search (known_by, past, harmless, changed, live_held)
-did_op_known p past s o d (which.io_started v t e is off stays) kept unmade k =
+did_op_known p past s o d (DidOp.watching v q t e is off stays) kept unmade k = search (known_by, past, harmless, changed, live_held)
+did_op_known p past s o d (DidOp.io_started v t e is off stays) kept unmade k =
     known_by p past o d (harmless (Op.StartWatcher v) refl _)
     (changed p past s t (records.activated t.1) (live_held s v t e) refl refl k)
-did_op_known p past s o d (which.watches v t e on) kept unmade k = known_by p past o d (harmless (Op.StartWatcher v) refl _) k
-did_op_known p past s o d (which.stopped v t e sync) kept unmade k =
+did_op_known p past s o d (DidOp.watches v t e on) kept unmade k = known_by p past o d (harmless (Op.StartWatcher v) refl _) k
+did_op_known p past s o d (DidOp.stopped v t e sync) kept unmade k =
     known_by p past o d (harmless (Op.Stop v) refl _)
     (changed p past s t (records.stopped t.1) (live_held s v t e) refl refl k)
-did_op_known p past s o d (which.closed v t e stays) kept unmade k = λ place at.
+did_op_known p past s o d (DidOp.closed v t e stays) kept unmade k = λ place at.
     known_close p past place v s.arena s.names t.0 t.1 (records.closed t.1) at (live_bound s v t e) (live_held s v t e) refl refl k
-did_op_known p past s o d (which.repeated v n t e) kept unmade k =
+did_op_known p past s o d (DidOp.repeated v n t e) kept unmade k =
     known_by p past o d (harmless (Op.SetRepeat v n) refl _)
     (changed p past s t (repeating n t.1) (live_held s v t e) refl refl k)
-did_op_known p past s o d (which.referenced o' u flag t e (which.ref v)) kept unmade k =
+did_op_known p past s o d (DidOp.referenced o' u flag t e (IsRef.ref v)) kept unmade k =
     known_by p past o d (harmless (Op.Ref v) refl _)
     (changed p past s t (referenced_as flag t.1) (live_held s u t e) refl refl k)
-did_op_known p past s o d (which.referenced o' u flag t e (which.unref v)) kept unmade k =
+did_op_known p past s o d (DidOp.referenced o' u flag t e (IsRef.unref v)) kept unmade k =
     known_by p past o d (harmless (Op.Unref v) refl _)
     (changed p past s t (referenced_as flag t.1) (live_held s u t e) refl refl k)
-did_op_known p past s o d (which.sent_to v t e is stays) kept unmade k =
+did_op_known p past s o d (DidOp.sent_to v t e is stays) kept unmade k =
     known_by p past o d (harmless (Op.Send v) refl _)
     (changed p past s t (records.sent t.1) (live_held s v t e) refl refl k)
 

@@ -13,7 +13,6 @@ use Rattle.uv_order.proofs.Asked.{request_turns, freed_turns, FrontRequest, Take
 use Rattle.uv_order.proofs.Works.{asked_at, AllAsk, IsOpen, HasEnded, once_middle, runs_now, waits_open, runs_open}
 use Rattle.uv_order.proofs.Quiet.{SameWork, IsOfHandles, IsOfLoop, op_same, KeepsWork, did_same}
 use Rattle.uv_order.proofs.Working.{Working}
-use Rattle.uv_order.proofs.Did as row
 use Rattle.uv_order.proofs.Did.{Did, did, IsStill, timed}
 
 -- ---- pools
@@ -196,20 +195,20 @@ quiet_step : (p : Program) (s : State) (n : Next) → KeepsWork s n → IsQuiet 
 quiet_step p s n q none = grind (arith, pool_same)
 
 did_quiet : (p : Program) (s : State) (n : Next) (d : Did p s n) → IsOfLoop d → IsQuiet p n
-did_quiet p s n (row.refused why) h = tt
-did_quiet p s n (row.still x time clock stop idled l row.unseen) h = tt
-did_quiet p s n (row.still x time clock stop idled l each) h = refl
-did_quiet p s n (row.begun run q e) h = refl
-did_quiet p s n (row.begun_closing run e) h = refl
-did_quiet p s n (row.collected run part t f) h = tt
-did_quiet p s n (row.fired run t f) h = refl
-did_quiet p s n (row.called_due run t f) h = refl
-did_quiet p s n (row.answered run time v t e is on) h = refl
-did_quiet p s n (row.walked run q t sync f) h = refl
-did_quiet p s n (row.passed run t f off) h = tt
-did_quiet p s n (row.woken run t f on) h = refl
-did_quiet p s n (row.closed run t f) h = refl
-did_quiet p s n (row.sent v) h = refl
+did_quiet p s n (Did.refused why) h = tt
+did_quiet p s n (Did.still x time clock stop idled l IsStill.unseen) h = tt
+did_quiet p s n (Did.still x time clock stop idled l each) h = refl
+did_quiet p s n (Did.begun run q e) h = refl
+did_quiet p s n (Did.begun_closing run e) h = refl
+did_quiet p s n (Did.collected run part t f) h = tt
+did_quiet p s n (Did.fired run t f) h = refl
+did_quiet p s n (Did.called_due run t f) h = refl
+did_quiet p s n (Did.answered run time v t e is on) h = refl
+did_quiet p s n (Did.walked run q t sync f) h = refl
+did_quiet p s n (Did.passed run t f off) h = tt
+did_quiet p s n (Did.woken run t f on) h = refl
+did_quiet p s n (Did.closed run t f) h = refl
+did_quiet p s n (Did.sent v) h = refl
 did_quiet p s n each h = absurd h
 
 -- the section of those that are done begins
@@ -225,10 +224,10 @@ taken_pools : (p : Program) (s : State) (n : ℕ) (t : Id × Request) → TakesF
 taken_pools p s n t f = grind arith
 
 pub did_pools : (p : Program) (s : State) (n : Next) → Did p s n → Kept s → Working s → Pools p s n
-did_pools p s n (row.op x at o e) kept k = op_line p s at o e kept k
-did_pools p s n (row.begun_done run time e) kept k = ap Some (sym (begun_pool s e))
-did_pools p s n (row.ended run t f) kept k = collected_pool s (arena_size p).last_generation t f k
-did_pools p s n (row.taken n' t f) kept k = taken_pools p s n' t f
-did_pools p s n (row.finished n' t f) kept k = finished_pool s n' t f k
-did_pools p s n (row.cancelled v) kept k = outside_pools p s v k
+did_pools p s n (Did.op x at o e) kept k = op_line p s at o e kept k
+did_pools p s n (Did.begun_done run time e) kept k = ap Some (sym (begun_pool s e))
+did_pools p s n (Did.ended run t f) kept k = collected_pool s (arena_size p).last_generation t f k
+did_pools p s n (Did.taken n' t f) kept k = taken_pools p s n' t f
+did_pools p s n (Did.finished n' t f) kept k = finished_pool s n' t f k
+did_pools p s n (Did.cancelled v) kept k = outside_pools p s v k
 did_pools p s n each kept k = quiet_step p s n (did_same p s n each tt kept) (did_quiet p s n each tt)

@@ -6,10 +6,8 @@ use Rattle.uv_order.proofs.Contents.{Turns}
 use Rattle.uv_order.proofs.Holding.{put, put_same, is_held}
 use Rattle.uv_order.proofs.Asked.{freed_turns}
 use Rattle.uv_order.proofs.Works.{SameRequests, same_requests, same_put}
-use Rattle.uv_order.proofs.OpCases as which
 use Rattle.uv_order.proofs.OpCases.{DidOp, op_did, live_held, refuses_none, refuses_timer, refuses_start, refuses_start_watcher, refuses_stop, refuses_again, refuses_close, on_handle_both, send_both, make_both}
 use Rattle.uv_order.proofs.Keeping.{Kept, fills}
-use Rattle.uv_order.proofs.Did as row
 use Rattle.uv_order.proofs.Did.{Did, FrontOf}
 
 -- no request changes, and no list of requests
@@ -69,19 +67,19 @@ IsOfHandles (Op.Cancel v) = ⊥
 IsOfHandles o = Unit {0}
 
 did_op_same : (s : State) (o : Op) (d : ops.Done) → DidOp s o d → IsOfHandles o → Kept s → SameWork s d.state
-did_op_same s o d (which.made v q id e) h kept = new_same s v q id e kept
-did_op_same s o d (which.queued v task id e) h kept = absurd h
-did_op_same s o d (which.cancelled v t live on) h kept = absurd h
-did_op_same s o d (which.started v timeout repeat t e is stays) h kept = twice s t (records.stopped t.1) _ (live_held s v t e)
-did_op_same s o d (which.again v t e is stays) h kept = again_same s t (live_held s v t e)
-did_op_same s o d (which.watching v WatcherKind.Idle t e is off stays) h kept = changed s t (activated t.1) (live_held s v t e)
-did_op_same s o d (which.watching v each t e is off stays) h kept = changed s t (activated t.1) (live_held s v t e)
-did_op_same s o d (which.io_started v t e is off stays) h kept = changed s t (activated t.1) (live_held s v t e)
-did_op_same s o d (which.stopped v t e sync) h kept = changed s t (records.stopped t.1) (live_held s v t e)
-did_op_same s o d (which.closed v t e stays) h kept = changed s t (records.closed t.1) (live_held s v t e)
-did_op_same s o d (which.repeated v n t e) h kept = changed s t (repeating n t.1) (live_held s v t e)
-did_op_same s o d (which.referenced o' v flag t e is) h kept = changed s t (referenced_as flag t.1) (live_held s v t e)
-did_op_same s o d (which.sent_to v t e is stays) h kept = changed s t (records.sent t.1) (live_held s v t e)
+did_op_same s o d (DidOp.made v q id e) h kept = new_same s v q id e kept
+did_op_same s o d (DidOp.queued v task id e) h kept = absurd h
+did_op_same s o d (DidOp.cancelled v t live on) h kept = absurd h
+did_op_same s o d (DidOp.started v timeout repeat t e is stays) h kept = twice s t (records.stopped t.1) _ (live_held s v t e)
+did_op_same s o d (DidOp.again v t e is stays) h kept = again_same s t (live_held s v t e)
+did_op_same s o d (DidOp.watching v WatcherKind.Idle t e is off stays) h kept = changed s t (activated t.1) (live_held s v t e)
+did_op_same s o d (DidOp.watching v each t e is off stays) h kept = changed s t (activated t.1) (live_held s v t e)
+did_op_same s o d (DidOp.io_started v t e is off stays) h kept = changed s t (activated t.1) (live_held s v t e)
+did_op_same s o d (DidOp.stopped v t e sync) h kept = changed s t (records.stopped t.1) (live_held s v t e)
+did_op_same s o d (DidOp.closed v t e stays) h kept = changed s t (records.closed t.1) (live_held s v t e)
+did_op_same s o d (DidOp.repeated v n t e) h kept = changed s t (repeating n t.1) (live_held s v t e)
+did_op_same s o d (DidOp.referenced o' v flag t e is) h kept = changed s t (referenced_as flag t.1) (live_held s v t e)
+did_op_same s o d (DidOp.sent_to v t e is stays) h kept = changed s t (records.sent t.1) (live_held s v t e)
 did_op_same s o d each h kept = same s
 
 pub op_same : (s : State) (o : Op) → IsOfHandles o → Kept s → SameWork s (do_op s o).state
@@ -98,29 +96,29 @@ fired_same s t f = cond_both (t.1.repeat == 0) _ _ (SameWork s) (λ z. same s) (
 
 -- the step is none of requests, nor of a script
 abbrev pub IsOfLoop : {p : Program} {s : State} {n : Next} → Did p s n → Type 0
-IsOfLoop (row.op x at o e) = ⊥
-IsOfLoop (row.begun_done run time e) = ⊥
-IsOfLoop (row.ended run t f) = ⊥
-IsOfLoop (row.taken n t f) = ⊥
-IsOfLoop (row.finished n t f) = ⊥
-IsOfLoop (row.cancelled v) = ⊥
+IsOfLoop (Did.op x at o e) = ⊥
+IsOfLoop (Did.begun_done run time e) = ⊥
+IsOfLoop (Did.ended run t f) = ⊥
+IsOfLoop (Did.taken n t f) = ⊥
+IsOfLoop (Did.finished n t f) = ⊥
+IsOfLoop (Did.cancelled v) = ⊥
 IsOfLoop d = Unit {0}
 
 pub did_same : (p : Program) (s : State) (n : Next) (d : Did p s n) → IsOfLoop d → Kept s → KeepsWork s n
-did_same p s n (row.refused why) h kept = tt
-did_same p s n (row.still x time clock stop idled l q) h kept = same s
-did_same p s n (row.begun run WatcherKind.Idle e) h kept = same s
-did_same p s n (row.begun run each e) h kept = same s
-did_same p s n (row.begun_closing run e) h kept = same s
-did_same p s n (row.collected run part t f) h kept = changed s t (records.stopped t.1) f.holds
-did_same p s n (row.fired run t f) h kept = fired_same s t f
-did_same p s n (row.called_due run t f) h kept = again_same s t f.holds
-did_same p s n (row.answered run time v t e is on) h kept = same s
-did_same p s n (row.walked run WatcherKind.Idle t sync f) h kept = same s
-did_same p s n (row.walked run each t sync f) h kept = same s
-did_same p s n (row.passed run t f off) h kept = same s
-did_same p s n (row.woken run t f on) h kept = changed s t (records.woken t.1) f.holds
-did_same p s n (row.closed run t f) h kept = by_slots s _ (same_requests s.arena.slots _ t.0 _ _
+did_same p s n (Did.refused why) h kept = tt
+did_same p s n (Did.still x time clock stop idled l q) h kept = same s
+did_same p s n (Did.begun run WatcherKind.Idle e) h kept = same s
+did_same p s n (Did.begun run each e) h kept = same s
+did_same p s n (Did.begun_closing run e) h kept = same s
+did_same p s n (Did.collected run part t f) h kept = changed s t (records.stopped t.1) f.holds
+did_same p s n (Did.fired run t f) h kept = fired_same s t f
+did_same p s n (Did.called_due run t f) h kept = again_same s t f.holds
+did_same p s n (Did.answered run time v t e is on) h kept = same s
+did_same p s n (Did.walked run WatcherKind.Idle t sync f) h kept = same s
+did_same p s n (Did.walked run each t sync f) h kept = same s
+did_same p s n (Did.passed run t f off) h kept = same s
+did_same p s n (Did.woken run t f on) h kept = changed s t (records.woken t.1) f.holds
+did_same p s n (Did.closed run t f) h kept = by_slots s _ (same_requests s.arena.slots _ t.0 _ _
     (freed_turns (arena_size p).last_generation s.arena t.0 (Content.Handle t.1) (is_held s.arena.slots t.0 t.1 f.holds)) refl refl)
-did_same p s n (row.sent v) h kept = op_same s (Op.Send v) tt kept
+did_same p s n (Did.sent v) h kept = op_same s (Op.Send v) tt kept
 did_same p s n each h kept = absurd h

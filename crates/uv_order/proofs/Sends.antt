@@ -5,13 +5,11 @@ use Rattle.uv_model.specs.Ops as ops
 use Rattle.uv_order.proofs.IdLists.{has_both, Each, each_back, same, other, itself, turned, left_of, without_itself, has_without, without_absent, still_there}
 use Rattle.uv_order.proofs.Contents.{Turns, emptied}
 use Rattle.uv_order.proofs.Holding.{grown_at, SameHandles, same_handles, held_at, put, put_same, put_other, emptied_same, emptied_other, Fits, its_handle, Grown, Everyone}
-use Rattle.uv_order.proofs.OpCases as which
 use Rattle.uv_order.proofs.OpCases.{DidOp, IsAsked, IsRef, op_did, names_at, live_held, IsRefusal, refuses_none, refuses_timer, refuses_start, refuses_start_watcher, refuses_stop, refuses_again, refuses_close, send_passes, on_handle_both, send_both, cancel_both, make_both}
 use Rattle.uv_order.proofs.Asked.{FrontRequest, request_turns, freed_turns}
 use Rattle.uv_order.proofs.OpEffects.{one_taken}
 use Rattle.uv_order.proofs.Keeping.{Watches, Rests, Kept, members, fills, takes, open_shut}
 use Rattle.uv_order.proofs.KeptSteps.{first_is}
-use Rattle.uv_order.proofs.Did as row
 use Rattle.uv_order.proofs.Did.{Did, FrontOf, FirstOf, IsStill, timed}
 
 -- ---- what agrees
@@ -146,28 +144,28 @@ close_sent s sent v t e k =
     (sent_clear sent s.arena.slots t.0 t.1 (records.closed t.1) (live_held s v t e) refl k)
 
 did_op_sent : (s : State) (sent : List Id) (o : Op) (d : ops.Done) → DidOp s o d → Kept s → SentAt sent s → SentBy s sent o d
-did_op_sent s sent o d (which.refused o' c r may) kept k = subst (λ (ids : List Id). SentAt ids s) (sym (refused_sent s sent o' c r)) k
-did_op_sent s sent o d (which.asked o' a is) kept k = subst (λ (ids : List Id). SentAt ids s) (sym (asked_sent s sent o' a is)) k
-did_op_sent s sent o d which.loop_stopped kept k = k
-did_op_sent s sent o d which.time_updated kept k = k
-did_op_sent s sent o d (which.made v q id e) kept k = new_sent s sent v q id e kept k
-did_op_sent s sent o d (which.queued v task id e) kept k = queued_sent s sent v task id e kept k
-did_op_sent s sent o d (which.cancelled v t live on) kept k = request_sent s sent t.0 t.1 _ live.holds k
-did_op_sent s sent o d (which.started v timeout repeat t e is stays) kept k = search (twice, live_held)
-did_op_sent s sent o d (which.again v t e is stays) kept k = again_sent s sent t (live_held s v t e) k
-did_op_sent s sent o d (which.watching v WatcherKind.Idle t e is off stays) kept k =
+did_op_sent s sent o d (DidOp.refused o' c r may) kept k = subst (λ (ids : List Id). SentAt ids s) (sym (refused_sent s sent o' c r)) k
+did_op_sent s sent o d (DidOp.asked o' a is) kept k = subst (λ (ids : List Id). SentAt ids s) (sym (asked_sent s sent o' a is)) k
+did_op_sent s sent o d DidOp.loop_stopped kept k = k
+did_op_sent s sent o d DidOp.time_updated kept k = k
+did_op_sent s sent o d (DidOp.made v q id e) kept k = new_sent s sent v q id e kept k
+did_op_sent s sent o d (DidOp.queued v task id e) kept k = queued_sent s sent v task id e kept k
+did_op_sent s sent o d (DidOp.cancelled v t live on) kept k = request_sent s sent t.0 t.1 _ live.holds k
+did_op_sent s sent o d (DidOp.started v timeout repeat t e is stays) kept k = search (twice, live_held)
+did_op_sent s sent o d (DidOp.again v t e is stays) kept k = again_sent s sent t (live_held s v t e) k
+did_op_sent s sent o d (DidOp.watching v WatcherKind.Idle t e is off stays) kept k =
     changed s sent t (records.activated t.1) (live_held s v t e) refl refl refl k
-did_op_sent s sent o d (which.watching v each t e is off stays) kept k = changed s sent t (records.activated t.1) (live_held s v t e) refl refl refl k
-did_op_sent s sent o d (which.io_started v t e is off stays) kept k =
+did_op_sent s sent o d (DidOp.watching v each t e is off stays) kept k = changed s sent t (records.activated t.1) (live_held s v t e) refl refl refl k
+did_op_sent s sent o d (DidOp.io_started v t e is off stays) kept k =
     changed s sent t (records.activated t.1) (live_held s v t e) refl refl refl k
-did_op_sent s sent o d (which.watches v t e on) kept k = k
-did_op_sent s sent o d (which.stopped v t e sync) kept k = changed s sent t (records.stopped t.1) (live_held s v t e) refl refl refl k
-did_op_sent s sent o d (which.closed v t e stays) kept k = close_sent s sent v t e k
-did_op_sent s sent o d (which.repeated v n t e) kept k = changed s sent t (repeating n t.1) (live_held s v t e) refl refl refl k
-did_op_sent s sent o d (which.referenced o' u flag t e (which.ref v)) kept k =
+did_op_sent s sent o d (DidOp.watches v t e on) kept k = k
+did_op_sent s sent o d (DidOp.stopped v t e sync) kept k = changed s sent t (records.stopped t.1) (live_held s v t e) refl refl refl k
+did_op_sent s sent o d (DidOp.closed v t e stays) kept k = close_sent s sent v t e k
+did_op_sent s sent o d (DidOp.repeated v n t e) kept k = changed s sent t (repeating n t.1) (live_held s v t e) refl refl refl k
+did_op_sent s sent o d (DidOp.referenced o' u flag t e (IsRef.ref v)) kept k =
     changed s sent t (referenced_as flag t.1) (live_held s u t e) refl refl refl k
-did_op_sent s sent o d (which.referenced o' u flag t e each) kept k = changed s sent t (referenced_as flag t.1) (live_held s u t e) refl refl refl k
-did_op_sent s sent o d (which.sent_to v t e is stays) kept k =
+did_op_sent s sent o d (DidOp.referenced o' u flag t e each) kept k = changed s sent t (referenced_as flag t.1) (live_held s u t e) refl refl refl k
+did_op_sent s sent o d (DidOp.sent_to v t e is stays) kept k =
     subst (λ (ids : List Id). Sent (ids ++ sent) (put s.arena.slots t.0 (records.sent t.1))) (sym (one_taken s v t e))
     (sent_more sent s.arena.slots t.0 t.1 (records.sent t.1) (live_held s v t e) refl is stays k)
 
@@ -230,21 +228,21 @@ placed_sent : (p : Program) (s : State) (sent : List Id) (o : Op) (at : Option O
 placed_sent p s sent o at e kept k = grind (arith, op_sent)
 
 pub did_sent : (p : Program) (told : Told) (s : State) (n : Next) → Did p s n → Kept s → SentAt told.sent s → SentFollows p told s n
-did_sent p told s n (row.refused why) kept k = tt
-did_sent p told s n (row.still x time clock stop idled l row.unseen) kept k = k
-did_sent p told s n (row.op x at o e) kept k = placed_sent p s told.sent o _ e kept k
-did_sent p told s n (row.begun run WatcherKind.Idle e) kept k = k
-did_sent p told s n (row.collected run part t f) kept k = changed s told.sent t (records.stopped t.1) f.holds refl refl refl k
-did_sent p told s n (row.fired run t f) kept k = fired_sent s told.sent t f kept k
-did_sent p told s n (row.called_due run t f) kept k = due_sent s told.sent t f kept k
-did_sent p told s n (row.walked run WatcherKind.Async t sync f) kept k = absurd sync
-did_sent p told s n (row.walked run q t sync f) kept k = unsent_called s told.sent (kind_as q) (watched s q) t (λ c. cc c) (kept.watchers q) f k
-did_sent p told s n (row.woken run t f on) kept k = sent_clear told.sent s.arena.slots t.0 t.1 (records.woken t.1) f.holds refl k
-did_sent p told s n (row.closed run t f) kept k = closed_sent p s told.sent t f kept k
-did_sent p told s n (row.ended run t f) kept k = ended_sent p s told.sent t f k
-did_sent p told s n (row.finished n' t f) kept k = request_sent s told.sent t.0 t.1 _ f.holds k
-did_sent p told s n (row.sent v) kept k = op_sent s told.sent (Op.Send v) kept k
-did_sent p told s n (row.cancelled v) kept k = op_sent s told.sent (Op.Cancel v) kept k
+did_sent p told s n (Did.refused why) kept k = tt
+did_sent p told s n (Did.still x time clock stop idled l IsStill.unseen) kept k = k
+did_sent p told s n (Did.op x at o e) kept k = placed_sent p s told.sent o _ e kept k
+did_sent p told s n (Did.begun run WatcherKind.Idle e) kept k = k
+did_sent p told s n (Did.collected run part t f) kept k = changed s told.sent t (records.stopped t.1) f.holds refl refl refl k
+did_sent p told s n (Did.fired run t f) kept k = fired_sent s told.sent t f kept k
+did_sent p told s n (Did.called_due run t f) kept k = due_sent s told.sent t f kept k
+did_sent p told s n (Did.walked run WatcherKind.Async t sync f) kept k = absurd sync
+did_sent p told s n (Did.walked run q t sync f) kept k = unsent_called s told.sent (kind_as q) (watched s q) t (λ c. cc c) (kept.watchers q) f k
+did_sent p told s n (Did.woken run t f on) kept k = sent_clear told.sent s.arena.slots t.0 t.1 (records.woken t.1) f.holds refl k
+did_sent p told s n (Did.closed run t f) kept k = closed_sent p s told.sent t f kept k
+did_sent p told s n (Did.ended run t f) kept k = ended_sent p s told.sent t f k
+did_sent p told s n (Did.finished n' t f) kept k = request_sent s told.sent t.0 t.1 _ f.holds k
+did_sent p told s n (Did.sent v) kept k = op_sent s told.sent (Op.Send v) kept k
+did_sent p told s n (Did.cancelled v) kept k = op_sent s told.sent (Op.Cancel v) kept k
 did_sent p told s n each kept k = k
 
 pub sent_fresh : (p : Program) → SentAt [] (fresh p)

@@ -5,12 +5,10 @@ use Rattle.uv_model.specs.Ops as ops
 use Rattle.uv_order.proofs.IdLists.{Each, each_back, absent, same, other, itself, turned, has_without, has_new_middle, without_itself}
 use Rattle.uv_order.proofs.Contents.{Turns, IsHeld, held_turned}
 use Rattle.uv_order.proofs.Holding.{held_at, is_held, put, put_turns, put_same, SameHandles, same_handles, Fits, its_handle, Lists, IsSet, Times}
-use Rattle.uv_order.proofs.OpCases as which
-use Rattle.uv_order.proofs.OpCases.{DidOp, IsAsked, IsRefusal, op_did, live_held, live_bound, send_both, cancel_both}
+use Rattle.uv_order.proofs.OpCases.{DidOp, IsAsked, IsRefusal, op_did, live_held, live_bound, send_both, cancel_both, IsRef}
 use Rattle.uv_order.proofs.Asked.{request_turns, freed_turns}
 use Rattle.uv_order.proofs.Gone.{IsGone, gone_put, gone_turned, gone_emptied, gone_now}
 use Rattle.uv_order.proofs.Keeping.{Rests, Watches, Kept, fills, not_free}
-use Rattle.uv_order.proofs.Did as row
 use Rattle.uv_order.proofs.Did.{Did, FrontOf, FirstOf, IsStill, IsSync, timed}
 use Rattle.uv_order.proofs.KeptSteps.{first_is}
 use Rattle.uv_order.proofs.Known.{is_answered}
@@ -134,7 +132,7 @@ refused_still : (p : Program) (past : List Seen) (o : Op) (c : Code) (i : Id) (x
 refused_still p past o c i x r = grind (arith, nobody)
 
 asked_still : (p : Program) (past : List Seen) (o : Op) (a : Answer) (i : Id) (x : Activity) → IsAsked o → activity_done p past o a i x ≡ x
-asked_still p past o a i x (which.due_in v) = refl
+asked_still p past o a i x (IsAsked.due_in v) = refl
 asked_still p past o a i x each = refl
 
 -- an op on the handle of a name
@@ -342,35 +340,35 @@ request_made p past s v task id e kept k place at = record {
 
 did_op_started : (p : Program) (past : List Seen) (s : State) (o : Op) (d : ops.Done) → DidOp s o d → Kept s → KnownAt p past s →
     StartedAt p past s → StartedBy p past o d
-did_op_started p past s o d (which.refused o' c r may) kept w k = still_op p past s o' d (refused_harmless o' c r).0.made
+did_op_started p past s o d (DidOp.refused o' c r may) kept w k = still_op p past s o' d (refused_harmless o' c r).0.made
     (λ i x. refused_still p past o' c i x r) (λ now q. unchanged p past now s q k)
-did_op_started p past s o d (which.asked o' a is) kept w k = still_op p past s o' d (harmless o' (asked_harmless o' is) a).0.made
+did_op_started p past s o d (DidOp.asked o' a is) kept w k = still_op p past s o' d (harmless o' (asked_harmless o' is) a).0.made
     (λ i x. asked_still p past o' a i x is) (λ now q. unchanged p past now s q k)
-did_op_started p past s o d which.loop_stopped kept w k = search (still_op, past, unchanged)
-did_op_started p past s o d which.time_updated kept w k =
+did_op_started p past s o d DidOp.loop_stopped kept w k = search (still_op, past, unchanged)
+did_op_started p past s o d DidOp.time_updated kept w k =
     still_op p past s Op.UpdateTime d (λ i. refl) (λ i x. refl) (λ now q. unchanged p past now s q k)
-did_op_started p past s o d (which.made v q id e) kept w k = handle_made p past s v q id e kept k
-did_op_started p past s o d (which.queued v task id e) kept w k = request_made p past s v task id e kept k
-did_op_started p past s o d (which.cancelled v t live on) kept w k = still_op p past s (Op.Cancel v) d (λ i. refl) (λ i x. refl)
+did_op_started p past s o d (DidOp.made v q id e) kept w k = handle_made p past s v q id e kept k
+did_op_started p past s o d (DidOp.queued v task id e) kept w k = request_made p past s v task id e kept k
+did_op_started p past s o d (DidOp.cancelled v t live on) kept w k = still_op p past s (Op.Cancel v) d (λ i. refl) (λ i x. refl)
     (λ now q. request_started p past now s t.0 t.1 _ live.holds q k)
-did_op_started p past s o d (which.started v timeout repeat t e is stays) kept w k =
+did_op_started p past s o d (DidOp.started v timeout repeat t e is stays) kept w k =
     timer_started p past s v timeout repeat t e (w.binding v t.0 (live_bound s v t e)) k
-did_op_started p past s o d (which.again v t e is stays) kept w k = timer_again p past s v t e (w.binding v t.0 (live_bound s v t e)) k
-did_op_started p past s o d (which.watching v q t e is off stays) kept w k =
+did_op_started p past s o d (DidOp.again v t e is stays) kept w k = timer_again p past s v t e (w.binding v t.0 (live_bound s v t e)) k
+did_op_started p past s o d (DidOp.watching v q t e is off stays) kept w k =
     watcher_started p past s v q t e (w.binding v t.0 (live_bound s v t e)) k
-did_op_started p past s o d (which.io_started v t e is off stays) kept w k =
+did_op_started p past s o d (DidOp.io_started v t e is off stays) kept w k =
     io_started p past s v t e (w.binding v t.0 (live_bound s v t e)) k
-did_op_started p past s o d (which.watches v t e on) kept w k = still_watches p past s v t e on (w.binding v t.0 (live_bound s v t e)) k
-did_op_started p past s o d (which.stopped v t e sync) kept w k = handle_stopped p past s (Op.Stop v) v t (records.stopped t.1) e
+did_op_started p past s o d (DidOp.watches v t e on) kept w k = still_watches p past s v t e on (w.binding v t.0 (live_bound s v t e)) k
+did_op_started p past s o d (DidOp.stopped v t e sync) kept w k = handle_stopped p past s (Op.Stop v) v t (records.stopped t.1) e
     (w.binding v t.0 (live_bound s v t e)) (record { makes = λ i. refl; does = λ i x. refl }) (λ y. refl) refl k
-did_op_started p past s o d (which.closed v t e stays) kept w k = handle_stopped p past s (Op.Close v) v t (records.closed t.1) e
+did_op_started p past s o d (DidOp.closed v t e stays) kept w k = handle_stopped p past s (Op.Close v) v t (records.closed t.1) e
     (w.binding v t.0 (live_bound s v t e)) (record { makes = λ i. refl; does = λ i x. refl }) (λ y. refl) refl k
-did_op_started p past s o d (which.repeated v n t e) kept w k = timer_repeats p past s v n t e (w.binding v t.0 (live_bound s v t e)) k
-did_op_started p past s o d (which.referenced o' u flag t e (which.ref v)) kept w k = still_op p past s (Op.Ref v) d (λ i. refl) (λ i x. refl)
+did_op_started p past s o d (DidOp.repeated v n t e) kept w k = timer_repeats p past s v n t e (w.binding v t.0 (live_bound s v t e)) k
+did_op_started p past s o d (DidOp.referenced o' u flag t e (IsRef.ref v)) kept w k = still_op p past s (Op.Ref v) d (λ i. refl) (λ i x. refl)
     (λ now q. still_started p past now s t.0 t.1 (referenced_as flag t.1) (live_held s u t e) (λ b. refl) q k)
-did_op_started p past s o d (which.referenced o' u flag t e (which.unref v)) kept w k = still_op p past s (Op.Unref v) d (λ i. refl) (λ i x. refl)
+did_op_started p past s o d (DidOp.referenced o' u flag t e (IsRef.unref v)) kept w k = still_op p past s (Op.Unref v) d (λ i. refl) (λ i x. refl)
     (λ now q. still_started p past now s t.0 t.1 (referenced_as flag t.1) (live_held s u t e) (λ b. refl) q k)
-did_op_started p past s o d (which.sent_to v t e is stays) kept w k = still_op p past s (Op.Send v) d (λ i. refl) (λ i x. refl)
+did_op_started p past s o d (DidOp.sent_to v t e is stays) kept w k = still_op p past s (Op.Send v) d (λ i. refl) (λ i x. refl)
     (λ now q. still_started p past now s t.0 t.1 (records.sent t.1) (live_held s v t e) (λ b. refl) q k)
 
 -- ---- steps
@@ -382,12 +380,12 @@ StartedFollows p past (Refuses why) = Unit {0}
 
 -- a line of no op and no call
 told_nothing : (p : Program) (past : List Seen) (l : Seen) → IsStill (Some l) → Silent p past (l ∷ past)
-told_nothing p past l (row.section word) = record { made = λ i v m. m; same = λ i. refl }
+told_nothing p past l (IsStill.section word) = record { made = λ i v m. m; same = λ i. refl }
 told_nothing p past l each = record { made = λ i v m. m; same = λ i. refl }
 
 still_follows : (p : Program) (past : List Seen) (s t : State) (l : Option Seen) → t.arena ≡ s.arena → t.ready ≡ s.ready → IsStill l →
     StartedAt p past s → StartedFollows p past (Moves t l)
-still_follows p past s t None a r row.unseen k = grind arith
+still_follows p past s t None a r IsStill.unseen k = grind arith
 still_follows p past s t (Some l) a r q k = subst (λ (x : Slots Content). Started p (l ∷ past) x t.ready) (sym a)
     (subst (Started p (l ∷ past) s.arena) (sym r) (unchanged p past (l ∷ past) s (told_nothing p past l q) k))
 
@@ -539,31 +537,31 @@ cancelled_started p past s v k = cancel_both s v (λ (d : ops.Done). StartedAt p
 
 pub did_started : (p : Program) (past : List Seen) (s : State) (n : Next) → Did p s n → Kept s → KnownAt p past s → StartedAt p past s →
     StartedFollows p past n
-did_started p past s n (row.refused why) kept w k = tt
-did_started p past s n (row.still x time clock stop idled l q) kept w k = search (still_follows, past)
-did_started p past s n (row.op x at o e) kept w k = did_op_started p past s o (do_op s o) (op_did s o) kept w k at e
-did_started p past s n (row.begun run WatcherKind.Idle e) kept w k = unchanged p past _ s (record { made = λ i v m. m; same = λ i. refl }) k
-did_started p past s n (row.begun run each e) kept w k = unchanged p past _ s (record { made = λ i v m. m; same = λ i. refl }) k
-did_started p past s n (row.begun_closing run e) kept w k = unchanged p past _ s (record { made = λ i v m. m; same = λ i. refl }) k
-did_started p past s n (row.begun_done run time e) kept w k = unchanged p past _ s (record { made = λ i v m. m; same = λ i. refl }) k
-did_started p past s n (row.collected run part t f) kept w k = collected_started p past s t f kept k
-did_started p past s n (row.fired run t f) kept w k = fired_started p past s t f kept k
-did_started p past s n (row.called_due run t f) kept w k = due_started p past s t f kept k
-did_started p past s n (row.answered run time v t e is on) kept w k = unchanged p past _ s (record { made = λ i u m. m; same = λ i. refl }) k
-did_started p past s n (row.walked run WatcherKind.Idle t sync f) kept w k = same_started p past s WatcherKind.Idle t f kept k
-did_started p past s n (row.walked run each t sync f) kept w k = same_started p past s each t f kept k
-did_started p past s n (row.passed run t f off) kept w k = k
-did_started p past s n (row.woken run t f on) kept w k =
+did_started p past s n (Did.refused why) kept w k = tt
+did_started p past s n (Did.still x time clock stop idled l q) kept w k = search (still_follows, past)
+did_started p past s n (Did.op x at o e) kept w k = did_op_started p past s o (do_op s o) (op_did s o) kept w k at e
+did_started p past s n (Did.begun run WatcherKind.Idle e) kept w k = unchanged p past _ s (record { made = λ i v m. m; same = λ i. refl }) k
+did_started p past s n (Did.begun run each e) kept w k = unchanged p past _ s (record { made = λ i v m. m; same = λ i. refl }) k
+did_started p past s n (Did.begun_closing run e) kept w k = unchanged p past _ s (record { made = λ i v m. m; same = λ i. refl }) k
+did_started p past s n (Did.begun_done run time e) kept w k = unchanged p past _ s (record { made = λ i v m. m; same = λ i. refl }) k
+did_started p past s n (Did.collected run part t f) kept w k = collected_started p past s t f kept k
+did_started p past s n (Did.fired run t f) kept w k = fired_started p past s t f kept k
+did_started p past s n (Did.called_due run t f) kept w k = due_started p past s t f kept k
+did_started p past s n (Did.answered run time v t e is on) kept w k = unchanged p past _ s (record { made = λ i u m. m; same = λ i. refl }) k
+did_started p past s n (Did.walked run WatcherKind.Idle t sync f) kept w k = same_started p past s WatcherKind.Idle t f kept k
+did_started p past s n (Did.walked run each t sync f) kept w k = same_started p past s each t f kept k
+did_started p past s n (Did.passed run t f off) kept w k = k
+did_started p past s n (Did.woken run t f on) kept w k =
     walked_started p past s WatcherKind.Async t (records.woken t.1) f (λ b. refl) kept k
-did_started p past s n (row.closed run t f) kept w k = freed_started p past _ s (arena_size p).last_generation t.0 (Content.Handle t.1)
+did_started p past s n (Did.closed run t f) kept w k = freed_started p past _ s (arena_size p).last_generation t.0 (Content.Handle t.1)
     (is_held s.arena.slots t.0 t.1 f.holds) kept (record { made = λ i v m. m; same = λ i. refl }) k
-did_started p past s n (row.ended run t f) kept w k = freed_started p past _ s (arena_size p).last_generation t.0 (Content.Request t.1)
+did_started p past s n (Did.ended run t f) kept w k = freed_started p past _ s (arena_size p).last_generation t.0 (Content.Request t.1)
     f.holds kept (record { made = λ i v m. m; same = λ i. refl }) k
-did_started p past s n (row.taken n' t f) kept w k = unchanged p past _ s (record { made = λ i v m. m; same = λ i. refl }) k
-did_started p past s n (row.finished n' t f) kept w k =
+did_started p past s n (Did.taken n' t f) kept w k = unchanged p past _ s (record { made = λ i v m. m; same = λ i. refl }) k
+did_started p past s n (Did.finished n' t f) kept w k =
     request_started p past _ s t.0 t.1 _ f.holds (record { made = λ i v m. m; same = λ i. refl }) k
-did_started p past s n (row.sent v) kept w k = sent_started p past s v k
-did_started p past s n (row.cancelled v) kept w k = cancelled_started p past s v k
+did_started p past s n (Did.sent v) kept w k = sent_started p past s v k
+did_started p past s n (Did.cancelled v) kept w k = cancelled_started p past s v k
 
 pub started_fresh : (p : Program) → StartedAt p [] (fresh p)
 started_fresh p = record { active = λ id h e. cc e; old = λ id v e. cc e }

@@ -8,7 +8,6 @@ use Rattle.uv_order.proofs.IdLists.{has_new_middle}
 use Rattle.uv_order.proofs.Asked.{FrontRequest, TakesFront, RunsWork, request_turns, freed_turns}
 use Rattle.uv_order.proofs.Works.{AllAsk, Works, works_same, works_queued, works_cancelled, works_taken, works_finished, works_collected, works_begun, none_run}
 use Rattle.uv_order.proofs.OpCases.{cancel_both, make_both}
-use Rattle.uv_order.proofs.Did as row
 use Rattle.uv_order.proofs.Did.{Did}
 use Rattle.uv_order.proofs.Keeping.{Kept, fills}
 use Rattle.uv_order.proofs.Quiet.{SameWork, IsOfHandles, op_same, KeepsWork, did_same}
@@ -85,12 +84,12 @@ finished_working s n t f k =
     works_finished s.arena.slots _ s.waiting s.running s.done n t.0 t.1 x (request_turns s.arena.slots t.0 t.1 x f.holds) f.busy refl k
 
 pub did_working : (p : Program) (s : State) (n : Next) → Did p s n → Kept s → Working s → StaysWorking n
-did_working p s n (row.op x at o e) kept k = op_working s o kept k
-did_working p s n (row.begun_done run time e) kept k = works_begun s.arena.slots s.waiting s.running s.done e k
-did_working p s n (row.ended run t f) kept k = collected_working p s t f k
-did_working p s n (row.taken n' t f) kept k = taken_working s n' t f k
-did_working p s n (row.finished n' t f) kept k = finished_working s n' t f k
-did_working p s n (row.cancelled v) kept k = cancel_working s v k
+did_working p s n (Did.op x at o e) kept k = op_working s o kept k
+did_working p s n (Did.begun_done run time e) kept k = works_begun s.arena.slots s.waiting s.running s.done e k
+did_working p s n (Did.ended run t f) kept k = collected_working p s t f k
+did_working p s n (Did.taken n' t f) kept k = taken_working s n' t f k
+did_working p s n (Did.finished n' t f) kept k = finished_working s n' t f k
+did_working p s n (Did.cancelled v) kept k = cancel_working s v k
 did_working p s n each kept k = quiet s n (did_same p s n each tt kept) k
 
 pub fresh_working : (p : Program) → Working (fresh p)
