@@ -1,10 +1,8 @@
 -- A whole step goes on from where the state stands, and so does every list of them.
-use Rattle.uv_order.proofs.Names.{arith, ◌≡◌, ℕ, ◌+◌, ◌||◌, ◌&&◌, List, [], ◌∷◌, ◌++◌, Bool, true, false, Option, Some, None, Result, Ok, Err, drop, length, slice_get, slice_set, nat_le, nat_lt, refl, ap, sym, subst, ◌∙◌, if◌then◌else◌, cond_both, Order, V144, V145, Id, Var, Event, Loop, Take, Finish, Cancel, Send, Io, Tick, Answer, Mode, Default, Once, Nowait, Phase, Site, Op, MainOp, CallbackLine, Program, lines_in, main_op, order_of, from_heap, HandleRecord, held, Why, Request, has_some, without_id, has_pending, has_passed, Body, Run, Stage, TimersOf, AtEntry, Collecting, Firing, Place, State, fresh, handle, live_handle, with_handle, with_request, refreshed, do_op, may_leave, body_from, next_work, work_of, Names, Told, nothing_told, lasting, Section, In, word_of, Standing, Answering, Begun, Within, Polling, Position, Between, Running, sites_from, taken_off, BeginsIn, BeginsAt, phase_of, Code, Seen, Content, WatcherKind}
-use Rattle.std.specs.Prelude.{option_map}
+use Rattle.uv_order.proofs.Names.{arith, ◌≡◌, ℕ, ◌+◌, ◌||◌, ◌&&◌, List, [], ◌∷◌, ◌++◌, Bool, true, false, Option, Some, None, Result, Ok, Err, drop, length, slice_get, slice_set, nat_le, nat_lt, refl, ap, sym, subst, ◌∙◌, if◌then◌else◌, cond_both, Order, V144, V145, Id, Var, Event, Loop, Take, Finish, Cancel, Send, Io, Tick, Answer, Mode, Default, Once, Nowait, Phase, Site, Op, MainOp, CallbackLine, Program, lines_in, main_op, order_of, from_heap, HandleRecord, held, Why, Request, has_some, without_id, has_pending, has_passed, Body, Run, Stage, TimersOf, AtEntry, Collecting, Firing, Place, State, fresh, handle, live_handle, with_handle, with_request, refreshed, do_op, may_leave, body_from, next_work, work_of, Names, Told, nothing_told, lasting, Section, In, word_of, Standing, Answering, Begun, Within, Polling, Position, Between, Running, sites_from, taken_off, BeginsIn, BeginsAt, phase_of, Code, Seen, Content, WatcherKind, next, option_map}
 use Rattle.uv_records.specs.Handles as records
 use Rattle.uv_model.specs.Ops as ops
 use Rattle.uv_model.specs.Next as step
-use Rattle.uv_model.specs.Next.{next}
 use Rattle.uv_order.specs.Documented as doc
 use Rattle.uv_order.specs.Documented.{Walk}
 use Rattle.uv_order.proofs.IdLists.{left_of, none_off, more_off}

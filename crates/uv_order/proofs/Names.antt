@@ -92,3 +92,8 @@ pub use Rattle.uv_work.specs.declared.outcome.Outcome.{Outcome}
 pub use Rattle.uv_work.specs.declared.outcome.Outcome.TheVariants.{Cancelled, Finished, Open}
 pub use Rattle.uv_work.specs.declared.request.Request.{Request}
 pub use Rattle.uv_work.specs.declared.task.Task.{Task}
+pub use Rattle.uv_work.specs.Digests.{digest_of}
+unfoldable pub use Rattle.uv_model.specs.After.{after, seen_by}
+unfoldable pub use Rattle.uv_model.specs.Next.{next}
+unfoldable pub use Rattle.uv_order.specs.History.{history}
+unfoldable pub use Rattle.uv_work.specs.Pool.{replay}

@@ -1,6 +1,5 @@
 -- Each state that steps lead to is a reached one.
-use Rattle.uv_order.proofs.Names.{List, Id, Event, Program, State, IsReached, IsSetAside, AreSetAside, kind_as, watched}
-use Rattle.uv_model.specs.After.{after}
+use Rattle.uv_order.proofs.Names.{List, Id, Event, Program, State, IsReached, IsSetAside, AreSetAside, kind_as, watched, after}
 use Rattle.uv_order.proofs.IdLists.{member}
 use Rattle.uv_order.proofs.Holding.{Fits, Lists}
 use Rattle.uv_order.proofs.Keeping.{Rests, members}

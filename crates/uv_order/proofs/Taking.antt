@@ -1,9 +1,6 @@
 -- What a worker may do by the pool's rules it may do as the next step.
-use Rattle.uv_order.proofs.Names.{drop, ◌≡◌, ℕ, List, [], ◌∷◌, ◌++◌, true, Option, Some, None, Ok, slice_get, refl, ap, sym, ◌∙◌, events_both, Id, Event, Take, Finish, Program, worker_count, Pool, IsLegal, after_event, after_events, empty_pool, PoolEvent, Request, State, request, next_work, work_of, lines, has_id, run_ids, pool_events, pool_of, IsTakenAs, or-true, arith}
-use Rattle.uv_work.specs.Pool.{replay}
+use Rattle.uv_order.proofs.Names.{drop, ◌≡◌, ℕ, List, [], ◌∷◌, ◌++◌, true, Option, Some, None, Ok, slice_get, refl, ap, sym, ◌∙◌, events_both, Id, Event, Take, Finish, Program, worker_count, Pool, IsLegal, after_event, after_events, empty_pool, PoolEvent, Request, State, request, next_work, work_of, lines, has_id, run_ids, pool_events, pool_of, IsTakenAs, or-true, arith, replay, next, after}
 use Rattle.uv_model.specs.Next as step
-use Rattle.uv_model.specs.Next.{next}
-use Rattle.uv_model.specs.After.{after}
 use Rattle.uv_order.proofs.IdLists.{same, itself, has_both}
 use Rattle.uv_order.proofs.Works.{runs_now}
 use Rattle.uv_order.proofs.Working.{Working}

@@ -1,8 +1,6 @@
 -- The timers of the entry and of an iteration, and callbacks: each step goes on from where the state stands.
-use Rattle.uv_order.proofs.Names.{arith, ◌≡◌, inl, ℕ, ◌+◌, ◌==◌, List, [], ◌∷◌, ◌++◌, Bool, true, false, drop, subst, without_id, nat_tests, Option, Some, None, nat_le, refl, ap, sym, ◌∙◌, append_assoc, append-nil, if◌then◌else◌, cond_both, not, Id, Var, Due, Callback, Program, order_of, from_heap, HandleRecord, Named, Run, TimersOf, Turn, Behind, Way, ToTimers, ToPending, ToEnd, Collecting, Firing, State, handle, with_id, front, named, with_named, counted, count_of, stopped, started, restarted, is_alive, Moves, goes, call, first_due, collected, body_from, lives, Told, AreDue, AreTimers, NoneDue, lasting, Section, Entry, In, word_of, part_after, part_of, Opens, IsOver, CallsNext, callback_in, Standing, Within, MayLeave, Between, Running, body_of, next_call, found_both, Phase, Seen, Place, Stage}
-use Rattle.std.specs.Prelude.{option_map}
+use Rattle.uv_order.proofs.Names.{arith, ◌≡◌, inl, ℕ, ◌+◌, ◌==◌, List, [], ◌∷◌, ◌++◌, Bool, true, false, drop, subst, without_id, nat_tests, Option, Some, None, nat_le, refl, ap, sym, ◌∙◌, append_assoc, append-nil, if◌then◌else◌, cond_both, not, Id, Var, Due, Callback, Program, order_of, from_heap, HandleRecord, Named, Run, TimersOf, Turn, Behind, Way, ToTimers, ToPending, ToEnd, Collecting, Firing, State, handle, with_id, front, named, with_named, counted, count_of, stopped, started, restarted, is_alive, Moves, goes, call, first_due, collected, body_from, lives, Told, AreDue, AreTimers, NoneDue, lasting, Section, Entry, In, word_of, part_after, part_of, Opens, IsOver, CallsNext, callback_in, Standing, Within, MayLeave, Between, Running, body_of, next_call, found_both, Phase, Seen, Place, Stage, next, option_map}
 use Rattle.uv_model.specs.Next as step
-use Rattle.uv_model.specs.Next.{next}
 use Rattle.uv_order.specs.Documented as doc
 use Rattle.uv_order.specs.Documented.{Walk}
 use Rattle.uv_order.proofs.IdLists.{left_of, none_off, all_off, FirstLeft, first_left}

@@ -1,9 +1,7 @@
 -- The sections of watchers, of async handles and of closing ones: each step goes on from where the state stands.
-use Rattle.uv_order.proofs.Names.{arith, ◌≡◌, ◌||◌, Bool, true, false, subst, List, [], ◌∷◌, ◌++◌, drop, Option, None, refl, ap, sym, ◌∙◌, append_assoc, if◌then◌else◌, cond_both, not, Id, Program, arena_size, order_of, HandleRecord, Run, BehindClosing, WatcherKind, phase_of, freed, Slot, Content, Request, digest_in, request_in, same_id, State, with_handle, front, front_request, watched, is_alive, poll_timeout, deadline_of, Moves, call, calls, front_moved, has_id, AreDistinct, lives, Told, AllOff, AllOffOrUnsent, lasting, In, part_of, Opens, IsOver, CallsNext, Standing, Answering, Begun, Within, Polling, MayLeave, Running, found_both, kind_as, with_watched, all_yet, Order, AreActive, Kind, Phase, Seen, Callback, Stage}
-use Rattle.std.specs.Prelude.{option_map}
+use Rattle.uv_order.proofs.Names.{arith, ◌≡◌, ◌||◌, Bool, true, false, subst, List, [], ◌∷◌, ◌++◌, drop, Option, None, refl, ap, sym, ◌∙◌, append_assoc, if◌then◌else◌, cond_both, not, Id, Program, arena_size, order_of, HandleRecord, Run, BehindClosing, WatcherKind, phase_of, freed, Slot, Content, Request, digest_in, request_in, same_id, State, with_handle, front, front_request, watched, is_alive, poll_timeout, deadline_of, Moves, call, calls, front_moved, has_id, AreDistinct, lives, Told, AllOff, AllOffOrUnsent, lasting, In, part_of, Opens, IsOver, CallsNext, Standing, Answering, Begun, Within, Polling, MayLeave, Running, found_both, kind_as, with_watched, all_yet, Order, AreActive, Kind, Phase, Seen, Callback, Stage, next, option_map}
 use Rattle.uv_records.specs.Handles as records
 use Rattle.uv_model.specs.Next as step
-use Rattle.uv_model.specs.Next.{next}
 use Rattle.uv_order.specs.Documented as doc
 use Rattle.uv_order.specs.Documented.{Walk}
 use Rattle.uv_order.proofs.IdLists.{left_of, none_off, all_off, each_back, distinct_back, same, itself}

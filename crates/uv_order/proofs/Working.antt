@@ -1,9 +1,7 @@
 -- Each op and each step of the loop keeps that the requests agree with their lists.
-use Rattle.uv_order.proofs.Names.{arith, drop, ◌≡◌, ℕ, List, [], ◌∷◌, ◌++◌, true, Some, None, Ok, slice_set, refl, ap, sym, subst, ◌∙◌, list_any, Id, Var, held, freed, next_free, Op, Task, Program, arena_size, text_of, Finished, Cancelled, Request, queued, same_id, State, fresh, live_request, with_id, front_request, do_op, Next, Moves, Refuses, Content}
-use Rattle.uv_work.specs.Digests.{digest_of}
+use Rattle.uv_order.proofs.Names.{arith, drop, ◌≡◌, ℕ, List, [], ◌∷◌, ◌++◌, true, Some, None, Ok, slice_set, refl, ap, sym, subst, ◌∙◌, list_any, Id, Var, held, freed, next_free, Op, Task, Program, arena_size, text_of, Finished, Cancelled, Request, queued, same_id, State, fresh, live_request, with_id, front_request, do_op, Next, Moves, Refuses, Content, digest_of, next}
 use Rattle.uv_model.specs.Ops as ops
 use Rattle.uv_model.specs.Next as step
-use Rattle.uv_model.specs.Next.{next}
 use Rattle.uv_order.proofs.IdLists.{has_new_middle}
 use Rattle.uv_order.proofs.Asked.{FrontRequest, TakesFront, RunsWork, request_turns, freed_turns}
 use Rattle.uv_order.proofs.Works.{AllAsk, Works, works_same, works_queued, works_cancelled, works_taken, works_finished, works_collected, works_begun, none_run}
