@@ -3,16 +3,8 @@ use Rattle.uv_order.proofs.Names.{◌≡◌, inl, inr, ℕ, zero, suc, ◌+◌, 
 use Rattle.uv_records.specs.Handles as records
 use Rattle.uv_model.specs.Ops as ops
 use Rattle.uv_model.specs.Next as step
-use Rattle.uv_order.proofs.OpCases.{live_held, IsRefusal, cancel_both, make_both}
-use Rattle.uv_order.proofs.IdLists.{on_list, Each, each_back, itself, has_new_middle, distinct_back}
-use Rattle.uv_order.proofs.Holding.{names_turned, same_handles, is_held, put_same, Fits, its_handle, Everyone}
-use Rattle.uv_order.proofs.Asked.{request_turns, freed_turns, FrontRequest, TakesFront, RunsWork}
-use Rattle.uv_order.proofs.Works.{HasEnded, its_fit, once_middle, worker, none_run, waits_open, runs_now, fewer_wait, more_run, fewer_run}
-use Rattle.uv_order.proofs.Working.{Working}
-use Rattle.uv_order.proofs.Keeping.{has_number, Watches, Closes, Rests, Kept, members, not_free}
-use Rattle.uv_order.proofs.Did.{Did, did, FrontOf, FirstOf, IsStill, timed}
+use Rattle.uv_order.proofs.Lemmas.{live_held, IsRefusal, cancel_both, make_both, on_list, Each, each_back, itself, has_new_middle, distinct_back, names_turned, same_handles, is_held, put_same, Fits, its_handle, Everyone, request_turns, freed_turns, FrontRequest, TakesFront, RunsWork, HasEnded, its_fit, once_middle, worker, none_run, waits_open, runs_now, fewer_wait, more_run, fewer_run, Working, has_number, Watches, Closes, Rests, Kept, members, not_free, Did, did, FrontOf, FirstOf, IsStill, timed, IsGone, gone_turned}
 use Rattle.uv_order.proofs.KeptSteps.{opened, first_is}
-use Rattle.uv_order.proofs.Gone.{IsGone, gone_turned}
 use Rattle.uv_order.proofs.Started.{StartedAt, gone_freed, freed_gone, new_id, active_started, ready_started, watcher_is_started}
 use Rattle.uv_order.proofs.Worked.{Worked, IsIdle, worked_ended, worked_taken, worked_finished, worked_collected, not_called, says_true}
 use Rattle.uv_order.proofs.Known.{id_in, counted_ids, Known, not_closed, not_over, known_names, IsQuiet, known_told, known_quiet, known_gone}

@@ -7,13 +7,8 @@ use Rattle.uv_order.specs.Documented as doc
 use Rattle.uv_order.specs.Once.{Once}
 use Rattle.uv_order.proofs.Histories.{lines-history}
 use Rattle.uv_order.proofs.Pooling.{Pools, did_pools}
-use Rattle.uv_order.proofs.Holding.{name_at}
-use Rattle.uv_order.proofs.OpCases.{DidOp, op_did, names_at, live_bound, IsRefusal, refuses_stop, refuses_start, refuses_again, refuses_close, on_handle_both, send_both, make_both, IsAsked, IsRef}
-use Rattle.uv_order.proofs.Keeping.{Kept}
-use Rattle.uv_order.proofs.Did.{Did, did, IsStill, timed}
+use Rattle.uv_order.proofs.Lemmas.{name_at, DidOp, op_did, names_at, live_bound, IsRefusal, refuses_stop, refuses_start, refuses_again, refuses_close, on_handle_both, send_both, make_both, IsAsked, IsRef, Kept, Did, did, IsStill, timed, Working, StaysWorking, did_working, fresh_working, takes, harmless, one_taken, refusal_takes_none, none_taken, start_off}
 use Rattle.uv_order.proofs.KeptSteps.{StaysKept, did_kept, fresh_kept}
-use Rattle.uv_order.proofs.Working.{Working, StaysWorking, did_working, fresh_working}
-use Rattle.uv_order.proofs.OpEffects.{takes, harmless, one_taken, refusal_takes_none, none_taken, start_off}
 use Rattle.uv_order.proofs.Sends.{SentAt, SentFollows, did_sent, sent_fresh}
 use Rattle.uv_order.proofs.Standing.{Stands, Follows}
 use Rattle.uv_order.proofs.Follows.{follows, begins_at, stands_fresh}

@@ -5,17 +5,9 @@ use Rattle.uv_model.specs.Ops as ops
 use Rattle.uv_model.specs.Next as step
 use Rattle.uv_order.specs.Documented as doc
 use Rattle.uv_order.specs.Documented.{Walk}
-use Rattle.uv_order.proofs.IdLists.{left_of, none_off, more_off}
-use Rattle.uv_order.proofs.Holding.{name_in, SameHandles, same_handles}
-use Rattle.uv_order.proofs.OpCases.{names_at, live_held, send_both, cancel_both}
-use Rattle.uv_order.proofs.Keeping.{Kept}
-use Rattle.uv_order.proofs.Working.{Working}
+use Rattle.uv_order.proofs.Lemmas.{left_of, none_off, more_off, name_in, SameHandles, same_handles, names_at, live_held, send_both, cancel_both, Kept, Working, takes_front, runs_work, request_turns, IsBody, is_body, op_effect, Counted, counted_kept, counted_sent, counted_fresh}
 use Rattle.uv_order.proofs.Lives.{lives_is}
 use Rattle.uv_order.proofs.Woken.{pending_is}
-use Rattle.uv_order.proofs.Asked.{takes_front, runs_work, request_turns}
-use Rattle.uv_order.proofs.Bodies.{IsBody, is_body}
-use Rattle.uv_order.proofs.OpEffects.{op_effect}
-use Rattle.uv_order.proofs.Counted.{Counted, counted_kept, counted_sent, counted_fresh}
 use Rattle.uv_order.proofs.Sends.{pends_in, SentAt, still_sent, pass_more, pends_more}
 use Rattle.uv_order.proofs.Standing.{left_all, begun_with, are_ended, section_of, StandsIn, waiting, rest_in, AsyncIn, rest, Leaves, NobodyLeft, due_now, StandsAt, Stands, FollowsLine, follows_to, Follows, idle_next, done_next, empty_over, opens_done, opens_unwoken, async_moved, begun, pending, walking, polls, polled, done, unwoken, closing, collects, fires, calls_due, between, running}
 use Rattle.uv_order.proofs.TimersFollow.{turn_follows, fire_follows, collect_follows, call_due_follows}

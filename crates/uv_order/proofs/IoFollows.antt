@@ -3,8 +3,7 @@ use Rattle.uv_order.proofs.Names.{arith, ◌≡◌, ℕ, ◌&&◌, ◌||◌, Lis
 use Rattle.uv_model.specs.Next as step
 use Rattle.uv_order.specs.Documented as doc
 use Rattle.uv_order.specs.Documented.{Walk}
-use Rattle.uv_order.proofs.OpCases.{io_kind, live_held}
-use Rattle.uv_order.proofs.Counted.{Counted, counted_sent, told_call}
+use Rattle.uv_order.proofs.Lemmas.{io_kind, live_held, Counted, counted_sent, told_call}
 use Rattle.uv_order.proofs.Sends.{SentAt}
 use Rattle.uv_order.proofs.Woken.{pending_is}
 use Rattle.uv_order.proofs.Standing.{left_all, StandsIn, StandsAt, waiting, rest, Leaves, due_now, Follows, pending, walking, polls, polled, done, unwoken, between, running}

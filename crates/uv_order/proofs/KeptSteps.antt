@@ -2,13 +2,7 @@
 use Rattle.uv_order.proofs.Names.{arith, ◌≡◌, inl, ℕ, ◌+◌, ◌==◌, List, [], ◌∷◌, ◌++◌, true, false, Some, None, drop, refl, ap, sym, subst, ◌∙◌, append_assoc, append-nil, cond_both, false_from_ne_true, Id, Var, Due, HandleRecord, Slot, WatcherKind, referenced_as, repeating, Slots, held, freed, taken, next_free, Walk, all_yet, moved_on, Op, Task, Program, arena_size, Content, Request, queued, Run, State, fresh, handle, with_handle, with_request, with_id, live, front, watched, with_watched, stopped, started, restarted, do_op, Next, Moves, Refuses, collected, front_moved, begin_walk, has_id, kind_as, Kind}
 use Rattle.uv_records.specs.Handles as records
 use Rattle.uv_model.specs.Ops as ops
-use Rattle.uv_order.proofs.IdLists.{Each, each_push, distinct_push, member, has_new_middle}
-use Rattle.uv_order.proofs.Contents.{holds, emptied, get_set_same}
-use Rattle.uv_order.proofs.Holding.{is_held, put, same_handles, Fits, its_handle, Lists, lists_emptied, not_listed, Everyone, everyone_put, everyone_emptied, everyone_rest, fitted_emptied, IsSet, Times, times_rest, times_emptied, put_same}
-use Rattle.uv_order.proofs.OpCases.{DidOp, op_did, as_watcher, live_held, refuses_none, refuses_timer, refuses_start, refuses_start_watcher, refuses_stop, refuses_again, refuses_close, start_passes, again_passes, start_watcher_passes, close_passes, stop_passes, on_handle_both, send_both, cancel_both, make_both}
-use Rattle.uv_order.proofs.Asked.{request_turns, freed_turns, FrontRequest}
-use Rattle.uv_order.proofs.Did.{Did, FrontOf, FirstOf}
-use Rattle.uv_order.proofs.Keeping.{kept_all, fills, agree_same, free_held, Rests, Watches, Closes, IsSound, AreFree, members, Agree, Kept, on_off, open_shut, others, off_list, sound_put, free_put, free_set, not_free, put_kept, stopped_kept, closed_kept, started_kept, started_again_kept, restarted_again_kept, watcher_started_kept, io_started_kept, new_kept, not_timer}
+use Rattle.uv_order.proofs.Lemmas.{Each, each_push, distinct_push, member, has_new_middle, holds, emptied, get_set_same, is_held, put, same_handles, Fits, its_handle, Lists, lists_emptied, not_listed, Everyone, everyone_put, everyone_emptied, everyone_rest, fitted_emptied, IsSet, Times, times_rest, times_emptied, put_same, DidOp, op_did, as_watcher, live_held, refuses_none, refuses_timer, refuses_start, refuses_start_watcher, refuses_stop, refuses_again, refuses_close, start_passes, again_passes, start_watcher_passes, close_passes, stop_passes, on_handle_both, send_both, cancel_both, make_both, request_turns, freed_turns, FrontRequest, Did, FrontOf, FirstOf, kept_all, fills, agree_same, free_held, Rests, Watches, Closes, IsSound, AreFree, members, Agree, Kept, on_off, open_shut, others, off_list, sound_put, free_put, free_set, not_free, put_kept, stopped_kept, closed_kept, started_kept, started_again_kept, restarted_again_kept, watcher_started_kept, io_started_kept, new_kept, not_timer}
 
 -- ---- the ops
 

@@ -1,12 +1,6 @@
 -- What the lines of a trace tell of the names and of the handles that close, and how each change of the slots keeps it.
 use Rattle.uv_order.proofs.Names.{arith, ◌≡◌, ◌⊎◌, inl, inr, ℕ, zero, suc, ◌<◌, ◌≤◌, ◌==◌, ◌||◌, List, [], ◌∷◌, Bool, true, false, Option, Some, None, slice_get, slice_set, unwrap_or, option_map, refl, ap, sym, subst, ◌∙◌, if◌then◌else◌, eqb-true, eq-eqb, or_left, or_right, or_cases, none-some, Id, Var, Answer, Seen, Site, Op, Program, op_at, HandleRecord, Slots, Content, Named, same_id, unbound, answered, queues, binds, bound_by, bound, closes, closes_by, is_some_id, is_bound, was_closed, is_closed_line, has_closed_line, makes, made_by, made_as, cancels, Code}
-use Rattle.uv_order.proofs.IdLists.{same, other, itself}
-use Rattle.uv_order.proofs.Contents.{Turns, emptied, emptied_turns}
-use Rattle.uv_order.proofs.Holding.{name_at, NoNewNames, put_names, names_turned, held_at, is_held, put, put_same, Fits, fits_put, fits_back, fitted, fits_emptied, fitted_emptied, fits_same, SameHandles, Grown}
-use Rattle.uv_order.proofs.Counted.{set_there}
-use Rattle.uv_order.proofs.Keeping.{has_number, Closes, open_shut}
-use Rattle.uv_order.proofs.Gone.{IsGone, gone_put, gone_emptied, gone_now}
-use Rattle.uv_order.proofs.Works.{SameRequests, same_requests, same_put}
+use Rattle.uv_order.proofs.Lemmas.{same, other, itself, Turns, emptied, emptied_turns, name_at, NoNewNames, put_names, names_turned, held_at, is_held, put, put_same, Fits, fits_put, fits_back, fitted, fits_emptied, fitted_emptied, fits_same, SameHandles, Grown, set_there, has_number, Closes, open_shut, IsGone, gone_put, gone_emptied, gone_now, SameRequests, same_requests, same_put}
 use Rattle.uv_order.proofs.Worked.{Worked, IsIdle, worked_idle, worked_same}
 
 -- ---- names

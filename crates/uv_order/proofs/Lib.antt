@@ -14,6 +14,7 @@ mod IoFollows
 mod Keeping
 mod KeptSteps
 mod Known
+mod Lemmas
 mod Lives
 mod Names
 mod OpCases
@@ -31,7 +32,7 @@ pub mod Taking
 mod TimerKeys
 mod TimersFollow
 mod WatchersFollow
-mod Worked
 mod Woken
+mod Worked
 mod Working
 mod Works

@@ -1,8 +1,6 @@
 -- Whether the loop is alive by its lists is whether it is by what its slots hold.
 use Rattle.uv_order.proofs.Names.{arith, ◌≡◌, ℕ, zero, suc, ◌&&◌, ◌||◌, List, [], ◌∷◌, ◌++◌, Bool, true, false, Option, Some, None, refl, ap, sym, ◌∙◌, or-true, or_assoc, not, list_any, eq-eqb, or_left, or_right, Id, Due, Mode, Slot, held_in, is_open, Content, Request, content_keeps, request_in, has_some, State, is_alive, poll_timeout_by, goes, has_id, run_ids, is_kept_by, has_handle, has_run, has_request, closes_some, lives, may_wait}
-use Rattle.uv_order.proofs.IdLists.{itself}
-use Rattle.uv_order.proofs.Works.{asked_at, AllAsk, IsOpen, HasEnded}
-use Rattle.uv_order.proofs.Working.{Working}
+use Rattle.uv_order.proofs.Lemmas.{itself, asked_at, AllAsk, IsOpen, HasEnded, Working}
 
 -- ---- words
 

@@ -2,14 +2,7 @@
 use Rattle.uv_order.proofs.Names.{◌≡◌, ◌⊎◌, ℕ, ◌==◌, List, [], ◌∷◌, ◌++◌, Bool, true, false, Option, Some, None, Ok, option_map, slice_set, if◌then◌else◌, refl, ap, sym, ◌∙◌, arith, list_any, cond_both, or_left, same_Some, Id, Var, Code, Answer, Kind, Seen, Site, Op, Task, Program, op_at, HandleRecord, WatcherKind, Slot, inited, referenced_as, repeating, Slots, held, taken, taken_from, next_free, next_id, Content, Request, queued, request_in, Cancelled, same_id, without_id, has_id, run_ids, State, named, handle, live, live_handle, with_request, stopped, restarted, do_op, makes, made_as, has_take_line, has_cancel_line, queued_task}
 use Rattle.uv_records.specs.Handles as records
 use Rattle.uv_model.specs.Ops as ops
-use Rattle.uv_order.proofs.IdLists.{has_both, has_but_one, on_list, same, itself, turned, still_absent}
-use Rattle.uv_order.proofs.Contents.{Turns}
-use Rattle.uv_order.proofs.Holding.{name_in, name_at, names_turned, same_handles, put, put_same}
-use Rattle.uv_order.proofs.OpCases.{DidOp, IsAsked, IsLive, op_did, live_as_handle, live_held, live_bound, IsRefusal, refuses_none, refuses_timer, refuses_start, refuses_start_watcher, refuses_stop, refuses_again, refuses_close, on_handle_both, send_both, cancel_both, make_both, IsRef}
-use Rattle.uv_order.proofs.Asked.{request_turns}
-use Rattle.uv_order.proofs.Works.{same_requests}
-use Rattle.uv_order.proofs.Keeping.{AreFree, Kept, fills, takes as taken_handle}
-use Rattle.uv_order.proofs.Gone.{IsGone, not_held, gone_push, gone_fill, gone_turned}
+use Rattle.uv_order.proofs.Lemmas.{has_both, has_but_one, on_list, same, itself, turned, still_absent, Turns, name_in, name_at, names_turned, same_handles, put, put_same, DidOp, IsAsked, IsLive, op_did, live_as_handle, live_held, live_bound, IsRefusal, refuses_none, refuses_timer, refuses_start, refuses_start_watcher, refuses_stop, refuses_again, refuses_close, on_handle_both, send_both, cancel_both, make_both, IsRef, request_turns, same_requests, AreFree, Kept, fills, taken_handle, IsGone, not_held, gone_push, gone_fill, gone_turned}
 use Rattle.uv_order.proofs.Worked.{Worked, Tells, worked_told, worked_idle, worked_ended, worked_fewer, worked_queued}
 use Rattle.uv_order.proofs.Known.{Known, IsQuiet, is_answered, known_told, known_put, known_quiet, IsQuietOp, IsIdleOp, quiet_op, idle_op, known_close, known_bound, known_grown}
 

@@ -3,15 +3,7 @@ use Rattle.uv_order.proofs.Names.{arith, ◌≡◌, ℕ, ◌||◌, List, [], ◌
 use Rattle.uv_work.specs.Pool.{Done as Ended, waits}
 use Rattle.uv_model.specs.Ops as ops
 use Rattle.uv_model.specs.Next as step
-use Rattle.uv_order.proofs.IdLists.{has_both, on_list, same, other, itself, without_absent, distinct_front}
-use Rattle.uv_order.proofs.Contents.{Turns}
-use Rattle.uv_order.proofs.OpCases.{cancel_both, make_both}
-use Rattle.uv_order.proofs.Keeping.{Kept, fills}
-use Rattle.uv_order.proofs.Asked.{request_turns, freed_turns, FrontRequest, TakesFront, RunsWork}
-use Rattle.uv_order.proofs.Works.{asked_at, AllAsk, IsOpen, HasEnded, once_middle, runs_now, waits_open, runs_open}
-use Rattle.uv_order.proofs.Quiet.{SameWork, IsOfHandles, IsOfLoop, op_same, KeepsWork, did_same}
-use Rattle.uv_order.proofs.Working.{Working}
-use Rattle.uv_order.proofs.Did.{Did, did, IsStill, timed}
+use Rattle.uv_order.proofs.Lemmas.{has_both, on_list, same, other, itself, without_absent, distinct_front, Turns, cancel_both, make_both, Kept, fills, request_turns, freed_turns, FrontRequest, TakesFront, RunsWork, asked_at, AllAsk, IsOpen, HasEnded, once_middle, runs_now, waits_open, runs_open, SameWork, IsOfHandles, IsOfLoop, op_same, KeepsWork, did_same, Working, Did, did, IsStill, timed}
 
 -- ---- pools
 

@@ -1,8 +1,6 @@
 -- Each state that steps lead to is a reached one.
 use Rattle.uv_order.proofs.Names.{List, Id, Event, Program, State, IsReached, IsSetAside, AreSetAside, kind_as, watched, after}
-use Rattle.uv_order.proofs.IdLists.{member}
-use Rattle.uv_order.proofs.Holding.{Fits, Lists}
-use Rattle.uv_order.proofs.Keeping.{Rests, members}
+use Rattle.uv_order.proofs.Lemmas.{member, Fits, Lists, Rests, members}
 use Rattle.uv_order.proofs.Documents.{HoldsAt, holds_after}
 use Rattle.uv_order.proofs.Standing.{are_timers, all_active, all_ended, all_opened, all_closing}
 use Rattle.uv_order.proofs.Follows.{begins_at}

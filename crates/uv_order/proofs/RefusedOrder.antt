@@ -2,7 +2,7 @@
 use Rattle.uv_order.proofs.Names.{arith, ◌≡◌, ℕ, List, [], ◌∷◌, ◌++◌, Bool, true, false, Option, Some, refl, ap, sym, subst, ◌∙◌, if◌then◌else◌, not, both_ways, same_Some, Id, Var, Due, Success, Answer, Mode, Phase, Callback, Seen, Site, Op, Program, from_heap, op_at, State, Line, has_id, closes_some, may_wait, bound, Names, names_by, taken_off, Told, nothing_told, told_by, Lasting, lasting, Section, word_of, In, is_called, Standing, IsCallLine, CallsNext, MayAnswer, Within, Position, Between, Running, Goes, GoesOn, line, at_first, past_after, is_within, AllWithin, is_send_op, is_send, AllSilent, RefusedOrder, holds_io}
 use Rattle.uv_order.specs.Documented as doc
 use Rattle.uv_order.specs.Documented.{Walk}
-use Rattle.uv_order.proofs.IdLists.{has_both, itself, without_itself, still_absent}
+use Rattle.uv_order.proofs.Lemmas.{has_both, itself, without_itself, still_absent}
 
 -- ---- where the lines stand
 

@@ -2,15 +2,8 @@
 use Rattle.uv_order.proofs.Names.{arith, ◌≡◌, ℕ, ◌==◌, List, [], ◌∷◌, ◌++◌, Bool, true, false, drop, Option, Some, None, Ok, refl, ap, sym, subst, ◌∙◌, cond_both, both_ways, or_right, false_from_ne_true, Id, Var, Code, Answer, Kind, Op, Task, Program, arena_size, HandleRecord, Slot, inited, referenced_as, repeating, close_refusal, held, freed, taken, next_free, Walk, Content, Request, queued, same_id, without_id, State, fresh, handle, with_request, live, live_handle, stopped, started, restarted, do_op, Next, Moves, Refuses, has_id, Told, told_by, sent_by, sent_after, ids_of, without_ids, taken_off, AllOff, AllOffOrUnsent, handle_in, kind_as, watched, Phase, WatcherKind}
 use Rattle.uv_records.specs.Handles as records
 use Rattle.uv_model.specs.Ops as ops
-use Rattle.uv_order.proofs.IdLists.{has_both, Each, each_back, same, other, itself, turned, left_of, without_itself, has_without, without_absent, still_there}
-use Rattle.uv_order.proofs.Contents.{Turns, emptied}
-use Rattle.uv_order.proofs.Holding.{grown_at, SameHandles, same_handles, held_at, put, put_same, put_other, emptied_same, emptied_other, Fits, its_handle, Grown, Everyone}
-use Rattle.uv_order.proofs.OpCases.{DidOp, IsAsked, IsRef, op_did, names_at, live_held, IsRefusal, refuses_none, refuses_timer, refuses_start, refuses_start_watcher, refuses_stop, refuses_again, refuses_close, send_passes, on_handle_both, send_both, cancel_both, make_both}
-use Rattle.uv_order.proofs.Asked.{FrontRequest, request_turns, freed_turns}
-use Rattle.uv_order.proofs.OpEffects.{one_taken}
-use Rattle.uv_order.proofs.Keeping.{Watches, Rests, Kept, members, fills, takes, open_shut}
+use Rattle.uv_order.proofs.Lemmas.{has_both, Each, each_back, same, other, itself, turned, left_of, without_itself, has_without, without_absent, still_there, Turns, emptied, grown_at, SameHandles, same_handles, held_at, put, put_same, put_other, emptied_same, emptied_other, Fits, its_handle, Grown, Everyone, DidOp, IsAsked, IsRef, op_did, names_at, live_held, IsRefusal, refuses_none, refuses_timer, refuses_start, refuses_start_watcher, refuses_stop, refuses_again, refuses_close, send_passes, on_handle_both, send_both, cancel_both, make_both, FrontRequest, request_turns, freed_turns, one_taken, Watches, Rests, Kept, members, fills, taken_handle, open_shut, Did, FrontOf, FirstOf, IsStill, timed}
 use Rattle.uv_order.proofs.KeptSteps.{first_is}
-use Rattle.uv_order.proofs.Did.{Did, FrontOf, FirstOf, IsStill, timed}
 
 -- ---- what agrees
 
@@ -121,7 +114,7 @@ new_sent : (s : State) (sent : List Id) (v : Var) (q : Kind) (id : Id) → next_
     SentAt (without_id sent id) (ops.with_new s v q id)
 new_sent s sent v q id e kept k = by q where
   new : (x : Kind) → Sent (without_id sent id) (taken id (Content.Handle (inited v x)) s.arena).slots
-  new x = sent_new sent s.arena.slots _ id (inited v x) (takes s.arena s.arena.free id (inited v x) refl kept.free e).0 refl k
+  new x = sent_new sent s.arena.slots _ id (inited v x) (taken_handle s.arena s.arena.free id (inited v x) refl kept.free e).0 refl k
 
   by : (x : Kind) → SentAt (without_id sent id) (ops.with_new s v x id)
   by Kind.Timer = new Kind.Timer
@@ -261,7 +254,7 @@ pub stays_sent : (s : State) (sent : List Id) (o : Op) (id : Id) → Kept s → 
 stays_sent s sent (Op.Init v q) id kept d on e = at (live s v) where
   new : (i : Id) → next_free s.arena ≡ Some i → same_id id i ≡ false
   new i f = false_from_ne_true (same_id id i) (λ g.
-      let grown = (takes s.arena s.arena.free i (inited v q) refl kept.free f).0 in
+      let grown = (taken_handle s.arena s.arena.free i (inited v q) refl kept.free f).0 in
       both_ways (pends s.arena.slots id) (ap (pends s.arena.slots) (same id i g) ∙ ap pends_in grown.new) on)
 
   at : (t : Option (Id × Content)) → has_id (sent_by (Op.Init v q) (ops.make s t (ops.with_new s v q)).answer (names_at s) sent) id ≡ true

@@ -2,15 +2,7 @@
 use Rattle.uv_order.proofs.Names.{arith, ◌≡◌, ℕ, List, [], ◌++◌, Bool, true, false, Option, Some, None, refl, ap, subst, ◌∙◌, append-nil, Order, V144, V145, Id, Due, Kind, Mode, Default, Once, Nowait, Phase, Seen, Site, Program, Body, Run, Stage, TimersOf, Turn, AtEntry, Behind, BehindClosing, Way, ToTimers, ToPending, ToEnd, Collecting, Firing, Place, Listed, Slot, Content, State, Next, Moves, Refuses, way, time_at, idled_at, idled_then, from_heap, Line, has_id, IsTimer, AreTimers, AreDistinct, AreActive, AreClosing, IsEnded, AreEnded, IsOpened, AreOpened, run_ids, Told, told_by, AllOffOrUnsent, lasting, Section, Entry, In, word_of, part_after, part_of, Opens, IsOver, Standing, Answering, Begun, Within, Polling, Position, Between, Running, Goes, WatcherKind, phase_of}
 use Rattle.uv_order.specs.Documented as doc
 use Rattle.uv_order.specs.Documented.{Walk}
-use Rattle.uv_order.proofs.OpCases.{names_at}
-use Rattle.uv_order.proofs.IdLists.{left_of, member}
-use Rattle.uv_order.proofs.TimerKeys.{due_ids, distinct_due}
-use Rattle.uv_order.proofs.Holding.{Fits, its_handle, Everyone, IsSet, Times}
-use Rattle.uv_order.proofs.Keeping.{Kept, Watches, Closes, members}
-use Rattle.uv_order.proofs.Works.{Asks, AllAsk, IsOpen, HasEnded}
-use Rattle.uv_order.proofs.Working.{Working}
-use Rattle.uv_order.proofs.Bodies.{IsBody}
-use Rattle.uv_order.proofs.Counted.{Counted}
+use Rattle.uv_order.proofs.Lemmas.{names_at, left_of, member, due_ids, distinct_due, Fits, its_handle, Everyone, IsSet, Times, Kept, Watches, Closes, members, Asks, AllAsk, IsOpen, HasEnded, Working, IsBody, Counted}
 use Rattle.uv_order.proofs.Sends.{pends}
 
 -- ---- where a state stands

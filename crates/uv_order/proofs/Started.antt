@@ -2,14 +2,7 @@
 use Rattle.uv_order.proofs.Names.{arith, ◌≡◌, ◌⊎◌, inl, inr, ℕ, ◌==◌, ◌||◌, ◌&&◌, List, [], ◌∷◌, ◌++◌, Bool, true, false, drop, if◌then◌else◌, Option, Some, None, Ok, refl, ap, sym, subst, ◌∙◌, cond_both, or-true, or_right, same_Some, none-some, Id, Var, Code, Answer, Kind, Seen, Site, Op, Program, op_at, arena_size, Task, Request, queued, Content, HandleRecord, WatcherKind, Slot, inited, is_timer, referenced_as, repeating, Slots, held, freed, taken, next_free, handle_in, same_id, without_id, State, fresh, handle, live_handle, live_request, with_handle, with_request, watched, stopped, started, restarted, do_op, Next, Moves, Refuses, has_id, Activity, Answered, activity, activity_answered, activity_done, activity_by, activity_called, new_activity, is_some_id, bound, makes, made_by, made_as, first_of, kind_as}
 use Rattle.uv_records.specs.Handles as records
 use Rattle.uv_model.specs.Ops as ops
-use Rattle.uv_order.proofs.IdLists.{Each, each_back, absent, same, other, itself, turned, has_without, has_new_middle, without_itself}
-use Rattle.uv_order.proofs.Contents.{Turns, IsHeld, held_turned}
-use Rattle.uv_order.proofs.Holding.{held_at, is_held, put, put_turns, put_same, SameHandles, same_handles, Fits, its_handle, Lists, IsSet, Times}
-use Rattle.uv_order.proofs.OpCases.{DidOp, IsAsked, IsRefusal, op_did, live_held, live_bound, send_both, cancel_both, IsRef}
-use Rattle.uv_order.proofs.Asked.{request_turns, freed_turns}
-use Rattle.uv_order.proofs.Gone.{IsGone, gone_put, gone_turned, gone_emptied, gone_now}
-use Rattle.uv_order.proofs.Keeping.{Rests, Watches, Kept, fills, not_free}
-use Rattle.uv_order.proofs.Did.{Did, FrontOf, FirstOf, IsStill, IsSync, timed}
+use Rattle.uv_order.proofs.Lemmas.{Each, each_back, absent, same, other, itself, turned, has_without, has_new_middle, without_itself, Turns, IsHeld, held_turned, held_at, is_held, put, put_turns, put_same, SameHandles, same_handles, Fits, its_handle, Lists, IsSet, Times, DidOp, IsAsked, IsRefusal, op_did, live_held, live_bound, send_both, cancel_both, IsRef, request_turns, freed_turns, IsGone, gone_put, gone_turned, gone_emptied, gone_now, Rests, Watches, Kept, fills, not_free, Did, FrontOf, FirstOf, IsStill, IsSync, timed}
 use Rattle.uv_order.proofs.KeptSteps.{first_is}
 use Rattle.uv_order.proofs.Known.{is_answered}
 use Rattle.uv_order.proofs.OpsOnce.{KnownAt, asked_harmless, harmless, refused_harmless, gone_taken, next_not_gone}

@@ -3,15 +3,9 @@ use Rattle.uv_order.proofs.Names.{arith, ◌≡◌, inl, ℕ, ◌+◌, ◌==◌,
 use Rattle.uv_model.specs.Next as step
 use Rattle.uv_order.specs.Documented as doc
 use Rattle.uv_order.specs.Documented.{Walk}
-use Rattle.uv_order.proofs.IdLists.{left_of, none_off, all_off, FirstLeft, first_left}
-use Rattle.uv_order.proofs.TimerKeys.{due_ids, none_due}
-use Rattle.uv_order.proofs.Holding.{is_held, name_in, name_at, Fits, IsSet, Times}
-use Rattle.uv_order.proofs.Keeping.{Kept, Rests}
-use Rattle.uv_order.proofs.Did.{FrontOf, front_of, FirstOf, first_of}
+use Rattle.uv_order.proofs.Lemmas.{left_of, none_off, all_off, FirstLeft, first_left, due_ids, none_due, is_held, name_in, name_at, Fits, IsSet, Times, Kept, Rests, FrontOf, front_of, FirstOf, first_of, IsBody, Counted, counted_call, told_call, next_body}
 use Rattle.uv_order.proofs.KeptSteps.{no_front}
-use Rattle.uv_order.proofs.Bodies.{IsBody}
 use Rattle.uv_order.proofs.Lives.{goes_is}
-use Rattle.uv_order.proofs.Counted.{Counted, counted_call, told_call, next_body}
 use Rattle.uv_order.proofs.Standing.{follows_to, StandsAt, left_all, begun_with, section_of, Rest, rest, Leaves, NobodyLeft, due_now, Stands, Follows, left, reached_by, ways_agree, timers_last, pending_lasts, no_answer, are_timers, due_distinct, pending, collects, fires, calls_due, between, running}
 
 -- ---- callbacks

@@ -4,17 +4,9 @@ use Rattle.uv_records.specs.Handles as records
 use Rattle.uv_model.specs.Next as step
 use Rattle.uv_order.specs.Documented as doc
 use Rattle.uv_order.specs.Documented.{Walk}
-use Rattle.uv_order.proofs.IdLists.{left_of, none_off, all_off, each_back, distinct_back, same, itself}
-use Rattle.uv_order.proofs.Holding.{name_in, SameHandles, same_handles, Fits}
-use Rattle.uv_order.proofs.Asked.{freed_turns, FrontRequest, request_front}
-use Rattle.uv_order.proofs.Works.{HasEnded}
-use Rattle.uv_order.proofs.Working.{Working, no_request}
-use Rattle.uv_order.proofs.Keeping.{Kept, Watches, Closes}
-use Rattle.uv_order.proofs.Did.{FrontOf, front_of}
-use Rattle.uv_order.proofs.Did.{IsSync}
+use Rattle.uv_order.proofs.Lemmas.{left_of, none_off, all_off, each_back, distinct_back, same, itself, name_in, SameHandles, same_handles, Fits, freed_turns, FrontRequest, request_front, HasEnded, Working, no_request, Kept, Watches, Closes, FrontOf, front_of, IsSync, Counted}
 use Rattle.uv_order.proofs.KeptSteps.{no_front}
 use Rattle.uv_order.proofs.Lives.{may_wait_is}
-use Rattle.uv_order.proofs.Counted.{Counted}
 use Rattle.uv_order.proofs.Sends.{pends, pends_in, pends_there, SentAt, pass_both, pass_off}
 use Rattle.uv_order.proofs.Standing.{left_all, begun_with, rest, Leaves, NobodyLeft, IsBehind, follows_to, Follows, empty_over, IsNext, async_next, async_moved, prepare_next, poll_next, check_next, closing_next, are_timers, are_active, are_closing, walking, polls, done, closing, running}
 use Rattle.uv_order.proofs.TimersFollow.{call_follows, NextCall, turn_follows, named_of, next_of, call_counted, its_body, called}

@@ -1,9 +1,6 @@
 -- What the lines of a trace tell of requests, and how each change keeps it.
 use Rattle.uv_order.proofs.Names.{arith, ◌≡◌, ◌⊎◌, inl, inr, ℕ, List, ◌∷◌, Bool, true, false, Option, Some, None, refl, ap, sym, subst, ◌∙◌, if◌then◌else◌, false_from_ne_true, same_Some, none-some, Id, Var, Seen, Site, Task, Program, op_at, Slots, held, is_open, queued, digest_in, Outcome, Open, Finished, Cancelled, Content, Request, request_in, same_id, has_id, answered, queued_by, first_of, queued_task, is_take_line, has_take_line, is_cancel_line, has_cancel_line, is_finish_line, has_finish_line, is_after_line, has_after_line, SaysTrue, Slot, Answer, Op}
-use Rattle.uv_order.proofs.IdLists.{same, itself, turned}
-use Rattle.uv_order.proofs.Contents.{Turns, turned_to}
-use Rattle.uv_order.proofs.Works.{asked_at, SameRequests}
-use Rattle.uv_order.proofs.Gone.{IsGone, not_held}
+use Rattle.uv_order.proofs.Lemmas.{same, itself, turned, Turns, turned_to, asked_at, SameRequests, IsGone, not_held}
 
 -- ---- what is known
 
