@@ -31,12 +31,7 @@ found kind v call n lines (x ∷ xs) e = let f = first_left n lines x xs e in le
         Found lines kind v call (next_line call (n + 1) xs) (sites_from kind v call (n + 1) xs) →
         Found lines kind v call (if b then Some n else next_line call (n + 1) xs)
         (if b then Site.In kind v n ∷ sites_from kind v call (n + 1) xs else sites_from kind v call (n + 1) xs)
-    at true a b rest = record {
-      line = x;
-      there = a;
-      are = ap (λ (ls : List CallbackLine). Site.In kind v n ∷ sites_from kind v call (n + 1) ls) (sym b);
-    }
-    at false a b rest = rest
+    at b a b' rest = grind arith
 
 as_body : (p : Program) (kind : Callback) (v : Var) (call : ℕ) (o : Option ℕ) (sites : List Site) → Found (lines_in p kind v) kind v call o sites →
     IsBody p (body_at kind v call o) sites

@@ -256,8 +256,7 @@ finished_known p past s n t f work k =
 cancel_outside : (p : Program) (past : List Seen) (s : State) (v : Var) → KnownAt p past s →
     KnownAt p (Seen.Cancel v (ops.cancel s (live_request s v)).answer ∷ past) (ops.cancel s (live_request s v)).state
 cancel_outside p past s v k = cancel_both s v (λ (d : ops.Done). KnownAt p (Seen.Cancel v d.answer ∷ past) d.state)
-    (λ c no_success. known_quiet p past (Seen.Cancel v (Answer.Code c)) s.arena s.names
-    (assumption) (assumption) k)
+    (λ c no_success. assumption)
     (λ t live on. cancel_told p past (Seen.Cancel v (Answer.Cancelled t.0)) s t
     (assumption) (assumption) live.holds on k)
 

@@ -122,7 +122,6 @@ walk_did p s run q sync over = found_both (front s (watched s q).yet) _ _ (Did p
     (λ t e. walked run q t sync (front_of s (watched s q).yet t e)) (λ e. over)
 
 stage_did : (p : Program) (s : State) (run : Run) (x : Stage) → BeginsBehind x s → Did p s (step.stage_step p s run x)
-stage_did p s run Entry r = turn_did p s run AtEntry
 stage_did p s run Pending r = begun run WatcherKind.Idle r
 stage_did p s run (Walking WatcherKind.Idle) r = walk_did p s run WatcherKind.Idle tt (begun run WatcherKind.Prepare r)
 stage_did p s run (Walking WatcherKind.Prepare) r =
@@ -142,7 +141,7 @@ stage_did p s run Closing r = found_both (front s s.closing.yet) _ _ (Did p s)
 stage_did p s run (Timers part Collecting) r = cond_both (from_heap p) _ _ (Did p s) (λ heap. call_due_did p s run part)
     (λ ready. found_both (first_due s s.timers) _ _ (Did p s)
     (λ t e. collected run part t (first_of s s.timers t e)) (λ e. fire_did p s run part))
-stage_did p s run (Timers part Firing) r = fire_did p s run part
+stage_did p s run each r = search (turn_did, walk_did, cond_both, found_both, request_front, front_of, call_due_did, first_of, fire_did)
 
 body_did : (p : Program) (s : State) (run : Run) (body : Body) (x : Option CallbackLine) →
     slice_get (lines_in p body.callback body.name) body.next ≡ x → Did p s (step.body_step p s run body x)

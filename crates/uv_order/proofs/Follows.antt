@@ -24,8 +24,7 @@ more_or a b x y f h = grind arith
 pub left_poll : (p : Program) (told : Told) (s : State) (run : Run) (deadline : Option ℕ) → SentAt told.sent s → Working s → Counted p s.names told →
     NobodyLeft (rest s.ready s) → Follows p told (Running run.mode run.line (Polling deadline)) s (step.poll s run deadline)
 left_poll p told s run deadline sent g c e = cond_both (may_leave s deadline) _ _ (Follows p told (Running run.mode run.line (Polling deadline)) s)
-    (λ h. follows_to (doc.section (In Phase.Done) (more_or (has_passed s.clock deadline) (has_some s.done.list) (has_pending s)
-        (has_some told.sent && has_pending s) (λ on. rw (sym (pending_is told s sent) ∙ on, on) refl) h)
+    (λ h. follows_to (doc.section (In Phase.Done) (grind (arith, more_or, pending_is))
         (done_next (order_of p) run.mode (doc.goes_on s)) refl (opens_done p told _ (are_ended s e.done g)) refl)
         (running (done refl refl) (assumption (sym (none_off s.done.list), e))) c)
     (λ h. tt)
@@ -66,8 +65,7 @@ stage_follows p told s run Stage.Entry at st k h g c begun l = turn_follows p to
 stage_follows p told s run Stage.Pending at st k h g c (pending {w = w} none b) l = search (begin_follows, empty_over, idle_next, left_all)
 stage_follows p told s run (Stage.Walking WatcherKind.Async) at st k h g c (walking b) l = async_follows p told s run _ (lives_is s g) st k h c l b
 stage_follows p told s run (Stage.Walking q) at st k h g c (walking b) l = walk_follows p told s run q _ (lives_is s g) tt st k h c l b
-stage_follows p told s run (Stage.Poll deadline) at st k h g c polls l = left_poll p told s run deadline h g c (left_all l.timers l.idle l.prepare
-    l.check l.async l.closing l.done)
+stage_follows p told s run (Stage.Poll deadline) at st k h g c polls l = left_poll p told s run deadline h g c (assumption)
 stage_follows p told s run (Stage.Polled woken) at st k h g c (polled b) l =
     left_polled p told s run woken _ b g c (left_all l.timers l.idle l.prepare l.check l.async l.closing l.done)
 stage_follows p told s run Stage.Done at st k h g c (done woken b) l = done_follows p told s run _ st k h g c l woken b
@@ -281,8 +279,7 @@ send_follows p told s at v h = cond_both (nat_lt v.0 (length s.names)) _ _ (Foll
     moved : (t : Id × HandleRecord) → handle s t.0 ≡ Some t.1 → (x : Place) (y : Position) → StandsAt p s x y →
         StandsAt p (with_handle s t.0 (records.sent t.1)) x y
     moved t f (Place.Main i) y (between e) = between (left_all e.timers e.idle e.prepare e.check e.async e.closing e.done)
-    moved t f (Place.Running run) y (running {at = b} a l) = running a (left_all l.timers l.idle l.prepare l.check
-        (async_moved s.arena.slots _ (pends_more s.arena.slots t.0 t.1 (records.sent t.1) f refl) b s.watchers.async.yet l.async) l.closing l.done)
+    moved t f (Place.Running run) y (running {at = b} a l) = running a (search (left_all, async_moved, pends_more))
 
 -- the lists of requests are no places
 works_on : (p : Program) (s : State) (ids : List Id) (workers : List (Option Id)) (x : Place) (at : Position) → StandsAt p s x at →

@@ -298,11 +298,7 @@ pub times_without : (slots : List (Slot Content)) (drawn : ℕ) (ts : List (Due 
 times_without slots drawn ts key id h x e a off k = record {
   each = λ other_key i l.
       let m = had ts key other_key i k.sorted l in
-      let n = k.each other_key i m.0 in (
-        fits_other slots (IsSet other_key) id h x e i
-            (λ is. m.1 (sym (its_handle slots (IsSet other_key) id h e (subst (Fits slots (IsSet other_key)) is n.0)).due ∙ a.due)) n.0,
-        n.1,
-      );
+      let n = k.each other_key i m.0 in (grind (arith, fits_other, its_handle));
   all = λ other_key i l.
       let b = fits_apart slots (IsSet other_key) id h x e (never_set x other_key off) i l in
       still_has ts key other_key i (k.all other_key i b.1) (λ same_key. b.0 (one_id ts key i id k.sorted
@@ -333,12 +329,7 @@ pub times_with : (slots : List (Slot Content)) (drawn more : ℕ) (ts : List (Du
     h.active ≡ false → IsSet key x → key.start ≡ drawn → drawn < more → Times slots drawn ts → Times (put slots id x) more (with_timer ts key id)
 times_with slots drawn more ts key id h x e off a number less k = record {
   each = λ other_key i l. elim (new_or_old ts key other_key id i fresh l) [
-    | inl new ↦ (
-      subst (Fits (put slots id x) (IsSet other_key)) new.1
-          (record { handle = x; holds = put_same slots id h x e; fits = subst (λ (q : Due). IsSet q x) new.0 a }),
-      subst
-          (λ (q : Due). q.start < more) new.0 (rw number less),
-    )
+    | inl new ↦ (grind (arith, holds, put_same))
     | inr old ↦ let m = k.each other_key i old in
         (fits_put slots (IsSet other_key) id h x e (λ b. absurd (never_set h other_key off b)) i m.0, omega (arith, m.1, less))
   ];

@@ -59,8 +59,7 @@ answers p told s m i Stage.Done None v at on h c (done woken b) l = record {
 answers p told s m i Stage.DoneUnwoken None v at on h c (unwoken asleep none b) l = record {
   may = b;
   lasts = refl;
-  stands = running (unwoken asleep none (its_body p told s Callback.Handle v c)) (left_all l.timers l.idle l.prepare l.check l.async l.closing
-      l.done);
+  stands = running (unwoken asleep none (its_body p told s Callback.Handle v c)) (assumption);
 }
 answers p told s m i (Stage.Walking WatcherKind.Async) None v at on h c (walking {w = w} b) l =
     let none = none_yet s.watchers.async.yet on in

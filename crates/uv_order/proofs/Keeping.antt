@@ -246,8 +246,7 @@ started_kept s id old h timeout repeat e t off was u stays away k =
           (record { kind = u; active = refl; due = refl }) refl (omega arith) k.timers;
       ready = off_list s.arena.slots Rests id old x s.ready e away k.ready;
       watchers = λ q. others s.arena.slots Kind.Timer (kind_as q) id old x (members (watched s q)) e t u (not_timer q) (k.watchers q);
-      closing = everyone_put s.arena.slots Closes id old x (members s.closing) e (λ shut. absurd (open_shut old shut was)) (λ shut. absurd
-          (open_shut h shut stays)) k.closing;
+      closing = everyone_put s.arena.slots Closes id old x (members s.closing) e (λ shut. absurd (open_shut old shut was)) (λ shut. cc) k.closing;
     }
 
 -- a timer that was stopped
@@ -261,8 +260,7 @@ started_again_kept s id h timeout repeat e t stays k =
 pub restarted_again_kept : (s : State) (id : Id) (h : HandleRecord) → handle s id ≡ Some h → h.kind ≡ Kind.Timer → h.closing ≡ false → Kept s → Kept
     (restarted (stopped s id h) id h)
 restarted_again_kept s id h e t stays k = cond_both (h.repeat == 0) _ _ Kept (λ z. stopped_kept s id h e (λ q. cc (t, q)) k)
-    (λ z. started_again_kept s id h h.repeat
-    h.repeat e t stays k)
+    (λ z. search started_again_kept)
 
 -- the timers and the ready list where a watcher changes
 pub others_times : (s : State) (id : Id) (h x : HandleRecord) (q : Kind) → handle s id ≡ Some h → h.kind ≡ q → x.kind ≡ q →
@@ -280,10 +278,7 @@ pub in_front : (s : State) (id : Id) (h x : HandleRecord) (q : Kind) (ids : List
     x.active ≡
     true →
     Everyone s.arena.slots (Watches q) ids → Everyone (put s.arena.slots id x) (Watches q) (id ∷ ids)
-in_front s id h x q ids e off u on l = everyone_front s.arena.slots (Watches q) id h x ids e (λ w. on_off h w.active off) (record {
-  kind = u;
-  active = on;
-}) l
+in_front s id h x q ids e off u on l = everyone_front s.arena.slots (Watches q) id h x ids e (λ w. on_off h w.active off) (assumption) l
 
 -- what a watcher's start leaves of all but the lists
 abbrev pub StillSound : State → Id → HandleRecord → Type 0
@@ -378,10 +373,7 @@ pub new_by : (s : State) (v : Var) (q : Kind) (id : Id) (w : Walk Id) → Takes 
     Agree (taken id (Content.Handle (inited v q)) s.arena) s.next_start s.timers s.ready (with_those_of WatcherKind.Async w s.watchers) s.closing
 new_by s v q id w t async k =
     record {
-      sound = sound_grown s.arena.slots more id x t.0 (record {
-        shut = grind arith;
-        awake = λ async unshut. ap is_async async;
-      }) k.sound;
+      sound = sound_grown s.arena.slots more id x t.0 (grind arith) k.sound;
       free = t.1;
       timers = times_grown s.arena.slots more s.next_start s.timers id x t.0 (new_unset v q) k.timers;
       ready = lists_grown s.arena.slots more Rests id x s.ready t.0 k.ready;
@@ -414,10 +406,8 @@ new_kept s v Kind.Async id e k =
     let x = inited v Kind.Async in
     let t = takes s.arena s.arena.free id x refl k.free e in
     let more = (taken id (Content.Handle x) s.arena).slots in
-    let listed = everyone_listed s.arena.slots more (Watches Kind.Async) id x s.watchers.async.list s.watchers.async.yet t.0 (record {
-      kind = refl;
-      active = refl;
-    }) (k.watchers WatcherKind.Async) in
+    let listed = everyone_listed s.arena.slots more (Watches Kind.Async) id x s.watchers.async.list s.watchers.async.yet t.0
+    (assumption) (k.watchers WatcherKind.Async) in
     let w = s.watchers.async in
     search (new_by, append_assoc, listed)
 new_kept s v each id e k = let t = takes s.arena s.arena.free id (inited v each) refl k.free e in new_by s v each id s.watchers.async t

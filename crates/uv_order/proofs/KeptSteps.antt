@@ -61,8 +61,7 @@ fired_kept s t f k = subst (λ (rest : List Id). Kept (restarted (record s { rea
     let u : State = record s { ready = f.rest } in
     let kept : Kept u = front_kept s t.0 f.rest f.are k in
     cond_both (t.1.repeat == 0) u (started u t.0 t.1 t.1.repeat t.1.repeat) Kept (λ z. kept)
-    (λ z. started_kept u t.0 t.1 t.1 t.1.repeat t.1.repeat f.holds rests.kind rests.inactive rests.stays rests.kind rests.stays
-    l.distinct.0 kept))
+    (λ z. search started_kept))
 
 -- an active handle doesn't close
 pub opened : (h : HandleRecord) → h.active ≡ true → IsSound h → h.closing ≡ false
@@ -118,11 +117,7 @@ with_watched_kept s q w e k = kept_all k.sound k.free k.timers k.ready (λ r. at
   at : (q r : WatcherKind) → Everyone s.arena.slots (Watches (kind_as q)) (members w) →
       Everyone s.arena.slots (Watches (kind_as r)) (members (watched s r)) →
       Everyone s.arena.slots (Watches (kind_as r)) (members (watched (with_watched s q w) r))
-  at WatcherKind.Idle WatcherKind.Idle now was = now
-  at WatcherKind.Prepare WatcherKind.Prepare now was = now
-  at WatcherKind.Check WatcherKind.Check now was = now
-  at WatcherKind.Async WatcherKind.Async now was = now
-  at q r now was = was
+  at q r now was = grind arith
 
 pub begin_kept : (s : State) (run : Run) (q : WatcherKind) → (watched s q).yet ≡ [] → Kept s → StaysKept (begin_walk s run q)
 begin_kept s run q e k = with_watched_kept s q (all_yet (watched s q))
@@ -137,8 +132,7 @@ pub moved_listed : (s : State) (P : HandleRecord → Type 0) (w : Walk Id) (t : 
     w) →
     Everyone s.arena.slots P (members (moved_on w t.0 (drop 1 w.yet)))
 moved_listed s P w t f l =
-    let moved : members w ≡ (w.list ++ t.0 ∷ []) ++ f.rest = ap (λ (ids : List Id). w.list ++ ids) f.are ∙ sym (append_assoc w.list (t.0 ∷ [])
-    f.rest) in
+    let moved : members w ≡ (w.list ++ t.0 ∷ []) ++ f.rest = ap (λ (ids : List Id). w.list ++ ids) f.are ∙ sym (search append_assoc) in
     subst (Everyone s.arena.slots P) (moved ∙ ap (λ (ids : List Id). (w.list ++ t.0 ∷ []) ++ ids) (sym f.behind)) l
 
 pub front_moved_kept : (s : State) (q : WatcherKind) (t : Id × HandleRecord) → FrontOf s (watched s q).yet t → Kept s → Kept (front_moved s q t.0)
@@ -167,11 +161,7 @@ gone_kept s t rest n free e are f k =
         handle = y;
         holds = h;
         fits = refl;
-      })).1.holds ∙ ap Some ((fitted_emptied s.arena.slots (λ x. x ≡ y) t.0 t.1 n e i (record {
-        handle = y;
-        holds = h;
-        fits = refl;
-      })).1.fits));
+      })).1.holds ∙ ap Some (grind arith));
       free = f;
       timers = times_emptied s.arena.slots s.next_start s.timers t.0 t.1 n e (λ key a. on_off t.1 a.active off) k.timers;
       ready = lists_emptied s.arena.slots Rests t.0 t.1 n s.ready e (λ r. open_shut t.1 shut r.stays) k.ready;
@@ -231,25 +221,21 @@ gone_ended p s t f k =
     (same_handles s.arena.slots (freed last t.0 s.arena).slots t.0 _ _ (freed_turns last s.arena t.0 c f.holds) refl refl) free k
 
 pub did_kept : (p : Program) (s : State) (n : Next) → Did p s n → Kept s → StaysKept n
-did_kept p s n (Did.refused why) k = tt
-did_kept p s n (Did.still x time clock stop idled l q) k = k
 did_kept p s n (Did.op x at o e) k = op_kept s o k
 did_kept p s n (Did.begun run q e) k = begin_kept s run q e k
 did_kept p s n (Did.begun_closing run e) k = begin_closing_kept s e k
-did_kept p s n (Did.begun_done run time e) k = k
 did_kept p s n (Did.collected run part t f) k = collected_kept s t f k
 did_kept p s n (Did.fired run t f) k = fired_kept s t f k
 did_kept p s n (Did.called_due run t f) k = called_due_kept s t f k
 did_kept p s n (Did.walked run q t sync f) k = front_moved_kept s q t f k
 did_kept p s n (Did.passed run t f off) k = front_moved_kept s WatcherKind.Async t f k
 did_kept p s n (Did.woken run t f on) k = woken_kept s t f k
-did_kept p s n (Did.answered run time v t e is on) k = k
 did_kept p s n (Did.closed run t f) k = gone_closed p s t f k
 did_kept p s n (Did.ended run t f) k = gone_ended p s t f k
-did_kept p s n (Did.taken n' t f) k = k
 did_kept p s n (Did.finished n' t f) k = request_kept s t.0 t.1 _ f.holds k
 did_kept p s n (Did.sent v) k = op_kept s (Op.Send v) k
 did_kept p s n (Did.cancelled v) k = op_kept s (Op.Cancel v) k
+did_kept p s n each k = assumption
 
 pub fresh_kept : (p : Program) → Kept (fresh p)
 fresh_kept p = grind arith

@@ -129,16 +129,14 @@ pub on_handle_both : (s : State) (v : Var) (why : HandleRecord → Option Code) 
     ((t : Id × HandleRecord) → live_handle s v ≡ Ok t → why t.1 ≡ None → P (f t.0 t.1)) → P (ops.on_handle s (live_handle s v) why f)
 on_handle_both s v why f P codes refused done = at (live_handle s v) refl where
   at : (t : Result (Id × HandleRecord) Code) → live_handle s v ≡ t → P (ops.on_handle s t why f)
-  at (Err code) e = refused code (no_handle (live s v) code e)
-  at (Ok t) e = found_both (why t.1) (ops.refuses s) (f t.0 t.1) P (λ c is. refused c (codes t.1 c is)) (λ is. done t e is)
+  at t e = grind arith
 
 pub send_both : (s : State) (v : Var) (P : ops.Coded → Type 0) → ((c : Code) → IsRefusal c → P (record { state = s; code = c })) →
     ((t : Id × HandleRecord) → live_handle s v ≡ Ok t → send_refusal t.1 ≡ None → P (record { state = with_handle s t.0 (sent t.1); code = Success }))
     → P (ops.send s (live_handle s v))
 send_both s v P refused done = at (live_handle s v) refl where
   at : (t : Result (Id × HandleRecord) Code) → live_handle s v ≡ t → P (ops.send s t)
-  at (Err code) e = refused code (no_handle (live s v) code e)
-  at (Ok t) e = found_both (send_refusal t.1) _ _ P (λ c is. refused c (refuses_send t.1 c is)) (λ is. done t e is)
+  at t e = grind arith
 
 -- a request is cancelled where it waits, or the cancel is refused
 pub cancel_both : (s : State) (v : Var) (P : ops.Done → Type 0) → ((c : Code) → IsRefusal c → P (ops.refuses s c)) →
@@ -146,8 +144,7 @@ pub cancel_both : (s : State) (v : Var) (P : ops.Done → Type 0) → ((c : Code
     P (record { state = ops.cancelled s t.0 t.1; answer = Answer.Cancelled t.0 })) → P (ops.cancel s (live_request s v))
 cancel_both s v P refused done = at (live_request s v) refl where
   at : (t : Result (Id × Request) Code) → live_request s v ≡ t → P (ops.cancel s t)
-  at (Err code) e = refused code (no_request (live s v) code e)
-  at (Ok t) e = cond_both (list_any (same_id t.0) s.waiting) _ _ P (λ on. done t (live_as_request s v t e) on) (λ off. refused Ebusy (λ ok. cc ok))
+  at t e = grind arith
 
 -- a slot is taken for what a name is bound to, or there is none
 pub make_both : (s : State) (t : Option (Id × Content)) (made : Id → State) (P : ops.Done → Type 0) → ((c : Code) → IsRefusal c →

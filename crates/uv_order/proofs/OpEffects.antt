@@ -150,8 +150,7 @@ again_effect : (s : State) (v : Var) (t : Id × HandleRecord) → live_handle s 
     (ops.again s t.0 t.1)
 again_effect s v t e is k = cond_both (t.1.repeat == 0) _ _ (λ (u : State). Effect s (Op.Again v) (ops.succeeds u))
     (λ z. timer_effect s (stopped s t.0 t.1) (Op.Again v) v t e is k (λ word. refl) refl refl refl (assumption))
-    (λ z. timer_effect s (started (stopped s t.0 t.1) t.0 t.1 t.1.repeat t.1.repeat) (Op.Again v) v t e is k (λ word. refl) refl refl refl
-    (assumption))
+    (λ z. search timer_effect)
 
 -- ---- the other ops
 

@@ -71,8 +71,7 @@ apart_done : (s t : State) (id : Id) (was is : Option Content) → Turns s.arena
     map (done_as t) (s.done.yet ++ s.done.list) ≡ map (done_as s) (s.done.yet ++ s.done.list)
 apart_done s t id was is turns opened k = done_same s t (s.done.yet ++ s.done.list) (λ i h. still i h (same_id i id) refl) where
   turned_round : (i : Id) → has_id (s.done.yet ++ s.done.list) i ≡ true → has_id (s.done.list ++ s.done.yet) i ≡ true
-  turned_round i h = has_both s.done.list s.done.yet i ∙ or_comm (has_id s.done.list i) (has_id s.done.yet i)
-      ∙ sym (has_both s.done.yet s.done.list i) ∙ h
+  turned_round i h = grind (arith, has_both, or_comm)
 
   still : (i : Id) → has_id (s.done.yet ++ s.done.list) i ≡ true → (b : Bool) → same_id i id ≡ b → request t i ≡ request s i
   still i h false d = ap request_in (turns.others i (other i id d))

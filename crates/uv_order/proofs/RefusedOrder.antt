@@ -124,11 +124,7 @@ stays p told names m i part w l to e g = at to e g where
       let s = answered l.before told (body Callback.Handle v) part w in
       subst (λ (y : Standing). Stays p told names m i part w (Running m i y) l.seen) (sym s.is)
       (so s.walk (λ x on. ap (λ (ids : List Id). has_id ids x) s.off ∙ on) (Seen.Io v id) f (answers_in part w b))
-  at to e (doc.body_op place rest o a b c d f) =
-      let off : List Id = taken_off (word_of part) names o a in
-      so (record w { off = off ++ w.off; body = rest }) (λ x on. still_off off w.off x on) (Seen.Op place a) d
-      (λ y is x on. also_off off w.off x
-      (subst (λ (z : Op). has_id (taken_off (word_of part) names z a) x ≡ true) (same_Some _ _ (sym is ∙ c)) on))
+  at to e (doc.body_op place rest o a b c d f) = grind (arith, still_off, also_off, same_Some)
   at to e (doc.sent v code a b) = so w (λ x on. on) _ a tt
   at to e (doc.taken n v id a b c) = so w (λ x on. on) _ a tt
   at to e (doc.finished n v id a b c) = so w (λ x on. on) _ a tt
@@ -243,8 +239,7 @@ refused p before more = record {
       let two = op_on p b.mode b.number b.part one.walk _ _ one.was l place (Op.Start v timeout repeat) _ (mid ++ y ∷ more) el o one.rest in
       let three = within_on p b.mode b.number b.part mid (y ∷ more) two.walk _ _ two.was ms two.rest in
       both_ways (has_id three.walk.off id) ((call_on p b.mode b.number b.part three.walk _ _ three.was y x id more ek three.rest).0 heap)
-      (three.grown id (two.grown id (off_started (names_by p (past_after (s.seen ∷ past_after [] before) front)) v id timeout repeat
-      (word_of b.part) b.its (ap (λ (zs : List Seen). bound p zs v) (sym (past_both [] before front s)) ∙ names))));
+      (grind (arith, off_started, past_both));
   second_call = λ a s b mid front v x id ea ms es fs fq eb h.
       let now : Told = told_after p nothing_told [] before in
       let past : List Seen = past_after [] before in

@@ -139,8 +139,6 @@ close_sent s sent v t e k =
 did_op_sent : (s : State) (sent : List Id) (o : Op) (d : ops.Done) → DidOp s o d → Kept s → SentAt sent s → SentBy s sent o d
 did_op_sent s sent o d (DidOp.refused o' c r may) kept k = subst (λ (ids : List Id). SentAt ids s) (sym (refused_sent s sent o' c r)) k
 did_op_sent s sent o d (DidOp.asked o' a is) kept k = subst (λ (ids : List Id). SentAt ids s) (sym (asked_sent s sent o' a is)) k
-did_op_sent s sent o d DidOp.loop_stopped kept k = k
-did_op_sent s sent o d DidOp.time_updated kept k = k
 did_op_sent s sent o d (DidOp.made v q id e) kept k = new_sent s sent v q id e kept k
 did_op_sent s sent o d (DidOp.queued v task id e) kept k = queued_sent s sent v task id e kept k
 did_op_sent s sent o d (DidOp.cancelled v t live on) kept k = request_sent s sent t.0 t.1 _ live.holds k
@@ -151,7 +149,6 @@ did_op_sent s sent o d (DidOp.watching v WatcherKind.Idle t e is off stays) kept
 did_op_sent s sent o d (DidOp.watching v each t e is off stays) kept k = changed s sent t (records.activated t.1) (live_held s v t e) refl refl refl k
 did_op_sent s sent o d (DidOp.io_started v t e is off stays) kept k =
     changed s sent t (records.activated t.1) (live_held s v t e) refl refl refl k
-did_op_sent s sent o d (DidOp.watches v t e on) kept k = k
 did_op_sent s sent o d (DidOp.stopped v t e sync) kept k = changed s sent t (records.stopped t.1) (live_held s v t e) refl refl refl k
 did_op_sent s sent o d (DidOp.closed v t e stays) kept k = close_sent s sent v t e k
 did_op_sent s sent o d (DidOp.repeated v n t e) kept k = changed s sent t (repeating n t.1) (live_held s v t e) refl refl refl k
@@ -161,6 +158,7 @@ did_op_sent s sent o d (DidOp.referenced o' u flag t e each) kept k = changed s 
 did_op_sent s sent o d (DidOp.sent_to v t e is stays) kept k =
     subst (λ (ids : List Id). Sent (ids ++ sent) (put s.arena.slots t.0 (records.sent t.1))) (sym (one_taken s v t e))
     (sent_more sent s.arena.slots t.0 t.1 (records.sent t.1) (live_held s v t e) refl is stays k)
+did_op_sent s sent o d each kept k = assumption
 
 pub op_sent : (s : State) (sent : List Id) (o : Op) → Kept s → SentAt sent s → SentBy s sent o (do_op s o)
 op_sent s sent o kept k = did_op_sent s sent o (do_op s o) (op_did s o) kept k

@@ -82,8 +82,7 @@ pub turn_follows : (p : Program) (told : Told) (s : State) (run : Run) (turn : T
     Follows p told (Running run.mode run.line at) s (step.turns (order_of p) s run turn)
 turn_follows p told s run turn at alive is over k c e =
     by (step.way (order_of p) run.mode (goes s) turn)
-    (ap (part_after (order_of p) run.mode (doc.goes_on s)) is
-    ∙ ap (λ (go : Bool). part_after (order_of p) run.mode go (left turn)) (goes_is s alive) ∙ ways_agree (order_of p) run.mode (goes s) turn)
+    (grind (arith, goes_is, ways_agree))
   where
     due : TimersOf → List Id
     due part = due_ids (step.time_at (order_of p) part s) s.timers
@@ -167,8 +166,7 @@ call_timer p told s u run part w t more h names lasts o ready b heap c =
     let next = next_of w t.0 more (sym o.ready) in
     call_follows p told s u run (record run { stage = Stage.Timers part Firing }) (section_of part) w t next.behind (timers_word part)
     (timers_call part told w t.0 more next b) h names lasts c
-    (λ is. running (fires heap is) (timers_left part (rest u.ready u) (called p told Callback.Handle w next.behind t.1.name)
-    (assumption (ready ∙ next.left, o))))
+    (λ is. running (fires heap is) (grind arith))
 
 pub fire_follows : (p : Program) (told : Told) (s : State) (run : Run) (part : TimersOf) (w : Walk) → lives s ≡ is_alive s → Kept s →
     Counted p s.names told → Leaves (rest s.ready s) (Within (section_of part) w) → w.body ≡ [] → from_heap p ≡ false →
@@ -176,10 +174,8 @@ pub fire_follows : (p : Program) (told : Told) (s : State) (run : Run) (part : T
 fire_follows p told s run part w alive k c l b heap =
     let o = left_timers part (rest s.ready s) w l in
     found_both (front s s.ready) _ _ (Follows p told (Running run.mode run.line (Within (section_of part) w)) s)
-    (λ t e. fired o t (front_of s s.ready t e)) (λ e. let none : s.ready ≡ [] = no_front s Rests s.ready k.ready.each e in
-    turn_follows p told s run (Behind part) (Within (section_of part) w) alive refl
-    (timers_over part w b (all_off w.ahead w.off (sym o.ready ∙ none)), none_due_now part p s (λ on. cc (heap, on))) k c
-    (left_all none o.idle o.prepare o.check o.async o.closing o.done))
+    (λ t e. fired o t (front_of s s.ready t e))
+    (λ e. grind (arith, no_front, turn_follows, timers_over, all_off, none_due_now, left_all))
   where
     fired : OnlyReady (rest s.ready s) w → (t : Id × HandleRecord) → FrontOf s s.ready t →
         Follows p told (Running run.mode run.line (Within (section_of part) w)) s
@@ -223,8 +219,7 @@ collect_follows p told s run part w alive k c l b heap =
     moved o t f =
         let later : List (Due × Id) = drop 1 s.timers in
         let all : due_now s ≡ t.0 ∷ due_ids s.time later =
-        ap (due_ids s.time) f.are ∙ one_more s.time (f.key, t.0) f.rest f.due ∙ ap (λ (ts : List (Due × Id)). t.0 ∷ due_ids s.time ts) (sym
-        f.behind) in
+        ap (due_ids s.time) f.are ∙ one_more s.time (f.key, t.0) f.rest f.due ∙ ap (λ (ts : List (Due × Id)). t.0 ∷ due_ids s.time ts) (cc) in
         let same : (s.ready ++ t.0 ∷ []) ++ due_ids s.time later ≡ left_of w.ahead w.off =
         append_assoc s.ready (t.0 ∷ []) (due_ids s.time later) ∙ ap (λ (ids : List Id). s.ready ++ ids) (sym all) ∙ o.ready in
         let only : OnlyReady (rest ((s.ready ++ t.0 ∷ []) ++ due_ids s.time later) (collected s t.0 t.1)) w =
@@ -266,8 +261,7 @@ call_due_timer p told s u run part w t f names lasts e none b heap k c =
         (assumption (e.timers ∙ sym (ap (λ (ids : List Id). left_of ids w.off) none), e))))) (call_counted p told u Callback.Handle v t.0 cu)
   where
     timers_are : (part : TimersOf) → word_of (section_of part) ≡ Phase.Timers
-    timers_are TimersOf.Entry = refl
-    timers_are TimersOf.Iteration = refl
+    timers_are part = grind arith
 
 pub call_due_follows : (p : Program) (told : Told) (s : State) (run : Run) (part : TimersOf) (w : Walk) → lives s ≡ is_alive s → Kept s →
     Counted p s.names told → Leaves (rest s.ready s) (Within (section_of part) w) → w.ahead ≡ [] → w.body ≡ [] → from_heap p ≡ true →
@@ -289,5 +283,4 @@ call_due_follows p told s run part w alive k c l none b heap =
         (λ (x : State). Follows p told (Running run.mode run.line (Within (section_of part) w)) s
         (call p x (record run { stage = Stage.Timers part Collecting }) t.0 t.1.name))
         (λ z. call_due_timer p told s u run part w t f refl refl off none b heap k c)
-        (λ z. call_due_timer p told s (started u t.0 t.1 t.1.repeat t.1.repeat) run part w t f refl refl
-        (left_all off.timers off.idle off.prepare off.check off.async off.closing off.done) none b heap k c)
+        (λ z. search (call_due_timer, left_all))

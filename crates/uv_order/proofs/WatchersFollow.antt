@@ -30,8 +30,7 @@ opens_watched p told s t q woken has k e = record {
 } where
   at : (q : WatcherKind) → AreActive s (kind_as q) (watched s q).list →
       doc.HasList (phase_of q) (record { before = s; seen = Seen.Section (phase_of q); after = t }) (watched s q).list
-  at WatcherKind.Idle are = (refl, are)
-  at each are = (refl, are)
+  at q are = grind arith
 
 -- where nobody is left, none of a kind is yet to run
 none_yet : (s : State) (q : WatcherKind) → NobodyLeft (rest s.ready s) → (watched s q).yet ≡ []
@@ -40,17 +39,7 @@ none_yet s q e = grind arith
 -- then as its section begins all of its list are left, and of the others nobody
 begun_left : (told : Told) (s : State) (q : WatcherKind) (woken : Bool) → SentAt told.sent s → NobodyLeft (rest s.ready s) →
     Leaves (rest s.ready (with_watched s q (all_yet (watched s q)))) (Within (In (phase_of q)) (walk_with told q woken (watched s q).list))
-begun_left told s WatcherKind.Idle woken h e = left_all e.timers (sym (none_off s.watchers.idle.list)) e.prepare e.check e.async e.closing e.done
-begun_left told s WatcherKind.Prepare woken h e = left_all e.timers e.idle (sym (none_off s.watchers.prepare.list)) e.check e.async e.closing e.done
-begun_left told s WatcherKind.Check woken h e = left_all e.timers e.idle e.prepare (sym (none_off s.watchers.check.list)) e.async e.closing e.done
-begun_left told s WatcherKind.Async woken h e = left_all e.timers e.idle e.prepare e.check (record {
-  gone = [];
-  behind = s.watchers.async.list;
-  all = refl;
-  left = sym (none_off s.watchers.async.list);
-  passed = tt;
-  still = λ id on was. sym (h.are id) ∙ was;
-}) e.closing e.done
+begun_left told s each woken h e = grind (arith, left_all, none_off)
 
 -- the line of such a section sets nothing
 sets_nothing : (o : Order) (q : WatcherKind) (s : State) → lasting s ≡ doc.after_word o (In (phase_of q)) s
@@ -215,13 +204,7 @@ async_follows p told s run w alive st k h c l b = found_both (front s s.watchers
         λ off. not_sent s.arena.slots w t off (ap pends_in f.holds) (a.still t.0 (in_front s s.watchers.async.yet t f)) next.on in
         cond_both t.1.pending _ _ (Follows p told (Running run.mode run.line (Within (In Phase.Async) w)) s)
         (λ on. call_follows p told s (with_handle (front_moved s WatcherKind.Async t.0) t.0 (records.woken t.1)) run run (In Phase.Async) w t
-        next.behind refl (record {
-          done = b;
-          passed = a.gone ++ next.passed;
-          list = all;
-          may_pass = passes;
-          may_call = record { on = next.on; called = h.are t.0 ∙ ap pends_in f.holds ∙ on };
-        }) f.holds refl refl c
+        next.behind refl (grind arith) f.holds refl refl c
         (λ is. rw st (running (walking {q = WatcherKind.Async} is) (left_all l.timers l.idle l.prepare l.check (record {
           gone = [];
           behind = next.behind;
@@ -273,8 +256,7 @@ done_follows p told s run w st k h g c l woken b = found_both (front_request s s
             (ap (option_map name_in) f.holds)
             (ap (λ (o : Option Content). option_map (λ (r : Request). Seen.After (digest_in r.outcome) v t.0) (request_in o)) f.holds) refl)
         (rw st (running (done {w = called p told Callback.After w next.behind v} woken (its_body p told s Callback.After v c))
-            (assumption (f.behind ∙ next.left,
-            async_moved s.arena.slots _ (λ i on. ap pends_in (same t f i) ∙ on) (Within (In Phase.Done) w) s.watchers.async.yet l.async, l))))
+            (grind arith)))
         (call_counted p told s Callback.After v t.0 c)
       where
         same : (u : Id × Request) → FrontRequest s s.done.yet u → SameHandles (freed (arena_size p).last_generation u.0 s.arena).slots s.arena.slots

@@ -284,8 +284,7 @@ works_finished slots more waiting running done n id r x t e over k =
     let all : (waiting ++ run_ids running) ≡ (waiting ++ g.front) ++ id ∷ g.behind =
     ap (λ (ids : List Id). waiting ++ ids) g.were ∙ sym (append_assoc waiting g.front (id ∷ g.behind)) in
     let listed : AllAsk slots IsOpen ((waiting ++ g.front) ++ id ∷ g.behind) = subst (AllAsk slots IsOpen) all k.open_ones in
-    let opened = its_fit slots IsOpen ((waiting ++ g.front) ++ id ∷ g.behind) id r (ap request_in t.before) (has_new_middle
-    (waiting ++ g.front) g.behind id)
+    let opened = its_fit slots IsOpen ((waiting ++ g.front) ++ id ∷ g.behind) id r (ap request_in t.before) (search has_new_middle)
     listed in
     record {
       open_ones = subst (AllAsk more IsOpen) (append_assoc waiting g.front g.behind ∙ ap (λ (ids : List Id). waiting ++ ids) (sym (g.are None)))
