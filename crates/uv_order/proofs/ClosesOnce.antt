@@ -102,9 +102,6 @@ front_stays : (s : State) (q : Kind) (w : Walk Id) (t : Id × HandleRecord) → 
 front_stays s q w t every f kept =
     opened t.1 (front_fits s (Watches q) w.list w.yet t every.lists.each f).active (kept.sound t.0 t.1 f.holds)
 
-moved_known : (p : Program) (past : List Seen) (s : State) (q : WatcherKind) (id : Id) → KnownAt p past s → KnownAt p past (front_moved s q id)
-moved_known p past s q id k = grind arith
-
 moved_holds : (s : State) (q : WatcherKind) (id i : Id) → handle (front_moved s q id) i ≡ handle s i
 moved_holds s q id i = grind arith
 
@@ -113,7 +110,7 @@ watched_stays s q t f kept = front_stays s (kind_as q) (watched s q) t (kept.wat
 
 walked_known : (p : Program) (past : List Seen) (s : State) (run : Run) (q : WatcherKind) (t : Id × HandleRecord) → FrontOf s (watched s q).yet t →
     Kept s → StartedAt p past s → KnownAt p past s → Follows p past (call p (front_moved s q t.0) run t.0 t.1.name)
-walked_known p past s run q t f kept begun k = search (call_known, past, moved_holds, watched_stays, watcher_is_started, moved_known)
+walked_known p past s run q t f kept begun k = search (call_known, past, moved_holds, watched_stays, watcher_is_started)
 
 woken_known : (p : Program) (past : List Seen) (s : State) (run : Run) (t : Id × HandleRecord) → FrontOf s s.watchers.async.yet t → Kept s →
     StartedAt p past s → KnownAt p past s →
@@ -175,18 +172,13 @@ ended_known p past s run t f kept work k =
           (counted_ids s.names t.1.name _ refl)
           (known_told p past (Seen.After (digest_in t.1.outcome) t.1.name t.0) s.arena (freed last t.0 s.arena) s.names
           (assumption) (same_handles s.arena.slots _ t.0 _ _ turns refl refl) (names_turned s.arena.slots _ t.0 _ _ turns (λ u g. cc g)) gone
-          (worked_collected p past s.arena (freed last t.0 s.arena) s.waiting (run_ids s.running) (digest_in t.1.outcome) t.1.name t.0 t.1 turns
-          (freed_gone s last t.0 (Content.Request t.1) f.holds kept) gone k.worked) k),
+          (search (worked_collected, freed_gone)) k),
     )
 
 -- ---- any step
 
--- a cancel answers the id of what it cancelled, or why it is refused
-refused_says : (p : Program) (past : List Seen) (v : Var) (c : Code) → IsRefusal c → CancelSays p past v (Answer.Code c)
-refused_says p past v c no_success = grind arith
-
 cancel_says : (p : Program) (past : List Seen) (s : State) (v : Var) → KnownAt p past s → CancelSays p past v (ops.cancel s (live_request s v)).answer
-cancel_says p past s v k = cancel_both s v (λ (d : ops.Done). CancelSays p past v d.answer) (refused_says p past v)
+cancel_says p past s v k = cancel_both s v (λ (d : ops.Done). CancelSays p past v d.answer) (grind arith)
     (λ t live on. record {
       names = k.binding v t.0 live.bound;
       task = t.1.task;
@@ -201,14 +193,11 @@ make_says : (p : Program) (past : List Seen) (s : State) (o : Option (Id × Cont
     MakesNew p past (ops.make s o made).answer
 make_says p past s o made kept begun = grind (arith, make_both, past, new_id)
 
-op_says : (p : Program) (past : List Seen) (s : State) (o : Op) → Kept s → StartedAt p past s → KnownAt p past s →
-    OpSays p past (Some o) (do_op s o).answer
-op_says p past s o kept begun k = grind (arith, make_says, past, cancel_says)
-
 -- the line of an op that is done
 op_line : (p : Program) (past : List Seen) (s : State) (place : Site) (o : Op) → op_at p place ≡ Some o → Kept s → StartedAt p past s →
     KnownAt p past s → MayFollow p past (Seen.Op place (do_op s o).answer)
-op_line p past s place o e kept begun k = subst (λ (x : Option Op). OpSays p past x (do_op s o).answer) (sym e) (op_says p past s o kept begun k)
+op_line p past s place o e kept begun k = subst (λ (x : Option Op). OpSays p past x (do_op s o).answer) (sym e)
+    (grind (arith, make_says, cancel_says))
 
 taken_known : (p : Program) (past : List Seen) (s : State) (n : ℕ) (t : Id × Request) → TakesFront s n t → Working s → KnownAt p past s →
     Follows p past (step.take s n (Ok t))
@@ -244,55 +233,39 @@ finished_known p past s n t f work k =
     (λ i e. fewer_run (run_ids s.running) runs g.front g.behind t.0 i g.were (g.are None) apart e) k.worked in
     let gone : (i : Id) → IsGone s.arena.slots s.arena.free i → IsGone (with_request s t.0 x).arena.slots (with_request s t.0 x).arena.free i =
     λ i h. gone_turned s.arena.slots s.arena.free t.0 (Content.Request t.1) (Some (Content.Request x)) i f.holds h in
-    let turns = request_turns s.arena.slots t.0 t.1 x f.holds in (
-      was,
-      known_told p past (Seen.Finish n t.1.name t.0) s.arena (with_request s t.0 x).arena s.names (assumption)
-          (same_handles s.arena.slots _ t.0 _ _ turns refl refl) (names_turned s.arena.slots _ t.0 _ _ turns (λ u h. h)) gone
-          (worked_ended p (Seen.Finish n t.1.name t.0 ∷ past) s.arena (with_request s t.0 x).arena s.waiting runs t.0 t.1 x turns refl
-          (was.0, rw (itself t.0 t.0 refl) refl, refl) gone told) k,
-    )
+    let turns = request_turns s.arena.slots t.0 t.1 x f.holds in (search (known_told, same_handles, names_turned, worked_ended, itself))
 
 -- a cancel from outside
 cancel_outside : (p : Program) (past : List Seen) (s : State) (v : Var) → KnownAt p past s →
     KnownAt p (Seen.Cancel v (ops.cancel s (live_request s v)).answer ∷ past) (ops.cancel s (live_request s v)).state
 cancel_outside p past s v k = cancel_both s v (λ (d : ops.Done). KnownAt p (Seen.Cancel v d.answer ∷ past) d.state)
     (λ c no_success. assumption)
-    (λ t live on. cancel_told p past (Seen.Cancel v (Answer.Cancelled t.0)) s t
-    (assumption) (assumption) live.holds on k)
+    (λ t live on. search cancel_told)
 
 pub did_known : (p : Program) (past : List Seen) (s : State) (n : Next) → Did p s n → Kept s → Working s → StartedAt p past s → KnownAt p past s →
     Follows p past n
-did_known p past s n (Did.refused why) kept work begun k = tt
 did_known p past s n (Did.still x time clock stop idled l q) kept work begun k = still_known p past (timed s x time clock stop idled) l q k
 did_known p past s n (Did.op x at o e) kept work begun k =
     (op_line p past s at o e kept begun k, op_known p past s o kept (λ id f. new_id p past s id f kept begun) k at e)
-did_known p past s n (Did.begun run q e) kept work begun k = begin_known p past s run q k
-did_known p past s n (Did.begun_closing run e) kept work begun k = assumption
-did_known p past s n (Did.begun_done run time e) kept work begun k =
-    begins_known p past (record s { time = time; done = all_yet s.done }) run Done Phase.Done k
 did_known p past s n (Did.collected run part t f) kept work begun k = changed p past s t (records.stopped t.1) f.holds refl refl k
 did_known p past s n (Did.fired run t f) kept work begun k = fired_known p past s run t f kept begun k
 did_known p past s n (Did.called_due run t f) kept work begun k = due_known p past s run t f kept begun k
 did_known p past s n (Did.answered run time v t e is on) kept work begun k = answered_known p past s run time v t e on kept begun k
 did_known p past s n (Did.walked run q t sync f) kept work begun k = walked_known p past s run q t f kept begun k
-did_known p past s n (Did.passed run t f off) kept work begun k = k
 did_known p past s n (Did.woken run t f on) kept work begun k = woken_known p past s run t f kept begun k
 did_known p past s n (Did.closed run t f) kept work begun k = closed_known p past s run t f kept k
 did_known p past s n (Did.ended run t f) kept work begun k = ended_known p past s run t f kept work k
 did_known p past s n (Did.taken n' t f) kept work begun k = taken_known p past s n' t f work k
 did_known p past s n (Did.finished n' t f) kept work begun k = finished_known p past s n' t f work k
-did_known p past s n (Did.sent v) kept work begun k =
-    plain p past (Seen.Send v (ops.send s (live_handle s v)).code) (ops.send s (live_handle s v)).state tt (grind arith) (send_known p past s v k)
-did_known p past s n (Did.cancelled v) kept work begun k = (cancel_says p past s v k, cancel_outside p past s v k)
+did_known p past s n each kept work begun k =
+    search (still_known, op_line, op_known, new_id, begin_known, begins_known, changed, fired_known, due_known, answered_known, walked_known,
+    woken_known, closed_known, ended_known, taken_known, finished_known, plain, send_known, cancel_says, cancel_outside)
 
 -- ---- all steps
-
-fresh_worked : (p : Program) → Worked p [] (fresh p).arena (fresh p).waiting (run_ids (fresh p).running)
-fresh_worked p = grind (arith, none_run)
 
 unbound_id : (n i : ℕ) → (unwrap_or (slice_get (replicate n unbound) i) unbound).id ≡ None
 unbound_id (suc n) (suc i) = unbound_id n i
 unbound_id each e1 = assumption
 
 pub known_fresh : (p : Program) → KnownAt p [] (fresh p)
-known_fresh p = grind (arith, unbound_id, none-some, fresh_worked)
+known_fresh p = grind (arith, unbound_id, none-some, none_run)

@@ -22,11 +22,8 @@ replicate_long : (n : ℕ) → length (replicate n unbound) ≡ n
 replicate_long zero = refl
 replicate_long (suc n) = ap suc (replicate_long n)
 
-none_told : (kind : Callback) (v : Var) → times (told_of kind nothing_told) v ≡ 0
-none_told kind v = grind arith
-
 pub counted_fresh : (p : Program) → Counted p (fresh p).names nothing_told
-counted_fresh p = grind (arith, replicate_long, no_calls, none_told)
+counted_fresh p = grind (arith, replicate_long, no_calls)
 
 set_here : (names : List Named) (i : ℕ) (x : Named) → i < length names → (unwrap_or (slice_get (slice_set names i x) i) unbound).calls ≡ x.calls
 set_here (n ∷ names) (suc i) x l = set_here names i x (omega arith)
@@ -46,11 +43,6 @@ pub counted_sent : (p : Program) (names : List Named) (told : Told) (sent : List
     Counted p names (record told { sent = sent })
 counted_sent p names told sent k = grind arith
 
--- one more of a callback is none more of another
-told_more : (kind other : Callback) (v u : Var) (id : Id) (told : Told) (c : Calls) → (v.0 == u.0) ≡ true →
-    count_of other c ≡ times (told_of other told) u → count_of other (counted kind c) ≡ times (told_of other (told_call kind v id told)) u
-told_more kind other v u id told c f one = grind arith
-
 told_same : (kind other : Callback) (v u : Var) (id : Id) (told : Told) → (v.0 == u.0) ≡ false →
     times (told_of other (told_call kind v id told)) u ≡ times (told_of other told) u
 told_same kind other v u id told f = grind arith
@@ -58,15 +50,12 @@ told_same kind other v u id told f = grind arith
 -- a name is called once more
 pub counted_call : (p : Program) (names : List Named) (told : Told) (kind : Callback) (v : Var) (id : Id) (x : Named) →
     x.calls ≡ counted kind (counts_in names v) → Counted p names told → Counted p (slice_set names v.0 x) (told_call kind v id told)
-counted_call p names told kind v id x e k = grind (arith, eqb-true, eq-eqb, set_long, set_here, set_there, told_more, told_same)
+counted_call p names told kind v id x e k = grind (arith, eqb-true, eq-eqb, set_long, set_here, set_there, told_same)
 
 -- a name without lines has the same body in each call
 past : (all : List Callbacks) (i : ℕ) → length all ≤ i → unwrap_or (slice_get all i) no_callbacks ≡ no_callbacks
 past (x ∷ all) (suc i) l = past all i (omega arith)
 past each e1 l = grind arith
-
-none_in : (kind : Callback) → lines_of kind no_callbacks ≡ []
-none_in kind = grind arith
 
 empty_body : (p : Program) (kind : Callback) (v : Var) (call : ℕ) → lines_in p kind v ≡ [] → body_of p kind v call ≡ []
 empty_body p kind v call e = rw e refl
@@ -78,4 +67,4 @@ no_body p kind v call e = rw e refl
 pub next_body : (p : Program) (names : List Named) (told : Told) (kind : Callback) (v : Var) (call : ℕ) → call ≡ count_of kind (counts_in names v) +
     1 →
     Counted p names told → IsBody p (body_from p kind v call 0) (body_of p kind v (next_call told kind v))
-next_body p names told kind v call e k = grind (arith, whole_body, past, none_in, no_body, empty_body, cases_lt)
+next_body p names told kind v call e k = grind (arith, whole_body, past, no_body, empty_body, cases_lt)

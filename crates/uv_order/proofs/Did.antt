@@ -161,9 +161,6 @@ main_did p s i (Some (MainOp.Run m)) e = cond_both (step.refreshes (order_of p) 
     (λ h. still _ s.clock s.clock s.stop_flag s.idled _ (runs m)) (λ h. still _ s.time s.clock s.stop_flag s.idled _ (runs m))
 main_did p s i (Some (MainOp.Op o)) e = op _ (Site.Main i) o (ap main_op e)
 
-place_did : (p : Program) (s : State) (x : Place) → BeginsAt x s → Did p s (step.loop_step p s x)
-place_did p s x r = grind (arith, main_did, run_did)
-
 take_did : (p : Program) (s : State) (n : ℕ) (t : Result (Id × Request) Why) → next_work s (slice_get s.running n) ≡ t → Did p s (step.take s n t)
 take_did p s n t e = grind (arith, refused, taken, takes_front)
 
@@ -187,4 +184,4 @@ did p s (Cancel v) r = cond_both (nat_lt v.0 (length s.names)) _ _ (Did p s) (λ
 did p s (Send v) r = cond_both (nat_lt v.0 (length s.names)) _ _ (Did p s) (λ h. sent v) (λ h. refused Range)
 did p s (Tick ms) r = cond_both (nat_le (s.clock + ms) 4611686018427387904) _ _ (Did p s)
     (λ h. still s.place s.time (s.clock + ms) s.stop_flag s.idled _ (tick ms)) (λ h. refused Range)
-did p s each r = grind (arith, place_did, take_did, finish_did, cond_both, refused, io_did, still)
+did p s each r = grind (arith, main_did, run_did, take_did, finish_did, cond_both, refused, io_did, still)

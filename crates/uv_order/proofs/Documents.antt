@@ -65,19 +65,13 @@ did_op_off names s o d (DidOp.asked o' a each) k = off_none names s o a refl
 did_op_off names s o d (DidOp.referenced o' u flag t e (IsRef.ref v)) k = off_none names s o d.answer refl
 did_op_off names s o d each k = off_none names s o d.answer refl
 
-op_off : (names : Names) (s : State) (o : Op) → Agrees names s → SameOff (names_at s) names o (do_op s o).answer
-op_off names s o k = did_op_off names s o (do_op s o) (op_did s o) k
-
 -- ---- who is sent to
 
 abbrev SameSent : Names → Names → Op → Answer → Type 0
 SameSent a b o x = (sent : List Id) → sent_by o x a sent ≡ sent_by o x b sent
 
-refused_sends : (a b : Names) (o : Op) (c : Code) → IsRefusal c → SameSent a b o (Answer.Code c)
-refused_sends a b each c r sent = grind arith
-
 did_op_sends : (names : Names) (s : State) (o : Op) (d : ops.Done) → DidOp s o d → Agrees names s → SameSent (names_at s) names o d.answer
-did_op_sends names s o d each k = grind (arith, refused_sends, names_at, one_name)
+did_op_sends names s o d each k = grind (arith, names_at, one_name)
 
 op_sends : (names : Names) (s : State) (o : Op) → Agrees names s → SameSent (names_at s) names o (do_op s o).answer
 op_sends names s o k = did_op_sends names s o (do_op s o) (op_did s o) k
@@ -133,7 +127,7 @@ goes_same p told names l at to k h (doc.body_op {m = m} {i = i} {part = part} {w
   where
     off : taken_off (word_of part) (names_at l.before) o a ≡ taken_off (word_of part) names o a
     off = subst (λ (x : Answer). taken_off (word_of part) (names_at l.before) o x ≡ taken_off (word_of part) names o x)
-        (sym (subst (Says p l.before) d h o c)) (op_off names l.before o k (word_of part))
+        (sym (subst (Says p l.before) d h o c)) (grind (arith, did_op_off, op_did))
 goes_same p told names l at to k h (doc.sent v code a b) = doc.sent v code a b
 goes_same p told names l at to k h (doc.taken n v id a called b) = doc.taken n v id a (k.made id v called) b
 goes_same p told names l at to k h (doc.finished n v id a called b) = doc.finished n v id a (k.made id v called) b
@@ -193,8 +187,7 @@ holds_next p told past s at e k =
           pools = q;
           holds = grind arith;
         }
-    by (Moves t None) j i x f o b h q =
-        record { lasts = f.1; pools = q; holds = record { kept = j; sent = i; working = x; stands = f.0; known = o; started = b } }
+    by (Moves t None) j i x f o b h q = assumption
     by (Refuses why) j i x f o b h q = k
 
 pub holds_fresh : (p : Program) → Holds p nothing_told [] (fresh p) (Between 0)

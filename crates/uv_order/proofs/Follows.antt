@@ -16,15 +16,11 @@ use Rattle.uv_order.proofs.WatchersFollow.{begin_follows, unwoken_follows, walk_
 
 -- ---- a stage
 
--- someone is pending, so someone was sent to
-more_or : (a b x y : Bool) → (x ≡ true → y ≡ true) → (a || (b || x)) ≡ true → (a || (b || y)) ≡ true
-more_or a b x y f h = grind arith
-
 -- the poll is left where it may be
 pub left_poll : (p : Program) (told : Told) (s : State) (run : Run) (deadline : Option ℕ) → SentAt told.sent s → Working s → Counted p s.names told →
     NobodyLeft (rest s.ready s) → Follows p told (Running run.mode run.line (Polling deadline)) s (step.poll s run deadline)
 left_poll p told s run deadline sent g c e = cond_both (may_leave s deadline) _ _ (Follows p told (Running run.mode run.line (Polling deadline)) s)
-    (λ h. follows_to (doc.section (In Phase.Done) (grind (arith, more_or, pending_is))
+    (λ h. follows_to (doc.section (In Phase.Done) (grind (arith, pending_is))
         (done_next (order_of p) run.mode (doc.goes_on s)) refl (opens_done p told _ (are_ended s e.done g)) refl)
         (running (done refl refl) (assumption (sym (none_off s.done.list), e))) c)
     (λ h. tt)
@@ -70,8 +66,7 @@ stage_follows p told s run (Stage.Polled woken) at st k h g c (polled b) l =
     left_polled p told s run woken _ b g c (left_all l.timers l.idle l.prepare l.check l.async l.closing l.done)
 stage_follows p told s run Stage.Done at st k h g c (done woken b) l = done_follows p told s run _ st k h g c l woken b
 stage_follows p told s run Stage.DoneUnwoken at st k h g c (unwoken {w = w} asleep none b) l =
-    unwoken_follows p told s run w asleep none b c (left_all l.timers l.idle l.prepare l.check l.async l.closing
-    (l.done ∙ ap (λ (ids : List Id). left_of ids w.off) none))
+    unwoken_follows p told s run w asleep none b c (grind arith)
 stage_follows p told s run Stage.Closing at st k h g c (closing b) l = closing_follows p told s run _ (lives_is s g) st k c l b
 stage_follows p told s run (Stage.Timers part Collecting) at st k h g c stands l = timers_follow p told s run part at k g c stands l
 stage_follows p told s run (Stage.Timers part Firing) at st k h g c (fires heap b) l = fire_follows p told s run part _ (lives_is s g) k c l b heap
@@ -132,16 +127,12 @@ closing_takes_none s o a = grind arith
 pub done_takes_none : (s : State) (o : Op) (a : Answer) → taken_off Phase.Done (names_at s) o a ≡ []
 done_takes_none s o a = grind arith
 
--- no list is touched by an op that takes nobody off it
-untouched : (now was off : List Id) → now ≡ was → off ≡ [] → now ≡ left_of was off
-untouched now was off e h = e ∙ sym (none_off was) ∙ ap (left_of was) (sym h)
-
 op_left : (s : State) (told : Told) (o : Op) (part : Section) (w : Walk) (more : List Site) → Kept s → SentAt told.sent s →
     Leaves (rest s.ready s) (Within part w) → LeavesAfter s o part w more
 op_left s told o part w more k h l =
     let f = op_effect s o k in
     let a = (do_op s o).answer in
-    search (left_all, left_in, async_in, untouched, closing_takes_none, done_takes_none)
+    search (left_all, left_in, async_in, none_off, closing_takes_none, done_takes_none)
 
 pub nothing_there : {A : Type 0} {o : Option A} {x : A} → o ≡ None → o ≡ Some x → ⊥
 nothing_there e f = cc (e, f)
@@ -221,16 +212,13 @@ body_follows p told s run body x at (Some y) st e k h c (calls_due {part = part}
 
 -- ---- the main program, and a whole step
 
-pub run_lasts : (o : Order) (m : Mode) (s : State) → lasting (if step.refreshes o m then refreshed s else s) ≡ doc.after_run o m s
-run_lasts o m s = grind arith
-
 pub main_follows : (p : Program) (told : Told) (s : State) (i : ℕ) (x : Option MainOp) → slice_get p.main i ≡ x → Kept s → Counted p s.names told →
     NobodyLeft (rest s.ready s) →
     Follows p told (Between i) s (step.main_step (order_of p) s i x)
 main_follows p told s i None e k c l = tt
 main_follows p told s i (Some (MainOp.Run m)) e k c l = record {
   to = Running m i Begun;
-  goes = doc.run m e refl (run_lasts (order_of p) m s);
+  goes = doc.run m e refl (grind arith);
   stands = cond_both (step.refreshes (order_of p) m) (refreshed s) s (λ (t : State). Stands p told (begun_in t) (Running m i Begun))
       (λ d. begun_at s.clock) (λ d. begun_at s.time);
 } where
@@ -345,13 +333,8 @@ follows p told s at (Tick ms) k sent g called h = tick_follows p told s at ms h
 
 -- ---- all steps
 
--- a section begins only where none of its list is yet to run
-pub begins_in : (p : Program) (s : State) (body : Option Body) (x : Stage) (at : Standing) → StandsIn p body x at →
-    Leaves (rest (waiting x (from_heap p) s.ready (due_now s)) s) at → BeginsIn body x s
-begins_in p s body x at e5 l = grind arith
-
 pub begins_at : (p : Program) (s : State) (x : Place) (at : Position) → StandsAt p s x at → BeginsAt x s
-begins_at p s x at e4 = grind (arith, begins_in)
+begins_at p s x at e4 = grind (arith)
 
 -- where every script begins
 pub stands_fresh : (p : Program) → Stands p nothing_told (fresh p) (Between 0)

@@ -200,10 +200,6 @@ everyone_front slots P id h x ids e f g k =
 
 -- ---- one handle more, or one less
 
-pub fits_grown : (slots more : List (Slot Content)) (P : HandleRecord → Type 0) (id : Id) (x : HandleRecord) → Grown slots more id x → (i : Id) →
-    Fits slots P i → Fits more P i
-fits_grown slots more P id x g i k = grind arith
-
 -- it fitted before, unless it is the new one
 pub fitted_grown : (slots more : List (Slot Content)) (P : HandleRecord → Type 0) (id : Id) (x : HandleRecord) → Grown slots more id x → (i : Id) →
     Fits more P i → ((i ≡ id) × P x) ⊎ Fits slots P i
@@ -211,7 +207,7 @@ fitted_grown slots more P id x g i l = grind arith
 
 pub lists_grown : (slots more : List (Slot Content)) (P : HandleRecord → Type 0) (id : Id) (x : HandleRecord) (ids : List Id) →
     Grown slots more id x → Lists slots P ids → Lists more P ids
-lists_grown slots more P id x ids g k = grind (arith, each_mapped, fits_grown)
+lists_grown slots more P id x ids g k = grind (arith, each_mapped)
 
 pub everyone_grown : (slots more : List (Slot Content)) (P : HandleRecord → Type 0) (id : Id) (x : HandleRecord) (ids : List Id) →
     Grown slots more id x → (P x → ⊥) → Everyone slots P ids → Everyone more P ids
@@ -275,10 +271,6 @@ pub record Times (slots : List (Slot Content)) (drawn : ℕ) (ts : List (Due × 
   pub each : (key : Due) (id : Id) → Has ts key id → Fits slots (IsSet key) id × (key.start < drawn)
   pub all : (key : Due) (id : Id) → Fits slots (IsSet key) id → Has ts key id
   pub sorted : InOrder ts
-
-pub times_same : (slots more : List (Slot Content)) (drawn : ℕ) (ts : List (Due × Id)) → SameHandles more slots → Times slots drawn ts →
-    Times more drawn ts
-times_same slots more drawn ts f k = grind arith
 
 -- a handle is changed that is no active timer, before or after
 pub times_put : (slots : List (Slot Content)) (drawn : ℕ) (ts : List (Due × Id)) (id : Id) (h x : HandleRecord) → held_at slots id ≡ Some h →

@@ -75,9 +75,6 @@ pub without_absent : (ids : List Id) (x : Id) → has_id ids x ≡ false → wit
 without_absent [] x h = refl
 without_absent (id ∷ ids) x h = grind (arith, without_absent ids x)
 
-pub has_push : (ids : List Id) (x i : Id) → has_id ids i ≡ false → same_id x i ≡ false → has_id (ids ++ x ∷ []) i ≡ false
-has_push ids x i h k = grind (arith, has_both)
-
 pub has_front : (xs ys : List Id) (i : Id) → has_id (xs ++ ys) i ≡ false → has_id xs i ≡ false
 has_front xs ys i h = grind (arith, has_both)
 
@@ -105,7 +102,7 @@ distinct_without (id ∷ ids) x h = grind (arith, still_absent, distinct_without
 
 pub distinct_push : (ids : List Id) (x : Id) → AreDistinct ids → has_id ids x ≡ false → AreDistinct (ids ++ x ∷ [])
 distinct_push [] x h k = (refl, tt)
-distinct_push (id ∷ ids) x h k = grind (arith, has_push, turned, distinct_push ids x h.1)
+distinct_push (id ∷ ids) x h k = grind (arith, has_both, turned, distinct_push ids x h.1)
 
 -- ---- one in the middle
 

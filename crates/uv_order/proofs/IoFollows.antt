@@ -66,8 +66,7 @@ answers p told s m i (Stage.Walking WatcherKind.Async) None v at on h c (walking
     record {
       may = async_over s.arena.slots w s.watchers.async.yet l.async none b;
       lasts = refl;
-      stands = running (walking {q = WatcherKind.Async} (its_body p told s Callback.Handle v c)) (left_all l.timers l.idle l.prepare l.check
-          (none_behind s.arena.slots (record w { ahead = []; body = io_body p told v }) s.watchers.async.yet refl none) l.closing l.done);
+      stands = running (walking {q = WatcherKind.Async} (its_body p told s Callback.Handle v c)) (grind arith);
     }
 answers p told s m i x each v at on h c stands l = grind arith
 

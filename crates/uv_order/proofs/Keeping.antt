@@ -7,7 +7,7 @@ use Rattle.uv_records.specs.Slots as arena
 use Rattle.uv_model.specs.Ops as ops
 use Rattle.uv_order.proofs.IdLists.{same, other, without_absent, without_itself}
 use Rattle.uv_order.proofs.Contents.{slot_with, IsThere, Turns, set_turns, pushed_turns, get_set_other}
-use Rattle.uv_order.proofs.Holding.{held_at, is_held, put, slot_of, SameHandles, Grown, grown, Lists, lists_same, everyone_same, times_same, lists_put, lists_without, lists_grown, Everyone, everyone_put, everyone_without, everyone_front, everyone_grown, everyone_listed, IsSet, Times, times_put, times_without, times_with, times_grown, put_same, put_other}
+use Rattle.uv_order.proofs.Holding.{held_at, is_held, put, slot_of, SameHandles, Grown, grown, Lists, lists_same, everyone_same, lists_put, lists_without, lists_grown, Everyone, everyone_put, everyone_without, everyone_front, everyone_grown, everyone_listed, IsSet, Times, times_put, times_without, times_with, times_grown, put_same, put_other}
 use Rattle.uv_order.proofs.OpCases.{timer_kind}
 
 -- ---- what is kept
@@ -155,7 +155,7 @@ not_free slots id c (n ∷ ns) e k = grind (arith, eqb-true, filled, not_free sl
 pub agree_same : (now was : Slots Content) (s : State) → SameHandles now.slots was.slots → AreFree now.slots now.free →
     Agree was s.next_start s.timers s.ready s.watchers s.closing →
     Agree now s.next_start s.timers s.ready s.watchers s.closing
-agree_same now was s f free k = kept_all (λ id h e. k.sound id h (sym (f id) ∙ e)) free (times_same was.slots now.slots _ _ f k.timers)
+agree_same now was s f free k = kept_all (λ id h e. k.sound id h (sym (f id) ∙ e)) free (grind arith)
     (lists_same was.slots now.slots Rests _ f k.ready) (λ q. everyone_same was.slots now.slots (Watches (kind_as q)) _ f (k.watchers q))
     (everyone_same was.slots now.slots Closes _ f k.closing)
 
@@ -309,10 +309,6 @@ watcher_started_kept s q id h e t off stays k =
     (λ r. started_lists s q r id x (in_front s id h x (kind_as q) (members (watched s q)) e off t refl (k.watchers q))
     (λ apart. others s.arena.slots (kind_as q) (kind_as r) id h x (members (watched s r)) e t t apart (k.watchers r))) still.2
 
--- a handle of I/O is no watcher
-no_watcher : (q : WatcherKind) → Apart Kind.Io (kind_as q)
-no_watcher q = grind arith
-
 -- one is started, which is on no list
 pub io_started_kept : (s : State) (id : Id) (h : HandleRecord) → handle s id ≡ Some h → h.kind ≡ Kind.Io → h.closing ≡ false → Kept s →
     Kept (with_handle s id (activated h))
@@ -321,7 +317,7 @@ io_started_kept s id h e t stays k =
     let still = activated_sound s id h e stays k in
     let untimed : Apart Kind.Io Kind.Timer = λ f. cc f in
     kept_all still.0 still.1 (others_times s id h x Kind.Io e t t untimed k) (others_ready s id h x Kind.Io e t untimed k)
-    (λ q. others s.arena.slots Kind.Io (kind_as q) id h x (members (watched s q)) e t t (no_watcher q) (k.watchers q)) still.2
+    (λ q. others s.arena.slots Kind.Io (kind_as q) id h x (members (watched s q)) e t t (grind arith) (k.watchers q)) still.2
 
 -- ---- a new handle
 
@@ -361,10 +357,6 @@ takes s free id x e k n =
 pub sound_grown : (slots more : List (Slot Content)) (id : Id) (x : HandleRecord) → Grown slots more id x → IsSound x → AllSound slots → AllSound more
 sound_grown slots more id x g f k i y l = grind arith
 
--- an inactive handle, which is none of the lists'
-pub new_unset : (v : Var) (q : Kind) (key : Due) → IsSet key (inited v q) → ⊥
-new_unset v q key a = cc
-
 pub new_unwatched : (v : Var) (q r : Kind) → Apart Kind.Async r → Watches r (inited v q) → ⊥
 new_unwatched v q r d w = grind arith
 
@@ -375,7 +367,7 @@ new_by s v q id w t async k =
     record {
       sound = sound_grown s.arena.slots more id x t.0 (grind arith) k.sound;
       free = t.1;
-      timers = times_grown s.arena.slots more s.next_start s.timers id x t.0 (new_unset v q) k.timers;
+      timers = times_grown s.arena.slots more s.next_start s.timers id x t.0 (grind arith) k.timers;
       ready = lists_grown s.arena.slots more Rests id x s.ready t.0 k.ready;
       watchers = listed;
       closing = everyone_grown s.arena.slots more Closes id x (members s.closing) t.0 (λ shut. open_shut x shut refl) k.closing;

@@ -2,7 +2,7 @@
 use Rattle.uv_order.proofs.Names.{arith, ◌≡◌, inl, ℕ, ◌+◌, ◌==◌, List, [], ◌∷◌, ◌++◌, true, false, Some, None, drop, refl, ap, sym, subst, ◌∙◌, append_assoc, append-nil, cond_both, false_from_ne_true, Id, Var, Due, HandleRecord, Slot, WatcherKind, referenced_as, repeating, Slots, held, freed, taken, next_free, Walk, all_yet, moved_on, Op, Task, Program, arena_size, Content, Request, queued, Run, State, fresh, handle, with_handle, with_request, with_id, live, front, watched, with_watched, stopped, started, restarted, do_op, Next, Moves, Refuses, collected, front_moved, begin_walk, has_id, kind_as, Kind}
 use Rattle.uv_records.specs.Handles as records
 use Rattle.uv_model.specs.Ops as ops
-use Rattle.uv_order.proofs.Lemmas.{Each, each_push, distinct_push, member, has_new_middle, holds, emptied, get_set_same, is_held, put, same_handles, Fits, its_handle, Lists, lists_emptied, not_listed, Everyone, everyone_put, everyone_emptied, everyone_rest, fitted_emptied, IsSet, Times, times_rest, times_emptied, put_same, DidOp, op_did, as_watcher, live_held, refuses_none, refuses_timer, refuses_start, refuses_start_watcher, refuses_stop, refuses_again, refuses_close, start_passes, again_passes, start_watcher_passes, close_passes, stop_passes, on_handle_both, send_both, cancel_both, make_both, request_turns, freed_turns, FrontRequest, Did, FrontOf, FirstOf, kept_all, fills, agree_same, free_held, Rests, Watches, Closes, IsSound, AreFree, members, Agree, Kept, on_off, open_shut, others, off_list, sound_put, free_put, free_set, not_free, put_kept, stopped_kept, closed_kept, started_kept, started_again_kept, restarted_again_kept, watcher_started_kept, io_started_kept, new_kept, not_timer}
+use Rattle.uv_order.proofs.Lemmas.{Each, each_push, distinct_push, member, has_new_middle, holds, emptied, get_set_same, is_held, put, same_handles, Fits, its_handle, Lists, lists_emptied, not_listed, Everyone, everyone_put, everyone_emptied, everyone_rest, fitted_emptied, IsSet, Times, times_rest, times_emptied, put_same, DidOp, op_did, live_held, refuses_none, refuses_timer, refuses_start, refuses_stop, refuses_again, refuses_close, start_passes, again_passes, start_watcher_passes, close_passes, stop_passes, on_handle_both, send_both, cancel_both, make_both, request_turns, freed_turns, FrontRequest, Did, FrontOf, FirstOf, kept_all, fills, agree_same, free_held, Rests, Watches, Closes, IsSound, AreFree, members, Agree, Kept, on_off, open_shut, others, off_list, sound_put, free_put, free_set, not_free, put_kept, stopped_kept, closed_kept, started_kept, started_again_kept, restarted_again_kept, watcher_started_kept, io_started_kept, new_kept, not_timer}
 
 -- ---- the ops
 
@@ -126,18 +126,9 @@ begin_kept s run q e k = with_watched_kept s q (all_yet (watched s q))
 pub begin_closing_kept : (s : State) → s.closing.yet ≡ [] → Kept s → Kept (record s { closing = all_yet s.closing })
 begin_closing_kept s e k = kept_all k.sound k.free k.timers k.ready k.watchers (yet_listed s.arena.slots Closes s.closing e k.closing)
 
--- the front of those yet to run goes to the end of the list
-pub moved_listed : (s : State) (P : HandleRecord → Type 0) (w : Walk Id) (t : Id × HandleRecord) → FrontOf s w.yet t →
-    Everyone s.arena.slots P (members
-    w) →
-    Everyone s.arena.slots P (members (moved_on w t.0 (drop 1 w.yet)))
-moved_listed s P w t f l =
-    let moved : members w ≡ (w.list ++ t.0 ∷ []) ++ f.rest = ap (λ (ids : List Id). w.list ++ ids) f.are ∙ sym (search append_assoc) in
-    subst (Everyone s.arena.slots P) (moved ∙ ap (λ (ids : List Id). (w.list ++ t.0 ∷ []) ++ ids) (sym f.behind)) l
-
 pub front_moved_kept : (s : State) (q : WatcherKind) (t : Id × HandleRecord) → FrontOf s (watched s q).yet t → Kept s → Kept (front_moved s q t.0)
 front_moved_kept s q t f k = with_watched_kept s q (moved_on (watched s q) t.0 (drop 1 (watched s q).yet))
-    (moved_listed s (Watches (kind_as q)) (watched s q) t f (k.watchers q)) k
+    (grind (arith, append_assoc)) k
 
 pub woken_kept : (s : State) (t : Id × HandleRecord) → FrontOf s s.watchers.async.yet t → Kept s →
     Kept (with_handle (front_moved s WatcherKind.Async t.0) t.0 (records.woken t.1))
@@ -157,11 +148,7 @@ gone_kept s t rest n free e are f k =
     l.lists.each t.0 (has_new_middle s.closing.list rest t.0)) in
     let off : t.1.active ≡ false = (k.sound t.0 t.1 e).shut shut in
     record {
-      sound = λ i y h. k.sound i y ((fitted_emptied s.arena.slots (λ x. x ≡ y) t.0 t.1 n e i (record {
-        handle = y;
-        holds = h;
-        fits = refl;
-      })).1.holds ∙ ap Some (grind arith));
+      sound = λ i y h. k.sound i y ((fitted_emptied s.arena.slots (λ x. x ≡ y) t.0 t.1 n e i (search holds)).1.holds ∙ ap Some (grind arith));
       free = f;
       timers = times_emptied s.arena.slots s.next_start s.timers t.0 t.1 n e (λ key a. on_off t.1 a.active off) k.timers;
       ready = lists_emptied s.arena.slots Rests t.0 t.1 n s.ready e (λ r. open_shut t.1 shut r.stays) k.ready;

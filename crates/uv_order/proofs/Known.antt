@@ -129,8 +129,7 @@ known_close p past place v arena names id h x e is holds shut called k = record 
   made = λ i u f. rw said (k.made i u (put_names arena.slots id h x holds called i u f));
   under = λ u i f. rw said (k.under u i f);
   closing = λ i f. rw closed_now (closing i f (same_id i id) refl);
-  closed = λ i c. closed i (or_cases (is_some_id i (bound p past v)) (was_closed p past i) (sym (ap
-      (λ (o : Option Var). is_bound p past i o || was_closed p past i) closed_now) ∙ c));
+  closed = λ i c. closed i (or_cases (is_some_id i (bound p past v)) (was_closed p past i) (cc));
   over = λ i c. gone_put arena.slots arena.free id h x i holds (k.over i c);
   worked = search (worked_idle, past, idle_op, worked_same, same_put, holds, gone_put);
 } where

@@ -49,9 +49,6 @@ found (x ∷ xs) e = at (is_asked x.content) refl (found xs) e where
       let r = more h in
       record { id = record { slot = suc r.id.slot; generation = r.id.generation }; request = r.request; holds = r.holds }
 
-asked_slot : (x : Slot Content) (id : Id) (r : Request) → request_in (held_in id x) ≡ Some r → is_asked x.content ≡ true
-asked_slot x id r e = grind arith
-
 is_any : (slots : List (Slot Content)) (n g : ℕ) (r : Request) → asked_at slots (record { slot = n; generation = g }) ≡ Some r →
     any_asked slots ≡ true
 is_any (x ∷ xs) (suc n) g r e = rw (is_any xs n g r e) (or-true (is_asked x.content))

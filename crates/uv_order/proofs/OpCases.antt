@@ -12,14 +12,7 @@ timer_kind each e = grind arith
 pub io_kind : (k : Kind) → is_io k ≡ true → k ≡ Kind.Io
 io_kind each e = grind arith
 
-pub as_watcher : (q : Kind) (k : WatcherKind) → watcher_kind q ≡ Some k → q ≡ kind_as k
-as_watcher each k e = grind (arith, same_Some)
-
 -- ---- live names
-
--- what is found under an id
-pub with_id_is : {X : Type 0} (id : Id) (o : Option X) (t : Id × X) → with_id id o ≡ Some t → (id ≡ t.0) × (o ≡ Some t.1)
-with_id_is id o t e = grind arith
 
 -- what the names of a state are bound to, and what is held is called
 abbrev pub names_at : State → Names
@@ -32,9 +25,6 @@ pub record IsLive (s : State) (v : Var) (id : Id) (c : Content) : Type 0 where
 
 pub live_as_handle : (s : State) (v : Var) (t : Id × HandleRecord) → live_handle s v ≡ Ok t → IsLive s v t.0 (Content.Handle t.1)
 live_as_handle s v t e = grind arith
-
-pub live_as_request : (s : State) (v : Var) (t : Id × Request) → live_request s v ≡ Ok t → IsLive s v t.0 (Content.Request t.1)
-live_as_request s v t e = grind arith
 
 -- a live name's handle is held
 pub live_held : (s : State) (v : Var) (t : Id × HandleRecord) → live_handle s v ≡ Ok t → handle s t.0 ≡ Some t.1
@@ -72,9 +62,6 @@ refuses_timer h c e = only_refuses (is_timer h.kind) None c (no_code c) e
 pub refuses_start : Refuses start_timer_refusal
 refuses_start h c e = only_refuses (is_timer h.kind) (invalid_if h.closing) c (invalid_refuses h.closing c) e
 
-pub refuses_start_watcher : Refuses start_watcher_refusal
-refuses_start_watcher h c e = only_refuses (is_startable h.kind) (invalid_if h.closing) c (invalid_refuses h.closing c) e
-
 pub refuses_stop : Refuses stop_refusal
 refuses_stop h c e = only_refuses (not (is_async h.kind)) None c (no_code c) e
 
@@ -83,9 +70,6 @@ refuses_again h c e = only_refuses (is_timer h.kind) (invalid_if (h.closing || n
 
 pub refuses_close : Refuses close_refusal
 refuses_close h c e = invalid_refuses h.closing c e
-
-pub refuses_send : Refuses send_refusal
-refuses_send h c e = only_refuses (is_async h.kind) (invalid_if h.closing) c (invalid_refuses h.closing c) e
 
 -- what is not refused
 only_passes : (b : Bool) (why : Option Code) → only_if b why ≡ None → (b ≡ true) × (why ≡ None)
@@ -116,10 +100,6 @@ stop_passes h e q = grind arith
 
 pub send_passes : (h : HandleRecord) → send_refusal h ≡ None → (h.kind ≡ Kind.Async) × (h.closing ≡ false)
 send_passes h e = grind arith
-
--- what isn't a live handle or request refuses
-no_handle : (o : Option (Id × Content)) (c : Code) → as_handle o ≡ Err c → IsRefusal c
-no_handle o c e ok = grind arith
 
 pub no_request : (o : Option (Id × Content)) (c : Code) → as_request o ≡ Err c → IsRefusal c
 no_request o c e ok = grind arith
@@ -212,7 +192,7 @@ watcher_did : (s : State) (v : Var) (t : Id × HandleRecord) → live_handle s v
 watcher_did s v t e may =
     let by : State → Type 0 = λ u. DidOp s (Op.StartWatcher v) (ops.succeeds u) in
     cond_both t.1.active s _ by (λ on. watches v t e on)
-    (λ off. found_both (watcher_kind t.1.kind) _ _ by (λ q is. watching v q t e (as_watcher t.1.kind q is) off may.1)
+    (λ off. found_both (watcher_kind t.1.kind) _ _ by (λ q is. watching v q t e (grind arith) off may.1)
     (λ none. io_started v t e (is_of_io t.1.kind may.0 none) off may.1))
 
 -- an op on a handle
@@ -227,7 +207,7 @@ op_did s (Op.Queue v task) =
 op_did s (Op.Cancel v) = cancel_both s v (DidOp s (Op.Cancel v)) (λ c r. refused _ c r tt) (λ t live on. cancelled v t live on)
 op_did s (Op.Start v timeout repeat) = held_did s (Op.Start v timeout repeat) v start_timer_refusal _ tt refuses_start
     (λ t e is. let p = start_passes t.1 is in started v timeout repeat t e p.0 p.1)
-op_did s (Op.StartWatcher v) = grind (arith, held_did, refuses_start_watcher, watcher_did, start_watcher_passes)
+op_did s (Op.StartWatcher v) = grind (arith, held_did, watcher_did, start_watcher_passes)
 op_did s (Op.Stop v) = held_did s (Op.Stop v) v stop_refusal _ tt refuses_stop (λ t e is. stopped v t e (stop_passes t.1 is))
 op_did s (Op.Again v) = held_did s (Op.Again v) v again_refusal _ tt refuses_again
     (λ t e is. let p = again_passes t.1 is in again v t e p.0 p.1)

@@ -4,7 +4,7 @@ use Rattle.uv_model.specs.Ops as ops
 use Rattle.uv_order.proofs.IdLists.{left_of, none_off, one_off, without_absent, has_back}
 use Rattle.uv_order.proofs.Holding.{Everyone, not_listed}
 use Rattle.uv_order.proofs.Keeping.{Kept, Watches, members}
-use Rattle.uv_order.proofs.OpCases.{DidOp, IsAsked, MayRefuse, op_did, names_at, live_held, live_bound, IsRefusal, refuses_none, refuses_timer, refuses_start, refuses_start_watcher, refuses_stop, refuses_again, refuses_close, start_passes, again_passes, on_handle_both, send_both, cancel_both, make_both, IsRef}
+use Rattle.uv_order.proofs.OpCases.{DidOp, IsAsked, MayRefuse, op_did, names_at, live_held, live_bound, IsRefusal, refuses_none, refuses_timer, refuses_start, refuses_stop, refuses_again, refuses_close, start_passes, again_passes, on_handle_both, send_both, cancel_both, make_both, IsRef}
 
 -- ---- counts of calls
 
@@ -87,16 +87,13 @@ not_yet s q w id h e d l =
     let away : has_id w.yet id ≡ false = has_back w.list w.yet id (not_listed s.arena.slots (Watches q) id h (members w) e (λ x. d x.kind) l.lists) in
     without_absent w.yet id away ∙ sym (none_off w.yet)
 
-left_one : (ids : List Id) (id : Id) → without_id ids id ≡ left_of ids (id ∷ [])
-left_one ids id = sym (one_off ids [] id ∙ ap (λ (is : List Id). without_id is id) (none_off ids))
-
 -- the id of a live name
 pub one_taken : (s : State) (v : Var) (t : Id × HandleRecord) → live_handle s v ≡ Ok t → ids_of (names_at s) (Some v) ≡ t.0 ∷ []
 one_taken s v t e = rw (live_bound s v t e) refl
 
 taken_one : (s : State) (v : Var) (t : Id × HandleRecord) (ids : List Id) → live_handle s v ≡ Ok t →
     without_id ids t.0 ≡ left_of ids (ids_of (names_at s) (Some v))
-taken_one s v t ids e = rw (one_taken s v t e) (left_one ids t.0)
+taken_one s v t ids e = rw (one_taken s v t e) (grind arith)
 
 stop_effect : (s : State) (v : Var) (t : Id × HandleRecord) → live_handle s v ≡ Ok t → (t.1.kind ≡ Kind.Async → ⊥) → Kept s →
     Effect s (Op.Stop v) (ops.stop s t.0 t.1)
@@ -190,11 +187,8 @@ asked_effect : (s : State) (o : Op) (a : Answer) → IsAsked o → Effect s o (o
 asked_effect s o a (IsAsked.due_in v) = simple s (Op.DueIn v) _ refl refl refl (same_lists s)
 asked_effect s o a each = simple s o _ refl refl refl (same_lists s)
 
-lasts_refused : (s : State) (o : Op) → MayRefuse o → after_op o s ≡ lasting s
-lasts_refused s o may = grind arith
-
 did_op_effect : (s : State) (o : Op) (d : ops.Done) → DidOp s o d → Kept s → Effect s o d
-did_op_effect s o d (DidOp.refused o' c r may) k = refused_effect s o' (lasts_refused s o' may) c r
+did_op_effect s o d (DidOp.refused o' c r may) k = refused_effect s o' (grind arith) c r
 did_op_effect s o d (DidOp.asked o' a is) k = asked_effect s o' a is
 did_op_effect s o d (DidOp.made v q id e) k = new_effect s v q id
 did_op_effect s o d (DidOp.queued v task id e) k = still s (Op.Queue v task) _ refl refl (bound_calls s.names v.0 _ refl) (assumption)

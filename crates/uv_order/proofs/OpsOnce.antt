@@ -2,7 +2,7 @@
 use Rattle.uv_order.proofs.Names.{◌≡◌, ◌⊎◌, ℕ, ◌==◌, List, [], ◌∷◌, ◌++◌, Bool, true, false, Option, Some, None, Ok, option_map, slice_set, if◌then◌else◌, refl, ap, sym, ◌∙◌, arith, list_any, cond_both, or_left, same_Some, Id, Var, Code, Answer, Kind, Seen, Site, Op, Task, Program, op_at, HandleRecord, WatcherKind, Slot, inited, referenced_as, repeating, Slots, held, taken, taken_from, next_free, next_id, Content, Request, queued, request_in, Cancelled, same_id, without_id, has_id, run_ids, State, named, handle, live, live_handle, with_request, stopped, restarted, do_op, makes, made_as, has_take_line, has_cancel_line, queued_task}
 use Rattle.uv_records.specs.Handles as records
 use Rattle.uv_model.specs.Ops as ops
-use Rattle.uv_order.proofs.Lemmas.{has_both, has_but_one, on_list, same, itself, turned, still_absent, Turns, name_in, name_at, names_turned, same_handles, put, put_same, DidOp, IsAsked, IsLive, op_did, live_as_handle, live_held, live_bound, IsRefusal, refuses_none, refuses_timer, refuses_start, refuses_start_watcher, refuses_stop, refuses_again, refuses_close, on_handle_both, send_both, cancel_both, make_both, IsRef, request_turns, same_requests, AreFree, Kept, fills, taken_handle, IsGone, not_held, gone_push, gone_fill, gone_turned}
+use Rattle.uv_order.proofs.Lemmas.{has_both, has_but_one, on_list, same, itself, turned, still_absent, Turns, name_in, name_at, names_turned, same_handles, put, put_same, DidOp, IsAsked, IsLive, op_did, live_as_handle, live_held, live_bound, IsRefusal, refuses_none, refuses_timer, refuses_start, refuses_stop, refuses_again, refuses_close, on_handle_both, send_both, cancel_both, make_both, IsRef, request_turns, same_requests, AreFree, Kept, fills, taken_handle, IsGone, not_held, gone_push, gone_fill, gone_turned}
 use Rattle.uv_order.proofs.Worked.{Worked, Tells, worked_told, worked_idle, worked_ended, worked_fewer, worked_queued}
 use Rattle.uv_order.proofs.Known.{Known, IsQuiet, is_answered, known_told, known_put, known_quiet, IsQuietOp, IsIdleOp, quiet_op, idle_op, known_close, known_bound, known_grown}
 
@@ -98,8 +98,7 @@ new_known p past s v q id e kept unmade k place at = by q known where
   by : (x : Kind) → Known p (Seen.Op place (Answer.Id id) ∷ past) (taken id (Content.Handle (inited v x)) s.arena)
       (slice_set s.names v.0 (record (named s v) { id = Some id })) s.waiting (run_ids s.running) →
       KnownAt p (Seen.Op place (Answer.Id id) ∷ past) (ops.with_new s v x id)
-  by Kind.Timer w = w
-  by each w = w
+  by x w = grind arith
 
 listed : (ids : List Id) (i j : Id) → has_id (ids ++ i ∷ []) j ≡ true → (i ≡ j) ⊎ (has_id ids j ≡ true)
 listed ids i j h = grind (arith, has_both, same)
@@ -171,13 +170,8 @@ refused_harmless o c r = grind arith
 cancel_op_known : (p : Program) (past : List Seen) (s : State) (v : Var) (t : Id × Request) → IsLive s v t.0 (Content.Request t.1) →
     list_any (same_id t.0) s.waiting ≡ true → KnownAt p past s →
     KnownBy p past (Op.Cancel v) (record { state = ops.cancelled s t.0 t.1; answer = Answer.Cancelled t.0 })
-cancel_op_known p past s v t live on k place at = cancel_told p past (Seen.Op place (Answer.Cancelled t.0)) s t (record {
-  queued = λ i. rw (is_answered p place (Op.Cancel v) (Answer.Cancelled t.0) at) refl;
-  taken = λ i. refl;
-  finished = λ i. refl;
-  over = λ i. refl;
-  cancelled = λ i. rw (is_answered p place (Op.Cancel v) (Answer.Cancelled t.0) at) refl;
-}) (quiet_op p place (Op.Cancel v) (Answer.Cancelled t.0) at (assumption)) live.holds on k
+cancel_op_known p past s v t live on k place at = cancel_told p past (Seen.Op place (Answer.Cancelled t.0)) s t
+    (grind arith) (quiet_op p place (Op.Cancel v) (Answer.Cancelled t.0) at (assumption)) live.holds on k
 
 did_op_known : (p : Program) (past : List Seen) (s : State) (o : Op) (d : ops.Done) → DidOp s o d → Kept s →
     IsUnmade p past s → KnownAt p past s → KnownBy p past o d

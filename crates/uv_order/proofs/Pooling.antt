@@ -164,13 +164,10 @@ cancel_pools : (s : State) (v : Var) → Working s → PoolsBy s (Op.Cancel v) (
 cancel_pools s v k = cancel_both s v (PoolsBy s (Op.Cancel v)) (λ c no_success. refused_op s (Op.Cancel v) c refl)
     (λ t live on. cancelled_pool s t live.holds on k)
 
-op_pools : (s : State) (o : Op) → Kept s → Working s → PoolsBy s o (do_op s o)
-op_pools s each kept k = grind (arith, make_both, refused_op, queued_pool, cancel_pools, quiet_op)
-
 -- the line of an op
 op_line : (p : Program) (s : State) (place : Site) (o : Op) → op_at p place ≡ Some o → Kept s → Working s →
     after_events (Some (pool_of s)) (line_events p (Seen.Op place (do_op s o).answer)) ≡ Some (pool_of (do_op s o).state)
-op_line p s place o e kept k = grind (arith, op_pools)
+op_line p s place o e kept k = grind (arith, make_both, refused_op, queued_pool, cancel_pools, quiet_op)
 
 -- ---- the steps
 
@@ -200,10 +197,6 @@ did_quiet p s n (Did.closed run t f) h = refl
 did_quiet p s n (Did.sent v) h = refl
 did_quiet p s n each h = absurd h
 
--- the section of those that are done begins
-begun_pool : (s : State) → s.done.yet ≡ [] → pool_of (record s { done = all_yet s.done }) ≡ pool_of s
-begun_pool s e = grind (arith, equal_pools, append-nil)
-
 outside_pools : (p : Program) (s : State) (v : Var) → Working s →
     after_events (Some (pool_of s)) (outside_events (ops.cancel s (live_request s v)).answer) ≡ Some (pool_of (ops.cancel s (live_request s v)).state)
 outside_pools p s v k = cancel_both s v (λ (d : ops.Done). after_events (Some (pool_of s)) (outside_events d.answer) ≡ Some (pool_of d.state))
@@ -214,7 +207,7 @@ taken_pools p s n t f = grind arith
 
 pub did_pools : (p : Program) (s : State) (n : Next) → Did p s n → Kept s → Working s → Pools p s n
 did_pools p s n (Did.op x at o e) kept k = op_line p s at o e kept k
-did_pools p s n (Did.begun_done run time e) kept k = ap Some (sym (begun_pool s e))
+did_pools p s n (Did.begun_done run time e) kept k = ap Some (sym (grind (arith, equal_pools, append-nil)))
 did_pools p s n (Did.ended run t f) kept k = collected_pool s (arena_size p).last_generation t f k
 did_pools p s n (Did.taken n' t f) kept k = taken_pools p s n' t f
 did_pools p s n (Did.finished n' t f) kept k = finished_pool s n' t f k

@@ -93,9 +93,6 @@ record Answered (part : Section) (w : Walk) (to : Standing) : Type 0 where
 answered : (s : State) (told : Told) (body : List Site) (part : Section) (w : Walk) → Answered part w (doc.answering s told body (Within part w))
 answered s told body part w = grind arith
 
-answers_in : (part : Section) (w : Walk) → MayAnswer (Within part w) → holds_io (word_of part) ≡ true
-answers_in part w a = grind arith
-
 -- who is called in a section wasn't taken off
 call_tells : (p : Program) (told : Told) (names : Names) (part : Section) (w walk : Walk) (s : State) (kind : Callback) (v : Var) (id : Id)
     (behind : List Id) (what : Seen) → CallsNext (word_of part) told w id behind → IsCallLine s kind v id what → Tells p told names part w walk what
@@ -120,10 +117,7 @@ stays p told names m i part w l to e g = at to e g where
       so walk (λ x on. on) l.seen refl (call_tells p told names part w walk l.before kind v id behind l.seen b d)
   at to e (doc.fires v id due others a b c d f g h i) =
       so (record w { body = body Callback.Handle v }) (λ x on. on) (Seen.Call v id) h ((λ heap. cc (a, heap)), rw b refl)
-  at to e (doc.answers v id a b c d f g) =
-      let s = answered l.before told (body Callback.Handle v) part w in
-      subst (λ (y : Standing). Stays p told names m i part w (Running m i y) l.seen) (sym s.is)
-      (so s.walk (λ x on. ap (λ (ids : List Id). has_id ids x) s.off ∙ on) (Seen.Io v id) f (answers_in part w b))
+  at to e (doc.answers v id a b c d f g) = grind arith
   at to e (doc.body_op place rest o a b c d f) = grind (arith, still_off, also_off, same_Some)
   at to e (doc.sent v code a b) = so w (λ x on. on) _ a tt
   at to e (doc.taken n v id a b c) = so w (λ x on. on) _ a tt
@@ -183,14 +177,10 @@ absent_op : (names : Names) (o : Option Op) (a : Answer) (sent : List Id) (id : 
     has_id (doc.sent_after o a names sent) id ≡ false
 absent_op names o a sent id e h = grind (arith, still_absent, absent_ids)
 
-absent_line : (p : Program) (told : Told) (names : Names) (l : Seen) (id : Id) → is_send p l ≡ false → has_id told.sent id ≡ false →
-    has_id (told_by p told names l).sent id ≡ false
-absent_line p told names each id e h = grind (arith, absent_op, still_absent)
-
 absent_on : (p : Program) (xs : List Line) (told : Told) (past : List Seen) (id : Id) → AllSilent p xs → has_id told.sent id ≡ false →
     has_id (told_after p told past xs).sent id ≡ false
 absent_on p [] told past id a h = h
-absent_on p (x ∷ xs) told past id a h = absent_on p xs _ _ id a.1 (absent_line p told (names_by p past) x.seen id a.0 h)
+absent_on p (x ∷ xs) told past id a h = absent_on p xs _ _ id a.1 (grind (arith, absent_op, still_absent))
 
 -- a call takes in what was sent
 absent_called : (p : Program) (told : Told) (names : Names) (l : Seen) (v : Var) (id : Id) → l ≡ Seen.Call v id →
@@ -203,21 +193,14 @@ no_wait : (a b c d : Bool) (n : Option ℕ) → d ≡ true →
     (if a then Some 0 else (if not b then Some 0 else (if c then Some 0 else (if d then Some 0 else n)))) ≡ Some 0
 no_wait a b c d n e = grind arith
 
-closing_zero : (s : State) (timers : List (Due × Id)) (m : Mode) → closes_some s ≡ true → may_wait s timers m ≡ Some 0
-closing_zero s timers m e = grind (arith, no_wait)
-
 -- behind which a poll waits for nothing
 zero_waits : (p : Program) (told : Told) (names : Names) (l : Line) (at to : Position) (timeout : Option ℕ) → closes_some l.before ≡ true →
     l.seen ≡ Seen.Poll timeout → Goes p told names at l to → timeout ≡ Some 0
-zero_waits p told names l at to timeout shut e g = grind (arith, closing_zero)
+zero_waits p told names l at to timeout shut e g = grind (arith, no_wait)
 
 zero_on : (p : Program) (at : Position) (told : Told) (past : List Seen) (was : Lasting) (l : Line) (ls : List Line) (timeout : Option ℕ) →
     closes_some l.before ≡ true → l.seen ≡ Seen.Poll timeout → GoesOn p at told past was (l ∷ ls) → timeout ≡ Some 0
 zero_on p at told past was l ls timeout shut e (line {to = to} f g h) = zero_waits p told (names_by p past) l at to timeout shut e g
-
-off_started : (names : Names) (v : Var) (id : Id) (timeout repeat : ℕ) (word : Phase) → word ≡ Phase.Timers → names.bound v ≡ Some id →
-    has_id (taken_off word names (Op.Start v timeout repeat) (Answer.Code Success)) id ≡ true
-off_started names v id timeout repeat word e f = grind (arith, itself)
 
 -- a callback of I/O stands in such a section
 io_on : (p : Program) (m : Mode) (i : ℕ) (part : Section) (w : Walk) (told : Told) (past : List Seen) (was : Lasting) (l : Line) (v : Var)
@@ -239,7 +222,7 @@ refused p before more = record {
       let two = op_on p b.mode b.number b.part one.walk _ _ one.was l place (Op.Start v timeout repeat) _ (mid ++ y ∷ more) el o one.rest in
       let three = within_on p b.mode b.number b.part mid (y ∷ more) two.walk _ _ two.was ms two.rest in
       both_ways (has_id three.walk.off id) ((call_on p b.mode b.number b.part three.walk _ _ three.was y x id more ek three.rest).0 heap)
-      (grind (arith, off_started, past_both));
+      (grind (arith, past_both));
   second_call = λ a s b mid front v x id ea ms es fs fq eb h.
       let now : Told = told_after p nothing_told [] before in
       let past : List Seen = past_after [] before in

@@ -2,7 +2,7 @@
 use Rattle.uv_order.proofs.Names.{arith, ◌≡◌, ℕ, ◌==◌, List, [], ◌∷◌, ◌++◌, Bool, true, false, drop, Option, Some, None, Ok, refl, ap, sym, subst, ◌∙◌, cond_both, both_ways, or_right, false_from_ne_true, Id, Var, Code, Answer, Kind, Op, Task, Program, arena_size, HandleRecord, Slot, inited, referenced_as, repeating, close_refusal, held, freed, taken, next_free, Walk, Content, Request, queued, same_id, without_id, State, fresh, handle, with_request, live, live_handle, stopped, started, restarted, do_op, Next, Moves, Refuses, has_id, Told, told_by, sent_by, sent_after, ids_of, without_ids, taken_off, AllOff, AllOffOrUnsent, handle_in, kind_as, watched, Phase, WatcherKind}
 use Rattle.uv_records.specs.Handles as records
 use Rattle.uv_model.specs.Ops as ops
-use Rattle.uv_order.proofs.Lemmas.{has_both, Each, each_back, same, other, itself, turned, left_of, without_itself, has_without, without_absent, still_there, Turns, emptied, grown_at, SameHandles, same_handles, held_at, put, put_same, put_other, emptied_same, emptied_other, Fits, its_handle, Grown, Everyone, DidOp, IsAsked, IsRef, op_did, names_at, live_held, IsRefusal, refuses_none, refuses_timer, refuses_start, refuses_start_watcher, refuses_stop, refuses_again, refuses_close, send_passes, on_handle_both, send_both, cancel_both, make_both, FrontRequest, request_turns, freed_turns, one_taken, Watches, Rests, Kept, members, fills, taken_handle, open_shut, Did, FrontOf, FirstOf, IsStill, timed}
+use Rattle.uv_order.proofs.Lemmas.{has_both, Each, each_back, same, other, itself, turned, left_of, without_itself, has_without, without_absent, still_there, Turns, emptied, grown_at, SameHandles, same_handles, held_at, put, put_same, put_other, emptied_same, emptied_other, Fits, its_handle, Grown, Everyone, DidOp, IsAsked, IsRef, op_did, names_at, live_held, IsRefusal, refuses_none, refuses_timer, refuses_start, refuses_stop, refuses_again, refuses_close, send_passes, on_handle_both, send_both, cancel_both, make_both, FrontRequest, request_turns, freed_turns, one_taken, Watches, Rests, Kept, members, fills, taken_handle, open_shut, Did, FrontOf, FirstOf, IsStill, timed}
 use Rattle.uv_order.proofs.KeptSteps.{first_is}
 
 -- ---- what agrees
@@ -193,15 +193,10 @@ due_sent s sent t f kept k =
     let off = not_pending sent s.arena.slots t.0 t.1 Kind.Timer f.holds (first_is s t f kept).set.kind (λ c. cc c) k in
     again_sent s (without_id sent t.0) t f.holds (sent_none sent s.arena.slots t.0 t.1 f.holds off k)
 
--- who is yet to run is of this kind
-of_kind : (s : State) (q : Kind) (w : Walk Id) (t : Id × HandleRecord) → Everyone s.arena.slots (Watches q) (members w) → FrontOf s w.yet t →
-    t.1.kind ≡ q
-of_kind s q w t every f = grind (arith, each_back, its_handle)
-
 unsent_called : (s : State) (sent : List Id) (q : Kind) (w : Walk Id) (t : Id × HandleRecord) → (q ≡ Kind.Async → ⊥) →
     Everyone s.arena.slots (Watches q) (members w) → FrontOf s w.yet t → SentAt sent s → Sent (without_id sent t.0) s.arena.slots
 unsent_called s sent q w t apart every f k = sent_none sent s.arena.slots t.0 t.1 f.holds
-    (not_pending sent s.arena.slots t.0 t.1 q f.holds (of_kind s q w t every f) apart k) k
+    (not_pending sent s.arena.slots t.0 t.1 q f.holds (grind (arith, each_back, its_handle)) apart k) k
 
 closed_sent : (p : Program) (s : State) (sent : List Id) (t : Id × HandleRecord) → FrontOf s s.closing.yet t → Kept s → SentAt sent s →
     Sent sent (freed (arena_size p).last_generation t.0 s.arena).slots

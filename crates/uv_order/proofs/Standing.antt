@@ -177,9 +177,6 @@ pub timers_last : (o : Order) (part : TimersOf) (s : State) →
     record (lasting s) { time = time_at o part s; idled = idled_at o part s } ≡ doc.after_word o (section_of part) s
 timers_last o part s = grind arith
 
-pub pending_lasts : (o : Order) (s : State) → record (lasting s) { idled = idled_then o s } ≡ doc.after_word o (In Phase.Pending) s
-pending_lasts o s = assumption
-
 -- behind no turn of a run stands a callback of I/O that left the poll
 pub no_answer : (o : Order) (at : Standing) (turn : Turn) (part : Section) (s : State) → part_of at ≡ left turn →
     doc.after_word o part s ≡ doc.after_section o at part s
@@ -199,9 +196,6 @@ idle_next o m go = refl
 pub prepare_next : IsNext (section_at Phase.Idle) (section_at Phase.Prepare)
 prepare_next o m go = refl
 
-pub poll_next : IsNext (section_at Phase.Prepare) doc.Poll
-poll_next o m go = refl
-
 pub done_next : IsNext doc.Poll (section_at Phase.Done)
 done_next o m go = refl
 
@@ -211,20 +205,14 @@ async_next o m go = refl
 pub check_next : IsNext (section_at Phase.Async) (section_at Phase.Check)
 check_next o m go = refl
 
-pub closing_next : IsNext (section_at Phase.Check) (section_at Phase.Closing)
-closing_next o m go = refl
-
 -- ---- lists of sections
-
-pub held_timer : (s : State) (key : Due) (id : Id) → Fits s.arena.slots (IsSet key) id → IsTimer s key id
-held_timer s key id f = record { its = f.handle; holds = f.holds; kind = f.fits.kind; active = f.fits.active; due = f.fits.due }
 
 pub timer_held : (s : State) (key : Due) (id : Id) → IsTimer s key id → Fits s.arena.slots (IsSet key) id
 timer_held s key id t = record { handle = t.its; holds = t.holds; fits = record { kind = t.kind; active = t.active; due = t.due } }
 
 -- the order of timers is that of all active ones
 pub are_timers : (s : State) (ts : List (Due × Id)) (drawn : ℕ) → Times s.arena.slots drawn ts → AreTimers s ts
-are_timers s ts drawn k = grind (arith, held_timer, timer_held)
+are_timers s ts drawn k = grind (arith, timer_held)
 
 pub due_distinct : (s : State) (time : ℕ) → Kept s → AreDistinct (due_ids time s.timers)
 due_distinct s time k = grind (arith, distinct_due, its_handle)

@@ -73,16 +73,13 @@ old_turned : (arena now : Slots Content) (id i : Id) (was : Option Content) (c :
 old_turned arena now id i was c t gone (inl here) = inl (held_turned arena.slots now.slots id i was c t here)
 old_turned arena now id i was c t gone (inr g) = inr (gone i g)
 
-silent_adds : (p : Program) (past more : List Seen) (id : Id) → Silent p past more → Adds p past more id
-silent_adds p past more id q = record { made = q.made; others = λ i d. q.same i }
-
 -- the record of a handle changes, which is as active as before
 pub still_started : (p : Program) (past more : List Seen) (s : State) (id : Id) (h x : HandleRecord) → handle s id ≡ Some h →
     ((ready : Bool) → shown x ready ≡ shown h ready) → Silent p past more → StartedAt p past s →
     Started p more (record s.arena { slots = put s.arena.slots id x }) s.ready
 still_started p past more s id h x e alike q k =
     started_turned p past more s.arena (record s.arena { slots = put s.arena.slots id x }) s.ready s.ready id h x
-    (put_turns s.arena.slots id h x e) (λ i g. gone_put s.arena.slots s.arena.free id h x i e g) (silent_adds p past more id q) (λ i d. refl)
+    (put_turns s.arena.slots id h x e) (λ i g. gone_put s.arena.slots s.arena.free id h x i e g) (grind arith) (λ i d. refl)
     (λ f. q.same id ∙ f ∙ sym (alike (has_id s.ready id))) k
 
 -- it changes twice
@@ -104,25 +101,13 @@ pub op_tells : (p : Program) (past : List Seen) (place : Site) (o : Op) (a : Ans
     activity p (Seen.Op place a ∷ past) i ≡ activity_done p past o a i (activity p past i)
 op_tells p past place o a i e = ap (λ (d : Option Answered). activity_answered p past d i (activity p past i)) (is_answered p place o a e)
 
-op_makes : (p : Program) (past : List Seen) (place : Site) (o : Op) (a : Answer) (i : Id) → op_at p place ≡ Some o →
-    made_as p (Seen.Op place a ∷ past) i ≡ first_of (makes o a i) (made_as p past i)
-op_makes p past place o a i e = cc
-
 makes_none : (p : Program) (past : List Seen) (place : Site) (o : Op) (a : Answer) (i : Id) (v : Var) → op_at p place ≡ Some o →
     makes o a i ≡ None → made_as p (Seen.Op place a ∷ past) i ≡ Some v → made_as p past i ≡ Some v
 makes_none p past place o a i v e none m = cc
 
--- that of an op which makes no id, starts and stops nobody
-silent_op : (p : Program) (past : List Seen) (place : Site) (o : Op) (a : Answer) → op_at p place ≡ Some o → ((i : Id) → makes o a i ≡ None) →
-    ((i : Id) (x : Activity) → activity_done p past o a i x ≡ x) → Silent p past (Seen.Op place a ∷ past)
-silent_op p past place o a e none still = grind arith
-
-nobody : (b : Bool) (x y : Activity) → (if b && false then x else y) ≡ y
-nobody b x y = grind arith
-
 refused_still : (p : Program) (past : List Seen) (o : Op) (c : Code) (i : Id) (x : Activity) → IsRefusal c →
     activity_done p past o (Answer.Code c) i x ≡ x
-refused_still p past o c i x r = grind (arith, nobody)
+refused_still p past o c i x r = grind (arith)
 
 asked_still : (p : Program) (past : List Seen) (o : Op) (a : Answer) (i : Id) (x : Activity) → IsAsked o → activity_done p past o a i x ≡ x
 asked_still p past o a i x (IsAsked.due_in v) = refl
@@ -143,10 +128,7 @@ pub op_started : (p : Program) (past : List Seen) (s : State) (place : Site) (o 
     Started p (Seen.Op place (Answer.Code Code.Ok) ∷ past) now list
 op_started p past s place o v t x now list at on is turns gone lists own k =
     started_turned p past (Seen.Op place (Answer.Code Code.Ok) ∷ past) s.arena now s.ready list t.0 t.1 x turns gone
-    (record {
-      made = λ i u m. makes_none p past place o (Answer.Code Code.Ok) i u at (on.makes i) m;
-      others = λ i d. told i ∙ chosen i false is (turned t.0 i ∙ d);
-    }) lists (λ f. told t.0 ∙ chosen t.0 true is (itself t.0 t.0 refl) ∙ ap (activity_by o) f ∙ own) k
+    (grind (arith, makes_none, turned)) lists (λ f. told t.0 ∙ chosen t.0 true is (itself t.0 t.0 refl) ∙ ap (activity_by o) f ∙ own) k
   where
     chosen : (i : Id) (b : Bool) → bound p past v ≡ Some t.0 → same_id t.0 i ≡ b →
         (if is_some_id i (bound p past v) && true then activity_by o (activity p past i) else activity p past i) ≡
@@ -212,8 +194,7 @@ io_started p past s v t e is k place at =
     (on (has_id s.ready t.0)) k
   where
     on : (b : Bool) → activity_by (Op.StartWatcher v) (shown t.1 b) ≡ shown (records.activated t.1) b
-    on true = refl
-    on false = refl
+    on b = grind arith
 
 -- a watcher is started, with its list
 watcher_started : (p : Program) (past : List Seen) (s : State) (v : Var) (q : WatcherKind) (t : Id × HandleRecord) → live_handle s v ≡ Ok t →
@@ -230,8 +211,7 @@ still_watches p past s v t e on is k place at =
     (λ i g. g) (λ i d. refl) (active (has_id s.ready t.0)) k
   where
     active : (b : Bool) → activity_by (Op.StartWatcher v) (shown t.1 b) ≡ shown t.1 b
-    active true = refl
-    active false = rw on refl
+    active b = grind arith
 
 -- its repeat is set
 timer_repeats : (p : Program) (past : List Seen) (s : State) (v : Var) (n : ℕ) (t : Id × HandleRecord) → live_handle s v ≡ Ok t →
@@ -245,7 +225,7 @@ timer_repeats p past s v n t e is k place at =
 still_op : (p : Program) (past : List Seen) (s : State) (o : Op) (d : ops.Done) → ((i : Id) → makes o d.answer i ≡ None) →
     ((i : Id) (x : Activity) → activity_done p past o d.answer i x ≡ x) →
     ((now : List Seen) → Silent p past now → StartedAt p now d.state) → StartedBy p past o d
-still_op p past s o d none still k place at = k (Seen.Op place d.answer ∷ past) (silent_op p past place o d.answer at none still)
+still_op p past s o d none still k place at = k (Seen.Op place d.answer ∷ past) (grind arith)
 
 -- it changes nothing
 unchanged : (p : Program) (past now : List Seen) (s : State) → Silent p past now → StartedAt p past s → StartedAt p now s
@@ -283,8 +263,7 @@ new_old p past s place o v id c at m e kept k i u f = by (same_id id i) refl whe
   by : (b : Bool) → same_id id i ≡ b → IsOld (taken id c s.arena) i
   by true d = inl (record { content = c; holds = ap (held (taken id c s.arena).slots) (sym (same id i d)) ∙ t.here })
   by false d = old_turned s.arena (taken id c s.arena) id i None c t (gone_taken s.arena s.arena.free id c refl kept.free e)
-      (k.old i u (sym (op_makes p past place o (Answer.Id id) i at
-      ∙ ap (λ (x : Option Var). first_of x (made_as p past i)) (m i ∙ ap (λ (b : Bool). if b then Some v else None) d)) ∙ f))
+      (k.old i u (sym (grind arith) ∙ f))
 
 -- a handle is
 handle_made : (p : Program) (past : List Seen) (s : State) (v : Var) (q : Kind) (id : Id) → next_free s.arena ≡ Some id → Kept s →
@@ -427,8 +406,7 @@ collected_started p past s t f kept k =
     or_end : (b : Bool) → has_id (s.ready ++ t.0 ∷ []) t.0 ≡ true →
         record { timer = is_timer t.1.kind; repeat = t.1.repeat; started = b || true } ≡ shown (records.stopped t.1)
         (has_id (s.ready ++ t.0 ∷ []) t.0)
-    or_end true g = rw g refl
-    or_end false g = rw g refl
+    or_end b g = grind arith
 
 -- one that is due is called straight from the order of timers: it is over, or it is started again
 due_started : (p : Program) (past : List Seen) (s : State) (t : Id × HandleRecord) → FirstOf s s.timers t → Kept s → StartedAt p past s →
@@ -445,8 +423,7 @@ due_started p past s t f kept k =
     (twice_turns s.arena.slots t.0 t.1 (records.stopped t.1) _ f.holds)
     (λ i g. twice_gone s.arena.slots s.arena.free t.0 t.1 (records.stopped t.1) _ i f.holds g) (call_adds p past t.1.name t.0)
     (λ i d. has_without s.ready t.0 i d)
-    (λ e. call_tells p past t.1.name t.0 ∙ ap activity_called e ∙ rw (timer, z)
-    (rw (without_itself s.ready t.0, set.active, or-true (has_id s.ready t.0)) refl)) k)
+    (λ e. grind arith) k)
   where
     more : List Seen
     more = Seen.Call t.1.name t.0 ∷ past
@@ -530,31 +507,25 @@ cancelled_started p past s v k = cancel_both s v (λ (d : ops.Done). StartedAt p
 
 pub did_started : (p : Program) (past : List Seen) (s : State) (n : Next) → Did p s n → Kept s → KnownAt p past s → StartedAt p past s →
     StartedFollows p past n
-did_started p past s n (Did.refused why) kept w k = tt
 did_started p past s n (Did.still x time clock stop idled l q) kept w k = search (still_follows, past)
 did_started p past s n (Did.op x at o e) kept w k = did_op_started p past s o (do_op s o) (op_did s o) kept w k at e
 did_started p past s n (Did.begun run WatcherKind.Idle e) kept w k = unchanged p past _ s (record { made = λ i v m. m; same = λ i. refl }) k
-did_started p past s n (Did.begun run each e) kept w k = unchanged p past _ s (record { made = λ i v m. m; same = λ i. refl }) k
-did_started p past s n (Did.begun_closing run e) kept w k = unchanged p past _ s (record { made = λ i v m. m; same = λ i. refl }) k
-did_started p past s n (Did.begun_done run time e) kept w k = unchanged p past _ s (record { made = λ i v m. m; same = λ i. refl }) k
 did_started p past s n (Did.collected run part t f) kept w k = collected_started p past s t f kept k
 did_started p past s n (Did.fired run t f) kept w k = fired_started p past s t f kept k
 did_started p past s n (Did.called_due run t f) kept w k = due_started p past s t f kept k
-did_started p past s n (Did.answered run time v t e is on) kept w k = unchanged p past _ s (record { made = λ i u m. m; same = λ i. refl }) k
 did_started p past s n (Did.walked run WatcherKind.Idle t sync f) kept w k = same_started p past s WatcherKind.Idle t f kept k
 did_started p past s n (Did.walked run each t sync f) kept w k = same_started p past s each t f kept k
-did_started p past s n (Did.passed run t f off) kept w k = k
 did_started p past s n (Did.woken run t f on) kept w k =
     walked_started p past s WatcherKind.Async t (records.woken t.1) f (λ b. refl) kept k
 did_started p past s n (Did.closed run t f) kept w k = freed_started p past _ s (arena_size p).last_generation t.0 (Content.Handle t.1)
     (is_held s.arena.slots t.0 t.1 f.holds) kept (record { made = λ i v m. m; same = λ i. refl }) k
 did_started p past s n (Did.ended run t f) kept w k = freed_started p past _ s (arena_size p).last_generation t.0 (Content.Request t.1)
     f.holds kept (record { made = λ i v m. m; same = λ i. refl }) k
-did_started p past s n (Did.taken n' t f) kept w k = unchanged p past _ s (record { made = λ i v m. m; same = λ i. refl }) k
 did_started p past s n (Did.finished n' t f) kept w k =
     request_started p past _ s t.0 t.1 _ f.holds (record { made = λ i v m. m; same = λ i. refl }) k
 did_started p past s n (Did.sent v) kept w k = sent_started p past s v k
 did_started p past s n (Did.cancelled v) kept w k = cancelled_started p past s v k
+did_started p past s n each kept w k = assumption
 
 pub started_fresh : (p : Program) → StartedAt p [] (fresh p)
 started_fresh p = record { active = λ id h e. cc e; old = λ id v e. cc e }

@@ -14,30 +14,14 @@ says x y = ranked x y (nat_cmp x y) refl
 pub equal_key : (a b : Due) → due_cmp a b ≡ Equal → a ≡ b
 equal_key a b e = grind arith
 
-is_equal : (o : Ordering) → is_eq o ≡ true → o ≡ Equal
-is_equal o e = grind arith
-
 pub key_at : (a b : Due) → is_at (due_cmp a) b ≡ true → a ≡ b
-key_at a b e = equal_key a b (is_equal (due_cmp a b) e)
-
-pub key_itself : (a b : Due) → a ≡ b → is_at (due_cmp a) b ≡ true
-key_itself a b e = rw (← e) (ap is_eq (tied_itself due_cmp_total a))
+key_at a b e = equal_key a b (grind arith)
 
 pub not_before_itself : (a b : Due) → a ≡ b → due_cmp a b ≡ Less → ⊥
 not_before_itself a b e l = grind arith
 
-at_most : (x y : ℕ) (r q : Ordering) → MatchOrdering r (x < y) (x ≡ y) (y < x) → ordering_then r q ≡ Less → x ≤ y
-at_most x y r q h e = grind arith
-
--- whoever comes later isn't due sooner
-no_sooner : (a b : Due) → due_cmp a b ≡ Less → a.at ≤ b.at
-no_sooner a b e = at_most a.at b.at (nat_cmp a.at b.at) _ (says a.at b.at) e
-
 turned : (o : Ordering) → ordering_reverse o ≡ Greater → o ≡ Less
 turned o e = grind arith
-
-less_turned : (a b : Due) → due_cmp a b ≡ Greater → due_cmp b a ≡ Less
-less_turned a b e = turned (due_cmp b a) (sym (due_cmp_total.antisymm a b) ∙ e)
 
 -- ---- who stands where
 
@@ -65,7 +49,7 @@ still_has (t ∷ ts) key other id h d = grind (arith, key_at, still_has ts key o
 
 pub had : (ts : List (Due × Id)) (key other : Due) (id : Id) → InOrder ts → Has (without_timer ts key) other id → Has ts other id × (other ≡ key → ⊥)
 had [] key other id s h = absurd h
-had (t ∷ ts) key other id s h = grind (arith, key_at, key_itself, not_before_itself, before_each, had ts key other id s.1)
+had (t ∷ ts) key other id s h = grind (arith, key_at, not_before_itself, before_each, had ts key other id s.1)
 
 before_without : (ts : List (Due × Id)) (a key : Due) → Before a ts → Before a (without_timer ts key)
 before_without [] a key h = tt
@@ -101,7 +85,7 @@ before_with (t ∷ ts) a key id h l = grind (arith, before_with ts a key id h.1 
 
 pub in_order_with : (ts : List (Due × Id)) (key : Due) (id : Id) → InOrder ts → InOrder (with_timer ts key id)
 in_order_with [] key id s = (tt, tt)
-in_order_with (t ∷ ts) key id s = grind (arith, before_more, before_with, less_turned, in_order_with ts key id s.1)
+in_order_with (t ∷ ts) key id s = grind (arith, before_more, before_with, in_order_with ts key id s.1)
 
 -- a key whose start number was not yet drawn is new
 pub is_new : (ts : List (Due × Id)) (key : Due) → ((other : Due) (id : Id) → Has ts other id → other.start < key.start) → IsNew key ts
@@ -119,7 +103,7 @@ later_too time a b e l = grind (arith, nat_tests, e)
 
 none_later : (time : ℕ) (ts : List (Due × Id)) (key : Due) → nat_le key.at time ≡ false → Before key ts → due_ids time ts ≡ []
 none_later time [] key e h = refl
-none_later time (t ∷ ts) key e h = rw (later_too time key.at t.0.at e (no_sooner key t.0 h.0)) (none_later time ts key e h.1)
+none_later time (t ∷ ts) key e h = rw (later_too time key.at t.0.at e (grind arith)) (none_later time ts key e h.1)
 
 -- with the first not due none is
 pub none_due : (time : ℕ) (t : Due × Id) (ts : List (Due × Id)) → InOrder (t ∷ ts) → nat_le t.0.at time ≡ false → due_ids time (t ∷ ts) ≡ []

@@ -6,7 +6,7 @@ use Rattle.uv_order.specs.Documented.{Walk}
 use Rattle.uv_order.proofs.Lemmas.{left_of, none_off, all_off, FirstLeft, first_left, due_ids, none_due, is_held, name_in, name_at, Fits, IsSet, Times, Kept, Rests, FrontOf, front_of, FirstOf, first_of, IsBody, Counted, counted_call, told_call, next_body}
 use Rattle.uv_order.proofs.KeptSteps.{no_front}
 use Rattle.uv_order.proofs.Lives.{goes_is}
-use Rattle.uv_order.proofs.Standing.{follows_to, StandsAt, left_all, begun_with, section_of, Rest, rest, Leaves, NobodyLeft, due_now, Stands, Follows, left, reached_by, ways_agree, timers_last, pending_lasts, no_answer, are_timers, due_distinct, pending, collects, fires, calls_due, between, running}
+use Rattle.uv_order.proofs.Standing.{follows_to, StandsAt, left_all, begun_with, section_of, Rest, rest, Leaves, NobodyLeft, due_now, Stands, Follows, left, reached_by, ways_agree, timers_last, no_answer, are_timers, due_distinct, pending, collects, fires, calls_due, between, running}
 
 -- ---- callbacks
 
@@ -136,14 +136,10 @@ turn_follows p told s run turn at alive is over k c e =
     by (ToTimers TimersOf.Iteration) g = follows_to (doc.section (In Phase.Timers) over g refl (opens TimersOf.Iteration)
         (timers_last (order_of p) TimersOf.Iteration s ∙ no_answer (order_of p) at turn (In Phase.Timers) s is)) (stands TimersOf.Iteration) c
     by ToPending g = follows_to (doc.section (In Phase.Pending) over g refl
-        (record { list = refl; off = refl; sent = refl; body = refl; kept = refl }) (pending_lasts (order_of p) s
-        ∙ no_answer (order_of p) at turn (In Phase.Pending) s is)) (running (pending refl refl) (assumption e)) c
+        (record { list = refl; off = refl; sent = refl; body = refl; kept = refl }) (grind arith)) (running (pending refl refl) (assumption e)) c
     by ToEnd g = follows_to (doc.ends over g (ap Seen.End (sym alive)) refl) (between (assumption e)) c
 
 -- ---- the calls of timers
-
-pub timers_word : (part : TimersOf) → callback_in (word_of (section_of part)) ≡ Callback.Handle
-timers_word part = grind arith
 
 pub timers_over : (part : TimersOf) (w : Walk) → w.body ≡ [] → doc.AllOff w.off w.ahead → IsOver (word_of (section_of part)) w
 timers_over part w b o = grind arith
@@ -164,7 +160,7 @@ pub call_timer : (p : Program) (told : Told) (s u : State) (run : Run) (part : T
     (call p u (record run { stage = Stage.Timers part Firing }) t.0 t.1.name)
 call_timer p told s u run part w t more h names lasts o ready b heap c =
     let next = next_of w t.0 more (sym o.ready) in
-    call_follows p told s u run (record run { stage = Stage.Timers part Firing }) (section_of part) w t next.behind (timers_word part)
+    call_follows p told s u run (record run { stage = Stage.Timers part Firing }) (section_of part) w t next.behind (grind arith)
     (timers_call part told w t.0 more next b) h names lasts c
     (λ is. running (fires heap is) (grind arith))
 

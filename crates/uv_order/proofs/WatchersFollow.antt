@@ -8,7 +8,7 @@ use Rattle.uv_order.proofs.Lemmas.{left_of, none_off, all_off, each_back, distin
 use Rattle.uv_order.proofs.KeptSteps.{no_front}
 use Rattle.uv_order.proofs.Lives.{may_wait_is}
 use Rattle.uv_order.proofs.Sends.{pends, pends_in, pends_there, SentAt, pass_both, pass_off}
-use Rattle.uv_order.proofs.Standing.{left_all, begun_with, rest, Leaves, NobodyLeft, IsBehind, follows_to, Follows, empty_over, IsNext, async_next, async_moved, prepare_next, poll_next, check_next, closing_next, are_timers, are_active, are_closing, walking, polls, done, closing, running}
+use Rattle.uv_order.proofs.Standing.{left_all, begun_with, rest, Leaves, NobodyLeft, IsBehind, follows_to, Follows, empty_over, IsNext, async_next, async_moved, prepare_next, check_next, are_timers, are_active, are_closing, walking, polls, done, closing, running}
 use Rattle.uv_order.proofs.TimersFollow.{call_follows, NextCall, turn_follows, named_of, next_of, call_counted, its_body, called}
 
 -- ---- sections of watchers, and of async handles
@@ -41,13 +41,6 @@ begun_left : (told : Told) (s : State) (q : WatcherKind) (woken : Bool) → Sent
     Leaves (rest s.ready (with_watched s q (all_yet (watched s q)))) (Within (In (phase_of q)) (walk_with told q woken (watched s q).list))
 begun_left told s each woken h e = grind (arith, left_all, none_off)
 
--- the line of such a section sets nothing
-sets_nothing : (o : Order) (q : WatcherKind) (s : State) → lasting s ≡ doc.after_word o (In (phase_of q)) s
-sets_nothing o q s = grind arith
-
-section_lasts : (o : Order) (at : Standing) (q : WatcherKind) (s : State) → lasting s ≡ doc.after_section o at (In (phase_of q)) s
-section_lasts o at q s = grind arith
-
 -- nobody is left of no list of async handles
 pub none_behind : (slots : List (Slot Content)) (w : Walk) (yet : List Id) → w.ahead ≡ [] → yet ≡ [] → IsBehind slots w yet
 none_behind slots w yet none e = grind arith
@@ -59,7 +52,7 @@ pub begin_follows : (p : Program) (told : Told) (s : State) (run : Run) (q : Wat
     Follows p told (Running run.mode run.line at) s (step.begin_walk s run q)
 begin_follows p told s run q at over follows has k h c e = follows_to (doc.section (In (phase_of q)) over
     (follows (order_of p) run.mode (doc.goes_on s)) refl (opens_watched p told s _ q (doc.woken_at at) has k (none_yet s q e))
-    (section_lasts (order_of p) at q s)) (running (walking refl) (begun_left told s q (doc.woken_at at) h e)) c
+    (grind arith)) (running (walking refl) (begun_left told s q (doc.woken_at at) h e)) c
 
 -- that of async handles behind a poll that nobody woke, where it has no list
 pub unwoken_follows : (p : Program) (told : Told) (s : State) (run : Run) (w : Walk) → w.woken ≡ false → w.ahead ≡ [] → w.body ≡ [] →
@@ -77,7 +70,7 @@ pub poll_follows : (p : Program) (told : Told) (s : State) (run : Run) (w : Walk
     NobodyLeft (rest s.ready s) →
     Follows p told (Running run.mode run.line (Within (In Phase.Prepare) w)) s (step.begin_poll s run)
 poll_follows p told s run w alive over k c e =
-    follows_to (doc.poll (poll_timeout s run.mode) (over, tt) (poll_next (order_of p) run.mode (doc.goes_on s))
+    follows_to (doc.poll (poll_timeout s run.mode) (over, tt) (grind arith)
     (record { timers = s.timers; are = are_timers s s.timers s.next_start k.timers; is = may_wait_is s s.timers run.mode alive }) refl refl)
     (running polls (assumption e)) c
 
@@ -86,7 +79,7 @@ pub closing_begins : (p : Program) (told : Told) (s : State) (run : Run) (w : Wa
     NobodyLeft (rest s.ready s) →
     Follows p told (Running run.mode run.line (Within (In Phase.Check) w)) s (step.begin_closing s run)
 closing_begins p told s run w over k c e =
-    follows_to (doc.section (In Phase.Closing) (over, tt) (closing_next (order_of p) run.mode (doc.goes_on s)) refl
+    follows_to (doc.section (In Phase.Closing) (over, tt) (grind arith) refl
     (record { list = (refl, are_closing s e.closing k); off = refl; sent = refl; body = refl; kept = refl }) refl)
     (running (closing refl) (assumption (sym (none_off s.closing.list), e))) c
 
@@ -126,12 +119,6 @@ call_watcher p told s run WatcherKind.Check w t d st f l b c =
     (plain_calls WatcherKind.Check told w t.0 f.rest next tt b) f.holds refl refl c
     (λ is. rw st (running (walking is) (left_all l.timers l.idle l.prepare (f.behind ∙ next.left) l.async l.closing l.done)))
 
--- the list of a kind is the one that its section walks
-pub own_list : (s : State) (q : WatcherKind) (w : Walk) → IsSync q → Leaves (rest s.ready s) (Within (In (phase_of q)) w) →
-    (watched s q).yet ≡ left_of
-    w.ahead w.off
-own_list s q w d l = grind arith
-
 -- with none of its own left, nobody is left
 pub none_own : (s : State) (q : WatcherKind) (w : Walk) → IsSync q → (watched s q).yet ≡ [] → Leaves (rest s.ready s) (Within (In (phase_of q)) w) →
     NobodyLeft (rest s.ready s)
@@ -150,7 +137,7 @@ walk_follows p told s run q w alive d st k h c l b = found_both (front s (watche
     (λ t e. call_watcher p told s run q w t d st (front_of s (watched s q).yet t e) l b c)
     (λ e. let each = each_back (Fits s.arena.slots (Watches (kind_as q))) (watched s q).list (watched s q).yet (k.watchers q).lists.each in
     let none : (watched s q).yet ≡ [] = no_front s (Watches (kind_as q)) (watched s q).yet each e in
-    after_follows p told s run q w alive (plain_over q w d b (all_off w.ahead w.off (sym (own_list s q w d l) ∙ none))) k h c
+    after_follows p told s run q w alive (plain_over q w d b (all_off w.ahead w.off (sym (grind arith) ∙ none))) k h c
     (none_own s q w d none l))
 
 -- ---- the front of those yet to run, and who is behind it

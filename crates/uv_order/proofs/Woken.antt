@@ -3,9 +3,6 @@ use Rattle.uv_order.proofs.Names.{arith, ◌≡◌, ℕ, zero, suc, ◌||◌, Li
 use Rattle.uv_order.proofs.Lives.{either_way, some_of, first}
 use Rattle.uv_order.proofs.Sends.{pends_in, pends, SentAt}
 
-pends_content : (c : Option Content) → content_pends c ≡ true → pends_in (handle_in c) ≡ true
-pends_content c e = grind arith
-
 found_pending : (slots : List (Slot Content)) → list_any (λ (slot : Slot Content). content_pends slot.content) slots ≡ true →
     (id : Id) × (pends slots id ≡ true)
 found_pending [] e = cc e
@@ -13,11 +10,8 @@ found_pending (x ∷ xs) e = at (content_pends x.content) refl (found_pending xs
   at : (b : Bool) → content_pends x.content ≡ b →
       (list_any (λ (slot : Slot Content). content_pends slot.content) xs ≡ true → (id : Id) × (pends xs id ≡ true)) →
       (b || list_any (λ (slot : Slot Content). content_pends slot.content) xs) ≡ true → (id : Id) × (pends (x ∷ xs) id ≡ true)
-  at true f more h = (record { slot = 0; generation = x.generation }, rw (eq-eqb x.generation x.generation refl) (pends_content x.content f))
+  at true f more h = (record { slot = 0; generation = x.generation }, rw (eq-eqb x.generation x.generation refl) (grind arith))
   at false f more h = let r = more h in (record { slot = suc r.0.slot; generation = r.0.generation }, r.1)
-
-pending_slot : (x : Slot Content) (id : Id) → pends_in (handle_in (held_in id x)) ≡ true → content_pends x.content ≡ true
-pending_slot x id e = grind arith
 
 any_pending : (slots : List (Slot Content)) (n g : ℕ) → pends slots (record { slot = n; generation = g }) ≡ true →
     list_any (λ (slot : Slot Content). content_pends slot.content) slots ≡ true

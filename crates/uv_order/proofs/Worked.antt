@@ -146,11 +146,6 @@ not_queued : (p : Program) (past : List Seen) (arena : Slots Content) (waiting r
     (IsGone arena.slots arena.free id → ⊥) → Worked p past arena waiting runs → queued_task p past id ≡ None
 not_queued p past arena waiting runs id e fresh k = grind (arith, none-some)
 
-queued_now : (task : Task) (id : Id) (x : Request) (was now : Id → Option Request) (told : Id → Option Task) → x.task ≡ task →
-    ((i : Id) → now i ≡ (if same_id i id then Some x else was i)) → ((i : Id) (y : Request) → was i ≡ Some y → told i ≡ Some y.task) → (i : Id)
-    (y : Request) → now i ≡ Some y → first_of (if same_id id i then Some task else None) (told i) ≡ Some y.task
-queued_now task id x was now told e f k i y h = grind (arith, turned)
-
 -- the line of a `queue` changes nothing that others ended by
 still_ended : (p : Program) (past : List Seen) (place : Site) (v : Var) (task : Task) (id : Id) → op_at p place ≡ Some (Op.Queue v task) → (i : Id)
     (x : Task) (o : Outcome) → EndsTrue p past i x o → EndsTrue p (Seen.Op place (Answer.Id id) ∷ past) i x o
@@ -168,7 +163,7 @@ pub worked_queued : (p : Program) (past : List Seen) (place : Site) (v : Var) (t
     ((i : Id) → IsGone arena.slots arena.free i → IsGone more.slots more.free i) → Worked p past arena waiting runs →
     Worked p (Seen.Op place (Answer.Id id) ∷ past) more listed runs
 worked_queued p past place v task arena more waiting runs listed id e t fresh most gone k = record {
-  queued = λ i y h. rw (asked i) (queued_now task id x (asked_at arena.slots) (asked_at more.slots) (queued_task p past) refl asks k.queued i y h);
+  queued = λ i y h. rw (asked i) (grind arith);
   known = λ i z h. known_now i z (sym (asked i) ∙ h) (same_id id i) refl;
   over = λ i h. gone i (k.over i h);
   taken = λ i h f. k.taken i h (still_none i (sym (asked i) ∙ f));
@@ -210,11 +205,6 @@ worked_queued p past place v task arena more waiting runs listed id e t fresh mo
     | inr g ↦ inr (gone i g)
   ]
 
--- no request is held under it any more
-asked_before : (was now : Id → Option Request) (id : Id) → ((i : Id) → now i ≡ (if same_id i id then None else was i)) → (i : Id) (y : Request) →
-    now i ≡ Some y → was i ≡ Some y
-asked_before was now id f i y e = grind arith
-
 asked_or_gone : (arena more : Slots Content) (id : Id) →
     ((i : Id) → asked_at more.slots i ≡ (if same_id i id then None else asked_at arena.slots i)) → IsGone more.slots more.free id → (i : Id) →
     IsAsked arena i → IsAsked more i ⊎ IsGone more.slots more.free i
@@ -236,7 +226,7 @@ pub worked_collected : (p : Program) (past : List Seen) (arena more : Slots Cont
 worked_collected p past arena more waiting runs digest v id r t now gone k =
     let asks = turned_asks arena.slots more.slots id _ _ t in
     called_back p past more waiting runs digest v id now (worked_held p past arena more waiting runs
-    (λ i y e. inl (asked_before (asked_at arena.slots) (asked_at more.slots) id asks i y e)) (λ i a. asked_or_gone arena more id asks now i a) gone k)
+    (λ i y e. inl (grind arith)) (λ i a. asked_or_gone arena more id asks now i a) gone k)
 
 -- what the after callback of a request that ended says
 pub says_true : (p : Program) (past : List Seen) (id : Id) (task : Task) (o : Outcome) → is_open o ≡ false → EndsTrue p past id task o →

@@ -40,13 +40,10 @@ cancel_working s v k = cancel_both s v WorkingBy (λ c no_success. k) (λ t live
 
 -- ---- the ops
 
-handles_working : (s : State) (o : Op) → IsOfHandles o → Kept s → Working s → Working (do_op s o).state
-handles_working s o h kept k = works_quiet s (do_op s o).state (op_same s o h kept) k
-
 pub op_working : (s : State) (o : Op) → Kept s → Working s → Working (do_op s o).state
 op_working s (Op.Queue v task) kept k =
     make_both s _ (ops.with_queued s v task) WorkingBy (λ c no_success. k) (λ id e. queued_working s v task id e kept k)
-op_working s each kept k = search (make_both, queued_working, cancel_working, handles_working)
+op_working s each kept k = search (make_both, queued_working, cancel_working, works_quiet, op_same)
 
 -- ---- fronts of lists
 

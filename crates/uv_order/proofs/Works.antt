@@ -288,8 +288,7 @@ works_finished slots more waiting running done n id r x t e over k =
     listed in
     record {
       open_ones = subst (AllAsk more IsOpen) (append_assoc waiting g.front g.behind ∙ ap (λ (ids : List Id). waiting ++ ids) (sym (g.are None)))
-          (less_middle slots more IsOpen id (Some (Content.Request r)) (Some (Content.Request x)) (waiting ++ g.front) g.behind t
-          (request_fits_not IsOpen x (λ o. open_over x o over)) listed);
+          (search (less_middle, request_fits_not, open_over));
       ended = ended_by slots more done id r x t opened over k.ended;
     }
 
