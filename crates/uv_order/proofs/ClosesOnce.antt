@@ -102,15 +102,12 @@ front_stays : (s : State) (q : Kind) (w : Walk Id) (t : Id × HandleRecord) → 
 front_stays s q w t every f kept =
     opened t.1 (front_fits s (Watches q) w.list w.yet t every.lists.each f).active (kept.sound t.0 t.1 f.holds)
 
-moved_holds : (s : State) (q : WatcherKind) (id i : Id) → handle (front_moved s q id) i ≡ handle s i
-moved_holds s q id i = grind arith
-
 watched_stays : (s : State) (q : WatcherKind) (t : Id × HandleRecord) → FrontOf s (watched s q).yet t → Kept s → t.1.closing ≡ false
 watched_stays s q t f kept = front_stays s (kind_as q) (watched s q) t (kept.watchers q) f kept
 
 walked_known : (p : Program) (past : List Seen) (s : State) (run : Run) (q : WatcherKind) (t : Id × HandleRecord) → FrontOf s (watched s q).yet t →
     Kept s → StartedAt p past s → KnownAt p past s → Follows p past (call p (front_moved s q t.0) run t.0 t.1.name)
-walked_known p past s run q t f kept begun k = search (call_known, past, moved_holds, watched_stays, watcher_is_started)
+walked_known p past s run q t f kept begun k = search (call_known, past, watched_stays, watcher_is_started)
 
 woken_known : (p : Program) (past : List Seen) (s : State) (run : Run) (t : Id × HandleRecord) → FrontOf s s.watchers.async.yet t → Kept s →
     StartedAt p past s → KnownAt p past s →
@@ -196,8 +193,7 @@ make_says p past s o made kept begun = grind (arith, make_both, past, new_id)
 -- the line of an op that is done
 op_line : (p : Program) (past : List Seen) (s : State) (place : Site) (o : Op) → op_at p place ≡ Some o → Kept s → StartedAt p past s →
     KnownAt p past s → MayFollow p past (Seen.Op place (do_op s o).answer)
-op_line p past s place o e kept begun k = subst (λ (x : Option Op). OpSays p past x (do_op s o).answer) (sym e)
-    (grind (arith, make_says, cancel_says))
+op_line p past s place o e kept begun k = grind (arith, make_says, cancel_says)
 
 taken_known : (p : Program) (past : List Seen) (s : State) (n : ℕ) (t : Id × Request) → TakesFront s n t → Working s → KnownAt p past s →
     Follows p past (step.take s n (Ok t))
@@ -245,8 +241,7 @@ cancel_outside p past s v k = cancel_both s v (λ (d : ops.Done). KnownAt p (See
 pub did_known : (p : Program) (past : List Seen) (s : State) (n : Next) → Did p s n → Kept s → Working s → StartedAt p past s → KnownAt p past s →
     Follows p past n
 did_known p past s n (Did.still x time clock stop idled l q) kept work begun k = still_known p past (timed s x time clock stop idled) l q k
-did_known p past s n (Did.op x at o e) kept work begun k =
-    (op_line p past s at o e kept begun k, op_known p past s o kept (λ id f. new_id p past s id f kept begun) k at e)
+did_known p past s n (Did.op x at o e) kept work begun k = search (op_line, op_known, new_id)
 did_known p past s n (Did.collected run part t f) kept work begun k = changed p past s t (records.stopped t.1) f.holds refl refl k
 did_known p past s n (Did.fired run t f) kept work begun k = fired_known p past s run t f kept begun k
 did_known p past s n (Did.called_due run t f) kept work begun k = due_known p past s run t f kept begun k

@@ -57,9 +57,6 @@ past : (all : List Callbacks) (i : ℕ) → length all ≤ i → unwrap_or (slic
 past (x ∷ all) (suc i) l = past all i (omega arith)
 past each e1 l = grind arith
 
-empty_body : (p : Program) (kind : Callback) (v : Var) (call : ℕ) → lines_in p kind v ≡ [] → body_of p kind v call ≡ []
-empty_body p kind v call e = rw e refl
-
 no_body : (p : Program) (kind : Callback) (v : Var) (call : ℕ) → lines_in p kind v ≡ [] → body_from p kind v call 0 ≡ None
 no_body p kind v call e = rw e refl
 
@@ -67,4 +64,4 @@ no_body p kind v call e = rw e refl
 pub next_body : (p : Program) (names : List Named) (told : Told) (kind : Callback) (v : Var) (call : ℕ) → call ≡ count_of kind (counts_in names v) +
     1 →
     Counted p names told → IsBody p (body_from p kind v call 0) (body_of p kind v (next_call told kind v))
-next_body p names told kind v call e k = grind (arith, whole_body, past, no_body, empty_body, cases_lt)
+next_body p names told kind v call e k = grind (arith, whole_body, past, no_body, cases_lt)

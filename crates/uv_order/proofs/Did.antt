@@ -149,9 +149,6 @@ body_did p s run body None e = still _ s.time s.clock s.stop_flag s.idled None u
 body_did p s run body (Some line) e =
     op _ (Site.In body.callback body.name body.next) line.op (ap (option_map (λ (x : CallbackLine). x.op)) e)
 
-run_did : (p : Program) (s : State) (run : Run) (body : Option Body) → BeginsIn body run.stage s → Did p s (step.run_step p s run body)
-run_did p s run body r = grind (arith, stage_did, body_did)
-
 main_did : (p : Program) (s : State) (i : ℕ) (x : Option MainOp) → slice_get p.main i ≡ x → Did p s (step.main_step (order_of p) s i x)
 main_did p s i None e = refused Ended
 main_did p s i (Some (MainOp.Run m)) e = cond_both (step.refreshes (order_of p) m) (refreshed s) s
@@ -184,4 +181,4 @@ did p s (Cancel v) r = cond_both (nat_lt v.0 (length s.names)) _ _ (Did p s) (λ
 did p s (Send v) r = cond_both (nat_lt v.0 (length s.names)) _ _ (Did p s) (λ h. sent v) (λ h. refused Range)
 did p s (Tick ms) r = cond_both (nat_le (s.clock + ms) 4611686018427387904) _ _ (Did p s)
     (λ h. still s.place s.time (s.clock + ms) s.stop_flag s.idled _ (tick ms)) (λ h. refused Range)
-did p s each r = grind (arith, main_did, run_did, take_did, finish_did, cond_both, refused, io_did, still)
+did p s each r = grind (arith, main_did, stage_did, body_did, take_did, finish_did, cond_both, refused, io_did, still)

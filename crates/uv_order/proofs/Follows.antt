@@ -62,8 +62,7 @@ stage_follows p told s run Stage.Pending at st k h g c (pending {w = w} none b) 
 stage_follows p told s run (Stage.Walking WatcherKind.Async) at st k h g c (walking b) l = async_follows p told s run _ (lives_is s g) st k h c l b
 stage_follows p told s run (Stage.Walking q) at st k h g c (walking b) l = walk_follows p told s run q _ (lives_is s g) tt st k h c l b
 stage_follows p told s run (Stage.Poll deadline) at st k h g c polls l = left_poll p told s run deadline h g c (assumption)
-stage_follows p told s run (Stage.Polled woken) at st k h g c (polled b) l =
-    left_polled p told s run woken _ b g c (left_all l.timers l.idle l.prepare l.check l.async l.closing l.done)
+stage_follows p told s run (Stage.Polled woken) at st k h g c (polled b) l = search (left_polled, left_all)
 stage_follows p told s run Stage.Done at st k h g c (done woken b) l = done_follows p told s run _ st k h g c l woken b
 stage_follows p told s run Stage.DoneUnwoken at st k h g c (unwoken {w = w} asleep none b) l =
     unwoken_follows p told s run w asleep none b c (grind arith)
@@ -109,14 +108,7 @@ async_in : (s : State) (told : Told) (o : Op) (word : Phase) (w : Walk) (more : 
     (record w { off = taken_off word (names_at s) o (do_op s o).answer ++ w.off; body = more }) (do_op s o).state.watchers.async.yet
 async_in s told o Phase.Async w more k h l =
     let f = op_effect s o k in
-    record {
-      gone = l.gone;
-      behind = l.behind;
-      all = l.all;
-      left = more_left l.behind w.off _ s.watchers.async.yet _ f.async l.left;
-      passed = pass_more (taken_off Phase.Async (names_at s) o (do_op s o).answer) w.off w.sent l.gone l.passed;
-      still = still_sent s told o s.watchers.async.yet _ w.sent k h f.async l.still;
-    }
+    search (more_left, pass_more, still_sent)
 async_in s told o word w more k h l = still_none _ s.watchers.async.yet _ (op_effect s o k).async l
 
 -- no op takes a handle off the closing list

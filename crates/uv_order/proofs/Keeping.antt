@@ -357,9 +357,6 @@ takes s free id x e k n =
 pub sound_grown : (slots more : List (Slot Content)) (id : Id) (x : HandleRecord) → Grown slots more id x → IsSound x → AllSound slots → AllSound more
 sound_grown slots more id x g f k i y l = grind arith
 
-pub new_unwatched : (v : Var) (q r : Kind) → Apart Kind.Async r → Watches r (inited v q) → ⊥
-new_unwatched v q r d w = grind arith
-
 pub new_by : (s : State) (v : Var) (q : Kind) (id : Id) (w : Walk Id) → Takes s.arena s.arena.free id (inited v q) →
     Everyone (taken id (Content.Handle (inited v q)) s.arena).slots (Watches Kind.Async) (members w) → Kept s →
     Agree (taken id (Content.Handle (inited v q)) s.arena) s.next_start s.timers s.ready (with_those_of WatcherKind.Async w s.watchers) s.closing
@@ -380,7 +377,7 @@ new_by s v q id w t async k =
     more = (taken id (Content.Handle (inited v q)) s.arena).slots
 
     grown_list : (r : WatcherKind) → Apart Kind.Async (kind_as r) → Everyone more (Watches (kind_as r)) (members (watched s r))
-    grown_list r d = everyone_grown s.arena.slots more (Watches (kind_as r)) id x (members (watched s r)) t.0 (new_unwatched v q (kind_as r) d)
+    grown_list r d = everyone_grown s.arena.slots more (Watches (kind_as r)) id x (members (watched s r)) t.0 (grind arith)
         (k.watchers r)
 
     listed : (r : WatcherKind) → Everyone more (Watches (kind_as r)) (members (those_of r (with_those_of WatcherKind.Async w s.watchers)))

@@ -2,7 +2,7 @@
 use Rattle.uv_order.proofs.Names.{arith, ◌≡◌, inl, ℕ, ◌+◌, ◌==◌, List, [], ◌∷◌, ◌++◌, true, false, Some, None, drop, refl, ap, sym, subst, ◌∙◌, append_assoc, append-nil, cond_both, false_from_ne_true, Id, Var, Due, HandleRecord, Slot, WatcherKind, referenced_as, repeating, Slots, held, freed, taken, next_free, Walk, all_yet, moved_on, Op, Task, Program, arena_size, Content, Request, queued, Run, State, fresh, handle, with_handle, with_request, with_id, live, front, watched, with_watched, stopped, started, restarted, do_op, Next, Moves, Refuses, collected, front_moved, begin_walk, has_id, kind_as, Kind}
 use Rattle.uv_records.specs.Handles as records
 use Rattle.uv_model.specs.Ops as ops
-use Rattle.uv_order.proofs.Lemmas.{Each, each_push, distinct_push, member, has_new_middle, holds, emptied, get_set_same, is_held, put, same_handles, Fits, its_handle, Lists, lists_emptied, not_listed, Everyone, everyone_put, everyone_emptied, everyone_rest, fitted_emptied, IsSet, Times, times_rest, times_emptied, put_same, DidOp, op_did, live_held, refuses_none, refuses_timer, refuses_start, refuses_stop, refuses_again, refuses_close, start_passes, again_passes, start_watcher_passes, close_passes, stop_passes, on_handle_both, send_both, cancel_both, make_both, request_turns, freed_turns, FrontRequest, Did, FrontOf, FirstOf, kept_all, fills, agree_same, free_held, Rests, Watches, Closes, IsSound, AreFree, members, Agree, Kept, on_off, open_shut, others, off_list, sound_put, free_put, free_set, not_free, put_kept, stopped_kept, closed_kept, started_kept, started_again_kept, restarted_again_kept, watcher_started_kept, io_started_kept, new_kept, not_timer}
+use Rattle.uv_order.proofs.Lemmas.{Each, each_push, distinct_push, member, has_new_middle, holds, emptied, get_set_same, is_held, put, same_handles, Fits, its_handle, Lists, lists_emptied, not_listed, Everyone, everyone_put, everyone_emptied, everyone_rest, fitted_emptied, IsSet, Times, times_rest, times_emptied, put_same, DidOp, op_did, live_held, refuses_none, refuses_timer, refuses_start, refuses_stop, refuses_again, refuses_close, start_passes, again_passes, close_passes, stop_passes, on_handle_both, send_both, cancel_both, make_both, request_turns, freed_turns, FrontRequest, Did, FrontOf, FirstOf, kept_all, fills, agree_same, free_held, Rests, Watches, Closes, IsSound, AreFree, members, Agree, Kept, on_off, open_shut, others, off_list, sound_put, free_put, free_set, not_free, put_kept, stopped_kept, closed_kept, started_kept, started_again_kept, restarted_again_kept, watcher_started_kept, io_started_kept, new_kept, not_timer}
 
 -- ---- the ops
 
@@ -144,8 +144,7 @@ pub gone_kept : (s : State) (t : Id × HandleRecord) (rest : List Id) (n : ℕ) 
 gone_kept s t rest n free e are f k =
     let l : Everyone s.arena.slots Closes (s.closing.list ++ t.0 ∷ rest) = subst (λ (ids : List Id). Everyone s.arena.slots Closes (s.closing.list
     ++ ids)) are k.closing in
-    let shut : t.1.closing ≡ true = its_handle s.arena.slots Closes t.0 t.1 e (member (Fits s.arena.slots Closes) (s.closing.list ++ t.0 ∷ rest)
-    l.lists.each t.0 (has_new_middle s.closing.list rest t.0)) in
+    let shut : t.1.closing ≡ true = its_handle s.arena.slots Closes t.0 t.1 e (grind (arith, member, has_new_middle)) in
     let off : t.1.active ≡ false = (k.sound t.0 t.1 e).shut shut in
     record {
       sound = λ i y h. k.sound i y ((fitted_emptied s.arena.slots (λ x. x ≡ y) t.0 t.1 n e i (search holds)).1.holds ∙ ap Some (grind arith));

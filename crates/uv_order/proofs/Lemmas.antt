@@ -8,7 +8,7 @@ pub use Rattle.uv_order.proofs.Gone.{IsGone, gone_emptied, gone_fill, gone_now, 
 pub use Rattle.uv_order.proofs.Holding.{Everyone, Fits, Grown, IsSet, Lists, NoNewNames, SameHandles, Times, emptied_other, emptied_same, everyone_emptied, everyone_put, everyone_rest, fits_back, fits_emptied, fits_put, fits_same, fitted, fitted_emptied, grown_at, held_at, is_held, its_handle, lists_emptied, name_at, name_in, names_turned, not_listed, put, put_names, put_other, put_same, put_turns, same_handles, times_emptied, times_rest}
 pub use Rattle.uv_order.proofs.IdLists.{Each, FirstLeft, absent, all_off, distinct_back, distinct_front, distinct_push, each_back, each_push, first_left, has_both, has_but_one, has_new_middle, has_without, itself, left_of, member, more_off, none_off, on_list, other, same, still_absent, still_there, turned, without_absent, without_itself}
 pub use Rattle.uv_order.proofs.Keeping.{Agree, AreFree, Closes, IsSound, Kept, Rests, Watches, agree_same, closed_kept, fills, free_held, free_put, free_set, has_number, io_started_kept, kept_all, members, new_kept, not_free, not_timer, off_list, on_off, open_shut, others, put_kept, restarted_again_kept, sound_put, started_again_kept, started_kept, stopped_kept, takes as taken_handle, watcher_started_kept}
-pub use Rattle.uv_order.proofs.OpCases.{DidOp, IsAsked, IsLive, IsRef, IsRefusal, again_passes, cancel_both, close_passes, io_kind, live_as_handle, live_bound, live_held, make_both, names_at, on_handle_both, op_did, refuses_again, refuses_close, refuses_none, refuses_start, refuses_stop, refuses_timer, send_both, send_passes, start_passes, start_watcher_passes, stop_passes}
+pub use Rattle.uv_order.proofs.OpCases.{DidOp, IsAsked, IsLive, IsRef, IsRefusal, again_passes, cancel_both, close_passes, io_kind, live_as_handle, live_bound, live_held, make_both, names_at, on_handle_both, op_did, refuses_again, refuses_close, refuses_none, refuses_start, refuses_stop, refuses_timer, send_both, send_passes, start_passes, stop_passes}
 pub use Rattle.uv_order.proofs.OpEffects.{harmless, none_taken, one_taken, op_effect, refusal_takes_none, start_off, takes}
 pub use Rattle.uv_order.proofs.Quiet.{IsOfHandles, IsOfLoop, KeepsWork, SameWork, did_same, op_same}
 pub use Rattle.uv_order.proofs.TimerKeys.{distinct_due, due_ids, none_due}

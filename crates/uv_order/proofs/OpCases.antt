@@ -84,13 +84,6 @@ start_passes h e = let parts = only_passes (is_timer h.kind) (invalid_if h.closi
 pub again_passes : (h : HandleRecord) → again_refusal h ≡ None → (h.kind ≡ Kind.Timer) × (h.closing ≡ false)
 again_passes h e = grind arith
 
-pub start_watcher_passes : (h : HandleRecord) → start_watcher_refusal h ≡ None → (is_startable h.kind ≡ true) × (h.closing ≡ false)
-start_watcher_passes h e = let parts = only_passes (is_startable h.kind) (invalid_if h.closing) e in (parts.0, invalid_passes h.closing parts.1)
-
--- a handle that may be started so, and is of no kind of watchers, is one of I/O
-is_of_io : (q : Kind) → is_startable q ≡ true → watcher_kind q ≡ None → q ≡ Kind.Io
-is_of_io each e f = grind arith
-
 pub close_passes : (h : HandleRecord) → close_refusal h ≡ None → h.closing ≡ false
 close_passes h e = invalid_passes h.closing e
 
@@ -193,7 +186,7 @@ watcher_did s v t e may =
     let by : State → Type 0 = λ u. DidOp s (Op.StartWatcher v) (ops.succeeds u) in
     cond_both t.1.active s _ by (λ on. watches v t e on)
     (λ off. found_both (watcher_kind t.1.kind) _ _ by (λ q is. watching v q t e (grind arith) off may.1)
-    (λ none. io_started v t e (is_of_io t.1.kind may.0 none) off may.1))
+    (λ none. io_started v t e (grind arith) off may.1))
 
 -- an op on a handle
 held_did : (s : State) (o : Op) (v : Var) (why : HandleRecord → Option Code) (f : Id → HandleRecord → ops.Done) → MayRefuse o → Refuses why →
@@ -207,7 +200,7 @@ op_did s (Op.Queue v task) =
 op_did s (Op.Cancel v) = cancel_both s v (DidOp s (Op.Cancel v)) (λ c r. refused _ c r tt) (λ t live on. cancelled v t live on)
 op_did s (Op.Start v timeout repeat) = held_did s (Op.Start v timeout repeat) v start_timer_refusal _ tt refuses_start
     (λ t e is. let p = start_passes t.1 is in started v timeout repeat t e p.0 p.1)
-op_did s (Op.StartWatcher v) = grind (arith, held_did, watcher_did, start_watcher_passes)
+op_did s (Op.StartWatcher v) = grind (arith, held_did, watcher_did)
 op_did s (Op.Stop v) = held_did s (Op.Stop v) v stop_refusal _ tt refuses_stop (λ t e is. stopped v t e (stop_passes t.1 is))
 op_did s (Op.Again v) = held_did s (Op.Again v) v again_refusal _ tt refuses_again
     (λ t e is. let p = again_passes t.1 is in again v t e p.0 p.1)

@@ -182,9 +182,7 @@ did_op_known p past s o d DidOp.time_updated kept unmade k = known_by p past o d
 did_op_known p past s o d (DidOp.made v q id e) kept unmade k = new_known p past s v q id e kept unmade k
 did_op_known p past s o d (DidOp.queued v task id e) kept unmade k = queued_known p past s v task id e kept unmade k
 did_op_known p past s o d (DidOp.cancelled v t live on) kept unmade k = cancel_op_known p past s v t live on k
-did_op_known p past s o d (DidOp.started v timeout repeat t e is stays) kept unmade k =
-    known_by p past o d (harmless (Op.Start v timeout repeat) refl _)
-    (twice p past s t (records.stopped t.1) _ (live_held s v t e) refl refl refl refl k)
+did_op_known p past s o d (DidOp.started v timeout repeat t e is stays) kept unmade k = search (known_by, harmless, twice, live_held)
 did_op_known p past s o d (DidOp.again v t e is stays) kept unmade k =
     known_by p past o d (harmless (Op.Again v) refl _) (again_known p past s t (live_held s v t e) k)
 did_op_known p past s o d (DidOp.watching v q t e is off stays) kept unmade k = search (known_by, past, harmless, changed, live_held)

@@ -112,9 +112,7 @@ stays p told names m i part w l to e g = at to e g where
   at to e (doc.section next a b c d f) = cc (ap is_within c, e)
   at to e (doc.poll timeout a b c d f) = cc (ap is_within d, e)
   at to e (doc.ends a b c d) = cc (ap is_within c, e)
-  at to e (doc.call kind v id behind a b c d f) =
-      let walk : Walk = record w { ahead = behind; body = body kind v } in
-      so walk (λ x on. on) l.seen refl (call_tells p told names part w walk l.before kind v id behind l.seen b d)
+  at to e (doc.call kind v id behind a b c d f) = grind arith
   at to e (doc.fires v id due others a b c d f g h i) =
       so (record w { body = body Callback.Handle v }) (λ x on. on) (Seen.Call v id) h ((λ heap. cc (a, heap)), rw b refl)
   at to e (doc.answers v id a b c d f g) = grind arith
@@ -169,18 +167,10 @@ sent_on p m i part w told past was xs l v id ls is a e h =
 
 -- ---- lines that aren't sends
 
-absent_ids : (sent gone : List Id) (id : Id) → has_id sent id ≡ false → has_id (doc.without_ids sent gone) id ≡ false
-absent_ids sent [] id e = e
-absent_ids sent (x ∷ gone) id e = still_absent (doc.without_ids sent gone) x id (absent_ids sent gone id e)
-
-absent_op : (names : Names) (o : Option Op) (a : Answer) (sent : List Id) (id : Id) → is_send_op o ≡ false → has_id sent id ≡ false →
-    has_id (doc.sent_after o a names sent) id ≡ false
-absent_op names o a sent id e h = grind (arith, still_absent, absent_ids)
-
 absent_on : (p : Program) (xs : List Line) (told : Told) (past : List Seen) (id : Id) → AllSilent p xs → has_id told.sent id ≡ false →
     has_id (told_after p told past xs).sent id ≡ false
 absent_on p [] told past id a h = h
-absent_on p (x ∷ xs) told past id a h = absent_on p xs _ _ id a.1 (grind (arith, absent_op, still_absent))
+absent_on p (x ∷ xs) told past id a h = absent_on p xs _ _ id a.1 (grind (arith, still_absent))
 
 -- a call takes in what was sent
 absent_called : (p : Program) (told : Told) (names : Names) (l : Seen) (v : Var) (id : Id) → l ≡ Seen.Call v id →
@@ -198,10 +188,6 @@ zero_waits : (p : Program) (told : Told) (names : Names) (l : Line) (at to : Pos
     l.seen ≡ Seen.Poll timeout → Goes p told names at l to → timeout ≡ Some 0
 zero_waits p told names l at to timeout shut e g = grind (arith, no_wait)
 
-zero_on : (p : Program) (at : Position) (told : Told) (past : List Seen) (was : Lasting) (l : Line) (ls : List Line) (timeout : Option ℕ) →
-    closes_some l.before ≡ true → l.seen ≡ Seen.Poll timeout → GoesOn p at told past was (l ∷ ls) → timeout ≡ Some 0
-zero_on p at told past was l ls timeout shut e (line {to = to} f g h) = zero_waits p told (names_by p past) l at to timeout shut e g
-
 -- a callback of I/O stands in such a section
 io_on : (p : Program) (m : Mode) (i : ℕ) (part : Section) (w : Walk) (told : Told) (past : List Seen) (was : Lasting) (l : Line) (v : Var)
     (id : Id) (ls : List Line) → l.seen ≡ Seen.Io v id → GoesOn p (Running m i (Within part w)) told past was (l ∷ ls) →
@@ -214,7 +200,7 @@ pub refused : (p : Program) (before more : List Line) → RefusedOrder p before 
 refused p before more = record {
   closing_waits = λ l timeout shut d e h.
       let k = behind p before (l ∷ more) (Between 0) nothing_told [] at_first h in
-      d (zero_on p k.at _ _ k.was l more timeout shut e k.goes);
+      d (grind (arith, zero_waits));
   early_timer = λ s l y front mid v x id place timeout repeat heap es fs el o names ms ek h.
       let k = behind p before (s ∷ (front ++ l ∷ (mid ++ y ∷ more))) (Between 0) nothing_told [] at_first h in
       let b = section_on p k.at _ _ k.was s Phase.Timers (front ++ l ∷ (mid ++ y ∷ more)) es k.goes in

@@ -144,8 +144,7 @@ did_op_sent s sent o d (DidOp.queued v task id e) kept k = queued_sent s sent v 
 did_op_sent s sent o d (DidOp.cancelled v t live on) kept k = request_sent s sent t.0 t.1 _ live.holds k
 did_op_sent s sent o d (DidOp.started v timeout repeat t e is stays) kept k = search (twice, live_held)
 did_op_sent s sent o d (DidOp.again v t e is stays) kept k = again_sent s sent t (live_held s v t e) k
-did_op_sent s sent o d (DidOp.watching v WatcherKind.Idle t e is off stays) kept k =
-    changed s sent t (records.activated t.1) (live_held s v t e) refl refl refl k
+did_op_sent s sent o d (DidOp.watching v WatcherKind.Idle t e is off stays) kept k = search (changed, live_held)
 did_op_sent s sent o d (DidOp.watching v each t e is off stays) kept k = changed s sent t (records.activated t.1) (live_held s v t e) refl refl refl k
 did_op_sent s sent o d (DidOp.io_started v t e is off stays) kept k =
     changed s sent t (records.activated t.1) (live_held s v t e) refl refl refl k

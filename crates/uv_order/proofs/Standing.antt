@@ -207,12 +207,9 @@ check_next o m go = refl
 
 -- ---- lists of sections
 
-pub timer_held : (s : State) (key : Due) (id : Id) → IsTimer s key id → Fits s.arena.slots (IsSet key) id
-timer_held s key id t = record { handle = t.its; holds = t.holds; fits = record { kind = t.kind; active = t.active; due = t.due } }
-
 -- the order of timers is that of all active ones
 pub are_timers : (s : State) (ts : List (Due × Id)) (drawn : ℕ) → Times s.arena.slots drawn ts → AreTimers s ts
-are_timers s ts drawn k = grind (arith, timer_held)
+are_timers s ts drawn k = grind (arith)
 
 pub due_distinct : (s : State) (time : ℕ) → Kept s → AreDistinct (due_ids time s.timers)
 due_distinct s time k = grind (arith, distinct_due, its_handle)

@@ -133,8 +133,7 @@ op_started p past s place o v t x now list at on is turns gone lists own k =
     chosen : (i : Id) (b : Bool) → bound p past v ≡ Some t.0 → same_id t.0 i ≡ b →
         (if is_some_id i (bound p past v) && true then activity_by o (activity p past i) else activity p past i) ≡
         (if b then activity_by o (activity p past i) else activity p past i)
-    chosen i true e d = ap (λ (b : Bool). if b && true then activity_by o (activity p past i) else activity p past i) (ap (is_some_id i) e ∙ d)
-    chosen i false e d = ap (λ (b : Bool). if b && true then activity_by o (activity p past i) else activity p past i) (ap (is_some_id i) e ∙ d)
+    chosen i b e d = grind arith
 
     told : (i : Id) → activity p (Seen.Op place (Answer.Code Code.Ok) ∷ past) i ≡
         (if is_some_id i (bound p past v) && true then activity_by o (activity p past i) else activity p past i)
@@ -317,8 +316,7 @@ did_op_started p past s o d (DidOp.refused o' c r may) kept w k = still_op p pas
 did_op_started p past s o d (DidOp.asked o' a is) kept w k = still_op p past s o' d (harmless o' (asked_harmless o' is) a).0.made
     (λ i x. asked_still p past o' a i x is) (λ now q. unchanged p past now s q k)
 did_op_started p past s o d DidOp.loop_stopped kept w k = search (still_op, past, unchanged)
-did_op_started p past s o d DidOp.time_updated kept w k =
-    still_op p past s Op.UpdateTime d (λ i. refl) (λ i x. refl) (λ now q. unchanged p past now s q k)
+did_op_started p past s o d DidOp.time_updated kept w k = search (still_op, unchanged)
 did_op_started p past s o d (DidOp.made v q id e) kept w k = handle_made p past s v q id e kept k
 did_op_started p past s o d (DidOp.queued v task id e) kept w k = request_made p past s v task id e kept k
 did_op_started p past s o d (DidOp.cancelled v t live on) kept w k = still_op p past s (Op.Cancel v) d (λ i. refl) (λ i x. refl)
@@ -517,8 +515,7 @@ did_started p past s n (Did.walked run WatcherKind.Idle t sync f) kept w k = sam
 did_started p past s n (Did.walked run each t sync f) kept w k = same_started p past s each t f kept k
 did_started p past s n (Did.woken run t f on) kept w k =
     walked_started p past s WatcherKind.Async t (records.woken t.1) f (λ b. refl) kept k
-did_started p past s n (Did.closed run t f) kept w k = freed_started p past _ s (arena_size p).last_generation t.0 (Content.Handle t.1)
-    (is_held s.arena.slots t.0 t.1 f.holds) kept (record { made = λ i v m. m; same = λ i. refl }) k
+did_started p past s n (Did.closed run t f) kept w k = search (freed_started, is_held, same)
 did_started p past s n (Did.ended run t f) kept w k = freed_started p past _ s (arena_size p).last_generation t.0 (Content.Request t.1)
     f.holds kept (record { made = λ i v m. m; same = λ i. refl }) k
 did_started p past s n (Did.finished n' t f) kept w k =

@@ -122,8 +122,7 @@ turn_follows p told s run turn at alive is over k c e =
     stands_by : (part : TimersOf) (heap : Bool) → from_heap p ≡ heap →
         StandsAt p (begun part) (begun part).place (Running run.mode run.line (Within (section_of part) (begun_with woken (ahead heap part))))
     stands_by part true heap = running (calls_due heap refl refl) (rw heap (timers_left part _ _ (assumption (e.timers, e))))
-    stands_by part false heap = running (collects heap refl) (rw heap (timers_left part _ _
-        (assumption (ap (λ (ids : List Id). ids ++ due part) e.timers ∙ sym (none_off (due part)), e))))
+    stands_by part false heap = running (collects heap refl) (grind (arith, timers_left, none_off))
 
     stands : (part : TimersOf) →
         StandsAt p (begun part) (begun part).place (Running run.mode run.line (Within (section_of part) (walk part)))
@@ -149,10 +148,6 @@ pub none_due_now : (part : TimersOf) (p : Program) (s : State) → (from_heap p 
     NoneDue (word_of (section_of part)) (from_heap p) s
 none_due_now part p s none = grind arith
 
-pub timers_call : (part : TimersOf) (told : Told) (w : Walk) (id : Id) (more : List Id) (n : NextCall w id more) → w.body ≡ [] → CallsNext (word_of
-    (section_of part)) told w id n.behind
-timers_call part told w id more n b = grind arith
-
 -- a timer is called from the ready list, in a state that may have started it again
 pub call_timer : (p : Program) (told : Told) (s u : State) (run : Run) (part : TimersOf) (w : Walk) (t : Id × HandleRecord) (more : List Id) →
     handle s t.0 ≡ Some t.1 → u.names ≡ s.names → lasting u ≡ lasting s → OnlyReady (rest (t.0 ∷ more) u) w → u.ready ≡ more → w.body ≡ [] →
@@ -161,7 +156,7 @@ pub call_timer : (p : Program) (told : Told) (s u : State) (run : Run) (part : T
 call_timer p told s u run part w t more h names lasts o ready b heap c =
     let next = next_of w t.0 more (sym o.ready) in
     call_follows p told s u run (record run { stage = Stage.Timers part Firing }) (section_of part) w t next.behind (grind arith)
-    (timers_call part told w t.0 more next b) h names lasts c
+    (grind arith) h names lasts c
     (λ is. running (fires heap is) (grind arith))
 
 pub fire_follows : (p : Program) (told : Told) (s : State) (run : Run) (part : TimersOf) (w : Walk) → lives s ≡ is_alive s → Kept s →

@@ -36,11 +36,6 @@ opens_watched p told s t q woken has k e = record {
 none_yet : (s : State) (q : WatcherKind) → NobodyLeft (rest s.ready s) → (watched s q).yet ≡ []
 none_yet s q e = grind arith
 
--- then as its section begins all of its list are left, and of the others nobody
-begun_left : (told : Told) (s : State) (q : WatcherKind) (woken : Bool) → SentAt told.sent s → NobodyLeft (rest s.ready s) →
-    Leaves (rest s.ready (with_watched s q (all_yet (watched s q)))) (Within (In (phase_of q)) (walk_with told q woken (watched s q).list))
-begun_left told s each woken h e = grind (arith, left_all, none_off)
-
 -- nobody is left of no list of async handles
 pub none_behind : (slots : List (Slot Content)) (w : Walk) (yet : List Id) → w.ahead ≡ [] → yet ≡ [] → IsBehind slots w yet
 none_behind slots w yet none e = grind arith
@@ -52,7 +47,7 @@ pub begin_follows : (p : Program) (told : Told) (s : State) (run : Run) (q : Wat
     Follows p told (Running run.mode run.line at) s (step.begin_walk s run q)
 begin_follows p told s run q at over follows has k h c e = follows_to (doc.section (In (phase_of q)) over
     (follows (order_of p) run.mode (doc.goes_on s)) refl (opens_watched p told s _ q (doc.woken_at at) has k (none_yet s q e))
-    (grind arith)) (running (walking refl) (begun_left told s q (doc.woken_at at) h e)) c
+    (grind arith)) (running (walking refl) (grind (arith, left_all, none_off))) c
 
 -- that of async handles behind a poll that nobody woke, where it has no list
 pub unwoken_follows : (p : Program) (told : Told) (s : State) (run : Run) (w : Walk) → w.woken ≡ false → w.ahead ≡ [] → w.body ≡ [] →
@@ -119,11 +114,6 @@ call_watcher p told s run WatcherKind.Check w t d st f l b c =
     (plain_calls WatcherKind.Check told w t.0 f.rest next tt b) f.holds refl refl c
     (λ is. rw st (running (walking is) (left_all l.timers l.idle l.prepare (f.behind ∙ next.left) l.async l.closing l.done)))
 
--- with none of its own left, nobody is left
-pub none_own : (s : State) (q : WatcherKind) (w : Walk) → IsSync q → (watched s q).yet ≡ [] → Leaves (rest s.ready s) (Within (In (phase_of q)) w) →
-    NobodyLeft (rest s.ready s)
-none_own s q w d e l = grind arith
-
 pub plain_over : (q : WatcherKind) (w : Walk) → IsSync q → w.body ≡ [] → doc.AllOff w.off w.ahead → IsOver (phase_of q) w
 plain_over q w d b o = grind arith
 
@@ -138,7 +128,7 @@ walk_follows p told s run q w alive d st k h c l b = found_both (front s (watche
     (λ e. let each = each_back (Fits s.arena.slots (Watches (kind_as q))) (watched s q).list (watched s q).yet (k.watchers q).lists.each in
     let none : (watched s q).yet ≡ [] = no_front s (Watches (kind_as q)) (watched s q).yet each e in
     after_follows p told s run q w alive (plain_over q w d b (all_off w.ahead w.off (sym (grind arith) ∙ none))) k h c
-    (none_own s q w d none l))
+    (grind arith))
 
 -- ---- the front of those yet to run, and who is behind it
 

@@ -226,8 +226,7 @@ open_over r a b = both_ways (is_open r.outcome) b a
 -- a new request waits behind the others
 pub works_queued : (slots more : List (Slot Content)) (waiting : List Id) (running : List (Option Id)) (done : Walk Id) (id : Id) (r : Request) →
     Turns slots more id None (Some (Content.Request r)) → IsOpen r → Works slots waiting running done → Works more (waiting ++ id ∷ []) running done
-works_queued slots more waiting running done id r t opened k =
-    search (append_assoc, more_middle, none_fits, opened, all_apart, request_fits_not, open_over)
+works_queued slots more waiting running done id r t opened k = search (append_assoc, more_middle, none_fits, all_apart, request_fits_not, open_over)
 
 -- a request ends
 ended_by : (slots more : List (Slot Content)) (done : Walk Id) (id : Id) (r x : Request) → Turns slots more id (Some (Content.Request r))
@@ -301,10 +300,7 @@ works_collected slots more waiting running done id rest r t e k =
     subst (λ (ids : List Id). AllAsk slots HasEnded (done.list ++ ids)) e k.ended in
     let a = listed.each id (has_new_middle done.list rest id) in
     let over : HasEnded r = subst HasEnded (same_Some _ _ (sym a.holds ∙ ap request_in t.before)) a.fits in
-    record {
-      open_ones = search (all_apart, request_fits_not, open_over, none_fits);
-      ended = less_middle slots more HasEnded id (Some (Content.Request r)) None done.list rest t (none_fits HasEnded) listed;
-    }
+    search (all_apart, request_fits_not, open_over, none_fits, less_middle)
 
 -- the section of those that are done begins
 pub works_begun : (slots : List (Slot Content)) (waiting : List Id) (running : List (Option Id)) (done : Walk Id) → done.yet ≡ [] →
