@@ -1,5 +1,5 @@
 -- Requests as steps find them: the front of a list, what a worker may take, and what one may finish.
-use Rattle.uv_order.proofs.Names.{arith, ◌≡◌, ℕ, ◌+◌, ◌==◌, List, [], ◌∷◌, Some, None, Ok, drop, slice_get, slice_set, cond_both, Id, Slot, Slots, held, freed, Content, Request, State, front_request, next_work, work_of}
+use Rattle.uv_order.proofs.Names.{arith, ◌≡◌, ℕ, ◌+◌, ◌==◌, List, ◌∷◌, Some, None, Ok, drop, slice_get, slice_set, cond_both, Id, Slot, Slots, held, freed, Content, Request, State, front_request, next_work, work_of}
 use Rattle.uv_order.proofs.Contents.{Turns, slot_with, emptied_turns, holds, set_turns, as_request}
 
 -- a request's record changes

@@ -1,5 +1,5 @@
 -- The ops of a callback that are still to be done.
-use Rattle.uv_order.proofs.Names.{◌≡◌, ℕ, zero, suc, ◌+◌, List, [], ◌∷◌, Bool, true, false, Option, Some, None, slice_get, drop, refl, ap, sym, ◌∙◌, arith, if◌then◌else◌, Var, Callback, Site, CallbackLine, Program, lines_in, is_for, Body, next_line, body_from, body_at, sites_from, body_of}
+use Rattle.uv_order.proofs.Names.{◌≡◌, ℕ, suc, ◌+◌, List, ◌∷◌, Bool, Option, Some, None, slice_get, drop, refl, ap, ◌∙◌, arith, if◌then◌else◌, Var, Callback, Site, CallbackLine, Program, lines_in, is_for, Body, next_line, body_from, body_at, sites_from, body_of, []}
 
 -- the line of the next op, and the ops from it on
 pub record IsAt (lines : List CallbackLine) (kind : Callback) (v : Var) (call next : ℕ) (sites : List Site) : Type 0 where

@@ -1,9 +1,9 @@
 -- Each handle closes once: every op and every step of the loop appends a line that may follow those before it.
-use Rattle.uv_order.proofs.Names.{◌≡◌, inl, inr, ℕ, zero, suc, ◌+◌, ◌==◌, ◌||◌, List, [], ◌∷◌, ◌++◌, true, false, drop, Option, Some, None, Ok, slice_get, slice_set, unwrap_or, replicate, refl, ap, sym, subst, ◌∙◌, arith, cond_both, eqb-true, none-some, Id, Var, Code, Kind, Phase, Seen, Site, Op, Program, op_at, arena_size, HandleRecord, WatcherKind, Slots, freed, Content, Named, Request, digest_in, request_in, text_of, Finished, Run, Stage, Done, Closing, Walk, all_yet, has_id, AreDistinct, run_ids, State, fresh, handle, live, live_handle, live_request, with_handle, with_request, watched, unbound, stopped, started, restarted, do_op, Next, Moves, Refuses, call, calls, front_moved, CancelSays, MakesNew, OpSays, MayFollow, activity, kind_as, Answer, Callback, digest_of, next}
+use Rattle.uv_order.proofs.Names.{◌≡◌, inl, inr, ℕ, suc, ◌+◌, ◌==◌, ◌||◌, List, ◌∷◌, ◌++◌, true, false, drop, Option, Some, None, Ok, slice_get, slice_set, unwrap_or, replicate, refl, ap, subst, ◌∙◌, arith, cond_both, eqb-true, none-some, Id, Var, Kind, Phase, Seen, Site, Op, Program, op_at, arena_size, HandleRecord, WatcherKind, Slots, freed, Content, Named, Request, digest_in, request_in, text_of, Finished, Run, Stage, Done, Walk, has_id, AreDistinct, run_ids, State, fresh, handle, live, live_handle, live_request, with_handle, with_request, watched, unbound, stopped, started, restarted, do_op, Next, Moves, Refuses, call, calls, front_moved, CancelSays, MakesNew, MayFollow, activity, kind_as, Callback, digest_of, []}
 use Rattle.uv_records.specs.Handles as records
 use Rattle.uv_model.specs.Ops as ops
 use Rattle.uv_model.specs.Next as step
-use Rattle.uv_order.proofs.Lemmas.{live_held, IsRefusal, cancel_both, make_both, on_list, Each, each_back, itself, has_new_middle, distinct_back, names_turned, same_handles, is_held, put_same, Fits, its_handle, Everyone, request_turns, freed_turns, FrontRequest, TakesFront, RunsWork, HasEnded, its_fit, once_middle, worker, none_run, waits_open, runs_now, fewer_wait, more_run, fewer_run, Working, has_number, Watches, Closes, Rests, Kept, members, not_free, Did, did, FrontOf, FirstOf, IsStill, timed, IsGone, gone_turned}
+use Rattle.uv_order.proofs.Lemmas.{live_held, cancel_both, make_both, on_list, Each, each_back, itself, has_new_middle, distinct_back, names_turned, same_handles, is_held, put_same, Fits, its_handle, Everyone, request_turns, freed_turns, FrontRequest, TakesFront, RunsWork, HasEnded, its_fit, once_middle, worker, none_run, waits_open, runs_now, fewer_wait, more_run, fewer_run, Working, has_number, Watches, Closes, Rests, Kept, members, not_free, Did, FrontOf, FirstOf, IsStill, timed, IsGone, gone_turned}
 use Rattle.uv_order.proofs.KeptSteps.{opened, first_is}
 use Rattle.uv_order.proofs.Started.{StartedAt, gone_freed, freed_gone, new_id, active_started, ready_started, watcher_is_started}
 use Rattle.uv_order.proofs.Worked.{Worked, IsIdle, worked_ended, worked_taken, worked_finished, worked_collected, not_called, says_true}

@@ -1,5 +1,5 @@
 -- What the slots hold, by their ids, and how one of them changes.
-use Rattle.uv_order.proofs.Names.{◌≡◌, ℕ, ◌==◌, List, [], ◌∷◌, ◌++◌, Bool, true, false, cond, Option, Some, None, length, slice_get, slice_set, refl, ap, ◌∙◌, arith, elements, option_and_then, eq-eqb, eqb-true, false_from_ne_true, if◌then◌else◌, slice_get_past, Id, HandleRecord, Slot, held_in, held, Content, Request, handle_in, request_in, same_id}
+use Rattle.uv_order.proofs.Names.{◌≡◌, ℕ, ◌==◌, List, ◌∷◌, ◌++◌, Bool, true, false, cond, Option, Some, None, length, slice_get, slice_set, refl, ap, ◌∙◌, arith, elements, option_and_then, eq-eqb, eqb-true, false_from_ne_true, if◌then◌else◌, slice_get_past, Id, HandleRecord, Slot, held_in, held, Content, Request, handle_in, request_in, same_id, []}
 use Rattle.uv_order.proofs.IdLists.{same, other, itself}
 
 -- ---- slots
@@ -112,11 +112,6 @@ pushed_turns slots c = search (turns, none_at_end, pushed_held)
 pub record IsHeld (slots : List (Slot Content)) (id : Id) : Type 0 where
   pub content : Content
   pub holds : held slots id ≡ Some content
-
--- it turns into something, or another id does
-pub held_turned : (slots more : List (Slot Content)) (id i : Id) (was : Option Content) (c : Content) → Turns slots more id was (Some c) →
-    IsHeld slots i → IsHeld more i
-held_turned slots more id i was c t k = grind (arith, turned_to t)
 
 -- a handle that is held
 pub as_handle : (c : Option Content) (h : HandleRecord) → handle_in c ≡ Some h → c ≡ Some (Content.Handle h)

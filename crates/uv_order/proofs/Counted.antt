@@ -1,5 +1,5 @@
 -- How often each name was called, as the lines tell it and as the state counts it.
-use Rattle.uv_order.proofs.Names.{◌≡◌, ℕ, zero, suc, ◌+◌, ◌<◌, ◌≤◌, ◌==◌, List, [], ◌∷◌, length, true, false, None, slice_get, slice_set, unwrap_or, replicate, refl, ap, ◌∙◌, arith, elements, eqb-true, eq-eqb, cases_lt, Id, Var, Callback, Program, Callbacks, no_callbacks, lines_of, lines_in, Calls, Named, without_id, fresh, unbound, count_of, counted, body_from, Told, nothing_told, told_of, times, next_call, body_of}
+use Rattle.uv_order.proofs.Names.{◌≡◌, ℕ, zero, suc, ◌+◌, ◌<◌, ◌≤◌, ◌==◌, List, ◌∷◌, length, false, slice_get, slice_set, unwrap_or, replicate, refl, ap, ◌∙◌, arith, elements, eqb-true, eq-eqb, cases_lt, Id, Var, Callback, Program, Callbacks, no_callbacks, Calls, Named, without_id, fresh, unbound, count_of, counted, body_from, Told, nothing_told, told_of, times, next_call, body_of}
 use Rattle.uv_order.proofs.Bodies.{IsBody, whole_body}
 use Rattle.uv_order.proofs.OpEffects.{SameCalls, set_long}
 
@@ -57,11 +57,8 @@ past : (all : List Callbacks) (i : ℕ) → length all ≤ i → unwrap_or (slic
 past (x ∷ all) (suc i) l = past all i (omega arith)
 past each e1 l = grind arith
 
-no_body : (p : Program) (kind : Callback) (v : Var) (call : ℕ) → lines_in p kind v ≡ [] → body_from p kind v call 0 ≡ None
-no_body p kind v call e = rw e refl
-
 -- the body of the next call is that which the lines tell
 pub next_body : (p : Program) (names : List Named) (told : Told) (kind : Callback) (v : Var) (call : ℕ) → call ≡ count_of kind (counts_in names v) +
     1 →
     Counted p names told → IsBody p (body_from p kind v call 0) (body_of p kind v (next_call told kind v))
-next_body p names told kind v call e k = grind (arith, whole_body, past, no_body, cases_lt)
+next_body p names told kind v call e k = grind (arith, whole_body, past, cases_lt)

@@ -1,5 +1,5 @@
 -- What a step does, in a row for each way: the tree of the steps is walked here, once, and whatever steps keep is shown by rows.
-use Rattle.uv_order.proofs.Names.{arith, ◌≡◌, ℕ, ◌+◌, ◌&&◌, List, [], ◌∷◌, Bool, true, false, Option, Some, None, Result, Ok, Err, drop, length, nat_le, nat_lt, slice_get, option_map, refl, ap, cond_both, and_parts, same_Some, Id, Var, Due, Event, Loop, Take, Finish, Cancel, Send, Io, Tick, Why, Blocked, Ended, Range, Mode, Phase, Seen, Site, HandleRecord, WatcherKind, is_io, CallbackLine, MainOp, Op, Program, arena_size, from_heap, lines_in, main_op, op_at, order_of, Request, digest_in, Body, Place, Run, Stage, Pending, Poll, Polled, Done, DoneUnwoken, Closing, Timers, Collecting, Firing, TimersOf, Turn, AtEntry, Behind, BehindClosing, Way, ToTimers, ToPending, ToEnd, State, handle, with_handle, live_handle, live_request, front, front_request, watched, refreshed, stopped, restarted, do_op, Next, Moves, Refuses, call, calls, first_due, front_moved, goes, io_handle, io_run, may_leave, next_work, stage_polled, time_polled, work_of, found_both, BeginsBehind, BeginsIn, BeginsAt, Walking, Kind, Callback, Code, next}
+use Rattle.uv_order.proofs.Names.{arith, ◌≡◌, ℕ, ◌+◌, ◌&&◌, List, ◌∷◌, Bool, true, false, Option, Some, None, Result, Ok, Err, drop, length, nat_le, nat_lt, slice_get, option_map, refl, ap, cond_both, and_parts, Id, Var, Due, Event, Cancel, Send, Io, Tick, Why, Blocked, Ended, Range, Mode, Phase, Seen, Site, HandleRecord, WatcherKind, is_io, CallbackLine, MainOp, Op, Program, arena_size, from_heap, lines_in, main_op, op_at, order_of, Request, digest_in, Body, Place, Run, Stage, Pending, Poll, Polled, Done, DoneUnwoken, Closing, Timers, Collecting, Firing, TimersOf, Turn, Behind, BehindClosing, Way, ToTimers, ToPending, ToEnd, State, handle, with_handle, live_handle, live_request, front, front_request, watched, refreshed, stopped, restarted, do_op, Next, Moves, Refuses, call, calls, first_due, front_moved, goes, io_handle, io_run, may_leave, next_work, stage_polled, time_polled, work_of, found_both, BeginsBehind, BeginsAt, Walking, Kind, Callback, Code, next, []}
 use Rattle.uv_records.specs.Handles as records
 use Rattle.uv_records.specs.Slots as slots
 use Rattle.uv_model.specs.declared.place.Place.TheVariants.{Running}

@@ -1,13 +1,13 @@
 -- The lines of every list of steps are in the documented order: what names are bound to by the lines is what the accepted ops of a step
 -- find them bound to.
-use Rattle.uv_order.proofs.Names.{arith, false, map, ◌≡◌, List, [], ◌∷◌, ◌++◌, Option, Some, None, Ok, refl, ap, sym, subst, ◌∙◌, same_Some, Id, Var, Event, Code, Answer, Phase, Seen, Op, Program, worker_count, op_at, HandleRecord, State, fresh, named, live_handle, do_op, Next, Moves, Refuses, state_of, lines, Line, line_of_step, history_from, MayFollow, OnceFrom, line_events, pool_events, pool_of, Pool, empty_pool, then_event, after_events, PoolEvent, Names, names_by, ids_of, sent_by, sent_after, off_by, taken_off, Told, nothing_told, told_by, Lasting, lasting, at_first, Within, Position, Between, Running, Goes, GoesOn, cut, line, Documented, word_of, next, history, replay}
+use Rattle.uv_order.proofs.Names.{arith, false, map, ◌≡◌, List, ◌∷◌, ◌++◌, Option, Some, None, Ok, refl, ap, sym, subst, ◌∙◌, same_Some, Id, Var, Event, Code, Answer, Phase, Seen, Op, Program, worker_count, op_at, HandleRecord, State, fresh, named, live_handle, do_op, Next, Moves, Refuses, state_of, lines, Line, line_of_step, history_from, MayFollow, OnceFrom, pool_events, pool_of, Pool, empty_pool, then_event, after_events, PoolEvent, Names, names_by, ids_of, sent_by, sent_after, off_by, taken_off, Told, nothing_told, told_by, Lasting, lasting, at_first, Within, Position, Between, Running, Goes, GoesOn, cut, line, Documented, word_of, next, history, replay, []}
 use Rattle.uv_model.specs.Ops as ops
 use Rattle.uv_model.specs.After as after
 use Rattle.uv_order.specs.Documented as doc
 use Rattle.uv_order.specs.Once.{Once}
 use Rattle.uv_order.proofs.Histories.{lines-history}
 use Rattle.uv_order.proofs.Pooling.{Pools, did_pools}
-use Rattle.uv_order.proofs.Lemmas.{name_at, DidOp, op_did, names_at, live_bound, IsRefusal, refuses_stop, refuses_start, refuses_again, refuses_close, on_handle_both, send_both, make_both, IsAsked, IsRef, Kept, Did, did, IsStill, timed, Working, StaysWorking, did_working, fresh_working, takes, harmless, one_taken, refusal_takes_none, none_taken, start_off}
+use Rattle.uv_order.proofs.Lemmas.{name_at, DidOp, op_did, names_at, live_bound, IsRefusal, IsAsked, IsRef, Kept, Did, did, IsStill, Working, StaysWorking, did_working, fresh_working, takes, harmless, one_taken, refusal_takes_none, none_taken, start_off}
 use Rattle.uv_order.proofs.KeptSteps.{StaysKept, did_kept, fresh_kept}
 use Rattle.uv_order.proofs.Sends.{SentAt, SentFollows, did_sent, sent_fresh}
 use Rattle.uv_order.proofs.Standing.{Stands, Follows}

@@ -1,5 +1,5 @@
 -- A whole step goes on from where the state stands, and so does every list of them.
-use Rattle.uv_order.proofs.Names.{arith, ◌≡◌, ℕ, ◌+◌, ◌||◌, ◌&&◌, List, [], ◌∷◌, ◌++◌, Bool, true, false, Option, Some, None, Result, Ok, Err, drop, length, slice_get, slice_set, nat_le, nat_lt, refl, ap, sym, subst, ◌∙◌, if◌then◌else◌, cond_both, Order, V144, V145, Id, Var, Event, Loop, Take, Finish, Cancel, Send, Io, Tick, Answer, Mode, Default, Once, Nowait, Phase, Site, Op, MainOp, CallbackLine, Program, lines_in, main_op, order_of, from_heap, HandleRecord, held, Why, Request, has_some, without_id, has_pending, has_passed, Body, Run, Stage, TimersOf, AtEntry, Collecting, Firing, Place, State, fresh, handle, live_handle, with_handle, with_request, refreshed, do_op, may_leave, body_from, next_work, work_of, Names, Told, nothing_told, lasting, Section, In, word_of, Standing, Answering, Begun, Within, Polling, Position, Between, Running, sites_from, taken_off, BeginsIn, BeginsAt, phase_of, Code, Seen, Content, WatcherKind, next, option_map}
+use Rattle.uv_order.proofs.Names.{arith, ◌≡◌, ℕ, ◌+◌, List, ◌∷◌, ◌++◌, Bool, true, false, Option, Some, None, Result, Ok, Err, drop, length, slice_get, slice_set, nat_le, nat_lt, refl, ap, sym, subst, ◌∙◌, if◌then◌else◌, cond_both, Id, Var, Event, Loop, Take, Finish, Cancel, Send, Io, Tick, Answer, Phase, Site, Op, MainOp, CallbackLine, Program, lines_in, main_op, order_of, from_heap, HandleRecord, held, Why, Request, Body, Run, Stage, TimersOf, AtEntry, Collecting, Firing, Place, State, fresh, handle, live_handle, with_handle, with_request, refreshed, do_op, may_leave, body_from, next_work, work_of, Names, Told, nothing_told, Section, In, word_of, Standing, Answering, Begun, Within, Polling, Position, Between, Running, sites_from, taken_off, BeginsAt, phase_of, Code, Seen, Content, WatcherKind, next, option_map, []}
 use Rattle.uv_records.specs.Handles as records
 use Rattle.uv_model.specs.Ops as ops
 use Rattle.uv_model.specs.Next as step
@@ -9,7 +9,7 @@ use Rattle.uv_order.proofs.Lemmas.{left_of, none_off, more_off, name_in, SameHan
 use Rattle.uv_order.proofs.Lives.{lives_is}
 use Rattle.uv_order.proofs.Woken.{pending_is}
 use Rattle.uv_order.proofs.Sends.{pends_in, SentAt, still_sent, pass_more, pends_more}
-use Rattle.uv_order.proofs.Standing.{left_all, begun_with, are_ended, section_of, StandsIn, waiting, rest_in, AsyncIn, rest, Leaves, NobodyLeft, due_now, StandsAt, Stands, FollowsLine, follows_to, Follows, idle_next, done_next, empty_over, opens_done, opens_unwoken, async_moved, begun, pending, walking, polls, polled, done, unwoken, closing, collects, fires, calls_due, between, running}
+use Rattle.uv_order.proofs.Standing.{left_all, are_ended, section_of, StandsIn, waiting, rest_in, AsyncIn, rest, Leaves, NobodyLeft, due_now, StandsAt, Stands, FollowsLine, follows_to, Follows, empty_over, opens_done, opens_unwoken, async_moved, begun, pending, walking, polls, polled, done, unwoken, closing, collects, fires, calls_due, between, running}
 use Rattle.uv_order.proofs.TimersFollow.{turn_follows, fire_follows, collect_follows, call_due_follows}
 use Rattle.uv_order.proofs.IoFollows.{io_follows}
 use Rattle.uv_order.proofs.WatchersFollow.{begin_follows, unwoken_follows, walk_follows, async_follows, done_follows, closing_follows}
@@ -21,7 +21,7 @@ pub left_poll : (p : Program) (told : Told) (s : State) (run : Run) (deadline : 
     NobodyLeft (rest s.ready s) → Follows p told (Running run.mode run.line (Polling deadline)) s (step.poll s run deadline)
 left_poll p told s run deadline sent g c e = cond_both (may_leave s deadline) _ _ (Follows p told (Running run.mode run.line (Polling deadline)) s)
     (λ h. follows_to (doc.section (In Phase.Done) (grind (arith, pending_is))
-        (done_next (order_of p) run.mode (doc.goes_on s)) refl (opens_done p told _ (are_ended s e.done g)) refl)
+        (grind arith) refl (opens_done p told _ (are_ended s e.done g)) refl)
         (running (done refl refl) (assumption (sym (none_off s.done.list), e))) c)
     (λ h. tt)
 
@@ -30,10 +30,10 @@ left_polled : (p : Program) (told : Told) (s : State) (run : Run) (woken : Bool)
     Counted p s.names told → NobodyLeft (rest s.ready s) →
     Follows p told (Running run.mode run.line (Answering woken sites)) s (step.leave_polled s run woken)
 left_polled p told s run true sites b g c e =
-    follows_to (doc.section (In Phase.Done) b (done_next (order_of p) run.mode (doc.goes_on s)) refl
+    follows_to (doc.section (In Phase.Done) b (grind arith) refl
     (opens_done p told _ (are_ended s e.done g)) refl) (running (done refl refl) (assumption (sym (none_off s.done.list), e))) c
 left_polled p told s run false sites b g c e =
-    follows_to (doc.section (In Phase.Done) b (done_next (order_of p) run.mode (doc.goes_on s)) refl (opens_unwoken p told _) refl)
+    follows_to (doc.section (In Phase.Done) b (grind arith) refl (opens_unwoken p told _) refl)
     (running (unwoken refl refl refl) (assumption e)) c
 
 -- the timers of a section are collected, or called straight from their heap
@@ -58,7 +58,7 @@ pub stage_follows : (p : Program) (told : Told) (s : State) (run : Run) (x : Sta
     SentAt told.sent s → Working s → Counted p s.names told → StandsIn p None x at →
     Leaves (rest (waiting x (from_heap p) s.ready (due_now s)) s) at → Follows p told (Running run.mode run.line at) s (step.stage_step p s run x)
 stage_follows p told s run Stage.Entry at st k h g c begun l = turn_follows p told s run AtEntry Begun (lives_is s g) refl tt k c l
-stage_follows p told s run Stage.Pending at st k h g c (pending {w = w} none b) l = search (begin_follows, empty_over, idle_next, left_all)
+stage_follows p told s run Stage.Pending at st k h g c (pending {w = w} none b) l = search (begin_follows, empty_over, left_all)
 stage_follows p told s run (Stage.Walking WatcherKind.Async) at st k h g c (walking b) l = async_follows p told s run _ (lives_is s g) st k h c l b
 stage_follows p told s run (Stage.Walking q) at st k h g c (walking b) l = walk_follows p told s run q _ (lives_is s g) tt st k h c l b
 stage_follows p told s run (Stage.Poll deadline) at st k h g c polls l = left_poll p told s run deadline h g c (assumption)
@@ -164,12 +164,9 @@ answer_op_follows p told s run body woken sites x st e k c b l =
     (counted_sent p _ told _ (counted_kept p _ s.names told (op_effect s x.op k).calls c))
 
 pub body_follows : (p : Program) (told : Told) (s : State) (run : Run) (body : Body) (x : Stage) (at : Standing) (l : Option CallbackLine) →
-    run.stage ≡
-    x →
-    slice_get (lines_in p body.callback body.name) body.next ≡ l → Kept s → SentAt told.sent s →
-    Counted p s.names told → StandsIn p (Some body) x at → Leaves (rest (waiting x (from_heap p) s.ready (due_now s)) s) at →
-    Follows p told (Running run.mode run.line at) s
-    (step.body_step p s run body l)
+    run.stage ≡ x → slice_get (lines_in p body.callback body.name) body.next ≡ l → Kept s → SentAt told.sent s → Counted p s.names told →
+    StandsIn p (Some body) x at → Leaves (rest (waiting x (from_heap p) s.ready (due_now s)) s) at →
+    Follows p told (Running run.mode run.line at) s (step.body_step p s run body l)
 body_follows p told s run body x at None st e k h c (walking b) l = absurd (nothing_there e b.there)
 body_follows p told s run body x at None st e k h c (closing b) l = absurd (nothing_there e b.there)
 body_follows p told s run body x at None st e k h c (pending none b) l = absurd (nothing_there e b.there)
@@ -205,8 +202,7 @@ body_follows p told s run body x at (Some y) st e k h c (calls_due {part = part}
 -- ---- the main program, and a whole step
 
 pub main_follows : (p : Program) (told : Told) (s : State) (i : ℕ) (x : Option MainOp) → slice_get p.main i ≡ x → Kept s → Counted p s.names told →
-    NobodyLeft (rest s.ready s) →
-    Follows p told (Between i) s (step.main_step (order_of p) s i x)
+    NobodyLeft (rest s.ready s) → Follows p told (Between i) s (step.main_step (order_of p) s i x)
 main_follows p told s i None e k c l = tt
 main_follows p told s i (Some (MainOp.Run m)) e k c l = record {
   to = Running m i Begun;
@@ -222,9 +218,8 @@ main_follows p told s i (Some (MainOp.Run m)) e k c l = record {
 main_follows p told s i (Some (MainOp.Op o)) e k c l = follows_to (doc.main_line o _ (ap main_op e) refl (op_effect s o k).lasts)
     (between (none_left s o k l)) (counted_sent p _ told _ (counted_kept p _ s.names told (op_effect s o k).calls c))
 
-pub run_follows : (p : Program) (told : Told) (s : State) (run : Run) (body : Option Body) (at : Standing) → Kept s → SentAt told.sent s →
-    Working s → Counted p s.names told →
-    StandsIn p body run.stage at → Leaves (rest (waiting run.stage (from_heap p) s.ready (due_now s)) s) at →
+pub run_follows : (p : Program) (told : Told) (s : State) (run : Run) (body : Option Body) (at : Standing) → Kept s → SentAt told.sent s → Working s →
+    Counted p s.names told → StandsIn p body run.stage at → Leaves (rest (waiting run.stage (from_heap p) s.ready (due_now s)) s) at →
     Follows p told (Running run.mode run.line at) s (step.run_step p s run body)
 run_follows p told s run body at k sent g c h l = grind (arith, stage_follows, body_follows)
 

@@ -1,5 +1,5 @@
 -- Ids that will never be held again: the slot has a later generation, or is empty for good.
-use Rattle.uv_order.proofs.Names.{◌≡◌, ◌⊎◌, inl, inr, ℕ, ◌<◌, ◌≤◌, ◌==◌, List, [], ◌∷◌, ◌++◌, true, false, Option, Some, None, slice_get, slice_set, refl, arith, or_parts, eq-eqb, Id, HandleRecord, Slot, held, Content}
+use Rattle.uv_order.proofs.Names.{◌≡◌, ◌⊎◌, ℕ, ◌<◌, ◌≤◌, ◌==◌, List, ◌∷◌, ◌++◌, true, false, Option, Some, None, slice_get, slice_set, refl, arith, or_parts, eq-eqb, Id, HandleRecord, Slot, held, Content, []}
 use Rattle.uv_order.proofs.Contents.{slot_with, emptied, holds, get_set_same, get_set_other, get_push}
 use Rattle.uv_order.proofs.Holding.{held_at, is_held, put}
 use Rattle.uv_order.proofs.Keeping.{has_number}
@@ -23,18 +23,13 @@ pub gone_set : (slots : List (Slot Content)) (free more : List ℕ) (n : ℕ) (o
     ((m : ℕ) → (m ≡ n → ⊥) → has_number free m ≡ false → has_number more m ≡ false) → IsGone slots free id → IsGone (slice_set slots n new) more id
 gone_set slots free more n old new id e grows unless others k = grind (arith, get_set_same, get_set_other)
 
--- a slot that holds something isn't empty
-pub is_filled : (slots : List (Slot Content)) (id : Id) (c : Content) (slot : Slot Content) → held slots id ≡ Some c →
-    slice_get slots id.slot ≡ Some slot → slot.content ≡ None → ⊥
-is_filled slots id c slot e f none = grind arith
-
 -- something else is put into a slot that holds something
 pub gone_turned : (slots : List (Slot Content)) (free : List ℕ) (id : Id) (c : Content) (d : Option Content) (i : Id) → held slots id ≡ Some c →
     IsGone slots free i → IsGone (slice_set slots id.slot (slot_with id d)) free i
 gone_turned slots free id c d i e k =
     let at = (holds slots id c e).at in
     gone_set slots free free id.slot at.slot (slot_with id d) i at.there (let g = at.generation in omega arith)
-    (λ none. absurd (is_filled slots id c at.slot e at.there none)) (λ m g f. f) k
+    (λ none. absurd (grind arith)) (λ m g f. f) k
 
 -- another handle is changed
 pub gone_put : (slots : List (Slot Content)) (free : List ℕ) (id : Id) (h x : HandleRecord) (i : Id) → held_at slots id ≡ Some h →
@@ -58,7 +53,7 @@ pub gone_emptied : (slots : List (Slot Content)) (free more : List ℕ) (id : Id
 gone_emptied slots free more id c n i e l others k =
     let at = (holds slots id c e).at in
     gone_set slots free more id.slot at.slot (record { generation = n; content = None }) i at.there (let g = at.generation in omega arith)
-    (λ none. absurd (is_filled slots id c at.slot e at.there none)) others k
+    (λ none. absurd (grind arith)) others k
 
 -- and its id is gone
 pub gone_now : (slots : List (Slot Content)) (more : List ℕ) (id : Id) (c : Content) (n : ℕ) → held slots id ≡ Some c →

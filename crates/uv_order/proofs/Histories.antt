@@ -1,5 +1,5 @@
 -- The lines of a history are those of the trace.
-use Rattle.uv_order.proofs.Names.{◌≡◌, List, [], ◌∷◌, ◌++◌, map, option_to_list, Some, None, refl, ap, flat_map, Event, Seen, Program, State, fresh, Next, Moves, Refuses, seen_from, state_of, seen_of, lines, Line, line_of_step, history_from, next, seen_by, history}
+use Rattle.uv_order.proofs.Names.{◌≡◌, List, ◌∷◌, ◌++◌, map, option_to_list, Some, refl, ap, flat_map, Event, Seen, Program, State, fresh, Next, Moves, seen_from, state_of, seen_of, lines, Line, line_of_step, history_from, next, seen_by, history, []}
 
 line_of_next : (s : State) (n : Next) (ls : List Seen) (hs : List Line) → ls ≡ map (λ (l : Line). l.seen) hs →
     option_to_list (seen_of n) ++ ls ≡ map (λ (l : Line). l.seen) (line_of_step s n ++ hs)

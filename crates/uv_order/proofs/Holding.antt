@@ -135,10 +135,6 @@ fits_either : (slots : List (Slot Content)) (P : HandleRecord → Type 0) (id : 
     Fits (put slots id x) P i → (same_id id i ≡ true) ⊎ Fits slots P i
 fits_either slots P id h x e i l = grind (arith, turned, put_at slots id h x e)
 
--- no handle changes
-pub fits_same : (slots more : List (Slot Content)) (P : HandleRecord → Type 0) → SameHandles more slots → (i : Id) → Fits slots P i → Fits more P i
-fits_same slots more P f i k = record { handle = k.handle; holds = f i ∙ k.holds; fits = k.fits }
-
 -- ---- lists of such ids, on which none stands twice
 
 pub record Lists (slots : List (Slot Content)) (P : HandleRecord → Type 0) (ids : List Id) : Type 0 where
@@ -155,7 +151,7 @@ lists_without slots P id h x ids e k = search (each_without, fits_other, distinc
 
 pub lists_same : (slots more : List (Slot Content)) (P : HandleRecord → Type 0) (ids : List Id) → SameHandles more slots → Lists slots P ids →
     Lists more P ids
-lists_same slots more P ids f k = grind (arith, each_mapped, fits_same)
+lists_same slots more P ids f k = grind (arith, each_mapped)
 
 -- a handle that doesn't fit is on no such list
 pub not_listed : (slots : List (Slot Content)) (P : HandleRecord → Type 0) (id : Id) (h : HandleRecord) (ids : List Id) → held_at slots id ≡ Some h →
@@ -170,7 +166,7 @@ pub record Everyone (slots : List (Slot Content)) (P : HandleRecord → Type 0) 
 
 pub everyone_same : (slots more : List (Slot Content)) (P : HandleRecord → Type 0) (ids : List Id) → SameHandles more slots → Everyone slots P ids →
     Everyone more P ids
-everyone_same slots more P ids f k = grind (arith, fits_same, lists_same)
+everyone_same slots more P ids f k = grind (arith, lists_same)
 
 -- a handle is changed that fits before and after, or doesn't
 pub everyone_put : (slots : List (Slot Content)) (P : HandleRecord → Type 0) (id : Id) (h x : HandleRecord) (ids : List Id) →
@@ -281,9 +277,6 @@ times_put slots drawn ts id h x e f g k = record {
   sorted = k.sorted;
 }
 
-never_set : (x : HandleRecord) (key : Due) → x.active ≡ false → IsSet key x → ⊥
-never_set x key off a = let on = a.active in cc (on, off)
-
 -- an active timer becomes inactive
 pub times_without : (slots : List (Slot Content)) (drawn : ℕ) (ts : List (Due × Id)) (key : Due) (id : Id) (h x : HandleRecord) →
     held_at slots id ≡ Some h → IsSet key h → x.active ≡ false → Times slots drawn ts → Times (put slots id x) drawn (without_timer ts key)
@@ -292,7 +285,7 @@ times_without slots drawn ts key id h x e a off k = record {
       let m = had ts key other_key i k.sorted l in
       let n = k.each other_key i m.0 in (grind (arith, fits_other, its_handle));
   all = λ other_key i l.
-      let b = fits_apart slots (IsSet other_key) id h x e (never_set x other_key off) i l in
+      let b = fits_apart slots (IsSet other_key) id h x e (grind arith) i l in
       still_has ts key other_key i (k.all other_key i b.1) (λ same_key. b.0 (one_id ts key i id k.sorted
       (subst (λ (q : Due). Has ts q i) same_key (k.all other_key i b.1)) (k.all key id (record { handle = h; holds = e; fits = a }))));
   sorted = in_order_without ts key k.sorted;
@@ -307,7 +300,7 @@ times_rest slots drawn t ts h x e off k = record {
         (λ is. not_before_itself t.0 key (same_key key i is n.0) (before_each ts t.0 key i k.sorted.0 l)) n.0,
     n.1,
   );
-  all = λ key i l. let b = fits_apart slots (IsSet key) t.1 h x e (never_set x key off) i l in
+  all = λ key i l. let b = fits_apart slots (IsSet key) t.1 h x e (grind arith) i l in
       elim (k.all key i b.1) [ inl is ↦ absurd (b.0 (sym is.1)) | inr behind ↦ behind ];
   sorted = k.sorted.1;
 } where
@@ -323,7 +316,7 @@ times_with slots drawn more ts key id h x e off a number less k = record {
   each = λ other_key i l. elim (new_or_old ts key other_key id i fresh l) [
     | inl new ↦ (grind (arith, holds, put_same))
     | inr old ↦ let m = k.each other_key i old in
-        (fits_put slots (IsSet other_key) id h x e (λ b. absurd (never_set h other_key off b)) i m.0, omega (arith, m.1, less))
+        (fits_put slots (IsSet other_key) id h x e (λ b. absurd (grind arith)) i m.0, omega (arith, m.1, less))
   ];
   all = λ other_key i l. at other_key i l (same_id i id) refl;
   sorted = in_order_with ts key id k.sorted;

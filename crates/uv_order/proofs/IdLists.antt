@@ -1,5 +1,5 @@
 -- Lists of ids, and what was taken off them.
-use Rattle.uv_order.proofs.Names.{arith, list_any, ◌≡◌, ◌&&◌, ◌||◌, List, [], ◌∷◌, ◌++◌, Bool, true, false, refl, ap, sym, ◌∙◌, if◌then◌else◌, filter, not, eq-eqb, both_ways, Id, same_id, without_id, has_id, AreDistinct, AllOff}
+use Rattle.uv_order.proofs.Names.{arith, list_any, ◌≡◌, ◌&&◌, ◌||◌, List, ◌∷◌, ◌++◌, Bool, true, false, refl, ap, sym, ◌∙◌, if◌then◌else◌, filter, not, eq-eqb, both_ways, Id, same_id, without_id, has_id, AreDistinct, AllOff, []}
 
 -- ---- one id and another
 

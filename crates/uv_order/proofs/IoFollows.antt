@@ -1,14 +1,13 @@
 -- Callbacks of I/O: the step that begins one goes on from where the state stands.
-use Rattle.uv_order.proofs.Names.{arith, ◌≡◌, ℕ, ◌&&◌, ◌||◌, List, [], Bool, true, not, Option, Some, None, Result, Ok, Err, length, nat_lt, refl, ap, subst, ◌∙◌, cond_both, and_parts, Id, Var, Mode, Code, Site, Program, from_heap, has_io, HandleRecord, is_io, Body, Run, Stage, Place, State, live_handle, has_some, io_run, io_handle, stage_polled, takes_io, time_polled, Told, MayAnswer, lasting, Standing, Answering, Position, Running, body_of, next_call, Callback, WatcherKind}
+use Rattle.uv_order.proofs.Names.{arith, ◌≡◌, ℕ, ◌&&◌, ◌||◌, List, Bool, true, not, Option, Some, None, Result, Ok, Err, length, nat_lt, refl, ap, subst, ◌∙◌, cond_both, and_parts, Id, Var, Mode, Code, Site, Program, from_heap, has_io, HandleRecord, is_io, Body, Run, Stage, Place, State, live_handle, has_some, io_run, io_handle, stage_polled, takes_io, time_polled, Told, MayAnswer, lasting, Standing, Answering, Position, Running, body_of, next_call, Callback, WatcherKind, []}
 use Rattle.uv_model.specs.Next as step
 use Rattle.uv_order.specs.Documented as doc
-use Rattle.uv_order.specs.Documented.{Walk}
 use Rattle.uv_order.proofs.Lemmas.{io_kind, live_held, Counted, counted_sent, told_call}
 use Rattle.uv_order.proofs.Sends.{SentAt}
 use Rattle.uv_order.proofs.Woken.{pending_is}
 use Rattle.uv_order.proofs.Standing.{left_all, StandsIn, StandsAt, waiting, rest, Leaves, due_now, Follows, pending, walking, polls, polled, done, unwoken, between, running}
 use Rattle.uv_order.proofs.TimersFollow.{begun_call, call_counted, its_body, named_of}
-use Rattle.uv_order.proofs.WatchersFollow.{async_over, none_behind}
+use Rattle.uv_order.proofs.WatchersFollow.{async_over}
 
 -- the state in which the callback has begun
 abbrev io_begun : Program → State → Run → Var → State
@@ -30,8 +29,7 @@ none_yet ids e = grind arith
 -- where a run stands without a callback under way
 answers : (p : Program) (told : Told) (s : State) (m : Mode) (i : ℕ) (x : Stage) (body : Option Body) (v : Var) (at : Standing) →
     takes_io s x body ≡ true → SentAt told.sent s → Counted p s.names told → StandsIn p body x at →
-    Leaves (rest (waiting x (from_heap p) s.ready (due_now s)) s) at →
-    Answers p told s (record { mode = m; line = i; stage = x; body = body }) v at
+    Leaves (rest (waiting x (from_heap p) s.ready (due_now s)) s) at → Answers p told s (record { mode = m; line = i; stage = x; body = body }) v at
 answers p told s m i Stage.Pending None v at on h c (pending none b) l = record {
   may = b;
   lasts = refl;

@@ -1,7 +1,7 @@
 -- What every step keeps: the lists and the handles agree. The order of timers has just the active ones, the ready list has inactive
 -- timers, and the lists of watchers, async and closing handles have just those of their kind; no id stands twice on a list. A handle that
 -- closes is inactive. The free slots are empty.
-use Rattle.uv_order.proofs.Names.{◌≡◌, ℕ, zero, suc, ◌+◌, ◌==◌, ◌&&◌, ◌||◌, List, [], ◌∷◌, ◌++◌, Bool, true, false, Some, None, length, slice_get, slice_set, refl, ap, sym, subst, ◌∙◌, append_assoc, arith, if◌then◌else◌, not, option_and_then, cond_both, and_parts, both_ways, or_parts, eqb-true, eq-eqb, same_Some, filter-append, Id, Var, Due, Kind, HandleRecord, Slot, WatcherKind, inited, activated, begun_at, is_timer, is_async, Slots, held, taken, next_free, next_id, next_unused, id_of, Walk, with_last, Content, same_id, walk_without_id, State, handle, with_handle, without_timer, stopped, started, restarted, due_after, has_id, kind_as, Watchers, those_of, with_those_of, watchers_without_id, watched, with_watched, with_first}
+use Rattle.uv_order.proofs.Names.{◌≡◌, ℕ, zero, suc, ◌+◌, ◌==◌, ◌&&◌, ◌||◌, List, ◌∷◌, ◌++◌, Bool, true, false, Some, None, length, slice_get, slice_set, refl, ap, sym, subst, ◌∙◌, append_assoc, arith, if◌then◌else◌, not, option_and_then, cond_both, and_parts, both_ways, or_parts, eqb-true, eq-eqb, same_Some, filter-append, Id, Var, Due, Kind, HandleRecord, Slot, WatcherKind, inited, activated, begun_at, is_timer, is_async, Slots, held, taken, next_free, next_id, next_unused, id_of, Walk, Content, same_id, walk_without_id, State, handle, with_handle, without_timer, stopped, started, restarted, due_after, has_id, kind_as, Watchers, those_of, with_those_of, watchers_without_id, watched, with_watched, with_first, []}
 use Rattle.uv_records.specs.Handles as records
 use Rattle.uv_records.specs.Slots as arena
 use Rattle.uv_model.specs.Ops as ops
@@ -87,18 +87,10 @@ Apart a b = a ≡ b → ⊥
 pub not_timer : (q : WatcherKind) → Apart Kind.Timer (kind_as q)
 not_timer q = grind arith
 
-pub other_kind : (h x : HandleRecord) (a b : Kind) → h.kind ≡ a → Apart a b → Watches b h → Watches b x
-other_kind h x a b e d w = absurd (d (sym e ∙ w.kind))
-
-pub no_timer : (h : HandleRecord) (a : Kind) (key : Due) → h.kind ≡ a → Apart a Kind.Timer → IsSet key h → ⊥
-no_timer h a key e d w = d (sym e ∙ w.kind)
-
 -- a handle of one kind is changed, which the lists of another don't speak of
-pub others : (slots : List (Slot Content)) (q r : Kind) (id : Id) (h x : HandleRecord) (ids : List Id) → held_at slots id ≡ Some h →
-    h.kind ≡ q → x.kind
-    ≡ q →
-    Apart q r → Everyone slots (Watches r) ids → Everyone (put slots id x) (Watches r) ids
-others slots q r id h x ids e t u d k = everyone_put slots (Watches r) id h x ids e (other_kind h x q r t d) (other_kind x h q r u d) k
+pub others : (slots : List (Slot Content)) (q r : Kind) (id : Id) (h x : HandleRecord) (ids : List Id) → held_at slots id ≡ Some h → h.kind ≡ q →
+    x.kind ≡ q → Apart q r → Everyone slots (Watches r) ids → Everyone (put slots id x) (Watches r) ids
+others slots q r id h x ids e t u d k = everyone_put slots (Watches r) id h x ids e (grind arith) (grind arith) k
 
 pub off_list : (slots : List (Slot Content)) (P : HandleRecord → Type 0) (id : Id) (h x : HandleRecord) (ids : List Id) → held_at slots id ≡ Some h →
     has_id ids id ≡ false → Lists slots P ids → Lists (put slots id x) P ids
@@ -110,13 +102,9 @@ pub sound_put : (slots : List (Slot Content)) (id : Id) (h x : HandleRecord) →
     slots id x)
 sound_put slots id h x e f k i y l = grind (arith, same, other, put_same, put_other)
 
--- a slot that holds something is not empty
-pub filled : (slots : List (Slot Content)) (id : Id) (c : Content) (n : ℕ) → held slots id ≡ Some c → IsEmpty slots n → n ≡ id.slot → ⊥
-filled slots id c n e k g = grind arith
-
 pub empty_held : (slots : List (Slot Content)) (id : Id) (c : Content) (y : Slot Content) (n : ℕ) → held slots id ≡ Some c → IsEmpty slots n →
     IsEmpty (slice_set slots id.slot y) n
-empty_held slots id c y n e k = grind (arith, get_set_other, filled)
+empty_held slots id c y n e k = grind (arith, get_set_other)
 
 -- a slot that holds something is changed
 pub free_held : (slots : List (Slot Content)) (id : Id) (c : Content) (y : Slot Content) (free : List ℕ) → held slots id ≡ Some c →
@@ -147,22 +135,20 @@ free_set slots i y (n ∷ ns) d k =
 pub not_free : (slots : List (Slot Content)) (id : Id) (c : Content) (free : List ℕ) → held slots id ≡ Some c → AreFree slots free →
     has_number free id.slot ≡ false
 not_free slots id c [] e k = refl
-not_free slots id c (n ∷ ns) e k = grind (arith, eqb-true, filled, not_free slots id c ns e k.2)
+not_free slots id c (n ∷ ns) e k = grind (arith, eqb-true, not_free slots id c ns e k.2)
 
 -- ---- the changes
 
 -- no handle changes
 pub agree_same : (now was : Slots Content) (s : State) → SameHandles now.slots was.slots → AreFree now.slots now.free →
-    Agree was s.next_start s.timers s.ready s.watchers s.closing →
-    Agree now s.next_start s.timers s.ready s.watchers s.closing
+    Agree was s.next_start s.timers s.ready s.watchers s.closing → Agree now s.next_start s.timers s.ready s.watchers s.closing
 agree_same now was s f free k = kept_all (λ id h e. k.sound id h (sym (f id) ∙ e)) free (grind arith)
     (lists_same was.slots now.slots Rests _ f k.ready) (λ q. everyone_same was.slots now.slots (Watches (kind_as q)) _ f (k.watchers q))
     (everyone_same was.slots now.slots Closes _ f k.closing)
 
 -- a handle is changed in what the lists don't speak of
-pub put_kept : (s : State) (id : Id) (h x : HandleRecord) → handle s id ≡ Some h → x.kind ≡ h.kind → x.active ≡ h.active → x.due ≡ h.due → x.closing
-    ≡ h.closing →
-    Kept s → Kept (with_handle s id x)
+pub put_kept : (s : State) (id : Id) (h x : HandleRecord) → handle s id ≡ Some h → x.kind ≡ h.kind → x.active ≡ h.active → x.due ≡ h.due →
+    x.closing ≡ h.closing → Kept s → Kept (with_handle s id x)
 put_kept s id h x e a b c o k = record {
   sound = sound_put s.arena.slots id h x e (record {
     shut = λ shut. b ∙ (k.sound id h e).shut (sym o ∙ shut);
@@ -250,9 +236,8 @@ started_kept s id old h timeout repeat e t off was u stays away k =
     }
 
 -- a timer that was stopped
-pub started_again_kept : (s : State) (id : Id) (h : HandleRecord) (timeout repeat : ℕ) → handle s id ≡ Some h → h.kind ≡ Kind.Timer → h.closing ≡
-    false → Kept s →
-    Kept (started (stopped s id h) id h timeout repeat)
+pub started_again_kept : (s : State) (id : Id) (h : HandleRecord) (timeout repeat : ℕ) → handle s id ≡ Some h → h.kind ≡ Kind.Timer →
+    h.closing ≡ false → Kept s → Kept (started (stopped s id h) id h timeout repeat)
 started_again_kept s id h timeout repeat e t stays k =
     started_kept (stopped s id h) id (records.stopped h) h timeout repeat (put_same s.arena.slots id h (records.stopped h) e) t refl stays t stays
     (without_itself s.ready id) (stopped_kept s id h e (λ q. cc (t, q)) k)
@@ -263,21 +248,14 @@ restarted_again_kept s id h e t stays k = cond_both (h.repeat == 0) _ _ Kept (λ
     (λ z. search started_again_kept)
 
 -- the timers and the ready list where a watcher changes
-pub others_times : (s : State) (id : Id) (h x : HandleRecord) (q : Kind) → handle s id ≡ Some h → h.kind ≡ q → x.kind ≡ q →
-    Apart q Kind.Timer → Kept s →
-    Times (put s.arena.slots id x) s.next_start s.timers
+pub others_times : (s : State) (id : Id) (h x : HandleRecord) (q : Kind) → handle s id ≡ Some h → h.kind ≡ q → x.kind ≡ q → Apart q Kind.Timer →
+    Kept s → Times (put s.arena.slots id x) s.next_start s.timers
 others_times s id h x q e t u d k = times_put s.arena.slots s.next_start s.timers id h x e
-    (λ key a. absurd (no_timer h q key t d a)) (λ key a. absurd (no_timer x q key u d a)) k.timers
-
-pub others_ready : (s : State) (id : Id) (h x : HandleRecord) (q : Kind) → handle s id ≡ Some h → h.kind ≡ q → Apart q Kind.Timer → Kept s →
-    Lists (put s.arena.slots id x) Rests s.ready
-others_ready s id h x q e t d k = lists_put s.arena.slots Rests id h x s.ready e (λ r. absurd (d (sym t ∙ r.kind))) k.ready
+    (λ key a. absurd (grind arith)) (λ key a. absurd (grind arith)) k.timers
 
 -- a watcher is put in front of its list
 pub in_front : (s : State) (id : Id) (h x : HandleRecord) (q : Kind) (ids : List Id) → handle s id ≡ Some h → h.active ≡ false → x.kind ≡ q →
-    x.active ≡
-    true →
-    Everyone s.arena.slots (Watches q) ids → Everyone (put s.arena.slots id x) (Watches q) (id ∷ ids)
+    x.active ≡ true → Everyone s.arena.slots (Watches q) ids → Everyone (put s.arena.slots id x) (Watches q) (id ∷ ids)
 in_front s id h x q ids e off u on l = everyone_front s.arena.slots (Watches q) id h x ids e (λ w. on_off h w.active off) (assumption) l
 
 -- what a watcher's start leaves of all but the lists
@@ -305,7 +283,7 @@ watcher_started_kept s q id h e t off stays k =
     let x = activated h in
     let still = activated_sound s id h e stays k in
     let untimed : Apart (kind_as q) Kind.Timer = λ f. not_timer q (sym f) in
-    kept_all still.0 still.1 (others_times s id h x (kind_as q) e t t untimed k) (others_ready s id h x (kind_as q) e t untimed k)
+    kept_all still.0 still.1 (others_times s id h x (kind_as q) e t t untimed k) (grind (arith, lists_put))
     (λ r. started_lists s q r id x (in_front s id h x (kind_as q) (members (watched s q)) e off t refl (k.watchers q))
     (λ apart. others s.arena.slots (kind_as q) (kind_as r) id h x (members (watched s r)) e t t apart (k.watchers r))) still.2
 
@@ -316,7 +294,7 @@ io_started_kept s id h e t stays k =
     let x = activated h in
     let still = activated_sound s id h e stays k in
     let untimed : Apart Kind.Io Kind.Timer = λ f. cc f in
-    kept_all still.0 still.1 (others_times s id h x Kind.Io e t t untimed k) (others_ready s id h x Kind.Io e t untimed k)
+    kept_all still.0 still.1 (others_times s id h x Kind.Io e t t untimed k) (grind (arith, lists_put))
     (λ q. others s.arena.slots Kind.Io (kind_as q) id h x (members (watched s q)) e t t (grind arith) (k.watchers q)) still.2
 
 -- ---- a new handle
@@ -326,9 +304,8 @@ abbrev pub Fills : Slots Content → List ℕ → Id → Content → Type 0
 Fills s free id c = Turns s.slots (arena.taken_from free id c s).slots id None (Some c)
     × AreFree (arena.taken_from free id c s).slots (arena.taken_from free id c s).free
 
-pub fills : (s : Slots Content) (free : List ℕ) (id : Id) (c : Content) → s.free ≡ free → AreFree s.slots free → next_id s.slots s.unused free ≡
-    Some id →
-    Fills s free id c
+pub fills : (s : Slots Content) (free : List ℕ) (id : Id) (c : Content) → s.free ≡ free → AreFree s.slots free →
+    next_id s.slots s.unused free ≡ Some id → Fills s free id c
 fills s [] id c e k n = unused s.unused n where
   unused : (m : ℕ) → next_unused (length s.slots) m ≡ Some id → Fills s [] id c
   unused zero f = cc f
@@ -347,9 +324,8 @@ abbrev pub Takes : Slots Content → List ℕ → Id → HandleRecord → Type 0
 Takes s free id x = Grown s.slots (arena.taken_from free id (Content.Handle x) s).slots id x
     × AreFree (arena.taken_from free id (Content.Handle x) s).slots (arena.taken_from free id (Content.Handle x) s).free
 
-pub takes : (s : Slots Content) (free : List ℕ) (id : Id) (x : HandleRecord) → s.free ≡ free → AreFree s.slots free → next_id s.slots s.unused free ≡
-    Some id →
-    Takes s free id x
+pub takes : (s : Slots Content) (free : List ℕ) (id : Id) (x : HandleRecord) → s.free ≡ free → AreFree s.slots free →
+    next_id s.slots s.unused free ≡ Some id → Takes s free id x
 takes s free id x e k n =
     let f = fills s free id (Content.Handle x) e k n in
     (grown s.slots (arena.taken_from free id (Content.Handle x) s).slots id x f.0, f.1)

@@ -1,8 +1,8 @@
 -- Each op and each step of the loop keeps what is kept.
-use Rattle.uv_order.proofs.Names.{arith, ◌≡◌, inl, ℕ, ◌+◌, ◌==◌, List, [], ◌∷◌, ◌++◌, true, false, Some, None, drop, refl, ap, sym, subst, ◌∙◌, append_assoc, append-nil, cond_both, false_from_ne_true, Id, Var, Due, HandleRecord, Slot, WatcherKind, referenced_as, repeating, Slots, held, freed, taken, next_free, Walk, all_yet, moved_on, Op, Task, Program, arena_size, Content, Request, queued, Run, State, fresh, handle, with_handle, with_request, with_id, live, front, watched, with_watched, stopped, started, restarted, do_op, Next, Moves, Refuses, collected, front_moved, begin_walk, has_id, kind_as, Kind}
+use Rattle.uv_order.proofs.Names.{arith, ◌≡◌, inl, ℕ, ◌+◌, ◌==◌, List, ◌∷◌, ◌++◌, true, false, Some, None, drop, refl, ap, sym, subst, ◌∙◌, append_assoc, append-nil, cond_both, false_from_ne_true, Id, Var, Due, HandleRecord, Slot, WatcherKind, repeating, Slots, held, freed, taken, next_free, Walk, all_yet, moved_on, Op, Task, Program, arena_size, Content, Request, queued, Run, State, fresh, handle, with_handle, with_request, live, front, watched, with_watched, stopped, started, restarted, do_op, Next, Moves, Refuses, collected, front_moved, begin_walk, has_id, kind_as, Kind, []}
 use Rattle.uv_records.specs.Handles as records
 use Rattle.uv_model.specs.Ops as ops
-use Rattle.uv_order.proofs.Lemmas.{Each, each_push, distinct_push, member, has_new_middle, holds, emptied, get_set_same, is_held, put, same_handles, Fits, its_handle, Lists, lists_emptied, not_listed, Everyone, everyone_put, everyone_emptied, everyone_rest, fitted_emptied, IsSet, Times, times_rest, times_emptied, put_same, DidOp, op_did, live_held, refuses_none, refuses_timer, refuses_start, refuses_stop, refuses_again, refuses_close, start_passes, again_passes, close_passes, stop_passes, on_handle_both, send_both, cancel_both, make_both, request_turns, freed_turns, FrontRequest, Did, FrontOf, FirstOf, kept_all, fills, agree_same, free_held, Rests, Watches, Closes, IsSound, AreFree, members, Agree, Kept, on_off, open_shut, others, off_list, sound_put, free_put, free_set, not_free, put_kept, stopped_kept, closed_kept, started_kept, started_again_kept, restarted_again_kept, watcher_started_kept, io_started_kept, new_kept, not_timer}
+use Rattle.uv_order.proofs.Lemmas.{Each, each_push, distinct_push, member, has_new_middle, holds, emptied, get_set_same, is_held, put, same_handles, Fits, its_handle, Lists, lists_emptied, not_listed, Everyone, everyone_put, everyone_emptied, everyone_rest, fitted_emptied, IsSet, Times, times_rest, times_emptied, put_same, DidOp, op_did, live_held, request_turns, freed_turns, FrontRequest, Did, FrontOf, FirstOf, kept_all, fills, agree_same, free_held, Rests, Watches, Closes, IsSound, AreFree, members, Agree, Kept, on_off, open_shut, others, off_list, sound_put, free_put, free_set, not_free, put_kept, stopped_kept, closed_kept, started_kept, started_again_kept, restarted_again_kept, watcher_started_kept, io_started_kept, new_kept, not_timer}
 
 -- ---- the ops
 
@@ -105,11 +105,6 @@ collected_kept s t f k =
       closing = everyone_put s.arena.slots Closes t.0 t.1 x (members s.closing) f.holds (λ shut. shut) (λ shut. shut) k.closing;
     }
 
--- the whole list is yet to run, where nobody was
-pub yet_listed : (slots : List (Slot Content)) (P : HandleRecord → Type 0) (w : Walk Id) → w.yet ≡ [] → Everyone slots P (members w) →
-    Everyone slots P (members (all_yet w))
-yet_listed slots P w e l = subst (Everyone slots P) (ap (λ (ids : List Id). w.list ++ ids) e ∙ append-nil w.list) l
-
 -- another list of a kind, with the same members
 pub with_watched_kept : (s : State) (q : WatcherKind) (w : Walk Id) → Everyone s.arena.slots (Watches (kind_as q)) (members w) → Kept s →
     Kept (with_watched s q w)
@@ -121,10 +116,10 @@ with_watched_kept s q w e k = kept_all k.sound k.free k.timers k.ready (λ r. at
 
 pub begin_kept : (s : State) (run : Run) (q : WatcherKind) → (watched s q).yet ≡ [] → Kept s → StaysKept (begin_walk s run q)
 begin_kept s run q e k = with_watched_kept s q (all_yet (watched s q))
-    (yet_listed s.arena.slots (Watches (kind_as q)) (watched s q) e (k.watchers q)) k
+    (grind (arith, append-nil)) k
 
 pub begin_closing_kept : (s : State) → s.closing.yet ≡ [] → Kept s → Kept (record s { closing = all_yet s.closing })
-begin_closing_kept s e k = kept_all k.sound k.free k.timers k.ready k.watchers (yet_listed s.arena.slots Closes s.closing e k.closing)
+begin_closing_kept s e k = kept_all k.sound k.free k.timers k.ready k.watchers (grind (arith, append-nil))
 
 pub front_moved_kept : (s : State) (q : WatcherKind) (t : Id × HandleRecord) → FrontOf s (watched s q).yet t → Kept s → Kept (front_moved s q t.0)
 front_moved_kept s q t f k = with_watched_kept s q (moved_on (watched s q) t.0 (drop 1 (watched s q).yet))

@@ -1,6 +1,6 @@
 -- What the lines of a trace tell of the names and of the handles that close, and how each change of the slots keeps it.
-use Rattle.uv_order.proofs.Names.{arith, ◌≡◌, ◌⊎◌, inl, inr, ℕ, zero, suc, ◌<◌, ◌≤◌, ◌==◌, ◌||◌, List, [], ◌∷◌, Bool, true, false, Option, Some, None, slice_get, slice_set, unwrap_or, option_map, refl, ap, sym, subst, ◌∙◌, if◌then◌else◌, eqb-true, eq-eqb, or_left, or_right, or_cases, none-some, Id, Var, Answer, Seen, Site, Op, Program, op_at, HandleRecord, Slots, Content, Named, same_id, unbound, answered, queues, binds, bound_by, bound, closes, closes_by, is_some_id, is_bound, was_closed, is_closed_line, has_closed_line, makes, made_by, made_as, cancels, Code}
-use Rattle.uv_order.proofs.Lemmas.{same, other, itself, Turns, emptied, emptied_turns, name_at, NoNewNames, put_names, names_turned, held_at, is_held, put, put_same, Fits, fits_put, fits_back, fitted, fits_emptied, fitted_emptied, fits_same, SameHandles, Grown, set_there, has_number, Closes, open_shut, IsGone, gone_put, gone_emptied, gone_now, SameRequests, same_requests, same_put}
+use Rattle.uv_order.proofs.Names.{arith, ◌≡◌, ◌⊎◌, inl, inr, ℕ, zero, suc, ◌<◌, ◌≤◌, ◌==◌, ◌||◌, List, ◌∷◌, Bool, true, false, Option, Some, None, slice_get, slice_set, unwrap_or, option_map, refl, ap, sym, subst, ◌∙◌, if◌then◌else◌, eqb-true, eq-eqb, or_left, or_right, or_cases, none-some, Id, Var, Answer, Seen, Site, Op, Program, op_at, HandleRecord, Slots, Content, Named, same_id, unbound, answered, queues, binds, bound_by, bound, closes, closes_by, is_some_id, was_closed, is_closed_line, has_closed_line, makes, made_by, made_as, cancels, Code, []}
+use Rattle.uv_order.proofs.Lemmas.{same, other, itself, Turns, emptied, emptied_turns, name_at, NoNewNames, put_names, names_turned, held_at, is_held, put, put_same, Fits, fits_put, fits_back, fitted, fits_emptied, fitted_emptied, SameHandles, Grown, set_there, has_number, Closes, open_shut, IsGone, gone_put, gone_emptied, gone_now, SameRequests, same_requests, same_put}
 use Rattle.uv_order.proofs.Worked.{Worked, IsIdle, worked_idle, worked_same}
 
 -- ---- names
@@ -169,7 +169,7 @@ pub known_bound : {waiting runs few : List Id} (p : Program) (past : List Seen) 
     ((i : Id) → IsGone arena.slots arena.free i → IsGone now.slots now.free i) → Worked p (Seen.Op place (Answer.Id id) ∷ past) now few runs →
     Known p past arena names waiting runs → Known p (Seen.Op place (Answer.Id id) ∷ past) now (slice_set names v.0 n) few runs
 known_bound p past place v o arena now names id n e bind make fresh called quiet is handles gone w k =
-    grind (arith, is_answered, fits_same, own_id, set_there, eqb-true, eq-eqb, same, none-some)
+    grind (arith, is_answered, own_id, set_there, eqb-true, eq-eqb, same, none-some)
 
 -- a slot is taken for a handle that doesn't close
 pub known_grown : {waiting runs : List Id} (p : Program) (past : List Seen) (arena more : Slots Content) (names : List Named) (id : Id)

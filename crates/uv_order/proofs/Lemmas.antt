@@ -1,14 +1,14 @@
 -- The lemmas of the lower files of this crate that the files above them bring in.
 pub use Rattle.uv_order.proofs.Asked.{FrontRequest, RunsWork, TakesFront, freed_turns, request_front, request_turns, runs_work, takes_front}
 pub use Rattle.uv_order.proofs.Bodies.{IsBody, is_body}
-pub use Rattle.uv_order.proofs.Contents.{IsHeld, Turns, emptied, emptied_turns, get_set_same, held_turned, holds, turned_to}
+pub use Rattle.uv_order.proofs.Contents.{IsHeld, Turns, emptied, emptied_turns, get_set_same, holds, turned_to}
 pub use Rattle.uv_order.proofs.Counted.{Counted, counted_call, counted_fresh, counted_kept, counted_sent, next_body, set_there, told_call}
 pub use Rattle.uv_order.proofs.Did.{Did, FirstOf, FrontOf, IsStill, IsSync, did, first_of, front_of, timed}
 pub use Rattle.uv_order.proofs.Gone.{IsGone, gone_emptied, gone_fill, gone_now, gone_push, gone_put, gone_turned, not_held}
-pub use Rattle.uv_order.proofs.Holding.{Everyone, Fits, Grown, IsSet, Lists, NoNewNames, SameHandles, Times, emptied_other, emptied_same, everyone_emptied, everyone_put, everyone_rest, fits_back, fits_emptied, fits_put, fits_same, fitted, fitted_emptied, grown_at, held_at, is_held, its_handle, lists_emptied, name_at, name_in, names_turned, not_listed, put, put_names, put_other, put_same, put_turns, same_handles, times_emptied, times_rest}
+pub use Rattle.uv_order.proofs.Holding.{Everyone, Fits, Grown, IsSet, Lists, NoNewNames, SameHandles, Times, emptied_other, emptied_same, everyone_emptied, everyone_put, everyone_rest, fits_back, fits_emptied, fits_put, fitted, fitted_emptied, grown_at, held_at, is_held, its_handle, lists_emptied, name_at, name_in, names_turned, not_listed, put, put_names, put_other, put_same, put_turns, same_handles, times_emptied, times_rest}
 pub use Rattle.uv_order.proofs.IdLists.{Each, FirstLeft, absent, all_off, distinct_back, distinct_front, distinct_push, each_back, each_push, first_left, has_both, has_but_one, has_new_middle, has_without, itself, left_of, member, more_off, none_off, on_list, other, same, still_absent, still_there, turned, without_absent, without_itself}
 pub use Rattle.uv_order.proofs.Keeping.{Agree, AreFree, Closes, IsSound, Kept, Rests, Watches, agree_same, closed_kept, fills, free_held, free_put, free_set, has_number, io_started_kept, kept_all, members, new_kept, not_free, not_timer, off_list, on_off, open_shut, others, put_kept, restarted_again_kept, sound_put, started_again_kept, started_kept, stopped_kept, takes as taken_handle, watcher_started_kept}
-pub use Rattle.uv_order.proofs.OpCases.{DidOp, IsAsked, IsLive, IsRef, IsRefusal, again_passes, cancel_both, close_passes, io_kind, live_as_handle, live_bound, live_held, make_both, names_at, on_handle_both, op_did, refuses_again, refuses_close, refuses_none, refuses_start, refuses_stop, refuses_timer, send_both, send_passes, start_passes, stop_passes}
+pub use Rattle.uv_order.proofs.OpCases.{DidOp, IsAsked, IsLive, IsRef, IsRefusal, cancel_both, io_kind, live_as_handle, live_bound, live_held, make_both, names_at, on_handle_both, op_did, refuses_close, send_both}
 pub use Rattle.uv_order.proofs.OpEffects.{harmless, none_taken, one_taken, op_effect, refusal_takes_none, start_off, takes}
 pub use Rattle.uv_order.proofs.Quiet.{IsOfHandles, IsOfLoop, KeepsWork, SameWork, did_same, op_same}
 pub use Rattle.uv_order.proofs.TimerKeys.{distinct_due, due_ids, none_due}

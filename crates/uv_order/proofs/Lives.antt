@@ -1,5 +1,5 @@
 -- Whether the loop is alive by its lists is whether it is by what its slots hold.
-use Rattle.uv_order.proofs.Names.{arith, ◌≡◌, ℕ, zero, suc, ◌&&◌, ◌||◌, List, [], ◌∷◌, ◌++◌, Bool, true, false, Option, Some, None, refl, ap, sym, ◌∙◌, or-true, or_assoc, not, list_any, eq-eqb, or_left, or_right, Id, Due, Mode, Slot, held_in, is_open, Content, Request, content_keeps, request_in, has_some, State, is_alive, poll_timeout_by, goes, has_id, run_ids, is_kept_by, has_handle, has_run, has_request, closes_some, lives, may_wait}
+use Rattle.uv_order.proofs.Names.{arith, ◌≡◌, ℕ, suc, ◌&&◌, ◌||◌, List, ◌∷◌, ◌++◌, Bool, true, false, Option, Some, None, refl, ap, sym, ◌∙◌, or-true, or_assoc, not, list_any, eq-eqb, or_left, or_right, Id, Due, Mode, Slot, is_open, Content, Request, content_keeps, request_in, has_some, State, is_alive, poll_timeout_by, goes, has_id, run_ids, is_kept_by, has_handle, has_run, has_request, closes_some, lives, may_wait, []}
 use Rattle.uv_order.proofs.Lemmas.{itself, asked_at, AllAsk, IsOpen, HasEnded, Working}
 
 -- ---- words
@@ -67,9 +67,6 @@ pub first : (ids : List Id) → has_some ids ≡ true → First ids
 first [] e = cc e
 first (x ∷ xs) e = record { id = x; on = rw (itself x x refl) refl }
 
-some_both : (xs ys : List Id) → has_some (xs ++ ys) ≡ (has_some xs || has_some ys)
-some_both xs ys = grind arith
-
 some_runs : (running : List (Option Id)) → has_some (run_ids running) ≡ has_run running
 some_runs (None ∷ running) = some_runs running
 some_runs each = assumption
@@ -94,8 +91,8 @@ pub lives_is : (s : State) → Working s → lives s ≡ is_alive s
 lives_is s w =
     let lists : has_request s ≡ any_asked s.arena.slots =
     ap (λ (b : Bool). (has_some s.waiting || b) || (has_some s.done.list || has_some s.done.yet)) (sym (some_runs s.running))
-    ∙ ap (λ (b : Bool). b || (has_some s.done.list || has_some s.done.yet)) (sym (some_both s.waiting (run_ids s.running)))
-    ∙ ap (λ (b : Bool). has_some (s.waiting ++ run_ids s.running) || b) (sym (some_both s.done.list s.done.yet))
+    ∙ ap (λ (b : Bool). b || (has_some s.done.list || has_some s.done.yet)) (sym (grind arith))
+    ∙ ap (λ (b : Bool). has_some (s.waiting ++ run_ids s.running) || b) (sym (grind arith))
     ∙ listed s.arena.slots _ _ w.open_ones w.ended in
     ap (λ (b : Bool). has_handle s || (b || closes_some s)) lists ∙ sym (or_assoc (has_handle s) (any_asked s.arena.slots) (closes_some s))
     ∙ ap (λ (b : Bool). b || closes_some s) (sym (split s.arena.slots))

@@ -1,5 +1,5 @@
 -- An op by its cases: it is refused, or done with the handle of a live name.
-use Rattle.uv_order.proofs.Names.{arith, ℕ, ◌≡◌, Bool, true, false, Option, Some, None, Result, Ok, Err, refl, ap, not, list_any, cond_both, same_Some, Id, Var, Code, Success, Ebusy, Answer, Kind, HandleRecord, WatcherKind, is_timer, is_async, is_io, activated, sent, watcher_kind, only_if, invalid_if, is_startable, timer_refusal, start_timer_refusal, start_watcher_refusal, stop_refusal, again_refusal, close_refusal, send_refusal, no_refusal, held, next_free, Op, Task, Content, Request, handle_in, same_id, State, handle, named, live, live_handle, live_request, as_handle, as_request, with_id, with_handle, refreshed, do_op, found_both, Names, kind_as}
+use Rattle.uv_order.proofs.Names.{arith, ℕ, ◌≡◌, Bool, true, false, Option, Some, None, Result, Ok, Err, refl, ap, not, list_any, cond_both, Id, Var, Code, Success, Answer, Kind, HandleRecord, WatcherKind, is_timer, is_async, is_io, activated, sent, watcher_kind, only_if, invalid_if, is_startable, timer_refusal, start_timer_refusal, stop_refusal, again_refusal, close_refusal, send_refusal, no_refusal, held, next_free, Op, Task, Content, Request, handle_in, same_id, State, handle, named, live, live_handle, live_request, as_request, with_handle, refreshed, do_op, found_both, Names, kind_as}
 use Rattle.std.specs.Prelude.{◌||◌}
 use Rattle.uv_model.specs.Ops as ops
 use Rattle.uv_order.proofs.Holding.{name_at}
@@ -83,9 +83,6 @@ start_passes h e = let parts = only_passes (is_timer h.kind) (invalid_if h.closi
 
 pub again_passes : (h : HandleRecord) → again_refusal h ≡ None → (h.kind ≡ Kind.Timer) × (h.closing ≡ false)
 again_passes h e = grind arith
-
-pub close_passes : (h : HandleRecord) → close_refusal h ≡ None → h.closing ≡ false
-close_passes h e = invalid_passes h.closing e
 
 -- what an async handle isn't asked
 pub stop_passes : (h : HandleRecord) → stop_refusal h ≡ None → h.kind ≡ Kind.Async → ⊥
@@ -206,7 +203,7 @@ op_did s (Op.Again v) = held_did s (Op.Again v) v again_refusal _ tt refuses_aga
     (λ t e is. let p = again_passes t.1 is in again v t e p.0 p.1)
 op_did s (Op.SetRepeat v n) = held_did s (Op.SetRepeat v n) v timer_refusal _ tt refuses_timer (λ t e is. repeated v n t e)
 op_did s (Op.DueIn v) = held_did s (Op.DueIn v) v timer_refusal _ tt refuses_timer (λ t e is. asked _ _ (due_in v))
-op_did s (Op.Close v) = held_did s (Op.Close v) v close_refusal _ tt refuses_close (λ t e is. closed v t e (close_passes t.1 is))
+op_did s (Op.Close v) = held_did s (Op.Close v) v close_refusal _ tt refuses_close (λ t e is. closed v t e (grind arith))
 op_did s (Op.Ref v) = held_did s (Op.Ref v) v no_refusal _ tt refuses_none (λ t e is. referenced _ v true t e (ref v))
 op_did s (Op.Unref v) = held_did s (Op.Unref v) v no_refusal _ tt refuses_none (λ t e is. referenced _ v false t e (unref v))
 op_did s (Op.HasRef v) = held_did s (Op.HasRef v) v no_refusal _ tt refuses_none (λ t e is. asked _ _ (has_ref v))

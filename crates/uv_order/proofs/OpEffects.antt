@@ -1,10 +1,10 @@
 -- What an op leaves of the lists that a section walks, of the counts of calls, and of what lasts from line to line.
-use Rattle.uv_order.proofs.Names.{Bool, true, false, arith, ◌≡◌, ℕ, ◌==◌, List, [], ◌∷◌, Option, Some, None, Ok, length, slice_get, slice_set, unwrap_or, refl, ap, sym, ◌∙◌, zero, suc, cond_both, Id, Var, Code, Answer, Kind, Phase, Op, HandleRecord, Named, Walk, without_id, State, handle, live_handle, unbound, stopped, started, do_op, has_id, Names, lasting, after_op, taken_off, ids_of, off_by, WatcherKind, kind_as, watched}
+use Rattle.uv_order.proofs.Names.{Bool, true, false, arith, ◌≡◌, ℕ, ◌==◌, List, ◌∷◌, Option, Some, None, Ok, length, slice_get, slice_set, unwrap_or, refl, ap, sym, ◌∙◌, zero, suc, cond_both, Id, Var, Code, Answer, Kind, Phase, Op, HandleRecord, Named, Walk, without_id, State, handle, live_handle, unbound, stopped, started, do_op, has_id, Names, lasting, after_op, taken_off, ids_of, off_by, WatcherKind, kind_as, watched, []}
 use Rattle.uv_model.specs.Ops as ops
-use Rattle.uv_order.proofs.IdLists.{left_of, none_off, one_off, without_absent, has_back}
+use Rattle.uv_order.proofs.IdLists.{left_of, none_off, without_absent, has_back}
 use Rattle.uv_order.proofs.Holding.{Everyone, not_listed}
 use Rattle.uv_order.proofs.Keeping.{Kept, Watches, members}
-use Rattle.uv_order.proofs.OpCases.{DidOp, IsAsked, MayRefuse, op_did, names_at, live_held, live_bound, IsRefusal, refuses_none, refuses_timer, refuses_start, refuses_stop, refuses_again, refuses_close, start_passes, again_passes, on_handle_both, send_both, cancel_both, make_both, IsRef}
+use Rattle.uv_order.proofs.OpCases.{DidOp, IsAsked, op_did, names_at, live_held, live_bound, IsRefusal, IsRef}
 
 -- ---- counts of calls
 
@@ -27,11 +27,6 @@ set_calls (n ∷ names) zero zero x e = e
 set_calls (n ∷ names) zero (suc j) x e = refl
 set_calls (n ∷ names) (suc i) zero x e = refl
 set_calls (n ∷ names) (suc i) (suc j) x e = set_calls names i j x e
-
--- a name is bound anew
-bound_calls : (names : List Named) (i : ℕ) (x : Named) → x.calls ≡ (unwrap_or (slice_get names i) unbound).calls →
-    SameCalls (slice_set names i x) names
-bound_calls names i x e = record { long = set_long names i x; each = λ v. set_calls names i v.0 x e }
 
 -- ---- an op's effect
 
@@ -60,9 +55,6 @@ record SameLists (now was : State) : Type 0 where
   closing : now.closing.yet ≡ was.closing.yet
   done : now.done.yet ≡ was.done.yet
 
-same_lists : (s : State) → SameLists s s
-same_lists s = assumption
-
 -- nobody is taken off, and the lists stay
 quiet : (s : State) (o : Op) (d : ops.Done) → TakesNone (names_at s) o d.answer → lasting d.state ≡ after_op o s → SameCalls d.state.names s.names →
     SameLists d.state s → Effect s o d
@@ -73,7 +65,7 @@ refusal_takes_none names o c no_success word = grind arith
 
 -- an op that is refused, or that only answers
 says_effect : (s : State) (o : Op) (a : Answer) → TakesNone (names_at s) o a → after_op o s ≡ lasting s → Effect s o (ops.says s a)
-says_effect s o a none lasts = quiet s o (ops.says s a) none (sym lasts) (same_calls s.names) (same_lists s)
+says_effect s o a none lasts = quiet s o (ops.says s a) none (sym lasts) (same_calls s.names) (grind arith)
 
 refused_effect : (s : State) (o : Op) → after_op o s ≡ lasting s → (c : Code) → IsRefusal c → Effect s o (ops.refuses s c)
 refused_effect s o lasts c no_success = says_effect s o (Answer.Code c) (refusal_takes_none (names_at s) o c no_success) lasts
@@ -180,18 +172,18 @@ simple : (s : State) (o : Op) (d : ops.Done) → takes o ≡ false → lasting d
 simple s o d e lasts names lists = still s o d e lasts (rw names (same_calls s.names)) lists
 
 new_effect : (s : State) (v : Var) (q : Kind) (id : Id) → Effect s (Op.Init v q) (record { state = ops.with_new s v q id; answer = Answer.Id id })
-new_effect s v Kind.Timer id = search (still, bound_calls)
-new_effect s v each id = still s (Op.Init v each) _ refl refl (bound_calls s.names v.0 _ refl) (assumption)
+new_effect s v Kind.Timer id = search (still, set_long, set_calls)
+new_effect s v each id = still s (Op.Init v each) _ refl refl (grind (arith, set_long, set_calls)) (assumption)
 
 asked_effect : (s : State) (o : Op) (a : Answer) → IsAsked o → Effect s o (ops.says s a)
-asked_effect s o a (IsAsked.due_in v) = simple s (Op.DueIn v) _ refl refl refl (same_lists s)
-asked_effect s o a each = simple s o _ refl refl refl (same_lists s)
+asked_effect s o a (IsAsked.due_in v) = simple s (Op.DueIn v) _ refl refl refl (grind arith)
+asked_effect s o a each = simple s o _ refl refl refl (grind arith)
 
 did_op_effect : (s : State) (o : Op) (d : ops.Done) → DidOp s o d → Kept s → Effect s o d
 did_op_effect s o d (DidOp.refused o' c r may) k = refused_effect s o' (grind arith) c r
 did_op_effect s o d (DidOp.asked o' a is) k = asked_effect s o' a is
 did_op_effect s o d (DidOp.made v q id e) k = new_effect s v q id
-did_op_effect s o d (DidOp.queued v task id e) k = still s (Op.Queue v task) _ refl refl (bound_calls s.names v.0 _ refl) (assumption)
+did_op_effect s o d (DidOp.queued v task id e) k = still s (Op.Queue v task) _ refl refl (grind (arith, set_long, set_calls)) (assumption)
 did_op_effect s o d (DidOp.started v timeout repeat t e is stays) k = start_effect s v timeout repeat t e is k
 did_op_effect s o d (DidOp.again v t e is stays) k = again_effect s v t e is k
 did_op_effect s o d (DidOp.stopped v t e sync) k = stop_effect s v t e sync k

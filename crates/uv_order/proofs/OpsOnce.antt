@@ -1,10 +1,10 @@
 -- What happens once, by the ops: what the line of each tells, and that the handles and the requests are as it tells.
-use Rattle.uv_order.proofs.Names.{◌≡◌, ◌⊎◌, ℕ, ◌==◌, List, [], ◌∷◌, ◌++◌, Bool, true, false, Option, Some, None, Ok, option_map, slice_set, if◌then◌else◌, refl, ap, sym, ◌∙◌, arith, list_any, cond_both, or_left, same_Some, Id, Var, Code, Answer, Kind, Seen, Site, Op, Task, Program, op_at, HandleRecord, WatcherKind, Slot, inited, referenced_as, repeating, Slots, held, taken, taken_from, next_free, next_id, Content, Request, queued, request_in, Cancelled, same_id, without_id, has_id, run_ids, State, named, handle, live, live_handle, with_request, stopped, restarted, do_op, makes, made_as, has_take_line, has_cancel_line, queued_task}
+use Rattle.uv_order.proofs.Names.{◌≡◌, ◌⊎◌, ℕ, ◌==◌, List, ◌∷◌, ◌++◌, Bool, true, false, Option, Some, None, Ok, option_map, slice_set, if◌then◌else◌, refl, ap, sym, ◌∙◌, arith, list_any, cond_both, or_left, same_Some, Id, Var, Code, Answer, Kind, Seen, Site, Op, Task, Program, op_at, HandleRecord, Slot, inited, referenced_as, repeating, Slots, held, taken, taken_from, next_free, next_id, Content, Request, queued, request_in, Cancelled, same_id, without_id, has_id, run_ids, State, named, handle, live, live_handle, with_request, stopped, restarted, do_op, makes, made_as, has_take_line, has_cancel_line, queued_task, []}
 use Rattle.uv_records.specs.Handles as records
 use Rattle.uv_model.specs.Ops as ops
-use Rattle.uv_order.proofs.Lemmas.{has_both, has_but_one, on_list, same, itself, turned, still_absent, Turns, name_in, name_at, names_turned, same_handles, put, put_same, DidOp, IsAsked, IsLive, op_did, live_as_handle, live_held, live_bound, IsRefusal, refuses_none, refuses_timer, refuses_start, refuses_stop, refuses_again, refuses_close, on_handle_both, send_both, cancel_both, make_both, IsRef, request_turns, same_requests, AreFree, Kept, fills, taken_handle, IsGone, not_held, gone_push, gone_fill, gone_turned}
+use Rattle.uv_order.proofs.Lemmas.{has_both, has_but_one, on_list, same, itself, turned, still_absent, Turns, name_in, name_at, names_turned, same_handles, put, put_same, DidOp, IsAsked, IsLive, op_did, live_as_handle, live_held, live_bound, IsRefusal, send_both, IsRef, request_turns, same_requests, AreFree, Kept, fills, taken_handle, IsGone, not_held, gone_push, gone_fill, gone_turned}
 use Rattle.uv_order.proofs.Worked.{Worked, Tells, worked_told, worked_idle, worked_ended, worked_fewer, worked_queued}
-use Rattle.uv_order.proofs.Known.{Known, IsQuiet, is_answered, known_told, known_put, known_quiet, IsQuietOp, IsIdleOp, quiet_op, idle_op, known_close, known_bound, known_grown}
+use Rattle.uv_order.proofs.Known.{Known, IsQuiet, known_told, known_put, known_quiet, IsQuietOp, IsIdleOp, quiet_op, idle_op, known_close, known_bound, known_grown}
 
 -- ---- ops
 
@@ -175,7 +175,7 @@ cancel_op_known p past s v t live on k place at = cancel_told p past (Seen.Op pl
 
 did_op_known : (p : Program) (past : List Seen) (s : State) (o : Op) (d : ops.Done) → DidOp s o d → Kept s →
     IsUnmade p past s → KnownAt p past s → KnownBy p past o d
-did_op_known p past s o d (DidOp.refused o' c r may) kept unmade k = known_by p past o d (refused_harmless o' c r) k
+did_op_known p past s o d (DidOp.refused o' c r may) kept unmade k = known_by p past o d (grind arith) k
 did_op_known p past s o d (DidOp.asked o' a is) kept unmade k = known_by p past o d (harmless o' (asked_harmless o' is) a) k
 did_op_known p past s o d DidOp.loop_stopped kept unmade k = known_by p past o d (harmless Op.StopLoop refl _) k
 did_op_known p past s o d DidOp.time_updated kept unmade k = known_by p past o d (harmless Op.UpdateTime refl _) k
@@ -208,8 +208,7 @@ did_op_known p past s o d (DidOp.sent_to v t e is stays) kept unmade k =
     known_by p past o d (harmless (Op.Send v) refl _)
     (changed p past s t (records.sent t.1) (live_held s v t e) refl refl k)
 
-pub op_known : (p : Program) (past : List Seen) (s : State) (o : Op) → Kept s → IsUnmade p past s → KnownAt p past s →
-    KnownBy p past o (do_op s o)
+pub op_known : (p : Program) (past : List Seen) (s : State) (o : Op) → Kept s → IsUnmade p past s → KnownAt p past s → KnownBy p past o (do_op s o)
 op_known p past s o kept unmade k = did_op_known p past s o (do_op s o) (op_did s o) kept unmade k
 
 pub send_known : (p : Program) (past : List Seen) (s : State) (v : Var) → KnownAt p past s → KnownAt p past (ops.send s (live_handle s v)).state

@@ -1,9 +1,9 @@
 -- Each line is the event of the thread pool that it says, by the rules of the pool.
-use Rattle.uv_order.proofs.Names.{arith, ◌≡◌, ℕ, ◌||◌, List, [], ◌∷◌, ◌++◌, map, Bool, true, false, Option, Some, None, Ok, drop, slice_set, refl, ap, sym, subst, ◌∙◌, append_assoc, append-nil, map-append, or_comm, list_any, both_ways, or_right, false_from_ne_true, same_Some, none-some, Id, Var, Code, Answer, Site, Slot, all_yet, held, freed, next_free, Op, Task, Program, arena_size, op_at, text_of, Pool, runs, is_done, has, without, collected_from, after_event, after_events, is_open, Finished, Cancelled, Content, Request, request_in, same_id, without_id, State, request, live_request, do_op, Next, Moves, Refuses, has_id, AreDistinct, run_ids, op_events, outside_events, line_events, was_finished, done_as, pool_of, Seen, PoolEvent, digest_of, next}
+use Rattle.uv_order.proofs.Names.{arith, ◌≡◌, ℕ, ◌||◌, List, ◌∷◌, ◌++◌, map, Bool, true, false, Option, Some, None, Ok, drop, slice_set, refl, ap, sym, subst, ◌∙◌, append_assoc, append-nil, map-append, or_comm, list_any, both_ways, or_right, false_from_ne_true, same_Some, none-some, Id, Var, Code, Answer, Site, Slot, held, freed, next_free, Op, Task, Program, arena_size, op_at, text_of, Pool, runs, is_done, has, without, collected_from, after_event, after_events, is_open, Finished, Cancelled, Content, Request, request_in, same_id, without_id, State, request, live_request, do_op, Next, Moves, Refuses, has_id, AreDistinct, run_ids, op_events, outside_events, line_events, was_finished, done_as, pool_of, Seen, PoolEvent, digest_of, []}
 use Rattle.uv_work.specs.Pool.{Done as Ended, waits}
 use Rattle.uv_model.specs.Ops as ops
 use Rattle.uv_model.specs.Next as step
-use Rattle.uv_order.proofs.Lemmas.{has_both, on_list, same, other, itself, without_absent, distinct_front, Turns, cancel_both, make_both, Kept, fills, request_turns, freed_turns, FrontRequest, TakesFront, RunsWork, asked_at, AllAsk, IsOpen, HasEnded, once_middle, runs_now, waits_open, runs_open, SameWork, IsOfHandles, IsOfLoop, op_same, KeepsWork, did_same, Working, Did, did, IsStill, timed}
+use Rattle.uv_order.proofs.Lemmas.{has_both, on_list, same, other, itself, without_absent, distinct_front, Turns, cancel_both, make_both, Kept, fills, request_turns, freed_turns, FrontRequest, TakesFront, RunsWork, asked_at, AllAsk, IsOpen, HasEnded, once_middle, runs_now, waits_open, runs_open, SameWork, IsOfHandles, IsOfLoop, op_same, KeepsWork, did_same, Working, Did, IsStill}
 
 -- ---- pools
 
@@ -90,12 +90,6 @@ without_first : (ids : List Id) (id : Id) → AreDistinct ids → without ids id
 without_first [] id d = refl
 without_first (x ∷ ids) id d = grind (arith, same, without_absent, without_first ids id d.1)
 
--- the one that ended is the last of those that are done
-last_done : (s t : State) (id : Id) (b : Bool) → done_as t id ≡ record { id = id; finished = b } →
-    map (done_as t) (s.done.yet ++ s.done.list) ≡ map (done_as s) (s.done.yet ++ s.done.list) →
-    map (done_as t) (s.done.yet ++ (s.done.list ++ id ∷ [])) ≡ map (done_as s) (s.done.yet ++ s.done.list) ++ record { id = id; finished = b } ∷ []
-last_done s t id b e f = grind (arith, append_assoc, map-append)
-
 its_outcome : (s t : State) (id : Id) (r x : Request) → Turns s.arena.slots t.arena.slots id (Some (Content.Request r)) (Some (Content.Request x)) →
     done_as t id ≡ record { id = id; finished = was_finished (Some x) }
 its_outcome s t id r x turns = ap (λ (o : Option Request). record { id = id; finished = was_finished o }) (ap request_in turns.here)
@@ -112,7 +106,7 @@ cancelled_pool s t e on k =
     let apart = apart_done s u t.0 (Some (Content.Request t.1)) (Some (Content.Request x)) turns
     (λ r f. ap (λ (y : Request). is_open y.outcome) (sym (same_Some _ _ f)) ∙ opened) k in
     let distinct = distinct_front s.waiting (run_ids s.running) k.open_ones.distinct in
-    grind (arith, waits_has, equal_pools, without_first, last_done, its_outcome, turns, apart)
+    grind (arith, waits_has, equal_pools, without_first, append_assoc, map-append, its_outcome, turns, apart)
 
 -- a worker finishes the one that it runs
 finished_pool : (s : State) (n : ℕ) (t : Id × Request) → RunsWork s n t → Working s → after_event (pool_of s) (PoolEvent.Finish n t.0)
@@ -124,7 +118,7 @@ finished_pool s n t f k =
     let opened = runs_open s.arena.slots s.waiting s.running s.done t.0 t.1 f.holds (runs_now s.running n t.0 f.busy) k in
     let apart = apart_done s u t.0 (Some (Content.Request t.1)) (Some (Content.Request x)) turns
     (λ r h. ap (λ (y : Request). is_open y.outcome) (sym (same_Some _ _ h)) ∙ opened) k in
-    grind (arith, itself, equal_pools, last_done, its_outcome, turns, apart)
+    grind (arith, itself, equal_pools, append_assoc, map-append, its_outcome, turns, apart)
 
 -- the first of those that are done calls back
 collected_pool : (s : State) (last : ℕ) (t : Id × Request) → FrontRequest s s.done.yet t → Working s → after_event (pool_of s) (PoolEvent.Collect t.0)

@@ -6,7 +6,7 @@ use Rattle.uv_order.proofs.Contents.{Turns}
 use Rattle.uv_order.proofs.Holding.{put, put_same, is_held}
 use Rattle.uv_order.proofs.Asked.{freed_turns}
 use Rattle.uv_order.proofs.Works.{SameRequests, same_requests, same_put}
-use Rattle.uv_order.proofs.OpCases.{DidOp, op_did, live_held, refuses_none, refuses_timer, refuses_start, refuses_stop, refuses_again, refuses_close, on_handle_both, send_both, make_both}
+use Rattle.uv_order.proofs.OpCases.{DidOp, op_did, live_held}
 use Rattle.uv_order.proofs.Keeping.{Kept, fills}
 use Rattle.uv_order.proofs.Did.{Did, FrontOf}
 

@@ -1,5 +1,5 @@
 -- What once refuses.
-use Rattle.uv_order.proofs.Names.{arith, ◌≡◌, ◌||◌, List, [], ◌∷◌, ◌++◌, true, Option, refl, subst, both_ways, Id, Success, Seen, Op, Program, has_take_line, OpSays, MayFollow, OnceFrom, RefusedOnce, Answer}
+use Rattle.uv_order.proofs.Names.{arith, ◌≡◌, ◌||◌, List, ◌∷◌, ◌++◌, true, both_ways, Id, Seen, Program, has_take_line, MayFollow, OnceFrom, RefusedOnce, []}
 
 -- the lines before another one, the last one first, in front of those
 abbrev turned : List Seen → List Seen → List Seen

@@ -1,8 +1,8 @@
 -- What the documented order refuses.
-use Rattle.uv_order.proofs.Names.{arith, ◌≡◌, ℕ, List, [], ◌∷◌, ◌++◌, Bool, true, false, Option, Some, refl, ap, sym, subst, ◌∙◌, if◌then◌else◌, not, both_ways, same_Some, Id, Var, Due, Success, Answer, Mode, Phase, Callback, Seen, Site, Op, Program, from_heap, op_at, State, Line, has_id, closes_some, may_wait, bound, Names, names_by, taken_off, Told, nothing_told, told_by, Lasting, lasting, Section, word_of, In, is_called, Standing, IsCallLine, CallsNext, MayAnswer, Within, Position, Between, Running, Goes, GoesOn, line, at_first, past_after, is_within, AllWithin, is_send_op, is_send, AllSilent, RefusedOrder, holds_io}
+use Rattle.uv_order.proofs.Names.{arith, ◌≡◌, ℕ, List, ◌∷◌, ◌++◌, Bool, true, false, Option, Some, refl, ap, sym, subst, ◌∙◌, if◌then◌else◌, not, both_ways, same_Some, Id, Var, Answer, Mode, Phase, Callback, Seen, Site, Op, Program, from_heap, op_at, State, Line, has_id, closes_some, Names, names_by, taken_off, Told, nothing_told, told_by, Lasting, lasting, Section, word_of, is_called, Standing, IsCallLine, CallsNext, Within, Position, Between, Running, Goes, GoesOn, line, at_first, past_after, is_within, AllWithin, is_send, AllSilent, RefusedOrder, holds_io, []}
 use Rattle.uv_order.specs.Documented as doc
 use Rattle.uv_order.specs.Documented.{Walk}
-use Rattle.uv_order.proofs.Lemmas.{has_both, itself, without_itself, still_absent}
+use Rattle.uv_order.proofs.Lemmas.{has_both, without_itself, still_absent}
 
 -- ---- where the lines stand
 
@@ -78,9 +78,6 @@ record Stays (p : Program) (told : Told) (names : Names) (m : Mode) (i : ℕ) (p
   grown : (id : Id) → has_id w.off id ≡ true → has_id walk.off id ≡ true
   tells : Tells p told names part w walk what
 
-still_off : (taken off : List Id) (id : Id) → has_id off id ≡ true → has_id (taken ++ off) id ≡ true
-still_off taken off id e = grind (arith, has_both)
-
 also_off : (taken off : List Id) (id : Id) → has_id taken id ≡ true → has_id (taken ++ off) id ≡ true
 also_off taken off id e = grind (arith, has_both)
 
@@ -116,7 +113,7 @@ stays p told names m i part w l to e g = at to e g where
   at to e (doc.fires v id due others a b c d f g h i) =
       so (record w { body = body Callback.Handle v }) (λ x on. on) (Seen.Call v id) h ((λ heap. cc (a, heap)), rw b refl)
   at to e (doc.answers v id a b c d f g) = grind arith
-  at to e (doc.body_op place rest o a b c d f) = grind (arith, still_off, also_off, same_Some)
+  at to e (doc.body_op place rest o a b c d f) = grind (arith, also_off, same_Some)
   at to e (doc.sent v code a b) = so w (λ x on. on) _ a tt
   at to e (doc.taken n v id a b c) = so w (λ x on. on) _ a tt
   at to e (doc.finished n v id a b c) = so w (λ x on. on) _ a tt
@@ -172,11 +169,6 @@ absent_on : (p : Program) (xs : List Line) (told : Told) (past : List Seen) (id 
 absent_on p [] told past id a h = h
 absent_on p (x ∷ xs) told past id a h = absent_on p xs _ _ id a.1 (grind (arith, still_absent))
 
--- a call takes in what was sent
-absent_called : (p : Program) (told : Told) (names : Names) (l : Seen) (v : Var) (id : Id) → l ≡ Seen.Call v id →
-    has_id (told_by p told names l).sent id ≡ false
-absent_called p told names l v id e = rw e (without_itself told.sent id)
-
 -- ---- the laws
 
 no_wait : (a b c d : Bool) (n : Option ℕ) → d ≡ true →
@@ -189,9 +181,8 @@ zero_waits : (p : Program) (told : Told) (names : Names) (l : Line) (at to : Pos
 zero_waits p told names l at to timeout shut e g = grind (arith, no_wait)
 
 -- a callback of I/O stands in such a section
-io_on : (p : Program) (m : Mode) (i : ℕ) (part : Section) (w : Walk) (told : Told) (past : List Seen) (was : Lasting) (l : Line) (v : Var)
-    (id : Id) (ls : List Line) → l.seen ≡ Seen.Io v id → GoesOn p (Running m i (Within part w)) told past was (l ∷ ls) →
-    holds_io (word_of part) ≡ true
+io_on : (p : Program) (m : Mode) (i : ℕ) (part : Section) (w : Walk) (told : Told) (past : List Seen) (was : Lasting) (l : Line) (v : Var) (id : Id)
+    (ls : List Line) → l.seen ≡ Seen.Io v id → GoesOn p (Running m i (Within part w)) told past was (l ∷ ls) → holds_io (word_of part) ≡ true
 io_on p m i part w told past was l v id ls e (line {to = to} f g h) =
     let s = stays p told (names_by p past) m i part w l to (ap is_within e) g in
     subst (Tells p told (names_by p past) part w s.walk) e s.tells
@@ -217,7 +208,7 @@ refused p before more = record {
       let told : Told = told_after p now past (a ∷ mid) in
       let two = section_on p one.at told (past_after past (a ∷ mid)) one.was s Phase.Async (front ++ b ∷ more) es one.goes in
       let off : has_id told.sent id ≡ false =
-      absent_on p mid _ (a.seen ∷ past) id ms (absent_called p now (names_by p past) a.seen v id ea) in
+      absent_on p mid _ (a.seen ∷ past) id ms (grind (arith, without_itself)) in
       both_ways (has_id (told_after p told (past_after past (a ∷ mid)) (s ∷ front)).sent id)
       (absent_on p (s ∷ front) told (past_after past (a ∷ mid)) id (ap (is_send p) es, fq) off)
       (sent_on p two.mode two.number two.part two.walk _ _ two.was front b x id more two.its fs eb two.rest);
@@ -230,7 +221,7 @@ refused p before more = record {
       let told : Told = told_after p now past (s ∷ front) in
       let gone : List Seen = past_after past (s ∷ front) in
       both_ways (has_id (told_after p told gone (a ∷ mid)).sent id)
-      (absent_on p mid _ (a.seen ∷ gone) id mq (absent_called p told (names_by p gone) a.seen v id ea))
+      (absent_on p mid _ (a.seen ∷ gone) id mq (grind (arith, without_itself)))
       (sent_on p one.mode one.number one.part two.walk told gone two.was (a ∷ mid) b x id more one.its (ap is_within ea, ms) eb two.rest);
   io_elsewhere = λ s l front word v id apart es fs el h.
       let k = behind p before (s ∷ (front ++ l ∷ more)) (Between 0) nothing_told [] at_first h in

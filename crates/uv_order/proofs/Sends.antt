@@ -1,8 +1,8 @@
 -- Who was sent to, by the lines and by the handles: each step keeps that they agree.
-use Rattle.uv_order.proofs.Names.{arith, ◌≡◌, ℕ, ◌==◌, List, [], ◌∷◌, ◌++◌, Bool, true, false, drop, Option, Some, None, Ok, refl, ap, sym, subst, ◌∙◌, cond_both, both_ways, or_right, false_from_ne_true, Id, Var, Code, Answer, Kind, Op, Task, Program, arena_size, HandleRecord, Slot, inited, referenced_as, repeating, close_refusal, held, freed, taken, next_free, Walk, Content, Request, queued, same_id, without_id, State, fresh, handle, with_request, live, live_handle, stopped, started, restarted, do_op, Next, Moves, Refuses, has_id, Told, told_by, sent_by, sent_after, ids_of, without_ids, taken_off, AllOff, AllOffOrUnsent, handle_in, kind_as, watched, Phase, WatcherKind}
+use Rattle.uv_order.proofs.Names.{arith, ◌≡◌, ℕ, List, ◌∷◌, ◌++◌, Bool, true, false, drop, Option, Some, None, Ok, refl, ap, sym, subst, ◌∙◌, cond_both, both_ways, false_from_ne_true, Id, Var, Answer, Kind, Op, Task, Program, arena_size, HandleRecord, Slot, inited, referenced_as, repeating, close_refusal, held, freed, taken, next_free, Walk, Content, Request, queued, same_id, without_id, State, fresh, handle, with_request, live, live_handle, stopped, started, restarted, do_op, Next, Moves, Refuses, has_id, Told, told_by, sent_by, sent_after, ids_of, without_ids, taken_off, AllOff, AllOffOrUnsent, handle_in, kind_as, watched, Phase, WatcherKind, []}
 use Rattle.uv_records.specs.Handles as records
 use Rattle.uv_model.specs.Ops as ops
-use Rattle.uv_order.proofs.Lemmas.{has_both, Each, each_back, same, other, itself, turned, left_of, without_itself, has_without, without_absent, still_there, Turns, emptied, grown_at, SameHandles, same_handles, held_at, put, put_same, put_other, emptied_same, emptied_other, Fits, its_handle, Grown, Everyone, DidOp, IsAsked, IsRef, op_did, names_at, live_held, IsRefusal, refuses_none, refuses_timer, refuses_start, refuses_stop, refuses_again, refuses_close, send_passes, on_handle_both, send_both, cancel_both, make_both, FrontRequest, request_turns, freed_turns, one_taken, Watches, Rests, Kept, members, fills, taken_handle, open_shut, Did, FrontOf, FirstOf, IsStill, timed}
+use Rattle.uv_order.proofs.Lemmas.{has_both, Each, each_back, same, other, itself, turned, left_of, without_itself, has_without, without_absent, still_there, Turns, emptied, grown_at, SameHandles, same_handles, held_at, put, put_same, put_other, emptied_same, emptied_other, Fits, its_handle, Grown, Everyone, DidOp, IsAsked, IsRef, op_did, names_at, live_held, refuses_close, on_handle_both, make_both, FrontRequest, request_turns, freed_turns, one_taken, Watches, Rests, Kept, members, fills, taken_handle, open_shut, Did, FrontOf, FirstOf, IsStill}
 use Rattle.uv_order.proofs.KeptSteps.{first_is}
 
 -- ---- what agrees
@@ -22,9 +22,6 @@ pub record Sent (sent : List Id) (slots : List (Slot Content)) : Type 0 where
 
 abbrev pub SentAt : List Id → State → Type 0
 SentAt sent s = Sent sent s.arena.slots
-
-pends_here : (slots : List (Slot Content)) (id : Id) (h x : HandleRecord) → held_at slots id ≡ Some h → pends (put slots id x) id ≡ x.pending
-pends_here slots id h x e = ap pends_in (put_same slots id h x e)
 
 pub pends_there : (slots : List (Slot Content)) (id i : Id) (h x : HandleRecord) → held_at slots id ≡ Some h → same_id i id ≡ false →
     pends (put slots id x) i ≡ pends slots i
@@ -49,12 +46,12 @@ sent_put sent slots id h x e p q o k = grind (arith, same, other, put_same, put_
 -- one is sent to
 pub sent_more : (sent : List Id) (slots : List (Slot Content)) (id : Id) (h x : HandleRecord) → held_at slots id ≡ Some h → x.pending ≡ true →
     x.kind ≡ Kind.Async → x.closing ≡ false → Sent sent slots → Sent (id ∷ sent) (put slots id x)
-sent_more sent slots id h x e p q o k = grind (arith, same, itself, turned, pends_here, pends_there, each_put)
+sent_more sent slots id h x e p q o k = grind (arith, same, itself, turned, put_same, pends_there, each_put)
 
 -- one isn't pending any more
 pub sent_clear : (sent : List Id) (slots : List (Slot Content)) (id : Id) (h x : HandleRecord) → held_at slots id ≡ Some h → x.pending ≡ false →
     Sent sent slots → Sent (without_id sent id) (put slots id x)
-sent_clear sent slots id h x e p k = grind (arith, same, without_itself, has_without, pends_here, pends_there, each_put)
+sent_clear sent slots id h x e p k = grind (arith, same, without_itself, has_without, put_same, pends_there, each_put)
 
 -- one that isn't pending is called
 pub sent_none : (sent : List Id) (slots : List (Slot Content)) (id : Id) (h : HandleRecord) → held_at slots id ≡ Some h → h.pending ≡ false →
@@ -89,10 +86,6 @@ sent_gone sent slots id h n e shut k = grind (arith, same, other, emptied_same, 
 -- who was sent to after an op, by its line and by the handles
 abbrev pub SentBy : State → List Id → Op → ops.Done → Type 0
 SentBy s sent o d = SentAt (sent_by o d.answer (names_at s) sent) d.state
-
--- a refused op sends to nobody, and closes nobody
-refused_sent : (s : State) (sent : List Id) (o : Op) (c : Code) → IsRefusal c → sent_by o (Answer.Code c) (names_at s) sent ≡ sent
-refused_sent s sent o c no_success = grind arith
 
 asked_sent : (s : State) (sent : List Id) (o : Op) (a : Answer) → IsAsked o → sent_by o a (names_at s) sent ≡ sent
 asked_sent s sent o a is = grind arith
@@ -137,7 +130,7 @@ close_sent s sent v t e k =
     (sent_clear sent s.arena.slots t.0 t.1 (records.closed t.1) (live_held s v t e) refl k)
 
 did_op_sent : (s : State) (sent : List Id) (o : Op) (d : ops.Done) → DidOp s o d → Kept s → SentAt sent s → SentBy s sent o d
-did_op_sent s sent o d (DidOp.refused o' c r may) kept k = subst (λ (ids : List Id). SentAt ids s) (sym (refused_sent s sent o' c r)) k
+did_op_sent s sent o d (DidOp.refused o' c r may) kept k = subst (λ (ids : List Id). SentAt ids s) (sym (grind arith)) k
 did_op_sent s sent o d (DidOp.asked o' a is) kept k = subst (λ (ids : List Id). SentAt ids s) (sym (asked_sent s sent o' a is)) k
 did_op_sent s sent o d (DidOp.made v q id e) kept k = new_sent s sent v q id e kept k
 did_op_sent s sent o d (DidOp.queued v task id e) kept k = queued_sent s sent v task id e kept k
@@ -257,7 +250,7 @@ stays_sent s sent (Op.Close v) id kept d on e =
     (λ (x : ops.Done). has_id (taken_off Phase.Async (names_at s) (Op.Close v) x.answer) id ≡ false → has_id
     (sent_by (Op.Close v) x.answer (names_at s) sent) id ≡ true)
     refuses_close
-    (λ c no_success f. subst (λ (ids : List Id). has_id ids id ≡ true) (sym (refused_sent s sent (Op.Close v) c no_success)) e)
+    (λ c no_success f. subst (λ (ids : List Id). has_id ids id ≡ true) (sym (grind arith)) e)
     (λ t f is g. still_closed sent (ids_of (names_at s) (Some v)) t.0 id (one_taken s v t f) g e) d
 stays_sent s sent each id kept d on e = grind arith
 

@@ -1,8 +1,8 @@
 -- Where a state stands in the documented order, and the lists of the sections there.
-use Rattle.uv_order.proofs.Names.{arith, ◌≡◌, ℕ, List, [], ◌++◌, Bool, true, false, Option, Some, None, refl, ap, subst, ◌∙◌, append-nil, Order, V144, V145, Id, Due, Kind, Mode, Default, Once, Nowait, Phase, Seen, Site, Program, Body, Run, Stage, TimersOf, Turn, AtEntry, Behind, BehindClosing, Way, ToTimers, ToPending, ToEnd, Collecting, Firing, Place, Listed, Slot, Content, State, Next, Moves, Refuses, way, time_at, idled_at, idled_then, from_heap, Line, has_id, IsTimer, AreTimers, AreDistinct, AreActive, AreClosing, IsEnded, AreEnded, IsOpened, AreOpened, run_ids, Told, told_by, AllOffOrUnsent, lasting, Section, Entry, In, word_of, part_after, part_of, Opens, IsOver, Standing, Answering, Begun, Within, Polling, Position, Between, Running, Goes, WatcherKind, phase_of}
+use Rattle.uv_order.proofs.Names.{arith, ◌≡◌, ℕ, List, ◌++◌, Bool, true, false, Option, Some, None, refl, subst, append-nil, Order, Id, Due, Kind, Mode, Phase, Seen, Site, Program, Body, Run, Stage, TimersOf, Turn, AtEntry, Behind, BehindClosing, Way, ToTimers, ToPending, ToEnd, Collecting, Firing, Place, Listed, Slot, Content, State, Next, Moves, Refuses, time_at, idled_at, from_heap, Line, has_id, AreTimers, AreDistinct, AreActive, AreClosing, IsEnded, AreEnded, IsOpened, AreOpened, run_ids, Told, told_by, AllOffOrUnsent, lasting, Section, Entry, In, word_of, part_after, part_of, Opens, IsOver, Standing, Answering, Begun, Within, Polling, Position, Between, Running, Goes, WatcherKind, phase_of, []}
 use Rattle.uv_order.specs.Documented as doc
 use Rattle.uv_order.specs.Documented.{Walk}
-use Rattle.uv_order.proofs.Lemmas.{names_at, left_of, member, due_ids, distinct_due, Fits, its_handle, Everyone, IsSet, Times, Kept, Watches, Closes, members, Asks, AllAsk, IsOpen, HasEnded, Working, IsBody, Counted}
+use Rattle.uv_order.proofs.Lemmas.{names_at, left_of, member, due_ids, distinct_due, its_handle, Everyone, Times, Kept, Watches, Closes, members, Asks, AllAsk, IsOpen, HasEnded, Working, IsBody, Counted}
 use Rattle.uv_order.proofs.Sends.{pends}
 
 -- ---- where a state stands
@@ -168,10 +168,6 @@ reached_by (ToTimers part) = doc.Of (section_of part)
 reached_by ToPending = doc.Of (In Phase.Pending)
 reached_by ToEnd = doc.End
 
--- the table of the step is that of the documented order
-pub ways_agree : (o : Order) (m : Mode) (go : Bool) (turn : Turn) → part_after o m go (left turn) ≡ reached_by (way o m go turn)
-ways_agree o m go turn = grind arith
-
 -- so is what the lines of the sections set
 pub timers_last : (o : Order) (part : TimersOf) (s : State) →
     record (lasting s) { time = time_at o part s; idled = idled_at o part s } ≡ doc.after_word o (section_of part) s
@@ -189,15 +185,6 @@ IsNext a b = (o : Order) (m : Mode) (go : Bool) → part_after o m go a ≡ b
 -- a section of an iteration
 abbrev pub section_at : Phase → doc.Part
 section_at word = doc.Of (In word)
-
-pub idle_next : IsNext (section_at Phase.Pending) (section_at Phase.Idle)
-idle_next o m go = refl
-
-pub prepare_next : IsNext (section_at Phase.Idle) (section_at Phase.Prepare)
-prepare_next o m go = refl
-
-pub done_next : IsNext doc.Poll (section_at Phase.Done)
-done_next o m go = refl
 
 pub async_next : IsNext (section_at Phase.Done) (section_at Phase.Async)
 async_next o m go = refl
@@ -218,12 +205,8 @@ due_distinct s time k = grind (arith, distinct_due, its_handle)
 pub all_active : (s : State) (q : Kind) (ids : List Id) → Everyone s.arena.slots (Watches q) ids → AreActive s q ids
 all_active s q ids k = grind (arith, member)
 
--- where nobody is yet to run, the list has all
-list_alone : (w : Listed Id) → w.yet ≡ [] → members w ≡ w.list
-list_alone w e = ap (λ (ids : List Id). w.list ++ ids) e ∙ append-nil w.list
-
 pub are_active : (s : State) (q : Kind) (w : Listed Id) → w.yet ≡ [] → Everyone s.arena.slots (Watches q) (members w) → AreActive s q w.list
-are_active s q w e k = subst (AreActive s q) (list_alone w e) (all_active s q (members w) k)
+are_active s q w e k = subst (AreActive s q) (grind (arith, append-nil)) (all_active s q (members w) k)
 
 -- a section whose list is empty is over once the ops of the last callback are done
 pub empty_over : (word : Phase) (w : Walk) → w.ahead ≡ [] → w.body ≡ [] → IsOver word w
@@ -261,10 +244,10 @@ all_opened s k = record {
   opened id a = record { its = a.request; holds = a.holds; opened = a.fits }
 
 pub are_ended : (s : State) → s.done.yet ≡ [] → Working s → AreEnded s s.done.list
-are_ended s e k = subst (AreEnded s) (list_alone s.done e) (all_ended s (members s.done) k.ended)
+are_ended s e k = subst (AreEnded s) (grind (arith, append-nil)) (all_ended s (members s.done) k.ended)
 
 pub all_closing : (s : State) (ids : List Id) → Everyone s.arena.slots Closes ids → AreClosing s ids
 all_closing s ids all = grind (arith, member)
 
 pub are_closing : (s : State) → s.closing.yet ≡ [] → Kept s → AreClosing s s.closing.list
-are_closing s e k = subst (AreClosing s) (list_alone s.closing e) (all_closing s (members s.closing) k.closing)
+are_closing s e k = subst (AreClosing s) (grind (arith, append-nil)) (all_closing s (members s.closing) k.closing)

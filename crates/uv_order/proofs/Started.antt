@@ -1,8 +1,8 @@
 -- Who was started, as the lines tell it and as the handles say it, and which ids were made: each step keeps that they agree.
-use Rattle.uv_order.proofs.Names.{arith, ◌≡◌, ◌⊎◌, inl, inr, ℕ, ◌==◌, ◌||◌, ◌&&◌, List, [], ◌∷◌, ◌++◌, Bool, true, false, drop, if◌then◌else◌, Option, Some, None, Ok, refl, ap, sym, subst, ◌∙◌, cond_both, or-true, or_right, same_Some, none-some, Id, Var, Code, Answer, Kind, Seen, Site, Op, Program, op_at, arena_size, Task, Request, queued, Content, HandleRecord, WatcherKind, Slot, inited, is_timer, referenced_as, repeating, Slots, held, freed, taken, next_free, handle_in, same_id, without_id, State, fresh, handle, live_handle, live_request, with_handle, with_request, watched, stopped, started, restarted, do_op, Next, Moves, Refuses, has_id, Activity, Answered, activity, activity_answered, activity_done, activity_by, activity_called, new_activity, is_some_id, bound, makes, made_by, made_as, first_of, kind_as}
+use Rattle.uv_order.proofs.Names.{arith, ◌≡◌, ◌⊎◌, inl, inr, ℕ, ◌==◌, ◌||◌, ◌&&◌, List, ◌∷◌, ◌++◌, Bool, true, false, drop, if◌then◌else◌, Option, Some, None, Ok, refl, ap, sym, subst, ◌∙◌, cond_both, or_right, same_Some, none-some, Id, Var, Code, Answer, Kind, Seen, Site, Op, Program, op_at, arena_size, Task, Request, queued, Content, HandleRecord, WatcherKind, Slot, inited, is_timer, referenced_as, repeating, Slots, held, freed, taken, next_free, handle_in, same_id, without_id, State, fresh, handle, live_handle, live_request, with_handle, with_request, watched, stopped, started, restarted, do_op, Next, Moves, Refuses, has_id, Activity, Answered, activity, activity_answered, activity_done, activity_by, activity_called, new_activity, is_some_id, bound, makes, made_as, kind_as, []}
 use Rattle.uv_records.specs.Handles as records
 use Rattle.uv_model.specs.Ops as ops
-use Rattle.uv_order.proofs.Lemmas.{Each, each_back, absent, same, other, itself, turned, has_without, has_new_middle, without_itself, Turns, IsHeld, held_turned, held_at, is_held, put, put_turns, put_same, SameHandles, same_handles, Fits, its_handle, Lists, IsSet, Times, DidOp, IsAsked, IsRefusal, op_did, live_held, live_bound, send_both, cancel_both, IsRef, request_turns, freed_turns, IsGone, gone_put, gone_turned, gone_emptied, gone_now, Rests, Watches, Kept, fills, not_free, Did, FrontOf, FirstOf, IsStill, IsSync, timed}
+use Rattle.uv_order.proofs.Lemmas.{Each, each_back, absent, same, other, itself, turned, has_without, has_new_middle, without_itself, Turns, IsHeld, held_at, is_held, put, put_turns, put_same, SameHandles, same_handles, Fits, its_handle, Lists, IsSet, Times, DidOp, IsAsked, IsRefusal, op_did, live_held, live_bound, send_both, cancel_both, IsRef, request_turns, freed_turns, IsGone, gone_put, gone_turned, gone_emptied, gone_now, Rests, Watches, Kept, fills, not_free, Did, FrontOf, FirstOf, IsStill}
 use Rattle.uv_order.proofs.KeptSteps.{first_is}
 use Rattle.uv_order.proofs.Known.{is_answered}
 use Rattle.uv_order.proofs.OpsOnce.{KnownAt, asked_harmless, harmless, refused_harmless, gone_taken, next_not_gone}
@@ -56,7 +56,7 @@ started_turned p past more arena now ready list id h x t gone adds lists own k =
   active i y e false s = grind (arith, other)
 
   old : (i : Id) → IsOld arena i → IsOld now i
-  old i (inl here) = inl (held_turned arena.slots now.slots id i _ _ t here)
+  old i (inl here) = inl (grind arith)
   old i (inr g) = inr (gone i g)
 
 -- no handle changes
@@ -70,7 +70,7 @@ started_same p past more arena now ready handles old quiet k = record {
 -- what a slot holds turns into something else
 old_turned : (arena now : Slots Content) (id i : Id) (was : Option Content) (c : Content) → Turns arena.slots now.slots id was (Some c) →
     StaysGone arena now → IsOld arena i → IsOld now i
-old_turned arena now id i was c t gone (inl here) = inl (held_turned arena.slots now.slots id i was c t here)
+old_turned arena now id i was c t gone (inl here) = inl (grind arith)
 old_turned arena now id i was c t gone (inr g) = inr (gone i g)
 
 -- the record of a handle changes, which is as active as before
@@ -101,10 +101,6 @@ pub op_tells : (p : Program) (past : List Seen) (place : Site) (o : Op) (a : Ans
     activity p (Seen.Op place a ∷ past) i ≡ activity_done p past o a i (activity p past i)
 op_tells p past place o a i e = ap (λ (d : Option Answered). activity_answered p past d i (activity p past i)) (is_answered p place o a e)
 
-makes_none : (p : Program) (past : List Seen) (place : Site) (o : Op) (a : Answer) (i : Id) (v : Var) → op_at p place ≡ Some o →
-    makes o a i ≡ None → made_as p (Seen.Op place a ∷ past) i ≡ Some v → made_as p past i ≡ Some v
-makes_none p past place o a i v e none m = cc
-
 refused_still : (p : Program) (past : List Seen) (o : Op) (c : Code) (i : Id) (x : Activity) → IsRefusal c →
     activity_done p past o (Answer.Code c) i x ≡ x
 refused_still p past o c i x r = grind (arith)
@@ -128,7 +124,7 @@ pub op_started : (p : Program) (past : List Seen) (s : State) (place : Site) (o 
     Started p (Seen.Op place (Answer.Code Code.Ok) ∷ past) now list
 op_started p past s place o v t x now list at on is turns gone lists own k =
     started_turned p past (Seen.Op place (Answer.Code Code.Ok) ∷ past) s.arena now s.ready list t.0 t.1 x turns gone
-    (grind (arith, makes_none, turned)) lists (λ f. told t.0 ∙ chosen t.0 true is (itself t.0 t.0 refl) ∙ ap (activity_by o) f ∙ own) k
+    (grind (arith, turned)) lists (λ f. told t.0 ∙ chosen t.0 true is (itself t.0 t.0 refl) ∙ ap (activity_by o) f ∙ own) k
   where
     chosen : (i : Id) (b : Bool) → bound p past v ≡ Some t.0 → same_id t.0 i ≡ b →
         (if is_some_id i (bound p past v) && true then activity_by o (activity p past i) else activity p past i) ≡
@@ -183,9 +179,8 @@ handle_stopped p past s o v t x e is on stops off k place at =
     (stops (shown t.1 (has_id s.ready t.0)) ∙ rw (without_itself s.ready t.0) (sym off)) k
 
 -- a handle of I/O is started
-io_started : (p : Program) (past : List Seen) (s : State) (v : Var) (t : Id × HandleRecord) → live_handle s v ≡ Ok t →
-    bound p past v ≡ Some t.0 → StartedAt p past s → StartedBy p past (Op.StartWatcher v)
-    (ops.succeeds (with_handle s t.0 (records.activated t.1)))
+io_started : (p : Program) (past : List Seen) (s : State) (v : Var) (t : Id × HandleRecord) → live_handle s v ≡ Ok t → bound p past v ≡ Some t.0 →
+    StartedAt p past s → StartedBy p past (Op.StartWatcher v) (ops.succeeds (with_handle s t.0 (records.activated t.1)))
 io_started p past s v t e is k place at =
     let h = live_held s v t e in
     op_started p past s place (Op.StartWatcher v) v t (records.activated t.1) _ s.ready at (record { makes = λ i. refl; does = λ i x. refl }) is

@@ -1,5 +1,5 @@
 -- What a worker may do by the pool's rules it may do as the next step.
-use Rattle.uv_order.proofs.Names.{drop, ◌≡◌, ℕ, List, [], ◌∷◌, ◌++◌, true, Option, Some, None, Ok, slice_get, refl, ap, sym, ◌∙◌, events_both, Id, Event, Take, Finish, Program, worker_count, Pool, IsLegal, after_event, after_events, empty_pool, PoolEvent, Request, State, request, next_work, work_of, lines, has_id, run_ids, pool_events, pool_of, IsTakenAs, or-true, arith, replay, next, after}
+use Rattle.uv_order.proofs.Names.{drop, ◌≡◌, ℕ, List, ◌∷◌, ◌++◌, true, Some, None, Ok, slice_get, refl, ap, ◌∙◌, events_both, Id, Event, Take, Finish, Program, worker_count, Pool, IsLegal, after_event, PoolEvent, Request, State, request, next_work, work_of, lines, has_id, run_ids, pool_events, pool_of, IsTakenAs, or-true, arith, replay, next, after, []}
 use Rattle.uv_model.specs.Next as step
 use Rattle.uv_order.proofs.Lemmas.{same, itself, has_both, runs_now, Working}
 use Rattle.uv_order.proofs.Documents.{pools, holds_after}

@@ -1,5 +1,5 @@
 -- The timers in their order: one is put in, one is taken out, and those that are due stand in front.
-use Rattle.uv_order.proofs.Names.{cond_both, ◌≡◌, ◌⊎◌, inl, inr, ℕ, ◌<◌, ◌≤◌, List, [], ◌∷◌, true, false, nat_le, refl, ap, sym, ◌∙◌, arith, filter, ordering_then, nat_cmp, is_eq, ordering_reverse, MatchOrdering, is_at, Ordering, Less, Equal, Greater, nat_tests, ranked, tied_itself, due_cmp, Id, Due, with_timer, without_timer, Has, Before, InOrder, has_id, AreDistinct, due_cmp_total}
+use Rattle.uv_order.proofs.Names.{cond_both, ◌≡◌, ◌⊎◌, inl, inr, ℕ, ◌<◌, ◌≤◌, List, ◌∷◌, false, nat_le, refl, sym, ◌∙◌, arith, filter, nat_cmp, ordering_reverse, MatchOrdering, is_at, Ordering, Less, Equal, Greater, nat_tests, ranked, due_cmp, Id, Due, with_timer, without_timer, Has, Before, InOrder, has_id, AreDistinct, due_cmp_total, []}
 use Rattle.std.specs.Prelude.{map}
 use Rattle.uv_order.proofs.IdLists.{same}
 
@@ -13,9 +13,6 @@ says x y = ranked x y (nat_cmp x y) refl
 
 pub equal_key : (a b : Due) → due_cmp a b ≡ Equal → a ≡ b
 equal_key a b e = grind arith
-
-pub key_at : (a b : Due) → is_at (due_cmp a) b ≡ true → a ≡ b
-key_at a b e = equal_key a b (grind arith)
 
 pub not_before_itself : (a b : Due) → a ≡ b → due_cmp a b ≡ Less → ⊥
 not_before_itself a b e l = grind arith
@@ -45,11 +42,11 @@ one_id (t ∷ ts) key i j s (inr a) (inr b) = one_id ts key i j s.1 a b
 
 pub still_has : (ts : List (Due × Id)) (key other : Due) (id : Id) → Has ts other id → (other ≡ key → ⊥) → Has (without_timer ts key) other id
 still_has [] key other id h d = absurd h
-still_has (t ∷ ts) key other id h d = grind (arith, key_at, still_has ts key other id)
+still_has (t ∷ ts) key other id h d = grind (arith, still_has ts key other id)
 
 pub had : (ts : List (Due × Id)) (key other : Due) (id : Id) → InOrder ts → Has (without_timer ts key) other id → Has ts other id × (other ≡ key → ⊥)
 had [] key other id s h = absurd h
-had (t ∷ ts) key other id s h = grind (arith, key_at, not_before_itself, before_each, had ts key other id s.1)
+had (t ∷ ts) key other id s h = grind (arith, not_before_itself, before_each, had ts key other id s.1)
 
 before_without : (ts : List (Due × Id)) (a key : Due) → Before a ts → Before a (without_timer ts key)
 before_without [] a key h = tt

@@ -1,12 +1,12 @@
 -- The timers of the entry and of an iteration, and callbacks: each step goes on from where the state stands.
-use Rattle.uv_order.proofs.Names.{arith, ◌≡◌, inl, ℕ, ◌+◌, ◌==◌, List, [], ◌∷◌, ◌++◌, Bool, true, false, drop, subst, without_id, nat_tests, Option, Some, None, nat_le, refl, ap, sym, ◌∙◌, append_assoc, append-nil, if◌then◌else◌, cond_both, not, Id, Var, Due, Callback, Program, order_of, from_heap, HandleRecord, Named, Run, TimersOf, Turn, Behind, Way, ToTimers, ToPending, ToEnd, Collecting, Firing, State, handle, with_id, front, named, with_named, counted, count_of, stopped, started, restarted, is_alive, Moves, goes, call, first_due, collected, body_from, lives, Told, AreDue, AreTimers, NoneDue, lasting, Section, Entry, In, word_of, part_after, part_of, Opens, IsOver, CallsNext, callback_in, Standing, Within, MayLeave, Between, Running, body_of, next_call, found_both, Phase, Seen, Place, Stage, next, option_map}
+use Rattle.uv_order.proofs.Names.{arith, ◌≡◌, inl, ℕ, ◌+◌, ◌==◌, List, ◌∷◌, ◌++◌, Bool, true, false, drop, subst, nat_tests, Option, Some, None, nat_le, refl, ap, sym, ◌∙◌, append_assoc, append-nil, if◌then◌else◌, cond_both, not, Id, Var, Due, Callback, Program, order_of, from_heap, HandleRecord, Named, Run, TimersOf, Turn, Behind, Way, ToTimers, ToPending, ToEnd, Collecting, Firing, State, handle, with_id, front, named, with_named, counted, count_of, stopped, started, restarted, is_alive, Moves, goes, call, first_due, collected, body_from, lives, Told, AreDue, AreTimers, NoneDue, lasting, Section, Entry, In, word_of, part_after, part_of, Opens, IsOver, CallsNext, callback_in, Standing, Within, MayLeave, Running, body_of, next_call, found_both, Phase, Seen, Place, Stage, next, option_map, []}
 use Rattle.uv_model.specs.Next as step
 use Rattle.uv_order.specs.Documented as doc
 use Rattle.uv_order.specs.Documented.{Walk}
-use Rattle.uv_order.proofs.Lemmas.{left_of, none_off, all_off, FirstLeft, first_left, due_ids, none_due, is_held, name_in, name_at, Fits, IsSet, Times, Kept, Rests, FrontOf, front_of, FirstOf, first_of, IsBody, Counted, counted_call, told_call, next_body}
+use Rattle.uv_order.proofs.Lemmas.{left_of, none_off, all_off, FirstLeft, first_left, due_ids, none_due, is_held, name_in, name_at, Fits, IsSet, Times, Kept, FrontOf, front_of, FirstOf, first_of, IsBody, Counted, counted_call, told_call, next_body}
 use Rattle.uv_order.proofs.KeptSteps.{no_front}
 use Rattle.uv_order.proofs.Lives.{goes_is}
-use Rattle.uv_order.proofs.Standing.{follows_to, StandsAt, left_all, begun_with, section_of, Rest, rest, Leaves, NobodyLeft, due_now, Stands, Follows, left, reached_by, ways_agree, timers_last, no_answer, are_timers, due_distinct, pending, collects, fires, calls_due, between, running}
+use Rattle.uv_order.proofs.Standing.{follows_to, StandsAt, left_all, begun_with, section_of, Rest, rest, Leaves, NobodyLeft, due_now, Follows, left, reached_by, timers_last, no_answer, are_timers, due_distinct, pending, collects, fires, calls_due, between, running}
 
 -- ---- callbacks
 
@@ -82,7 +82,7 @@ pub turn_follows : (p : Program) (told : Told) (s : State) (run : Run) (turn : T
     Follows p told (Running run.mode run.line at) s (step.turns (order_of p) s run turn)
 turn_follows p told s run turn at alive is over k c e =
     by (step.way (order_of p) run.mode (goes s) turn)
-    (grind (arith, goes_is, ways_agree))
+    (grind (arith, goes_is))
   where
     due : TimersOf → List Id
     due part = due_ids (step.time_at (order_of p) part s) s.timers

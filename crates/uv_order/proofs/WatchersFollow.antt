@@ -1,15 +1,15 @@
 -- The sections of watchers, of async handles and of closing ones: each step goes on from where the state stands.
-use Rattle.uv_order.proofs.Names.{arith, ◌≡◌, ◌||◌, Bool, true, false, subst, List, [], ◌∷◌, ◌++◌, drop, Option, None, refl, ap, sym, ◌∙◌, append_assoc, if◌then◌else◌, cond_both, not, Id, Program, arena_size, order_of, HandleRecord, Run, BehindClosing, WatcherKind, phase_of, freed, Slot, Content, Request, digest_in, request_in, same_id, State, with_handle, front, front_request, watched, is_alive, poll_timeout, deadline_of, Moves, call, calls, front_moved, has_id, AreDistinct, lives, Told, AllOff, AllOffOrUnsent, lasting, In, part_of, Opens, IsOver, CallsNext, Standing, Answering, Begun, Within, Polling, MayLeave, Running, found_both, kind_as, with_watched, all_yet, Order, AreActive, Kind, Phase, Seen, Callback, Stage, next, option_map}
+use Rattle.uv_order.proofs.Names.{arith, ◌≡◌, ◌||◌, Bool, true, false, List, ◌∷◌, ◌++◌, drop, Option, None, refl, ap, sym, ◌∙◌, append_assoc, if◌then◌else◌, cond_both, not, Id, Program, arena_size, order_of, HandleRecord, Run, BehindClosing, WatcherKind, phase_of, freed, Slot, Content, Request, digest_in, request_in, same_id, State, with_handle, front, front_request, watched, is_alive, poll_timeout, Moves, call, calls, front_moved, has_id, AreDistinct, lives, Told, AllOff, In, part_of, Opens, IsOver, Standing, Within, MayLeave, Running, found_both, kind_as, AreActive, Kind, Phase, Seen, Callback, Stage, next, option_map, []}
 use Rattle.uv_records.specs.Handles as records
 use Rattle.uv_model.specs.Next as step
 use Rattle.uv_order.specs.Documented as doc
 use Rattle.uv_order.specs.Documented.{Walk}
-use Rattle.uv_order.proofs.Lemmas.{left_of, none_off, all_off, each_back, distinct_back, same, itself, name_in, SameHandles, same_handles, Fits, freed_turns, FrontRequest, request_front, HasEnded, Working, no_request, Kept, Watches, Closes, FrontOf, front_of, IsSync, Counted}
+use Rattle.uv_order.proofs.Lemmas.{none_off, all_off, each_back, distinct_back, same, itself, name_in, SameHandles, same_handles, Fits, freed_turns, FrontRequest, request_front, HasEnded, Working, no_request, Kept, Watches, Closes, FrontOf, front_of, IsSync, Counted}
 use Rattle.uv_order.proofs.KeptSteps.{no_front}
 use Rattle.uv_order.proofs.Lives.{may_wait_is}
 use Rattle.uv_order.proofs.Sends.{pends, pends_in, pends_there, SentAt, pass_both, pass_off}
-use Rattle.uv_order.proofs.Standing.{left_all, begun_with, rest, Leaves, NobodyLeft, IsBehind, follows_to, Follows, empty_over, IsNext, async_next, async_moved, prepare_next, check_next, are_timers, are_active, are_closing, walking, polls, done, closing, running}
-use Rattle.uv_order.proofs.TimersFollow.{call_follows, NextCall, turn_follows, named_of, next_of, call_counted, its_body, called}
+use Rattle.uv_order.proofs.Standing.{left_all, rest, Leaves, NobodyLeft, IsBehind, follows_to, Follows, empty_over, IsNext, async_next, check_next, are_timers, are_active, are_closing, walking, polls, done, closing, running}
+use Rattle.uv_order.proofs.TimersFollow.{call_follows, turn_follows, named_of, next_of, call_counted, its_body, called}
 
 -- ---- sections of watchers, and of async handles
 
@@ -42,9 +42,8 @@ none_behind slots w yet none e = grind arith
 
 -- such a section begins behind a part that may be left
 pub begin_follows : (p : Program) (told : Told) (s : State) (run : Run) (q : WatcherKind) (at : Standing) → MayLeave p s told at →
-    IsNext (part_of at) (doc.Of (In (phase_of q))) → doc.has_list p (phase_of q) (doc.woken_at at) ≡ true → Kept s →
-    SentAt told.sent s → Counted p s.names told → NobodyLeft (rest s.ready s) →
-    Follows p told (Running run.mode run.line at) s (step.begin_walk s run q)
+    IsNext (part_of at) (doc.Of (In (phase_of q))) → doc.has_list p (phase_of q) (doc.woken_at at) ≡ true → Kept s → SentAt told.sent s →
+    Counted p s.names told → NobodyLeft (rest s.ready s) → Follows p told (Running run.mode run.line at) s (step.begin_walk s run q)
 begin_follows p told s run q at over follows has k h c e = follows_to (doc.section (In (phase_of q)) over
     (follows (order_of p) run.mode (doc.goes_on s)) refl (opens_watched p told s _ q (doc.woken_at at) has k (none_yet s q e))
     (grind arith)) (running (walking refl) (grind (arith, left_all, none_off))) c
@@ -61,8 +60,7 @@ unwoken_follows p told s run w unwoken none b c e =
 
 -- the poll begins
 pub poll_follows : (p : Program) (told : Told) (s : State) (run : Run) (w : Walk) → lives s ≡ is_alive s → IsOver Phase.Prepare w → Kept s →
-    Counted p s.names told →
-    NobodyLeft (rest s.ready s) →
+    Counted p s.names told → NobodyLeft (rest s.ready s) →
     Follows p told (Running run.mode run.line (Within (In Phase.Prepare) w)) s (step.begin_poll s run)
 poll_follows p told s run w alive over k c e =
     follows_to (doc.poll (poll_timeout s run.mode) (over, tt) (grind arith)
@@ -71,57 +69,48 @@ poll_follows p told s run w alive over k c e =
 
 -- the closing section begins
 pub closing_begins : (p : Program) (told : Told) (s : State) (run : Run) (w : Walk) → IsOver Phase.Check w → Kept s → Counted p s.names told →
-    NobodyLeft (rest s.ready s) →
-    Follows p told (Running run.mode run.line (Within (In Phase.Check) w)) s (step.begin_closing s run)
+    NobodyLeft (rest s.ready s) → Follows p told (Running run.mode run.line (Within (In Phase.Check) w)) s (step.begin_closing s run)
 closing_begins p told s run w over k c e =
     follows_to (doc.section (In Phase.Closing) (over, tt) (grind arith) refl
     (record { list = (refl, are_closing s e.closing k); off = refl; sent = refl; body = refl; kept = refl }) refl)
     (running (closing refl) (assumption (sym (none_off s.closing.list), e))) c
 
 pub after_follows : (p : Program) (told : Told) (s : State) (run : Run) (q : WatcherKind) (w : Walk) → lives s ≡ is_alive s → IsOver (phase_of q) w →
-    Kept s →
-    SentAt told.sent s → Counted p s.names told →
-    NobodyLeft (rest s.ready s) → Follows p told (Running run.mode run.line (Within (In (phase_of q)) w)) s (step.after_walk s run q)
-after_follows p told s run WatcherKind.Idle w alive over k h c e = search (begin_follows, prepare_next)
+    Kept s → SentAt told.sent s → Counted p s.names told → NobodyLeft (rest s.ready s) →
+    Follows p told (Running run.mode run.line (Within (In (phase_of q)) w)) s (step.after_walk s run q)
+after_follows p told s run WatcherKind.Idle w alive over k h c e = search (begin_follows)
 after_follows p told s run WatcherKind.Prepare w alive over k h c e = poll_follows p told s run w alive over k c e
 after_follows p told s run WatcherKind.Check w alive over k h c e = closing_begins p told s run w over k c e
 after_follows p told s run WatcherKind.Async w alive over k h c e = begin_follows p told s run WatcherKind.Check
     (Within (In Phase.Async) w) (over, tt) check_next refl k h c e
 
-plain_calls : (q : WatcherKind) (told : Told) (w : Walk) (id : Id) (more : List Id) (n : NextCall w id more) → IsSync q → w.body ≡ [] →
-    CallsNext (phase_of q) told w id n.behind
-plain_calls q told w id more n d b = grind arith
-
 -- the next watcher is called
-pub call_watcher : (p : Program) (told : Told) (s : State) (run : Run) (q : WatcherKind) (w : Walk) (t : Id × HandleRecord) → IsSync q → run.stage ≡
-    Stage.Walking q →
-    FrontOf s (watched s q).yet t → Leaves (rest s.ready s) (Within (In (phase_of q)) w) → w.body ≡ [] → Counted p s.names told →
-    Follows p told (Running run.mode run.line (Within (In (phase_of q)) w)) s (call p (front_moved s q t.0) run t.0 t.1.name)
+pub call_watcher : (p : Program) (told : Told) (s : State) (run : Run) (q : WatcherKind) (w : Walk) (t : Id × HandleRecord) → IsSync q →
+    run.stage ≡ Stage.Walking q → FrontOf s (watched s q).yet t → Leaves (rest s.ready s) (Within (In (phase_of q)) w) → w.body ≡ [] →
+    Counted p s.names told → Follows p told (Running run.mode run.line (Within (In (phase_of q)) w)) s (call p (front_moved s q t.0) run t.0 t.1.name)
 call_watcher p told s run WatcherKind.Async w t d st f l b c = absurd d
 call_watcher p told s run WatcherKind.Idle w t d st f l b c =
     let next = next_of w t.0 f.rest (sym l.idle ∙ f.are) in
     call_follows p told s (front_moved s WatcherKind.Idle t.0) run run (In Phase.Idle) w t next.behind refl
-    (plain_calls WatcherKind.Idle told w t.0 f.rest next tt b) f.holds refl refl c
+    (grind arith) f.holds refl refl c
     (λ is. rw st (running (walking is) (left_all l.timers (f.behind ∙ next.left) l.prepare l.check l.async l.closing l.done)))
 call_watcher p told s run WatcherKind.Prepare w t d st f l b c =
     let next = next_of w t.0 f.rest (sym l.prepare ∙ f.are) in
     call_follows p told s (front_moved s WatcherKind.Prepare t.0) run run (In Phase.Prepare) w t next.behind refl
-    (plain_calls WatcherKind.Prepare told w t.0 f.rest next tt b) f.holds refl refl c
+    (grind arith) f.holds refl refl c
     (λ is. rw st (running (walking is) (left_all l.timers l.idle (f.behind ∙ next.left) l.check l.async l.closing l.done)))
 call_watcher p told s run WatcherKind.Check w t d st f l b c =
     let next = next_of w t.0 f.rest (sym l.check ∙ f.are) in
     call_follows p told s (front_moved s WatcherKind.Check t.0) run run (In Phase.Check) w t next.behind refl
-    (plain_calls WatcherKind.Check told w t.0 f.rest next tt b) f.holds refl refl c
+    (grind arith) f.holds refl refl c
     (λ is. rw st (running (walking is) (left_all l.timers l.idle l.prepare (f.behind ∙ next.left) l.async l.closing l.done)))
 
 pub plain_over : (q : WatcherKind) (w : Walk) → IsSync q → w.body ≡ [] → doc.AllOff w.off w.ahead → IsOver (phase_of q) w
 plain_over q w d b o = grind arith
 
 pub walk_follows : (p : Program) (told : Told) (s : State) (run : Run) (q : WatcherKind) (w : Walk) → lives s ≡ is_alive s → IsSync q →
-    run.stage ≡ Stage.Walking q → Kept s →
-    SentAt told.sent s → Counted p s.names told →
-    Leaves (rest s.ready s) (Within (In (phase_of q)) w) → w.body ≡ [] → Follows p told (Running run.mode run.line (Within (In (phase_of q)) w)) s
-    (step.walk p s run q)
+    run.stage ≡ Stage.Walking q → Kept s → SentAt told.sent s → Counted p s.names told → Leaves (rest s.ready s) (Within (In (phase_of q)) w) →
+    w.body ≡ [] → Follows p told (Running run.mode run.line (Within (In (phase_of q)) w)) s (step.walk p s run q)
 walk_follows p told s run q w alive d st k h c l b = found_both (front s (watched s q).yet) _ _ (Follows p told (Running run.mode run.line (Within (In
     (phase_of q)) w)) s)
     (λ t e. call_watcher p told s run q w t d st (front_of s (watched s q).yet t e) l b c)
@@ -134,9 +123,6 @@ walk_follows p told s run q w alive d st k h c l b = found_both (front s (watche
 
 in_front : (s : State) (ids : List Id) (t : Id × HandleRecord) → FrontOf s ids t → has_id ids t.0 ≡ true
 in_front s ids t f = ap (λ (is : List Id). has_id is t.0) f.are ∙ rw (itself t.0 t.0 refl) refl
-
-in_all : (s : State) (ids : List Id) (t : Id × HandleRecord) (id : Id) → FrontOf s ids t → has_id (drop 1 ids) id ≡ true → has_id ids id ≡ true
-in_all s ids t id f e = grind arith
 
 apart : (s : State) (ids : List Id) (t : Id × HandleRecord) (id : Id) → FrontOf s ids t → AreDistinct ids → has_id (drop 1 ids) id ≡ true →
     same_id id t.0 ≡ false
@@ -190,7 +176,7 @@ async_follows p told s run w alive st k h c l b = found_both (front s s.watchers
           passed = tt;
           still = λ id behind was. pends_there s.arena.slots t.0 id t.1 (records.woken t.1) f.holds
               (apart s s.watchers.async.yet t id f distinct behind)
-              ∙ a.still id (in_all s s.watchers.async.yet t id f behind) was;
+              ∙ a.still id (grind arith) was;
         }) l.closing l.done))))
         (λ off. (
           record {
@@ -200,7 +186,7 @@ async_follows p told s run w alive st k h c l b = found_both (front s s.watchers
               all = all ∙ sym (append_assoc (a.gone ++ next.passed) (t.0 ∷ []) next.behind);
               left = f.behind ∙ next.left;
               passed = pass_both w.off w.sent (a.gone ++ next.passed) (t.0 ∷ []) passes (unsent off, tt);
-              still = λ id behind was. a.still id (in_all s s.watchers.async.yet t id f behind) was;
+              still = λ id behind was. a.still id (grind arith) was;
             }) l.closing l.done);
             counted = c;
           },
@@ -243,9 +229,8 @@ done_follows p told s run w st k h g c l woken b = found_both (front_request s s
 -- ---- the closing section
 
 pub closing_follows : (p : Program) (told : Told) (s : State) (run : Run) (w : Walk) → lives s ≡ is_alive s → run.stage ≡ Stage.Closing → Kept s →
-    Counted p s.names told →
-    Leaves (rest s.ready s) (Within (In Phase.Closing) w) → w.body ≡ [] → Follows p told (Running run.mode run.line (Within (In Phase.Closing) w)) s
-    (step.close_front p s run)
+    Counted p s.names told → Leaves (rest s.ready s) (Within (In Phase.Closing) w) → w.body ≡ [] →
+    Follows p told (Running run.mode run.line (Within (In Phase.Closing) w)) s (step.close_front p s run)
 closing_follows p told s run w alive st k c l b = found_both (front s s.closing.yet) _ _ (Follows p told (Running run.mode run.line (Within (In
     Phase.Closing) w)) s)
     (λ t e. at t (front_of s s.closing.yet t e))

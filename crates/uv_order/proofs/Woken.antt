@@ -1,7 +1,7 @@
 -- Whether a poll is woken by an async handle, as the lines tell it and as the handles say it.
-use Rattle.uv_order.proofs.Names.{arith, ◌≡◌, ℕ, zero, suc, ◌||◌, List, [], ◌∷◌, Bool, true, false, Option, Some, None, refl, sym, ◌∙◌, list_any, eq-eqb, or-true, Id, Slot, held_in, Content, content_pends, handle_in, has_some, has_pending, State, Told}
+use Rattle.uv_order.proofs.Names.{arith, ◌≡◌, ℕ, suc, ◌||◌, List, ◌∷◌, Bool, true, false, refl, sym, ◌∙◌, list_any, eq-eqb, or-true, Id, Slot, Content, content_pends, has_some, has_pending, State, Told, []}
 use Rattle.uv_order.proofs.Lives.{either_way, some_of, first}
-use Rattle.uv_order.proofs.Sends.{pends_in, pends, SentAt}
+use Rattle.uv_order.proofs.Sends.{pends, SentAt}
 
 found_pending : (slots : List (Slot Content)) → list_any (λ (slot : Slot Content). content_pends slot.content) slots ≡ true →
     (id : Id) × (pends slots id ≡ true)

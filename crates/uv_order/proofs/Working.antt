@@ -1,5 +1,5 @@
 -- Each op and each step of the loop keeps that the requests agree with their lists.
-use Rattle.uv_order.proofs.Names.{arith, drop, ◌≡◌, ℕ, List, [], ◌∷◌, ◌++◌, true, Some, None, Ok, slice_set, refl, ap, sym, subst, ◌∙◌, list_any, Id, Var, held, freed, next_free, Op, Task, Program, arena_size, text_of, Finished, Cancelled, Request, queued, same_id, State, fresh, live_request, with_id, front_request, do_op, Next, Moves, Refuses, Content, digest_of, next}
+use Rattle.uv_order.proofs.Names.{arith, drop, ◌≡◌, ℕ, List, ◌∷◌, ◌++◌, true, Some, None, Ok, slice_set, refl, ap, sym, subst, ◌∙◌, list_any, Id, Var, held, freed, next_free, Op, Task, Program, arena_size, text_of, Finished, Cancelled, Request, queued, same_id, State, fresh, live_request, with_id, front_request, do_op, Next, Moves, Refuses, Content, digest_of, []}
 use Rattle.uv_model.specs.Ops as ops
 use Rattle.uv_model.specs.Next as step
 use Rattle.uv_order.proofs.IdLists.{has_new_middle}
@@ -8,7 +8,7 @@ use Rattle.uv_order.proofs.Works.{AllAsk, Works, works_same, works_queued, works
 use Rattle.uv_order.proofs.OpCases.{cancel_both, make_both}
 use Rattle.uv_order.proofs.Did.{Did}
 use Rattle.uv_order.proofs.Keeping.{Kept, fills}
-use Rattle.uv_order.proofs.Quiet.{SameWork, IsOfHandles, op_same, KeepsWork, did_same}
+use Rattle.uv_order.proofs.Quiet.{SameWork, op_same, KeepsWork, did_same}
 
 -- the requests of a state agree with its lists
 abbrev pub Working : State → Type 0

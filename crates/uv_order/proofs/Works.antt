@@ -1,6 +1,6 @@
 -- The requests: those that wait for a worker or are run by one are open, those that are done are ended; none stands twice, and no other
 -- request is held.
-use Rattle.uv_order.proofs.Names.{arith, ◌≡◌, ◌⊎◌, inl, inr, ℕ, zero, suc, List, [], ◌∷◌, ◌++◌, Bool, true, false, Option, Some, None, slice_get, slice_set, replicate, refl, ap, sym, subst, ◌∙◌, append_assoc, append-nil, list_any, or-true, both_ways, false_from_ne_true, same_Some, Id, HandleRecord, Slot, held, Walk, is_open, Content, Request, request_in, same_id, without_id, has_id, AreDistinct, run_ids, not, ◌&&◌}
+use Rattle.uv_order.proofs.Names.{arith, ◌≡◌, ◌⊎◌, inl, inr, ℕ, zero, suc, List, ◌∷◌, ◌++◌, Bool, true, false, Option, Some, None, slice_get, slice_set, replicate, refl, ap, sym, subst, ◌∙◌, append_assoc, append-nil, list_any, or-true, both_ways, false_from_ne_true, same_Some, Id, HandleRecord, Slot, held, Walk, is_open, Content, Request, request_in, same_id, without_id, has_id, AreDistinct, run_ids, not, ◌&&◌, []}
 use Rattle.uv_order.proofs.IdLists.{has_both, has_but_one, on_list, same, other, turned, has_new_middle, has_old_middle, distinct_middle, distinct_but}
 use Rattle.uv_order.proofs.Contents.{Turns}
 use Rattle.uv_order.proofs.Holding.{held_at, put, put_turns}
@@ -108,11 +108,6 @@ but_front xs ys id d h i = grind (arith, has_both, has_but_one, same, apart xs y
 distinct_left : (xs ys : List Id) (id : Id) → AreDistinct (xs ++ ys) → AreDistinct (without_id xs id ++ ys)
 distinct_left [] ys id d = d
 distinct_left (x ∷ xs) ys id d = grind (arith, has_both, has_but_one, distinct_left xs ys id d.1)
-
--- and so of one in the middle
-pub less_middle : (slots more : List (Slot Content)) (P : Request → Type 0) (id : Id) (was is : Option Content) (xs ys : List Id) →
-    Turns slots more id was is → FitsNot P is → AllAsk slots P (xs ++ id ∷ ys) → AllAsk more P (xs ++ ys)
-less_middle slots more P id was is xs ys t d k = search (less, but_middle, distinct_but)
 
 -- one that fits from now on comes
 pub more_middle : (slots more : List (Slot Content)) (P : Request → Type 0) (id : Id) (was is : Option Content) (r : Request) (xs ys : List Id) →
@@ -287,7 +282,7 @@ works_finished slots more waiting running done n id r x t e over k =
     listed in
     record {
       open_ones = subst (AllAsk more IsOpen) (append_assoc waiting g.front g.behind ∙ ap (λ (ids : List Id). waiting ++ ids) (sym (g.are None)))
-          (search (less_middle, request_fits_not, open_over));
+          (search (less, but_middle, distinct_but, request_fits_not, open_over));
       ended = ended_by slots more done id r x t opened over k.ended;
     }
 
@@ -300,7 +295,7 @@ works_collected slots more waiting running done id rest r t e k =
     subst (λ (ids : List Id). AllAsk slots HasEnded (done.list ++ ids)) e k.ended in
     let a = listed.each id (has_new_middle done.list rest id) in
     let over : HasEnded r = subst HasEnded (same_Some _ _ (sym a.holds ∙ ap request_in t.before)) a.fits in
-    search (all_apart, request_fits_not, open_over, none_fits, less_middle)
+    search (all_apart, request_fits_not, open_over, none_fits, less, but_middle, distinct_but)
 
 -- the section of those that are done begins
 pub works_begun : (slots : List (Slot Content)) (waiting : List Id) (running : List (Option Id)) (done : Walk Id) → done.yet ≡ [] →
