@@ -1,5 +1,5 @@
 -- Each handle closes once: every op and every step of the loop appends a line that may follow those before it.
-use Rattle.uv_order.proofs.Names.{◌≡◌, inl, inr, ℕ, suc, ◌+◌, ◌==◌, ◌||◌, List, ◌∷◌, ◌++◌, true, false, drop, Option, Some, None, Ok, slice_get, slice_set, unwrap_or, replicate, refl, ap, subst, ◌∙◌, arith, cond_both, eqb-true, none-some, Id, Var, Kind, Phase, Seen, Site, Op, Program, op_at, arena_size, HandleRecord, WatcherKind, Slots, freed, Content, Named, Request, digest_in, request_in, text_of, Finished, Run, Stage, Done, Walk, has_id, AreDistinct, run_ids, State, fresh, handle, live, live_handle, live_request, with_handle, with_request, watched, unbound, stopped, started, restarted, do_op, Next, Moves, Refuses, call, calls, front_moved, CancelSays, MakesNew, MayFollow, activity, kind_as, Callback, digest_of, []}
+use Rattle.uv_order.proofs.Names.{◌≡◌, inl, inr, ℕ, suc, ◌+◌, ◌==◌, ◌||◌, List, ◌∷◌, ◌++◌, true, false, drop, Option, Some, None, Ok, slice_get, slice_set, unwrap_or, replicate, refl, ap, subst, ◌∙◌, arith, cond_both, eqb-true, none-some, Id, Var, Kind, Phase, Seen, Site, Op, Program, op_at, arena_size, HandleRecord, WatcherKind, Slots, freed, Content, Named, Request, digest_in, request_in, text_of, Finished, Run, Stage, Done, Walk, has_id, AreDistinct, run_ids, State, fresh, handle, live, live_handle, live_request, with_handle, with_request, watched, unbound, stopped, started, restarted, do_op, Next, Moves, Refuses, call, calls, front_moved, CancelSays, MakesNew, MayFollow, activity, kind_as, Callback, digest_of, [], OpSays, sym}
 use Rattle.uv_records.specs.Handles as records
 use Rattle.uv_model.specs.Ops as ops
 use Rattle.uv_model.specs.Next as step
@@ -44,7 +44,10 @@ called_known p past s v x e k = known_names p past s.arena (slice_set s.names v.
 -- the callback of a handle that was started, and doesn't close
 call_known : (p : Program) (past : List Seen) (s : State) (run : Run) (id : Id) (v : Var) (h : HandleRecord) → handle s id ≡ Some h →
     h.closing ≡ false → (activity p past id).started ≡ true → KnownAt p past s → Follows p past (call p s run id v)
-call_known p past s run id v h e stays begun k = search (not_closed, past, stays, known_quiet, called_known)
+call_known p past s run id v h e stays begun k = (
+  (not_closed p past s.arena s.names id h e stays k, begun),
+  known_quiet p past (Seen.Call v id) s.arena _ (assumption) (assumption) (called_known p past s v _ refl k),
+)
 
 -- what holds of each of a list holds of the front of its end
 front_fits : (s : State) (P : HandleRecord → Type 0) (xs ids : List Id) (t : Id × HandleRecord) → Each (Fits s.arena.slots P) (xs ++ ids) →
@@ -188,12 +191,20 @@ cancel_says p past s v k = cancel_both s v (λ (d : ops.Done). CancelSays p past
 -- what is made has a new id
 make_says : (p : Program) (past : List Seen) (s : State) (o : Option (Id × Content)) (made : Id → State) → Kept s → StartedAt p past s →
     MakesNew p past (ops.make s o made).answer
-make_says p past s o made kept begun = grind (arith, make_both, past, new_id)
+make_says p past s o made kept begun = make_both s o made (λ (d : ops.Done). MakesNew p past d.answer) (λ c r. tt)
+    (λ id e. new_id p past s id e kept begun)
+
+op_says : (p : Program) (past : List Seen) (s : State) (o : Op) → Kept s → StartedAt p past s → KnownAt p past s →
+    OpSays p past (Some o) (do_op s o).answer
+op_says p past s (Op.Init v q) kept begun k = make_says p past s (live s v) (ops.with_new s v q) kept begun
+op_says p past s (Op.Queue v task) kept begun k = make_says p past s (live s v) (ops.with_queued s v task) kept begun
+op_says p past s (Op.Cancel v) kept begun k = cancel_says p past s v k
+op_says p past s each kept begun k = tt
 
 -- the line of an op that is done
 op_line : (p : Program) (past : List Seen) (s : State) (place : Site) (o : Op) → op_at p place ≡ Some o → Kept s → StartedAt p past s →
     KnownAt p past s → MayFollow p past (Seen.Op place (do_op s o).answer)
-op_line p past s place o e kept begun k = grind (arith, make_says, cancel_says)
+op_line p past s place o e kept begun k = subst (λ (x : Option Op). OpSays p past x (do_op s o).answer) (sym e) (op_says p past s o kept begun k)
 
 taken_known : (p : Program) (past : List Seen) (s : State) (n : ℕ) (t : Id × Request) → TakesFront s n t → Working s → KnownAt p past s →
     Follows p past (step.take s n (Ok t))
@@ -229,7 +240,7 @@ finished_known p past s n t f work k =
     (λ i e. fewer_run (run_ids s.running) runs g.front g.behind t.0 i g.were (g.are None) apart e) k.worked in
     let gone : (i : Id) → IsGone s.arena.slots s.arena.free i → IsGone (with_request s t.0 x).arena.slots (with_request s t.0 x).arena.free i =
     λ i h. gone_turned s.arena.slots s.arena.free t.0 (Content.Request t.1) (Some (Content.Request x)) i f.holds h in
-    let turns = request_turns s.arena.slots t.0 t.1 x f.holds in (search (known_told, same_handles, names_turned, worked_ended, itself))
+    let turns = request_turns s.arena.slots t.0 t.1 x f.holds in (was, search (known_told, same_handles, names_turned, worked_ended, itself))
 
 -- a cancel from outside
 cancel_outside : (p : Program) (past : List Seen) (s : State) (v : Var) → KnownAt p past s →
@@ -241,7 +252,8 @@ cancel_outside p past s v k = cancel_both s v (λ (d : ops.Done). KnownAt p (See
 pub did_known : (p : Program) (past : List Seen) (s : State) (n : Next) → Did p s n → Kept s → Working s → StartedAt p past s → KnownAt p past s →
     Follows p past n
 did_known p past s n (Did.still x time clock stop idled l q) kept work begun k = still_known p past (timed s x time clock stop idled) l q k
-did_known p past s n (Did.op x at o e) kept work begun k = search (op_line, op_known, new_id)
+did_known p past s n (Did.op x at o e) kept work begun k =
+    (op_line p past s at o e kept begun k, op_known p past s o kept (λ id f. new_id p past s id f kept begun) k at e)
 did_known p past s n (Did.collected run part t f) kept work begun k = changed p past s t (records.stopped t.1) f.holds refl refl k
 did_known p past s n (Did.fired run t f) kept work begun k = fired_known p past s run t f kept begun k
 did_known p past s n (Did.called_due run t f) kept work begun k = due_known p past s run t f kept begun k
@@ -252,6 +264,7 @@ did_known p past s n (Did.closed run t f) kept work begun k = closed_known p pas
 did_known p past s n (Did.ended run t f) kept work begun k = ended_known p past s run t f kept work k
 did_known p past s n (Did.taken n' t f) kept work begun k = taken_known p past s n' t f work k
 did_known p past s n (Did.finished n' t f) kept work begun k = finished_known p past s n' t f work k
+did_known p past s n (Did.cancelled v) kept work begun k = (cancel_says p past s v k, cancel_outside p past s v k)
 did_known p past s n each kept work begun k =
     search (still_known, op_line, op_known, new_id, begin_known, begins_known, changed, fired_known, due_known, answered_known, walked_known,
     woken_known, closed_known, ended_known, taken_known, finished_known, plain, send_known, cancel_says, cancel_outside)

@@ -146,7 +146,12 @@ timers_over part w b o = grind arith
 -- none is due, where they are called straight from their heap
 pub none_due_now : (part : TimersOf) (p : Program) (s : State) → (from_heap p ≡ true → AreDue s []) →
     NoneDue (word_of (section_of part)) (from_heap p) s
-none_due_now part p s none = grind arith
+none_due_now part p s none = by part (from_heap p) refl where
+  by : (part : TimersOf) (heap : Bool) → from_heap p ≡ heap → NoneDue (word_of (section_of part)) heap s
+  by TimersOf.Entry true heap = none heap
+  by TimersOf.Entry false heap = tt
+  by TimersOf.Iteration true heap = none heap
+  by TimersOf.Iteration false heap = tt
 
 -- a timer is called from the ready list, in a state that may have started it again
 pub call_timer : (p : Program) (told : Told) (s u : State) (run : Run) (part : TimersOf) (w : Walk) (t : Id × HandleRecord) (more : List Id) →
