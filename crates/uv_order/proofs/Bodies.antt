@@ -19,7 +19,7 @@ Found lines kind v call (Some next) sites = IsAt lines kind v call next sites
 first_left : (n : ℕ) (lines : List CallbackLine) (x : CallbackLine) (xs : List CallbackLine) → drop n lines ≡ x ∷ xs →
     (slice_get lines n ≡ Some x) × (drop (suc n) lines ≡ xs)
 first_left (suc n) (y ∷ ys) x xs e = first_left n ys x xs e
-first_left each e1 x xs e = grind arith
+first_left each ls x xs e = grind arith
 
 found : (kind : Callback) (v : Var) (call n : ℕ) (lines left : List CallbackLine) → drop n lines ≡ left →
     Found lines kind v call (next_line call n left) (sites_from kind v call n left)

@@ -27,7 +27,7 @@ still_line : (p : Program) (l : Seen) → IsStill (Some l) → IsQuiet p l × Is
 still_line p l each = grind arith
 
 still_may : (p : Program) (past : List Seen) (l : Seen) → IsStill (Some l) → MayFollow p past l
-still_may p past l e3 = grind arith
+still_may p past l q = grind arith
 
 still_known : (p : Program) (past : List Seen) (t : State) (l : Option Seen) → IsStill l → KnownAt p past t → Follows p past (Moves t l)
 still_known p past t l q k = grind (arith, plain, still_may, still_line)
@@ -273,7 +273,7 @@ did_known p past s n each kept work begun k =
 
 unbound_id : (n i : ℕ) → (unwrap_or (slice_get (replicate n unbound) i) unbound).id ≡ None
 unbound_id (suc n) (suc i) = unbound_id n i
-unbound_id each e1 = assumption
+unbound_id each i = assumption
 
 pub known_fresh : (p : Program) → KnownAt p [] (fresh p)
 known_fresh p = grind (arith, unbound_id, none-some, none_run)

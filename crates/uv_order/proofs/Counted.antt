@@ -16,7 +16,7 @@ counted_kept p now was told same k = record { long = same.long ∙ k.long; calls
 
 no_calls : (kind : Callback) (n : ℕ) (i : ℕ) → count_of kind (unwrap_or (slice_get (replicate n unbound) i) unbound).calls ≡ 0
 no_calls kind (suc n) (suc i) = no_calls kind n i
-no_calls kind each e2 = grind arith
+no_calls kind each i = grind arith
 
 replicate_long : (n : ℕ) → length (replicate n unbound) ≡ n
 replicate_long zero = refl
@@ -27,7 +27,7 @@ counted_fresh p = grind (arith, replicate_long, no_calls)
 
 set_here : (names : List Named) (i : ℕ) (x : Named) → i < length names → (unwrap_or (slice_get (slice_set names i x) i) unbound).calls ≡ x.calls
 set_here (n ∷ names) (suc i) x l = set_here names i x (omega arith)
-set_here each e1 x l = grind arith
+set_here each i x l = grind arith
 
 pub set_there : (names : List Named) (i j : ℕ) (x : Named) → (j ≡ i → ⊥) → slice_get (slice_set names i x) j ≡ slice_get names j
 set_there names i j x d = grind (arith, elements)
@@ -55,7 +55,7 @@ counted_call p names told kind v id x e k = grind (arith, eqb-true, eq-eqb, set_
 -- a name without lines has the same body in each call
 past : (all : List Callbacks) (i : ℕ) → length all ≤ i → unwrap_or (slice_get all i) no_callbacks ≡ no_callbacks
 past (x ∷ all) (suc i) l = past all i (omega arith)
-past each e1 l = grind arith
+past each i l = grind arith
 
 -- the body of the next call is that which the lines tell
 pub next_body : (p : Program) (names : List Named) (told : Told) (kind : Callback) (v : Var) (call : ℕ) → call ≡ count_of kind (counts_in names v) +

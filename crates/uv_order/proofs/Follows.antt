@@ -1,5 +1,5 @@
 -- A whole step goes on from where the state stands, and so does every list of them.
-use Rattle.uv_order.proofs.Names.{arith, ◌≡◌, ℕ, ◌+◌, List, ◌∷◌, ◌++◌, Bool, true, false, Option, Some, None, Result, Ok, Err, drop, length, slice_get, slice_set, nat_le, nat_lt, refl, ap, sym, subst, ◌∙◌, if◌then◌else◌, cond_both, Id, Var, Event, Loop, Take, Finish, Cancel, Send, Io, Tick, Answer, Phase, Site, Op, MainOp, CallbackLine, Program, lines_in, main_op, order_of, from_heap, HandleRecord, held, Why, Request, Body, Run, Stage, TimersOf, AtEntry, Collecting, Firing, Place, State, fresh, handle, live_handle, with_handle, with_request, refreshed, do_op, may_leave, body_from, next_work, work_of, Names, Told, nothing_told, Section, In, word_of, Standing, Answering, Begun, Within, Polling, Position, Between, Running, sites_from, taken_off, BeginsAt, phase_of, Code, Seen, Content, WatcherKind, next, option_map, []}
+use Rattle.uv_order.proofs.Names.{arith, ◌≡◌, ℕ, ◌+◌, List, ◌∷◌, ◌++◌, Bool, true, false, Option, Some, None, Result, Ok, Err, drop, length, slice_get, slice_set, nat_le, nat_lt, refl, ap, sym, subst, ◌∙◌, if◌then◌else◌, cond_both, Id, Var, Event, Loop, Take, Finish, Cancel, Send, Io, Tick, Answer, Phase, Site, Op, MainOp, CallbackLine, Program, lines_in, main_op, order_of, from_heap, HandleRecord, held, Why, Request, Body, Run, Stage, TimersOf, AtEntry, Collecting, Firing, Place, State, fresh, handle, live_handle, with_handle, with_request, refreshed, do_op, may_leave, body_from, next_work, work_of, Names, Told, nothing_told, Section, In, word_of, Standing, Answering, Begun, Within, Polling, Position, Between, Running, sites_from, taken_off, BeginsAt, phase_of, Code, Seen, Content, WatcherKind, next, option_map, [], has_passed, has_some, has_pending, ◌||◌, ◌&&◌}
 use Rattle.uv_records.specs.Handles as records
 use Rattle.uv_model.specs.Ops as ops
 use Rattle.uv_model.specs.Next as step
@@ -16,11 +16,16 @@ use Rattle.uv_order.proofs.WatchersFollow.{begin_follows, unwoken_follows, walk_
 
 -- ---- a stage
 
+-- someone is pending, so someone was sent to
+more_or : (a b x y : Bool) → (x ≡ true → y ≡ true) → (a || (b || x)) ≡ true → (a || (b || y)) ≡ true
+more_or a b x y f h = grind arith
+
 -- the poll is left where it may be
 pub left_poll : (p : Program) (told : Told) (s : State) (run : Run) (deadline : Option ℕ) → SentAt told.sent s → Working s → Counted p s.names told →
     NobodyLeft (rest s.ready s) → Follows p told (Running run.mode run.line (Polling deadline)) s (step.poll s run deadline)
 left_poll p told s run deadline sent g c e = cond_both (may_leave s deadline) _ _ (Follows p told (Running run.mode run.line (Polling deadline)) s)
-    (λ h. follows_to (doc.section (In Phase.Done) (grind (arith, pending_is))
+    (λ h. follows_to (doc.section (In Phase.Done) (more_or (has_passed s.clock deadline) (has_some s.done.list) (has_pending s)
+        (has_some told.sent && has_pending s) (λ on. rw (sym (pending_is told s sent) ∙ on, on) refl) h)
         (grind arith) refl (opens_done p told _ (are_ended s e.done g)) refl)
         (running (done refl refl) (assumption (sym (none_off s.done.list), e))) c)
     (λ h. tt)
@@ -321,7 +326,7 @@ follows p told s at (Tick ms) k sent g called h = tick_follows p told s at ms h
 -- ---- all steps
 
 pub begins_at : (p : Program) (s : State) (x : Place) (at : Position) → StandsAt p s x at → BeginsAt x s
-begins_at p s x at e4 = grind (arith)
+begins_at p s x at h = grind arith
 
 -- where every script begins
 pub stands_fresh : (p : Program) → Stands p nothing_told (fresh p) (Between 0)

@@ -65,4 +65,4 @@ gone_now slots more id c n e l =
   where
     by : (id.generation < n) ⊎ (has_number more id.slot ≡ false) →
         (id.generation < n) ⊎ ((◌≡◌ {A = Option Content} None None) × (has_number more id.slot ≡ false))
-    by e0 = grind arith
+    by x = grind arith

@@ -28,7 +28,7 @@ counted_ids names v x e u = set_id names v.0 u.0 x e
 -- a name that is bound anew is bound to that, if it is there
 own_id : (names : List Named) (i : ℕ) (x : Named) (id : Id) → (unwrap_or (slice_get (slice_set names i x) i) unbound).id ≡ Some id → x.id ≡ Some id
 own_id (n ∷ names) (suc i) x id e = own_id names i x id e
-own_id each e1 x id e = grind arith
+own_id each i x id e = grind arith
 
 -- ---- what is known
 

@@ -52,7 +52,7 @@ found (x ∷ xs) e = at (is_asked x.content) refl (found xs) e where
 is_any : (slots : List (Slot Content)) (n g : ℕ) (r : Request) → asked_at slots (record { slot = n; generation = g }) ≡ Some r →
     any_asked slots ≡ true
 is_any (x ∷ xs) (suc n) g r e = rw (is_any xs n g r e) (or-true (is_asked x.content))
-is_any each e1 g r e = grind arith
+is_any each n g r e = grind arith
 
 -- ---- lists with members
 

@@ -40,7 +40,7 @@ pub use Rattle.uv_model.specs.Ids.{has_some, same_id, walk_without_id, without_i
 pub use Rattle.uv_model.specs.Next.{Moves, Next, Refuses, begin_walk, body_at, body_from, call, calls, collected, first_due, front_moved, goes, idled_at, io_handle, io_run, may_leave, next_line, next_work, stage_polled, takes_io, time_at, time_polled, work_of}
 pub use Rattle.uv_model.specs.Ops.{do_op}
 pub use Rattle.uv_model.specs.State.{State, Watchers, as_request, fresh, front, front_request, handle, kind_as, live, live_handle, live_request, named, refreshed, request, those_of, watched, with_handle, with_id, with_named, with_request, with_those_of, with_watched}
-pub use Rattle.uv_model.specs.Timeout.{has_pending, is_alive, poll_timeout, poll_timeout_by}
+pub use Rattle.uv_model.specs.Timeout.{has_passed, has_pending, is_alive, poll_timeout, poll_timeout_by}
 pub use Rattle.uv_model.specs.Timers.{due_after, restarted, started, stopped, watchers_without_id, with_timer, without_timer}
 pub use Rattle.uv_model.specs.declared.place.Body.{Body}
 pub use Rattle.uv_model.specs.declared.place.Place.{Place}

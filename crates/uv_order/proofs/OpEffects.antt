@@ -18,7 +18,7 @@ same_calls names = record { long = refl; each = λ v. refl }
 
 pub set_long : (names : List Named) (i : ℕ) (x : Named) → length (slice_set names i x) ≡ length names
 set_long (n ∷ names) (suc i) x = ap suc (set_long names i x)
-set_long each e1 x = assumption
+set_long each i x = assumption
 
 set_calls : (names : List Named) (i j : ℕ) (x : Named) → x.calls ≡ (unwrap_or (slice_get names i) unbound).calls →
     (unwrap_or (slice_get (slice_set names i x) j) unbound).calls ≡ (unwrap_or (slice_get names j) unbound).calls

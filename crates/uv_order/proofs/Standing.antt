@@ -196,7 +196,7 @@ check_next o m go = refl
 
 -- the order of timers is that of all active ones
 pub are_timers : (s : State) (ts : List (Due × Id)) (drawn : ℕ) → Times s.arena.slots drawn ts → AreTimers s ts
-are_timers s ts drawn k = grind (arith)
+are_timers s ts drawn k = grind arith
 
 pub due_distinct : (s : State) (time : ℕ) → Kept s → AreDistinct (due_ids time s.timers)
 due_distinct s time k = grind (arith, distinct_due, its_handle)

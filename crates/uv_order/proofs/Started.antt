@@ -103,7 +103,7 @@ op_tells p past place o a i e = ap (λ (d : Option Answered). activity_answered 
 
 refused_still : (p : Program) (past : List Seen) (o : Op) (c : Code) (i : Id) (x : Activity) → IsRefusal c →
     activity_done p past o (Answer.Code c) i x ≡ x
-refused_still p past o c i x r = grind (arith)
+refused_still p past o c i x r = grind arith
 
 asked_still : (p : Program) (past : List Seen) (o : Op) (a : Answer) (i : Id) (x : Activity) → IsAsked o → activity_done p past o a i x ≡ x
 asked_still p past o a i x (IsAsked.due_in v) = refl

@@ -78,7 +78,7 @@ closing_begins p told s run w over k c e =
 pub after_follows : (p : Program) (told : Told) (s : State) (run : Run) (q : WatcherKind) (w : Walk) → lives s ≡ is_alive s → IsOver (phase_of q) w →
     Kept s → SentAt told.sent s → Counted p s.names told → NobodyLeft (rest s.ready s) →
     Follows p told (Running run.mode run.line (Within (In (phase_of q)) w)) s (step.after_walk s run q)
-after_follows p told s run WatcherKind.Idle w alive over k h c e = search (begin_follows)
+after_follows p told s run WatcherKind.Idle w alive over k h c e = search begin_follows
 after_follows p told s run WatcherKind.Prepare w alive over k h c e = poll_follows p told s run w alive over k c e
 after_follows p told s run WatcherKind.Check w alive over k h c e = closing_begins p told s run w over k c e
 after_follows p told s run WatcherKind.Async w alive over k h c e = begin_follows p told s run WatcherKind.Check

@@ -16,7 +16,7 @@ found_pending (x ∷ xs) e = at (content_pends x.content) refl (found_pending xs
 any_pending : (slots : List (Slot Content)) (n g : ℕ) → pends slots (record { slot = n; generation = g }) ≡ true →
     list_any (λ (slot : Slot Content). content_pends slot.content) slots ≡ true
 any_pending (x ∷ xs) (suc n) g e = rw (any_pending xs n g e) (or-true (content_pends x.content))
-any_pending each e1 g e = grind arith
+any_pending each n g e = grind arith
 
 -- someone is pending just where someone was sent to
 pub pending_is : (told : Told) (s : State) → SentAt told.sent s → has_pending s ≡ has_some told.sent
