@@ -61,7 +61,7 @@ pub use Rattle.uv_order.specs.Line.{Line}
 pub use Rattle.uv_order.specs.Once.{Activity, Answered, CancelSays, MakesNew, MayFollow, OnceFrom, OpSays, SaysTrue, activity, activity_answered, activity_by, activity_called, activity_done, answered, binds, bound, bound_by, cancels, closes, closes_by, first_of, has_after_line, has_cancel_line, has_closed_line, has_finish_line, has_take_line, is_after_line, is_cancel_line, is_closed_line, is_finish_line, is_some_id, is_take_line, made_as, made_by, makes, new_activity, queued_by, queued_task, queues, was_closed}
 pub use Rattle.uv_order.specs.PoolEvents.{done_as, line_events, op_events, outside_events, pool_events, pool_of, was_finished}
 pub use Rattle.uv_order.specs.Reached.{AreSetAside, BeginsAt, BeginsBehind, IsReached, IsSetAside}
-pub use Rattle.uv_order.specs.Refused.{AllSilent, AllWithin, RefusedOnce, RefusedOrder, holds_io, is_send, is_within, past_after}
+pub use Rattle.uv_order.specs.Refused.{is_send_op, AllSilent, AllWithin, RefusedOnce, RefusedOrder, holds_io, is_send, is_within, past_after}
 pub use Rattle.uv_order.specs.Taking.{IsTakenAs}
 pub use Rattle.uv_records.specs.Handles.{activated, begun_at, inited, is_async, is_io, is_timer, referenced_as, repeating, sent}
 pub use Rattle.uv_records.specs.Lists.{phase_of, watcher_kind}
