@@ -90,6 +90,7 @@ impl<P: Copy> Trail<P> {
     }
 
     /// One more, which is as this but for where the loop stood. It takes no memory.
+    #[inline(always)]
     pub fn push_at<Q: Copy>(&mut self, place: P, last: &LastStep<Q>)
         requires { 0 < self.old.room }
         ensures records { self.new.records ≡ self.old.records ++ at_place place last.now ∷ [] }

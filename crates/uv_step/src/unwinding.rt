@@ -1,6 +1,7 @@
 //! Records are unwound: part by part, the last first. It takes no memory and can't fail.
 ghost use Rattle.std.specs.Prelude.{◌≡◌, ◌<◌, length};
 ghost use Rattle.uv_step.specs.Change as change;
+ghost use Rattle.uv_step.specs.Record.{at_place};
 ghost use Rattle.uv_step.specs.Image.{held};
 ghost use Rattle.uv_step.specs.Parts.{unwind, unwind_parts, undo, naming_parts, change_parts, Bound as bound};
 ghost use Rattle.uv_step.specs.Fit.{IsFit};
@@ -33,8 +34,22 @@ impl<P: Copy> Memory<P> {
         ensures room { (held self.new).room ≡ (held self.old).room }
         ensures pieces { self.new.slots.room ≡ self.old.slots.room }
     {
+        let place = self.step_record.place();
+        self.unwind_at(place);
+    }
+
+    /// Gives back the very memory from before the step of this record, where the loop stood at this place. The record may say another
+    /// one.
+    #[inline(always)]
+    pub fn unwind_at(&mut self, place: P)
+        requires { CanUnwind (held self.old).room (at_place place self.old.step_record) (held self.old).image }
+        ensures image { (held self.new).image ≡ unwind (at_place place self.old.step_record) (held self.old).image }
+        ensures fit { IsFit (held self.new).image }
+        ensures room { (held self.new).room ≡ (held self.old).room }
+        ensures pieces { self.new.slots.room ≡ self.old.slots.room }
+    {
         let naming = self.step_record.naming();
-        self.place = self.step_record.place();
+        self.place = place;
         self.unname(naming);
         self.undo();
     }
