@@ -1,59 +1,49 @@
-//! What an event does that nothing refuses.
+//! What an event from outside does that nothing refuses.
 ghost use Rattle.uv_model.specs.Limits.{LATEST};
-ghost use Rattle.std.specs.Prelude.{◌≡◌, ◌+◌, ◌≤◌, Some, IfOk, IfErr};
+ghost use Rattle.std.specs.Prelude.{◌≡◌, ◌≢◌, ◌+◌, ◌≤◌, Some};
 ghost use Rattle.uv_ids.specs.declared.id.Id.{Id};
-ghost use Rattle.uv_ids.specs.declared.event.Event.TheVariants.{Take, Finish, Tick};
-ghost use Rattle.uv_script.specs.Program.{Program, arena_size};
+ghost use Rattle.uv_ids.specs.declared.event.Event.TheVariants.{Loop, Take, Finish, Tick};
+ghost use Rattle.uv_script.specs.Program.{Program};
 ghost use Rattle.uv_work.specs.declared.request.Request.{Request};
 ghost use Rattle.uv_step.specs.Image.{held};
 ghost use Rattle.uv_stands.specs.Doing.{Returns};
 ghost use Rattle.uv_stands.specs.Ready.{IsReady};
-ghost use Rattle.uv_ops.specs.Wanting.{WantsPiece};
 ghost use Rattle.uv_loop.specs.Acting.{MayAct};
-ghost use Rattle.uv_loop.specs.Begins.{IsClear};
 ghost use Rattle.uv_loop.specs.Course.{Leads};
 ghost use Rattle.uv_loop.specs.Pooling.{MayTake, MayFinish};
 
 use crate::io::call_named;
-use crate::looping::turn;
 use crate::pooling::{cancel_named, finish_work, take_work};
 use crate::sending::send_to;
-use std::alloc::AllocError;
 use uv_ids::{Event, Seen};
 use uv_model::Place;
 use uv_script::Script;
 use uv_step::Memory;
 use uv_work::WorkResult;
 
-/// Does what an event asks for, which nothing refuses: what that appends. Only a step of the loop wants memory, for a piece of slots.
-pub(crate) fn act(
-    memory: &mut Memory<Place>,
-    script: &Script,
-    event: Event,
-) -> Result<Option<Seen>, AllocError>
+/// Does what an event from outside asks for, which nothing refuses: what that appends. It wants no memory.
+pub(crate) fn act(memory: &mut Memory<Place>, script: &Script, event: Event) -> Seen
     requires ready { IsReady (held memory.old) }
-    requires last { (held memory.old).image.arena.last ≡ (arena_size script.now).last_generation }
-    requires clear { IsClear (held memory.old).image }
+    requires outside { event ≢ Loop }
     requires may { MayAct script.now event (held memory.old).image }
-    ensures returns { IfOk result (λ _. Returns memory.new.step_record (held memory.old) (held memory.new)) }
-    ensures leads { IfOk result (λ line. Leads script.now (held memory.old).image (held memory.new).image event line) }
-    ensures memory { IfErr result (λ _. WantsPiece memory.old memory.new) }
-    ensures pieces { memory.old.slots.room ≤ memory.new.slots.room }
+    ensures returns { Returns memory.new.step_record (held memory.old) (held memory.new) }
+    ensures leads { Leads script.now (held memory.old).image (held memory.new).image event (Some result) }
+    ensures pieces { memory.new.slots.room ≡ memory.old.slots.room }
 {
     match event {
-        Event::Loop => turn(memory, script),
-        Event::Take(worker) => Ok(Some(take_next(memory, worker))),
-        Event::Finish(worker) => Ok(Some(finish_own(memory, worker))),
+        Event::Loop => unreachable!(),
+        Event::Take(worker) => take_next(memory, worker),
+        Event::Finish(worker) => finish_own(memory, worker),
         Event::Cancel(name) => {
             let answer = cancel_named(memory, name);
-            Ok(Some(Seen::Cancel(name, answer)))
+            Seen::Cancel(name, answer)
         }
         Event::Send(name) => {
             let code = send_to(memory, name);
-            Ok(Some(Seen::Send(name, code)))
+            Seen::Send(name, code)
         }
-        Event::Io(name) => Ok(Some(call_named(memory, script, name))),
-        Event::Tick(ms) => Ok(Some(go_on(memory, ms))),
+        Event::Io(name) => call_named(memory, script, name),
+        Event::Tick(ms) => go_on(memory, ms),
     }
 }
 

@@ -14,6 +14,7 @@ mod record_row;
 mod refusals;
 mod sending;
 mod staging;
+mod stepping;
 mod steps;
 
 pub use arena_loop::ArenaLoop;

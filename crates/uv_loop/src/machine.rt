@@ -8,10 +8,9 @@ ghost use Rattle.uv_model.specs.declared.layout.Layout as layout;
 ghost use Rattle.uv_layout.specs.Laid.{ShowsAll};
 ghost use Rattle.uv_loop.specs.Course.{Adds, Drops, first_image};
 
-use crate::acting::act;
 use crate::arena_loop::{ArenaLoop, fresh_memory};
 use crate::pooling::finish_work;
-use crate::refusals::refusal;
+use crate::stepping::is_of_loop;
 use crate::steps::Steps;
 use std::alloc::Global;
 use uv_ids::{Event, Fault, Id, Seen, Var, Why};
@@ -56,25 +55,11 @@ impl Machine for ArenaLoop {
         ensures answer { Answers STEPS self.old.program self.old.standing event result self.new.standing }
         ensures records { Adds result self.old self.new }
     {
-        if self.steps.seen.len() >= STEPS {
-            return Err(Fault::StepsFull);
+        if is_of_loop(event) {
+            self.go_on()
+        } else {
+            self.meet(event)
         }
-        match refusal(&self.memory, &self.script, event) {
-            Some(why) => return Err(Fault::Refused(why)),
-            None => {}
-        }
-        if self.steps.reserve().is_err() {
-            return Err(Fault::Memory);
-        }
-        if self.memory.reserve().is_err() {
-            return Err(Fault::Memory);
-        }
-        self.memory.is_sound();
-        let Ok(seen) = act(&mut self.memory, &self.script, event) else {
-            return Err(Fault::Memory);
-        };
-        self.steps.push(seen, self.memory.step_record());
-        Ok(Outcome { seen })
     }
 
     /// An accepted finish adds its record as well.
@@ -112,8 +97,8 @@ impl Machine for ArenaLoop {
         if self.steps.is_empty() {
             return Ok(false);
         }
-        self.steps.pop(self.memory.step_record_mut());
-        self.memory.unwind();
+        let place = self.steps.pop(self.memory.step_record_mut());
+        self.memory.unwind_at(place);
         Ok(true)
     }
 

@@ -1,5 +1,6 @@
 //! What takes the steps that stand back.
 ghost use Rattle.std.specs.Prelude.{◌≡◌, ◌<◌, ◌++◌, ◌∷◌, [], OnOk, length};
+ghost use Rattle.uv_step.specs.Record.{at_place};
 
 use crate::kept_place::KeptPlace;
 use std::alloc::{AllocError, Global};
@@ -56,14 +57,14 @@ impl RecordRow {
         self.trail.push_at(place, last);
     }
 
-    /// The last one of some goes, and is this.
-    pub(crate) fn pop(&mut self, last: &mut LastStep<Place>)
+    /// The last one of some goes, and is this but for where the loop stood, which is answered.
+    pub(crate) fn pop(&mut self, last: &mut LastStep<Place>) -> Place
         requires { 0 < length self.old.records }
-        ensures { self.old.records ≡ self.new.records ++ last.new ∷ [] }
+        ensures { self.old.records ≡ self.new.records ++ at_place result last.new ∷ [] }
     {
         match self.trail.pop_at(last) {
             None => unreachable!(),
-            Some(place) => last.stand_at(place.place()),
+            Some(place) => place.place(),
         }
     }
 }

@@ -26,6 +26,7 @@ fn later(clock: u64, ms: u64) -> Option<u64>
 }
 
 /// Why an event is to be refused, if it is. Nothing else refuses it.
+#[inline(always)]
 pub(crate) fn refusal(memory: &Memory<Place>, script: &Script, event: Event) -> Option<Why>
     ensures { Refusal script.now event (held memory.now).image result }
 {

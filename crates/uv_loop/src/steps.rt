@@ -1,5 +1,6 @@
 //! The steps that stand.
 ghost use Rattle.std.specs.Prelude.{◌≡◌, ◌<◌, ◌++◌, ◌∷◌, [], OnOk, IsTrue, IsFalse, length, take};
+ghost use Rattle.uv_step.specs.Record.{at_place};
 ghost use Rattle.uv_loop.specs.Taken.{HasRoom, AreSame, IsOneMore};
 
 use crate::line_row::LineRow;
@@ -56,14 +57,14 @@ impl Steps {
         self.trail.len() == 0
     }
 
-    /// The last one of some goes: this takes it back.
-    pub(crate) fn pop(&mut self, last: &mut LastStep<Place>)
+    /// The last one of some goes: this takes it back, and the loop stood at the place that is answered.
+    pub(crate) fn pop(&mut self, last: &mut LastStep<Place>) -> Place
         requires some { 0 < length self.old.trail.records }
         requires each { length self.old.seen.items ≡ length self.old.trail.records }
-        ensures records { self.old.trail.records ≡ self.new.trail.records ++ last.new ∷ [] }
+        ensures records { self.old.trail.records ≡ self.new.trail.records ++ at_place result last.new ∷ [] }
         ensures seen { self.new.seen.items ≡ take (length self.new.trail.records) self.old.seen.items }
     {
-        self.trail.pop(last);
         self.seen.pop();
+        self.trail.pop(last)
     }
 }

@@ -1,4 +1,5 @@
-use Rattle.std.proofs.Common.{length, sym, ap, ◌∙◌, arith}
+use Rattle.std.proofs.Common.{length, refl, sym, ap, ◌∙◌, arith}
+use Rattle.uv_step.specs.Record.{at_place}
 use Rattle.uv_loop.specs.KeptPlaces.{records_of}
 use Rattle.uv_loop.proofs.KeptRecords.{popped}
 use Rattle.uv_loop.proofs.record_row.RecordRow.pop.Goals as goal
@@ -11,5 +12,5 @@ unreachable-requires c =
 pub returns : goal.returns
 returns c =
     ap (λ k. k.records) (sym c.self.view_is)
-    ∙ popped c.pop_at.new.self.records c.self.inside.trail.records c.in-Some.place c.place.result c.pop_at.new.last c.stand_at.new.self
-    c.in-Some.ensures.some c.place.ensures c.stand_at.ensures
+    ∙ popped c.pop_at.new.self.records c.self.inside.trail.records c.in-Some.place c.place.result c.pop_at.new.last
+    (at_place c.place.result c.pop_at.new.last) c.in-Some.ensures.some c.place.ensures refl

@@ -1,0 +1,92 @@
+//! A step is taken: what refuses it, the room that it needs, and then what it does, with its line and its record. One of the loop stands
+//! apart from one from outside: what most steps go through is compiled alone then, and hands on no more than it has to.
+ghost use Rattle.std.specs.Prelude.{◌≡◌, ◌≢◌, ◌≤◌, OnOk, length, true, false};
+ghost use Rattle.uv_ids.specs.declared.event.Event.TheVariants.{Loop};
+ghost use Rattle.uv_model.specs.After.{Answers, STEPS};
+ghost use Rattle.uv_step.specs.Image.{held};
+ghost use Rattle.uv_loop.specs.Course.{Adds};
+ghost use Rattle.uv_loop.specs.Taken.{AreSame, HasRoom};
+
+use crate::acting::act;
+use crate::arena_loop::ArenaLoop;
+use crate::looping::turn;
+use crate::refusals::refusal;
+use crate::steps::Steps;
+use std::alloc::AllocError;
+use uv_ids::{Event, Fault};
+use uv_model::{Outcome, Place, STEPS};
+use uv_step::Memory;
+
+/// Whether the loop itself does the step, and it isn't from outside.
+pub(crate) fn is_of_loop(event: Event) -> bool
+    ensures own { result ≡ true → event ≡ Loop }
+    ensures outside { result ≡ false → event ≢ Loop }
+{
+    matches!(event, Event::Loop)
+}
+
+/// Makes room for one step more, and on the heap for the timer of each slot that is used.
+#[inline(always)]
+fn make_room(steps: &mut Steps, memory: &mut Memory<Place>) -> Result<(), AllocError>
+    ensures same { AreSame steps.old steps.new }
+    ensures image { (held memory.new).image ≡ (held memory.old).image }
+    ensures kept { (held memory.old).room ≤ (held memory.new).room }
+    ensures pieces { memory.new.slots.room ≡ memory.old.slots.room }
+    ensures steps { OnOk result (HasRoom steps.new) }
+    ensures heap { OnOk result (length (held memory.new).image.arena.memory.row.items ≤ (held memory.new).room) }
+{
+    steps.reserve()?;
+    memory.reserve()
+}
+
+impl ArenaLoop {
+    /// The loop does its next step.
+    #[inline(never)]
+    pub(crate) fn go_on(&mut self) -> Result<Outcome, Fault>
+        ensures program { self.new.program ≡ self.old.program }
+        ensures answer { Answers STEPS self.old.program self.old.standing Loop result self.new.standing }
+        ensures records { Adds result self.old self.new }
+    {
+        if self.steps.seen.len() >= STEPS {
+            return Err(Fault::StepsFull);
+        }
+        match refusal(&self.memory, &self.script, Event::Loop) {
+            Some(why) => return Err(Fault::Refused(why)),
+            None => {}
+        }
+        if make_room(&mut self.steps, &mut self.memory).is_err() {
+            return Err(Fault::Memory);
+        }
+        self.memory.is_sound();
+        let Ok(seen) = turn(&mut self.memory, &self.script) else {
+            return Err(Fault::Memory);
+        };
+        self.steps.push(seen, self.memory.step_record());
+        Ok(Outcome { seen })
+    }
+
+    /// A step from outside.
+    #[inline(never)]
+    pub(crate) fn meet(&mut self, event: Event) -> Result<Outcome, Fault>
+        requires outside { event ≢ Loop }
+        ensures program { self.new.program ≡ self.old.program }
+        ensures answer { Answers STEPS self.old.program self.old.standing event result self.new.standing }
+        ensures records { Adds result self.old self.new }
+    {
+        if self.steps.seen.len() >= STEPS {
+            return Err(Fault::StepsFull);
+        }
+        match refusal(&self.memory, &self.script, event) {
+            Some(why) => return Err(Fault::Refused(why)),
+            None => {}
+        }
+        if make_room(&mut self.steps, &mut self.memory).is_err() {
+            return Err(Fault::Memory);
+        }
+        self.memory.is_sound();
+        let line = act(&mut self.memory, &self.script, event);
+        let seen = Some(line);
+        self.steps.push(seen, self.memory.step_record());
+        Ok(Outcome { seen })
+    }
+}
