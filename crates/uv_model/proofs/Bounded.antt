@@ -144,8 +144,26 @@ op_bounded n s (op.Again v) h = on_handle_bounded n s v again_refusal _ h (λ id
 op_bounded n s (op.Close v) h = on_handle_bounded n s v close_refusal _ h (λ id x b e. more n (ops.closed s id x) (closed_bounded n s id x h b.freed))
 op_bounded n s op.CloseLoop h = if_keeps (λ (d : ops.Done). IsBounded (suc n) d.state) (ops.is_in_use s) _ _ (more n s h) (more n s h)
 op_bounded n s each h =
-    search (make_bounded, new_bounded, queued_bounded, cancel_bounded, asked_before, on_handle_bounded, start_bounded, start_watcher_bounded, more,
-    stopped_bounded, again_bounded, set_repeat_bounded, closed_bounded, set_referenced_bounded, sent_bounded, flagged, at_clock, if_keeps)
+    search (
+      make_bounded,
+      new_bounded,
+      queued_bounded,
+      cancel_bounded,
+      asked_before,
+      on_handle_bounded,
+      start_bounded,
+      start_watcher_bounded,
+      more,
+      stopped_bounded,
+      again_bounded,
+      set_repeat_bounded,
+      closed_bounded,
+      set_referenced_bounded,
+      sent_bounded,
+      flagged,
+      at_clock,
+      if_keeps,
+    )
 
 -- ---- the rows
 

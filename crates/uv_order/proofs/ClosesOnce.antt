@@ -266,8 +266,28 @@ did_known p past s n (Did.taken n' t f) kept work begun k = taken_known p past s
 did_known p past s n (Did.finished n' t f) kept work begun k = finished_known p past s n' t f work k
 did_known p past s n (Did.cancelled v) kept work begun k = (cancel_says p past s v k, cancel_outside p past s v k)
 did_known p past s n each kept work begun k =
-    search (still_known, op_line, op_known, new_id, begin_known, begins_known, changed, fired_known, due_known, answered_known, walked_known,
-    woken_known, closed_known, ended_known, taken_known, finished_known, plain, send_known, cancel_says, cancel_outside)
+    search (
+      still_known,
+      op_line,
+      op_known,
+      new_id,
+      begin_known,
+      begins_known,
+      changed,
+      fired_known,
+      due_known,
+      answered_known,
+      walked_known,
+      woken_known,
+      closed_known,
+      ended_known,
+      taken_known,
+      finished_known,
+      plain,
+      send_known,
+      cancel_says,
+      cancel_outside,
+    )
 
 -- ---- all steps
 

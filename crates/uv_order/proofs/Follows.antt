@@ -25,9 +25,9 @@ pub left_poll : (p : Program) (told : Told) (s : State) (run : Run) (deadline : 
     NobodyLeft (rest s.ready s) → Follows p told (Running run.mode run.line (Polling deadline)) s (step.poll s run deadline)
 left_poll p told s run deadline sent g c e = cond_both (may_leave s deadline) _ _ (Follows p told (Running run.mode run.line (Polling deadline)) s)
     (λ h. follows_to (doc.section (In Phase.Done) (more_or (has_passed s.clock deadline) (has_some s.done.list) (has_pending s)
-        (has_some told.sent && has_pending s) (λ on. rw (sym (pending_is told s sent) ∙ on, on) refl) h)
-        (grind arith) refl (opens_done p told _ (are_ended s e.done g)) refl)
-        (running (done refl refl) (assumption (sym (none_off s.done.list), e))) c)
+    (has_some told.sent && has_pending s) (λ on. rw (sym (pending_is told s sent) ∙ on, on) refl) h)
+    (grind arith) refl (opens_done p told _ (are_ended s e.done g)) refl)
+    (running (done refl refl) (assumption (sym (none_off s.done.list), e))) c)
     (λ h. tt)
 
 -- where a callback of I/O left it, done follows once its ops are done, with a list where the poll was woken
@@ -164,7 +164,7 @@ answer_op_follows p told s run body woken sites x st e k c b l =
     let left = none_left s x.op k l in
     let more = sites_from body.callback body.name body.call (body.next + 1) (drop (body.next + 1) (lines_in p body.callback body.name)) in
     follows_to {to = Running run.mode run.line (Answering woken more)} (rw b.are (doc.answer_op (Site.In body.callback body.name body.next) _ x.op _
-        (ap (option_map (λ (l : CallbackLine). l.op)) e) refl (op_effect s x.op k).lasts))
+    (ap (option_map (λ (l : CallbackLine). l.op)) e) refl (op_effect s x.op k).lasts))
     (rw st (running (polled {woken = woken} (is_body p body.callback body.name body.call (body.next + 1))) (assumption left)))
     (counted_sent p _ told _ (counted_kept p _ s.names told (op_effect s x.op k).calls c))
 

@@ -252,9 +252,9 @@ call_due_timer p told s u run part w t f names lasts e none b heap k c =
     let v = t.1.name in
     let cu : Counted p u.names told = rw names c in
     follows_to (doc.fires v t.0 f.key f.rest heap (timers_are part) b
-        (subst (AreTimers s) f.are (are_timers s s.timers s.next_start k.timers)) (grind (arith, nat_tests, f.due)) (named_of s t f.holds) refl lasts)
+    (subst (AreTimers s) f.are (are_timers s s.timers s.next_start k.timers)) (grind (arith, nat_tests, f.due)) (named_of s t f.holds) refl lasts)
     (running (calls_due heap none (its_body p told u Callback.Handle v cu)) (rw heap (timers_left part (rest u.ready u) _
-        (assumption (e.timers ∙ sym (ap (λ (ids : List Id). left_of ids w.off) none), e))))) (call_counted p told u Callback.Handle v t.0 cu)
+    (assumption (e.timers ∙ sym (ap (λ (ids : List Id). left_of ids w.off) none), e))))) (call_counted p told u Callback.Handle v t.0 cu)
   where
     timers_are : (part : TimersOf) → word_of (section_of part) ≡ Phase.Timers
     timers_are part = grind arith

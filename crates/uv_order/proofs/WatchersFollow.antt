@@ -215,11 +215,11 @@ done_follows p told s run w st k h g c l woken b = found_both (front_request s s
         let v = t.1.name in
         let next = next_of w t.0 f.rest (sym l.done ∙ f.are) in
         follows_to (doc.call Callback.After v t.0 next.behind refl
-            (record { done = b; passed = next.passed; list = next.list; may_pass = next.off; may_call = assumption })
-            (ap (option_map name_in) f.holds)
-            (ap (λ (o : Option Content). option_map (λ (r : Request). Seen.After (digest_in r.outcome) v t.0) (request_in o)) f.holds) refl)
+        (record { done = b; passed = next.passed; list = next.list; may_pass = next.off; may_call = assumption })
+        (ap (option_map name_in) f.holds)
+        (ap (λ (o : Option Content). option_map (λ (r : Request). Seen.After (digest_in r.outcome) v t.0) (request_in o)) f.holds) refl)
         (rw st (running (done {w = called p told Callback.After w next.behind v} woken (its_body p told s Callback.After v c))
-            (grind arith)))
+        (grind arith)))
         (call_counted p told s Callback.After v t.0 c)
       where
         same : (u : Id × Request) → FrontRequest s s.done.yet u → SameHandles (freed (arena_size p).last_generation u.0 s.arena).slots s.arena.slots
@@ -249,8 +249,8 @@ closing_follows p told s run w alive st k c l b = found_both (front s s.closing.
         let v = t.1.name in
         let next = next_of w t.0 f.rest (sym l.closing ∙ f.are) in
         follows_to (doc.call Callback.Close v t.0 next.behind refl
-            (record { done = b; passed = next.passed; list = next.list; may_pass = next.off; may_call = assumption })
-            (named_of s t f.holds) refl refl)
+        (record { done = b; passed = next.passed; list = next.list; may_pass = next.off; may_call = assumption })
+        (named_of s t f.holds) refl refl)
         (rw st (running (closing {w = called p told Callback.Close w next.behind v} (its_body p told s Callback.Close v c))
-            (assumption (f.behind ∙ next.left, l))))
+        (assumption (f.behind ∙ next.left, l))))
         (call_counted p told s Callback.Close v t.0 c)
