@@ -7,7 +7,7 @@ use Rattle.uv_order.proofs.Sends.{SentAt}
 use Rattle.uv_order.proofs.Woken.{pending_is}
 use Rattle.uv_order.proofs.Standing.{left_all, StandsIn, StandsAt, waiting, rest, Leaves, due_now, Follows, pending, walking, polls, polled, done, unwoken, between, running}
 use Rattle.uv_order.proofs.TimersFollow.{begun_call, call_counted, its_body, named_of}
-use Rattle.uv_order.proofs.WatchersFollow.{async_over}
+use Rattle.uv_order.proofs.WatchersFollow.{async_over, none_behind}
 
 -- the state in which the callback has begun
 abbrev io_begun : Program → State → Run → Var → State
@@ -64,7 +64,10 @@ answers p told s m i (Stage.Walking WatcherKind.Async) None v at on h c (walking
     record {
       may = async_over s.arena.slots w s.watchers.async.yet l.async none b;
       lasts = refl;
-      stands = running (walking {q = WatcherKind.Async} (its_body p told s Callback.Handle v c)) (grind arith);
+      stands = running (walking {q = WatcherKind.Async} (its_body p told s Callback.Handle v c))
+          (left_all l.timers l.idle l.prepare l.check
+            (none_behind s.arena.slots (record w { ahead = []; body = io_body p told v }) s.watchers.async.yet refl none)
+            l.closing l.done);
     }
 answers p told s m i x each v at on h c stands l = grind arith
 
