@@ -5,31 +5,26 @@ from __future__ import annotations
 import bisect
 import collections
 
-from record_script import Item, is_pool
+from record_script import Call, End, Finish, Item, Poll
 
 # So many items ahead are near.
 FAR = 40
-
-
-def is_polled(item: Item) -> bool:
-    """Does it come with the poll, of what has to be made ready for it?"""
-    return item.list != "closed" and (item.kind == "async" or is_pool(item.kind))
 
 
 class Ahead:
     """Of a program's items, by their numbers."""
 
     def __init__(self, items: list[Item]) -> None:
-        self.ends = [at for at, it in enumerate(items) if it.type == "end"]
-        self.polls = [at for at, it in enumerate(items) if it.type == "poll"]
+        self.ends = [at for at, it in enumerate(items) if isinstance(it, End)]
+        self.polls = [at for at, it in enumerate(items) if isinstance(it, Poll)]
         # the requests whose after callbacks come, in their order
-        self.afters = [it.name for it in items if it.type == "call" and it.list == "after"]
+        self.afters = [it.name for it in items if isinstance(it, Call) and it.callback == "after"]
         # requests whose work begins and ends by a line of its own; what becomes of the others, and when, nobody sees
-        self.seen = {it.name for it in items if it.type == "finish"}
+        self.seen = {it.name for it in items if isinstance(it, Finish)}
         # of each name its callbacks that have to be made ready
         self.calls: dict[str, list[int]] = collections.defaultdict(list)
         for at, it in enumerate(items):
-            if it.type == "call" and is_polled(it):
+            if isinstance(it, Call) and it.is_polled():
                 self.calls[it.name].append(at)
 
     def has_end_near(self, at: int) -> bool:

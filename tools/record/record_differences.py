@@ -7,7 +7,7 @@ import re
 from notes import THINGS, sentence
 from record_follow import Outcome
 from record_log import WATCHERS
-from record_script import Item, Program, is_pool
+from record_script import Call, End, Item, Op, Program, Run, is_pool
 
 PAGE = "docs/LIBUV.md"
 IO = "Callbacks of I/O come in the order of the system"
@@ -19,32 +19,32 @@ ANY = "The loop goes another way"
 MADE = re.compile(r"`(?:call|after|closed) (\S+) ")
 
 
-def came(item: Item) -> str:
+def came(item: Call) -> str:
     """What a handle of I/O is, and what came with this callback."""
-    return f" ({THINGS[item.kind]}: {sentence(':'.join([item.text, *item.known.split()]))})"
+    return f" ({THINGS[item.kind]}: {sentence(':'.join([item.what, *item.known.split()]))})"
 
 
 def says(item: Item) -> str:
     """What the program did, in words."""
-    match item.type:
-        case "call" if item.list == "on":
+    match item:
+        case Call(callback="on"):
             return f"the program calls the callback of {item.name}{came(item) if item.is_io() else ''}"
-        case "call" if item.list == "after":
-            return f"the program calls the after callback of {item.name} ({item.text})"
-        case "call":
+        case Call(callback="after"):
+            return f"the program calls the after callback of {item.name} ({item.what})"
+        case Call():
             return f"the program calls the close callback of {item.name}"
-        case "op":
+        case Op():
             return f"the program does `{item.text}`"
-        case "run":
-            return f"the program begins `run {item.text}`"
-        case "end":
-            return f"the program's run ends with {item.text}"
-    return f"the program has `{item.type}`"
+        case Run():
+            return f"the program begins `run {item.mode}`"
+        case End():
+            return f"the program's run ends with {item.alive}"
+    return f"the program has `{type(item).__name__.lower()}`"
 
 
 def kind_of(program: Program, name: str) -> str:
     """The kind of a name's handles."""
-    return next((it.kind for it in program.items if it.type == "call" and it.name == name), "")
+    return next((it.kind for it in program.items if isinstance(it, Call) and it.name == name), "")
 
 
 def is_io(kind: str) -> bool:
@@ -59,10 +59,10 @@ def heading_of(program: Program, outcome: Outcome) -> str:
     kind = kind_of(program, made[1]) if made else ""
     if "`closed " in outcome.why and kind in ("fs_poll", "signal"):
         return CLOSING
-    if item.type == "call" and item.list == "closed" and item.kind in ("fs_poll", "signal"):
+    if isinstance(item, Call) and item.callback == "closed" and item.kind in ("fs_poll", "signal"):
         return CLOSING
-    if item.type == "call" and is_io(item.kind) or is_io(kind):
+    if isinstance(item, Call) and is_io(item.kind) or is_io(kind):
         return IO
-    if item.type == "end" or "`end " in outcome.why or "`call " in outcome.why:
+    if isinstance(item, End) or "`end " in outcome.why or "`call " in outcome.why:
         return ROUND if program.is_before(45) else ENDS
     return ANY

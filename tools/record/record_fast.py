@@ -13,6 +13,7 @@ from dataclasses import dataclass
 from typing import TYPE_CHECKING
 
 from conversation import BAD
+from record_script import Call, Done, End, Item, Op, Poll, Run
 
 if TYPE_CHECKING:
     from record_follow import Follower
@@ -84,14 +85,25 @@ def alike(line: str) -> str:
     return line.rsplit(" = ", 1)[0] + " = " if words[0] == "init" else line
 
 
+def happens(item: Item) -> tuple:
+    """What of an item has to be the same."""
+    match item:
+        case Op():
+            return Op, item.text, item.answer
+        case Call():
+            return Call, item.name, item.callback, item.section
+    return (type(item),)
+
+
 class Ways:
     """The ways that are known, each by what happens on it."""
 
     def __init__(self, follower: Follower) -> None:
         self.follower, self.items = follower, follower.items
-        # the items that end a poll's callbacks, and those of them that are made ready for it
-        self.ends = [at for at, it in enumerate(self.items) if it.type in ("poll", "run", "end")]
-        self.called = [at for at, it in enumerate(self.items) if it.type == "call" and not it.is_io()]
+        # the items that end a poll's callbacks, and those of them that are made ready for it, with their places
+        self.ends = [at for at, it in enumerate(self.items) if isinstance(it, (Poll, Run, End))]
+        self.calls = [it for it in self.items if isinstance(it, Call) and not it.is_io()]
+        self.called = [at for at, it in enumerate(self.items) if isinstance(it, Call) and not it.is_io()]
         self.ways: dict[tuple, Way] = {}
         self.many = 4
         # a unit that went otherwise than the last time
@@ -104,14 +116,14 @@ class Ways:
         calls = 0
         for behind in range(at, min(at + LONGEST, len(self.items))):
             item = self.items[behind]
-            match item.type:
-                case "done":
+            match item:
+                case Done():
                     return behind + 1 if calls and len(self.ahead(behind + 1)) <= LONGEST else 0
-                case "call" if item.list != "after" and not calls:
+                case Call() if item.callback != "after" and not calls:
                     calls = 1
-                case "poll" if not calls:
+                case Poll() if not calls:
                     pass
-                case "op" if not item.text.startswith(("queue ", "cancel ", "updatetime")):
+                case Op() if not item.text.startswith(("queue ", "cancel ", "updatetime")):
                     pass
                 case _:
                     return 0
@@ -119,16 +131,13 @@ class Ways:
 
     def key(self, at: int, end: int, where: str) -> tuple:
         """What happens in a unit, and who is called behind it before the next poll."""
-        key: list[object] = [where]
-        for it in self.items[at:end]:
-            key.append((it.type, it.name, it.list, it.text, it.answer) if it.type == "op" else (it.type, it.name, it.list, it.section))
-        return tuple(key + [self.items[it].name for it in self.ahead(end)])
+        return (where, *map(happens, self.items[at:end]), *(it.name for it in self.ahead(end)))
 
-    def ahead(self, at: int) -> list[int]:
+    def ahead(self, at: int) -> list[Call]:
         """The callbacks from this item on up to the next poll, but for those of I/O, which need nothing."""
         end = bisect.bisect_left(self.ends, at)
         last = self.ends[end] if end < len(self.ends) else len(self.items)
-        return self.called[bisect.bisect_left(self.called, at) : bisect.bisect_left(self.called, last)]
+        return self.calls[bisect.bisect_left(self.called, at) : bisect.bisect_left(self.called, last)]
 
     # ---- a way is learnt
 

@@ -21,10 +21,10 @@ from dataclasses import dataclass, field
 from typing import Callable, Iterator
 
 from conversation import Conversation, Script
-from record_ahead import FAR, Ahead, is_polled
+from record_ahead import FAR, Ahead
 from record_fast import CLOCK, END, NOW, Ways
 from record_log import NO_CLOCK
-from record_script import Item, Program
+from record_script import Call, Done, End, Finish, Item, Op, Poll, Program, Run, Send, Take
 from record_where import NOWHERE, PENDING
 from said import SECTIONS
 
@@ -34,8 +34,6 @@ CALLS = {"on": "call", "after": "after", "closed": "closed"}
 # Where a loop is whose poll was left by a callback of I/O, before its next step; and where such callbacks are of the same poll still.
 POLLED = "polled"
 BEHIND = (POLLED, "done", "async")
-# In place of an item: of a tick when no callback is under way.
-OUTSIDE = Item("", 0, 0, 0)
 # So many sends and finishes may be put off; and what is kept before each.
 CHECKS = 16
 KEPT = ("where", "clock", "in_call", "queued", "taken", "finished", "taken_at", "ready", "later_on", "after_at", "senders", "sent_late", "kept",
@@ -81,11 +79,11 @@ class Outcome:
     lines: list[str] = field(default_factory=list)
 
 
-def section_of(item: Item) -> str:
+def section_of(item: Call) -> str:
     """Where in an iteration a callback comes."""
-    if item.list == "closed":
+    if item.callback == "closed":
         return "closing"
-    if item.list == "after":
+    if item.callback == "after":
         return "done"
     return item.kind if item.kind in SECTIONS[1:] else "timers" if item.kind == "timer" else "async"
 
@@ -98,8 +96,8 @@ class Follower:
         self.workers = workers
         self.talk = Conversation(Script(program.script(workers, wake)))
         self.tell = tell
-        # commands that are asked with the next one, each with what its answer begins with
-        self.queue: list[tuple[str, str, Item | None]] = []
+        # commands that are asked with the next one: what the answer begins with, the op, and is it a tick when no callback is under way?
+        self.queue: list[tuple[str, str, Op | None, bool]] = []
         # the steps that stand, and their lines; and where the clock was to go on: behind how many steps, to which time of which item
         self.did: list[str] = []
         self.said: list[str] = []
@@ -120,7 +118,7 @@ class Follower:
         # of these the ones whose step is put off until the poll in which they call back
         self.later_on: set[str] = set()
         self.outcome = Outcome([], 0, program.callbacks(), 0)
-        self.senders = {op.split(" ")[1] for op in self.all_ops() if op.startswith("send ")}
+        self.senders = {it.text.split(" ")[1] for it in self.items if isinstance(it, Op) and it.text.startswith("send ")}
         self.ahead = Ahead(self.items)
         # how many of the after callbacks have come
         self.after_at = 0
@@ -129,14 +127,11 @@ class Follower:
         self.lazy: set[int] = set()
         self.sent_late: dict[str, int] = {}
 
-    def all_ops(self) -> list[str]:
-        return self.program.main + [op for body in self.program.bodies.values() for op in body]
-
     # ---- the conversation
 
-    def later(self, command: str, wanted: str, item: Item | None = None) -> None:
+    def later(self, command: str, wanted: str, item: Op | None = None, outside: bool = False) -> None:
         """A command whose answer decides nothing: it begins so."""
-        self.queue.append((command, wanted, item))
+        self.queue.append((command, wanted, item, outside))
 
     def ask(self, commands: list[str]) -> list[str]:
         """Asks what waits in the queue, and then these. Answers the line of each, `` where it has none."""
@@ -150,18 +145,18 @@ class Follower:
             if self.talk.length > len(self.did):
                 self.did.append(command)
                 self.said.append(answers[-1])
-        for (command, wanted, item), answer, length in zip(waiting, answers, lengths):
+        for (_, wanted, item, outside), answer, length in zip(waiting, answers, lengths):
             if not answer.startswith(wanted):
-                self.at = self.kept_at if item is None or item is OUTSIDE else self.items.index(item)
+                self.at = self.items.index(item) if item else self.kept_at
                 raise Stopped(f"has `{answer}` there" if answer else "has a step without a line there")
-            if item is not None and item is not OUTSIDE:
+            if item:
                 self.compare(item, answer[len(wanted) :])
             self.kept = length
-            if command.startswith("tick ") and item is OUTSIDE:
+            if outside:
                 self.outcome.outside.add(length)
         return answers[len(waiting) :]
 
-    def compare(self, item: Item, answer: str) -> None:
+    def compare(self, item: Op, answer: str) -> None:
         """The answer of an op beside that of the log."""
         if item.answer != "id" and answer != item.answer and item.answer:
             self.outcome.answers.append(f"`{item.text}` answers {answer} here, and {item.answer} in the program (line {item.line} of the log)")
@@ -212,7 +207,7 @@ class Follower:
 
     def tick(self, time: int) -> None:
         if time > self.clock:
-            self.later(f"tick {time - self.clock}", "out tick", None if self.in_call else OUTSIDE)
+            self.later(f"tick {time - self.clock}", "out tick", outside=not self.in_call)
             self.clock = time
 
     def see(self, line: str) -> None:
@@ -299,29 +294,29 @@ class Follower:
 
     def make_ready(self, at: int) -> None:
         for item in self.group(at):
-            if item.list == "after":
+            if item.callback == "after":
                 self.finish(item.name)
             elif item.name not in self.senders or self.talk.state().slot_of(item.name).values.get("pending") == "0":
                 self.later(f"send {item.name}", f"out send {item.name} = ok")
                 if item.name in self.sent_late:
                     self.know(self.talk.length + len(self.queue), self.sent_late.pop(item.name))
 
-    def group(self, at: int) -> list[Item]:
+    def group(self, at: int) -> list[Call]:
         """The callbacks of this poll, from this item on, that the loop calls in this order in one iteration; but for those of I/O."""
         chosen, last, places = [], -1, None
         for item in (self.items[it] for it in range(at, len(self.items))):
-            if item.type in ("poll", "run", "end"):
+            if isinstance(item, (Poll, Run, End)):
                 break
-            if item.type != "call" or item.is_io():
+            if not isinstance(item, Call) or item.is_io():
                 continue
-            if not is_polled(item) or item.made >= at or any(it.name == item.name for it in chosen):
+            if not item.is_polled() or item.made >= at or any(it.name == item.name for it in chosen):
                 break
-            if item.list == "after" and last >= 0:
+            if item.callback == "after" and last >= 0:
                 break
-            if item.list == "on":
+            if item.callback == "on":
                 if last >= 0 and places is None:
                     places = {name: place for place, name in enumerate(self.talk.state().lists["async"])}
-                    last = places.get(next(it.name for it in chosen if it.list == "on"), len(places))
+                    last = places.get(next(it.name for it in chosen if it.callback == "on"), len(places))
                 place = 0 if places is None else places.get(item.name, -1)
                 if place <= last and places is not None:
                     break
@@ -365,7 +360,7 @@ class Follower:
         if name in self.ready:
             self.know(self.talk.length, self.ready[name])
 
-    def before_cancel(self, item: Item) -> None:
+    def before_cancel(self, item: Op) -> None:
         """A cancel that succeeds puts its request behind those that are done: so they have to be. One that fails comes behind its take."""
         name = item.text.split(" ")[1]
         if item.answer == "ok":
@@ -380,7 +375,7 @@ class Follower:
 
     # ---- the items
 
-    def do_op(self, item: Item) -> None:
+    def do_op(self, item: Op) -> None:
         word = item.text.split(" ")[0]
         if word == "updatetime":
             self.tick(item.now)
@@ -392,15 +387,15 @@ class Follower:
             self.queued.add(item.text.split(" ")[1])
         self.later("loop", f"{item.text} = ", item)
 
-    def do_run(self, item: Item, at: int) -> None:
+    def do_run(self, item: Run, at: int) -> None:
         """A default run looks at the clock as it begins."""
         self.tick(item.now)
-        if item.text == "default":
-            self.tick(next((it.now for it in self.items[at + 1 : at + FAR] if it.type in ("call", "poll", "end")), item.now))
-        self.later("loop", f"run {item.text}")
+        if item.mode == "default":
+            self.tick(next((it.now for it in self.items[at + 1 : at + FAR] if isinstance(it, (Call, Poll, End))), item.now))
+        self.later("loop", f"run {item.mode}")
         self.where = "entry"
 
-    def do_io(self, item: Item, at: int) -> None:
+    def do_io(self, item: Call, at: int) -> None:
         """A callback of I/O: the loop is led to the poll or to the section pending, where the program's came, and there it is a step."""
         if item.section == PENDING and self.where != PENDING:
             self.until(PENDING, at, PENDING)
@@ -422,7 +417,7 @@ class Follower:
             self.move(length)
             self.where = "done"
 
-    def answer(self, item: Item, at: int) -> None:
+    def answer(self, item: Call, at: int) -> None:
         """The step of such a callback. The one that leaves the poll makes the loop's time that of the clock: so what goes by before the
         callback begins comes behind its step."""
         leaves = self.where == "poll"
@@ -439,13 +434,13 @@ class Follower:
             self.tick_to(at, CLOCK)
             self.flush()
 
-    def do_call(self, item: Item, at: int) -> None:
-        wanted = f"{CALLS[item.list]} {item.name} "
+    def do_call(self, item: Call, at: int) -> None:
+        wanted = f"{CALLS[item.callback]} {item.name} "
         line = self.until(wanted, at, section_of(item))
         self.go_on_before(item, at, wanted)
         self.in_call = True
-        if item.list == "after":
-            if line.split(" ")[3] != item.text:
+        if item.callback == "after":
+            if line.split(" ")[3] != item.what:
                 raise Stopped(f"has `{line}` there")
             self.after_at += 1
             self.finished.discard(item.name)
@@ -454,7 +449,7 @@ class Follower:
             self.taken.pop(item.name, None)
         self.outcome.callbacks += 1
 
-    def go_on_before(self, item: Item, at: int, wanted: str) -> None:
+    def go_on_before(self, item: Call, at: int, wanted: str) -> None:
         """The clock goes on to where it was as the callback began, in front of it."""
         if item.clock <= self.clock:
             self.trail.append((self.talk.length - 1, at, CLOCK, True))
@@ -464,68 +459,63 @@ class Follower:
         self.later("loop", wanted)
         self.flush()
 
-    def do_done(self, item: Item, at: int) -> None:
-        """The clock goes on to where it was as the callback ended."""
-        self.tick_to(at, END)
-        self.in_call = False
-
     def end_time(self, at: int) -> int:
         item, ahead = self.items[at], self.items[at + 1 : at + FAR]
-        if self.ahead.has_end_near(at) and self.starts_behind_end(item, ahead):
+        if self.ahead.has_end_near(at) and self.starts_behind_end(item.now, ahead):
             return NO_CLOCK
-        later = (it.now for it in ahead if it.type in ("call", "poll", "run", "end") and it.now > item.now)
+        later = (it.now for it in ahead if isinstance(it, (Call, Poll, Run, End)) and it.now > item.now)
         return min(item.clock, next(later, item.clock))
 
-    def tick_within(self, item: Item, at: int) -> None:
+    def tick_within(self, item: Take | Finish | Send, at: int) -> None:
         """The clock goes on to where it was as something came from outside, if nothing before that looks at it."""
         # (a run that begins has its time of before: the first that looks is in it)
-        later = (it for it in self.items[at + 1 : at + FAR] if it.type in ("call", "poll", "end", "done") or it.text == "updatetime")
+        ahead = self.items[at + 1 : at + FAR]
+        later = (it for it in ahead if isinstance(it, (Call, Poll, End, Done)) or isinstance(it, Op) and it.text == "updatetime")
         next_one = next(later, None)
         if next_one is not None and item.clock != NO_CLOCK:
-            self.tick(min(item.clock, next_one.clock if next_one.type == "done" else next_one.now))
+            self.tick(min(item.clock, next_one.clock if isinstance(next_one, Done) else next_one.now))
 
-    def starts_behind_end(self, item: Item, ahead: list[Item]) -> bool:
+    def starts_behind_end(self, now: int, ahead: list[Item]) -> bool:
         """Does the run end by the same time, and the main program start a timer by it then? The last iteration looks at the clock
         behind its callbacks, which libuv's doesn't up to 1.44: so the clock must not go on before."""
         ended = False
         for other in ahead:
-            if other.type in ("call", "poll", "run", "end") and (other.now > item.now or ended):
-                return False
-            ended |= other.type == "end"
-            if ended and other.type == "op" and other.text.split(" ")[0] in ("start", "again"):
-                return True
+            match other:
+                case Call() | Poll() | Run() | End() if other.now > now or ended:
+                    return False
+                case End():
+                    ended = True
+                case Op() if ended and other.text.split(" ")[0] in ("start", "again"):
+                    return True
         return False
 
     def do(self, item: Item, at: int) -> None:
-        match item.type:
-            case "op":
+        if isinstance(item, (End, Call, Send, Finish)):
+            self.flush()
+        match item:
+            case Op():
                 self.do_op(item)
-            case "run":
+            case Run():
                 self.do_run(item, at)
-            case "end":
-                self.flush()
+            case End():
                 line = self.until("end ", at, "timers")
-                self.outcome.ends += line != f"end {item.text}"
-            case "poll":
+                self.outcome.ends += line != f"end {item.alive}"
+            case Poll():
                 self.to_poll(at)
-            case "call" if item.section == NOWHERE:
-                self.flush()
+            case Call() if item.section == NOWHERE:
                 raise Stopped("hasn't polled there")
-            case "call" if item.is_io():
-                self.flush()
+            case Call() if item.is_io():
                 self.do_io(item, at)
-            case "call":
-                self.flush()
+            case Call():
                 self.do_call(item, at)
-            case "done":
-                self.do_done(item, at)
-            case "send":
-                self.flush()
+            case Done():
+                self.tick_to(at, END)
+                self.in_call = False
+            case Send():
                 self.do_send(item, at)
-            case "finish":
-                self.flush()
+            case Finish():
                 self.do_finish(item, at)
-            case "take":
+            case Take():
                 self.tick_within(item, at)
                 self.flush()
                 while item.name not in self.taken and item.name not in self.finished:
@@ -533,7 +523,7 @@ class Follower:
                 if item.name in self.taken and item.clock != NO_CLOCK:
                     self.know(self.taken_at[item.name], item.clock)
 
-    def do_send(self, item: Item, at: int) -> None:
+    def do_send(self, item: Send, at: int) -> None:
         self.senders.add(item.name)
         if at in self.lazy or self.is_for_later(item.name, at):
             self.sent_late.setdefault(item.name, item.clock)
@@ -543,7 +533,7 @@ class Follower:
         self.ask([f"send {item.name}"])
         self.know(self.talk.length, item.clock)
 
-    def do_finish(self, item: Item, at: int) -> None:
+    def do_finish(self, item: Finish, at: int) -> None:
         """Work is through. Its step comes behind those of the requests that call back before it."""
         self.ready[item.name] = item.clock
         if at in self.lazy or self.is_for_later(item.name, at):

@@ -57,6 +57,9 @@ class Event:
     words: str
     line: int
 
+    def when(self) -> tuple[int, int, int]:
+        return self.now, self.clock, self.line
+
 
 @dataclass(slots=True)
 class Address:

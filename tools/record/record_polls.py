@@ -8,15 +8,14 @@ from __future__ import annotations
 
 from dataclasses import dataclass
 
-from record_script import Item, Program
-from record_where import MORE
+from record_script import Call, Item, Poll, Program
 
 CALLBACKS = ("call ", "after ", "closed ")
 
 
 @dataclass
-class Poll:
-    """How long it may wait, -1 for ever; and where it stands: its step, or its line in the log."""
+class Wait:
+    """How long a poll may wait, -1 for ever; and where it stands: its step, or its line in the log."""
 
     timeout: int
     at: int
@@ -54,24 +53,24 @@ def timeout_of(text: str) -> int:
     return -1 if text == "infinite" else int(text)
 
 
-def parted(lines: list[str]) -> list[list[Poll]]:
+def parted(lines: list[str]) -> list[list[Wait]]:
     """The polls of the steps, those before the first callback, between it and the second one, .. (The handle `wake` isn't the program's.)"""
-    found: list[list[Poll]] = [[]]
+    found: list[list[Wait]] = [[]]
     for step, line in enumerate(lines, 1):
         if line.startswith("poll "):
-            found[-1].append(Poll(timeout_of(line[5:]), step))
+            found[-1].append(Wait(timeout_of(line[5:]), step))
         elif line.startswith(CALLBACKS) and not line.startswith("call wake "):
             found.append([])
     return found
 
 
-def parted_log(items: list[Item]) -> list[list[Poll]]:
+def parted_log(items: list[Item]) -> list[list[Wait]]:
     """The same of what the program did."""
-    found: list[list[Poll]] = [[]]
+    found: list[list[Wait]] = [[]]
     for item in items:
-        if item.type == "poll" and item.text != MORE:
-            found[-1].append(Poll(int(item.text), item.line))
-        elif item.type == "call":
+        if isinstance(item, Poll) and item.timeout is not None:
+            found[-1].append(Wait(item.timeout, item.line))
+        elif isinstance(item, Call):
             found.append([])
     return found
 

@@ -21,7 +21,7 @@ from record_follow import CALLS, MANY_WORKERS, Follower, NeedsWake, Outcome
 from record_log import Event, Log, read_log
 from record_names import name_addresses, named_log
 from record_polls import Polls, compare
-from record_script import Program, program_of
+from record_script import Call, Program, program_of
 from record_window import NoPart, window
 from tell import Teller
 
@@ -68,7 +68,7 @@ def agrees(program: Program, outcome: Outcome) -> bool:
     """Are the recording's callbacks those of the log, by their names, as far as they go?"""
     calls = outcome.recording[outcome.recording.index("calls") + 1 : -1]
     names = [" ".join(it.split(" ")[:2]) for it in calls if not it.startswith("call wake ")]
-    wanted = [f"{CALLS[it.list]} {it.name}" for it in program.items if it.type == "call"]
+    wanted = [f"{CALLS[it.callback]} {it.name}" for it in program.items if isinstance(it, Call)]
     return names == wanted[: outcome.callbacks]
 
 
@@ -98,7 +98,7 @@ def followed(program: Program, workers: int) -> Outcome:
             teller.done()
         if best is None or outcome.callbacks > best.callbacks or not outcome.why:
             best = outcome
-        passed = outcome.item is not None and outcome.item.list == "after"
+        passed = isinstance(outcome.item, Call) and outcome.item.callback == "after"
         if not outcome.why or not passed or workers >= MANY_WORKERS:
             return best
         workers = MANY_WORKERS

@@ -11,7 +11,7 @@ from dataclasses import dataclass, field
 
 from record_log import NO_CLOCK, TIMER_OWN, WATCHERS, Address, Event, Log
 from record_names import base_name, element
-from record_where import MORE, NEW, Where
+from record_where import LOOKED, NEW, Where
 
 SCRIPT_LINES = 1048575
 NAMES = 65535
@@ -26,32 +26,88 @@ FULL = ": docs/LIBUV.md, `More than a script holds`"
 
 
 @dataclass(slots=True)
-class Item:
-    """What the program did next: `op`, `run`, `end`, `poll`, `call`, `done` (a callback ends), `take`, `finish` or `send`."""
+class Did:
+    """What the program did next, in one of the ways that follow."""
 
-    type: str
     now: int
     # of a callback's beginning and end, a take, a finish and a send; NO_CLOCK where the log has none
     clock: int
     line: int
-    # of an op its line; of a run its mode, of its end 1 or 0, of a poll its timeout; of a call what libuv said of it
-    text: str = ""
-    answer: str = ""
-    name: str = ""
-    # of a call: `on`, `after` or `closed`, and which kind of handle or request
-    list: str = ""
-    kind: str = ""
-    # of a call: at which item its handle was made
-    made: int = 0
-    # of an op that another thread than the loop's did: the function
-    foreign: str = ""
+
+
+@dataclass(slots=True)
+class Op(Did):
+    text: str
+    answer: str
+
+
+@dataclass(slots=True)
+class Run(Did):
+    mode: str
+
+
+@dataclass(slots=True)
+class End(Did):
+    # what the run answers: 1 or 0
+    alive: str
+
+
+@dataclass(slots=True)
+class Poll(Did):
+    # None: one more, behind callbacks, in the same poll
+    timeout: int | None
+
+
+@dataclass(slots=True)
+class Call(Did):
+    """A callback begins."""
+
+    name: str
+    # `on`, `after` or `closed`, and which of the name's these it is, from 1
+    callback: str
+    number: int
+    # of its handle or request; and at which item that was made
+    kind: str
+    made: int
+    # what libuv said of it
+    what: str
+    # its ops
+    body: list[str] = field(default_factory=list)
     # of a callback of I/O, of an async handle or of a request: where libuv calls it; and of one of I/O what is known of what came
     section: str = ""
     known: str = ""
 
     def is_io(self) -> bool:
         """Is it a callback of a handle of I/O? (What comes while that closes is a part of its close callback.)"""
-        return self.list == "on" and self.kind in WATCHERS
+        return self.callback == "on" and self.kind in WATCHERS
+
+    def is_polled(self) -> bool:
+        """Does it come with the poll, of what has to be made ready for it?"""
+        return self.callback != "closed" and (self.kind == "async" or is_pool(self.kind))
+
+
+@dataclass(slots=True)
+class Done(Did):
+    # the callback that ends
+    call: Call
+
+
+@dataclass(slots=True)
+class Take(Did):
+    name: str
+
+
+@dataclass(slots=True)
+class Finish(Did):
+    name: str
+
+
+@dataclass(slots=True)
+class Send(Did):
+    name: str
+
+
+Item = Op | Run | End | Poll | Call | Done | Take | Finish | Send
 
 
 @dataclass
@@ -84,8 +140,6 @@ class Bound:
     made: int
     stays: bool = False
     closing: bool = False
-    # a callback came while it was closing: that of its close has begun with it
-    early: bool = False
 
 
 def is_pool(kind: str) -> bool:
@@ -98,15 +152,14 @@ class Program:
 
     names: list[str] = field(default_factory=list)
     main: list[str] = field(default_factory=list)
-    # by list, name and call
-    bodies: dict[tuple[str, str, int], list[str]] = field(default_factory=dict)
-    counts: collections.Counter[tuple[str, str]] = field(default_factory=collections.Counter)
+    # by callback and name, those of each call
+    bodies: dict[tuple[str, str], list[list[str]]] = field(default_factory=lambda: collections.defaultdict(list))
     items: list[Item] = field(default_factory=list)
     origins: list[Origin] = field(default_factory=list)
-    # of a list and a name the functions that were called, each with the first call from which it is that
+    # of a callback and a name the functions that were called, each with the first call from which it is that
     functions: dict[tuple[str, str], list[tuple[int, str]]] = field(default_factory=dict)
     foreign: list[Foreign] = field(default_factory=list)
-    # the ops of these, by list, name, call and place in the body, each with its function
+    # the ops of these, by callback, name, call and place in the body, each with its function
     foreign_ops: dict[tuple[str, str, int, int], str] = field(default_factory=dict)
     notes: collections.Counter[str] = field(default_factory=collections.Counter)
     # of a name of I/O by its call: what came, in the log's words
@@ -122,7 +175,7 @@ class Program:
     stopped: str = ""
 
     def callbacks(self) -> int:
-        return sum(1 for it in self.items if it.type == "call")
+        return sum(isinstance(it, Call) for it in self.items)
 
     def body_lines(self) -> list[str]:
         """The bodies by name. One that is the same in each call stands there once."""
@@ -130,7 +183,7 @@ class Program:
         apart = {it[:2] for it in self.foreign_ops}
         for name in self.names:
             for kind in ("on", "after", "closed"):
-                bodies = [self.bodies[kind, name, call] for call in range(1, self.counts[kind, name] + 1)]
+                bodies = self.bodies.get((kind, name), [])
                 if bodies and (kind, name) not in apart and all(it == bodies[0] for it in bodies):
                     lines += [f"{kind} {name} {op}" for op in bodies[0]]
                 else:
@@ -162,6 +215,7 @@ class Maker:
     def __init__(self, log: Log, has_polls: bool) -> None:
         self.log = log
         self.program = Program(version=log.version, form=log.form)
+        self.items = self.program.items
         self.bound: dict[int, Bound] = {}
         self.first_callback: dict[int, int] = {}
         self.variable: dict[int, tuple[int, int]] = {}
@@ -173,11 +227,11 @@ class Maker:
         self.taken: set[str] = {"wake"}
         # by object, -1 for the loop: the function by which another thread asks something of it
         self.by_other: dict[int, str] = {}
-        # the callbacks under way: the ops of the first one, in which the others are
-        self.body: list[str] | None = None
+        # the callbacks under way: the first one, in which the others are, and how many
+        self.call: Call | None = None
         self.depth = 0
-        self.call: Item | None = None
-        self.stray: list[Item] = []
+        # ops outside of callbacks, each with the function by which another thread did it
+        self.stray: list[tuple[Op, str]] = []
         self.runs = 0
         self.where = Where(has_polls, log.form > 1)
 
@@ -202,7 +256,7 @@ class Maker:
     def bind(self, id: int, kind: str, line: int) -> Bound:
         base, origin, is_variable = self.base_of(id, kind)
         stays = not is_variable and self.numbers[base] < STAYS
-        bound = self.bound[id] = Bound(id, kind, base, self.name_for(base, stays), len(self.program.items), stays)
+        bound = self.bound[id] = Bound(id, kind, base, self.name_for(base, stays), len(self.items), stays)
         if bound.name not in self.taken:
             self.taken.add(bound.name)
             self.program.names.append(bound.name)
@@ -227,42 +281,40 @@ class Maker:
 
     # ---- ops
 
-    def add(self, event: Event, type: str, **words: object) -> Item:
-        item = Item(type, event.now, event.clock, event.line, **words)
-        self.program.items.append(item)
-        return item
-
-    def last_done(self) -> int:
-        """Where the end of the last callback stands, if the loop did nothing behind it; else -1."""
-        items, at = self.program.items, len(self.program.items) - 1
-        while at >= 0 and items[at].type in ("send", "take", "finish"):
-            at -= 1
-        return at if at >= 0 and items[at].type == "done" else -1
-
     def add_op(self, event: Event, text: str, answer: str, foreign: str = "", settles: bool = False) -> None:
         """An op of the callback under way, or of the main program."""
-        items = self.program.items
-        if self.body is not None:
-            self.keep_foreign(foreign)
-            self.body.append(text)
-        elif self.runs and settles and not foreign and (at := self.last_done()) >= 0:
-            # (seen as the callback was over: its last op)
-            self.program.bodies[items[at].list, items[at].name, int(items[at].text)].append(text)
-            items.insert(at, Item("op", items[at].now, event.clock, event.line, text, answer))
+        op = Op(*event.when(), text, answer)
+        if self.call:
+            self.keep_op(self.call, text, foreign)
+        elif self.runs and settles and not foreign and self.settle(op):
             return
         elif self.runs:
-            self.stray.append(Item("op", event.now, event.clock, event.line, text, answer, foreign=foreign))
+            self.stray.append((op, foreign))
             self.program.notes["ops outside of callbacks, which were put into the next one"] += not foreign
             return
         else:
             self.program.main.append(text)
-        self.add(event, "op", text=text, answer=answer)
+        self.items.append(op)
 
-    def keep_foreign(self, function: str) -> None:
-        """The next op of the callback under way is another thread's."""
-        if function and self.call:
-            call = self.program.counts[self.call.list, self.call.name]
-            self.program.foreign_ops[self.call.list, self.call.name, call, len(self.body)] = function
+    def settle(self, op: Op) -> bool:
+        """Puts it at the end of the last callback, if the loop did nothing behind that: it was seen as the callback was over."""
+        # (a run is under way, and its beginning stands there at the least)
+        at = len(self.items) - 1
+        while isinstance(self.items[at], (Take, Finish, Send)):
+            at -= 1
+        done = self.items[at]
+        if not isinstance(done, Done):
+            return False
+        op.now = done.now
+        done.call.body.append(op.text)
+        self.items.insert(at, op)
+        return True
+
+    def keep_op(self, call: Call, text: str, foreign: str) -> None:
+        """An op of this callback. `foreign`: by which function another thread did it."""
+        if foreign:
+            self.program.foreign_ops[call.callback, call.name, call.number, len(call.body)] = foreign
+        call.body.append(text)
 
     def read_foreign(self, event: Event) -> None:
         id, _, function = event.words.split(" ")
@@ -328,38 +380,36 @@ class Maker:
 
     def read_begin(self, event: Event) -> bool:
         words = event.words.split(" ")
-        list, id, what, known = words[0], int(words[1]), words[2] if len(words) > 2 else "", " ".join(words[3:])
+        callback, id, what, known = words[0], int(words[1]), words[2] if len(words) > 2 else "", " ".join(words[3:])
         bound = self.bound.get(id)
         if not bound:
             # (its close callback has begun with an earlier one)
-            early = self.call is not None and self.call.text == f"early {id}" and self.depth == 1
-            self.depth += early and list == "on"
-            return early and list != "after"
-        if list == "after" and not is_pool(bound.kind) or list != "after" and is_pool(bound.kind):
+            early = self.call is not None and self.call.what == f"early {id}" and self.depth == 1
+            self.depth += early and callback == "on"
+            return early and callback != "after"
+        if (callback == "after") != is_pool(bound.kind):
             return False
         if self.depth:
             self.program.notes["callbacks that came in another one, as part of it"] += 1
             self.depth += 1
             return True
-        of_closing = list == "on" and bound.kind in WATCHERS and bound.closing
-        joined = of_closing and self.joins(bound)
+        of_closing = callback == "on" and bound.kind in WATCHERS and bound.closing
+        joined = self.joined(bound) if of_closing else None
         if of_closing and not joined:
-            list, what = "closed", f"early {id}"
+            callback, what = "closed", f"early {id}"
         self.depth = 2 if what.startswith("early") else 1
-        if not joined:
-            self.functions = []
-            self.begin_call(event, bound, list, what)
-        if list == "on" and bound.kind in WATCHERS:
-            self.keep_known(bound, what, known)
-        self.keep_function(id, what if list == "on" else words[0])
+        self.call = joined or self.begin_call(event, bound, callback, what)
+        if self.call.is_io():
+            self.keep_known(self.call, what, known)
+        self.keep_function(id, what if callback == "on" else words[0])
         return True
 
-    def keep_known(self, bound: Bound, what: str, known: str) -> None:
+    def keep_known(self, call: Call, what: str, known: str) -> None:
         """What came: several things where one call stands for several callbacks."""
         told = ":".join([what, *known.split(" ")] if known else [what])
-        came, call = self.program.came.setdefault(bound.name, {}), self.program.counts["on", bound.name]
-        came[call] = f"{came[call]}+{told}" if call in came else told
-        self.call.known = self.call.known or known
+        came = self.program.came.setdefault(call.name, {})
+        came[call.number] = f"{came[call.number]}+{told}" if call.number in came else told
+        call.known = call.known or known
 
     def keep_function(self, id: int, what: str) -> None:
         """Which function of the program is called there: several where one call stands for several callbacks."""
@@ -370,43 +420,41 @@ class Maker:
         address = self.log.addresses.get(self.callback.get((id, what), -1))
         return self.told(address) if address and address.symbol != "-" else ""
 
-    def functions_of(self, list: str, name: str, call: int, told: str) -> None:
+    def functions_of(self, callback: str, name: str, call: int, told: str) -> None:
         """From this call on that is the function."""
-        known = self.program.functions.setdefault((list, name), [])
+        known = self.program.functions.setdefault((callback, name), [])
         if known and known[-1][0] == call:
             known.pop()
         if told != (known[-1][1] if known else ""):
             known.append((call, told))
 
-    def joins(self, bound: Bound) -> bool:
+    def joined(self, bound: Bound) -> Call | None:
         """What libuv calls of a watcher that its own callback has closed, in a row with that one, is a part of it."""
-        items = self.program.items
-        if not items or items[-1].type != "done" or items[-1].list != "on" or items[-1].name != bound.name:
-            return False
-        done = items.pop()
-        self.body = self.program.bodies["on", bound.name, int(done.text)]
-        self.call = next(it for it in reversed(items) if it.type == "call")
-        return True
+        match self.items[-1:]:
+            case [Done(call=Call(name=bound.name, callback="on") as call)]:
+                self.items.pop()
+                return call
+        return None
 
-    def begin_call(self, event: Event, bound: Bound, list: str, what: str) -> None:
-        program = self.program
-        program.counts[list, bound.name] += 1
-        call = program.counts[list, bound.name]
-        self.call = self.add(event, "call", text=what, name=bound.name, list=list, kind=bound.kind, made=bound.made)
-        if self.call.is_io():
-            self.call.section = self.where.see_io(what, event.now)
-        elif list == "after" or list == "on" and bound.kind == "async":
-            self.call.section = self.where.see_call(event.now)
+    def begin_call(self, event: Event, bound: Bound, callback: str, what: str) -> Call:
+        self.functions = []
+        bodies = self.program.bodies[callback, bound.name]
+        call = Call(*event.when(), bound.name, callback, len(bodies) + 1, bound.kind, bound.made, what)
+        bodies.append(call.body)
+        if call.is_io():
+            call.section = self.where.see_io(what, event.now)
+        elif call.is_polled():
+            call.section = self.where.see_call(event.now)
         else:
             self.where.see_other(bound.kind)
-        self.body = program.bodies[list, bound.name, call] = []
-        for item in self.stray:
-            self.keep_foreign(item.foreign)
-            self.body.append(item.text)
-        program.items += self.stray
+        self.items.append(call)
+        for op, foreign in self.stray:
+            self.keep_op(call, op.text, foreign)
+            self.items.append(op)
         self.stray = []
-        if list != "on":
+        if callback != "on":
             self.release(bound)
+        return call
 
     def read_end(self, event: Event) -> bool:
         if not self.depth or not self.call:
@@ -415,11 +463,9 @@ class Maker:
         self.where.see_put_off(event.words.endswith("+"))
         # (a close callback that began early goes on with the one that libuv calls last)
         if self.depth == 0:
-            call = self.call
-            number = self.program.counts[call.list, call.name]
-            self.add(event, "done", text=str(number), name=call.name, list=call.list)
-            self.functions_of(call.list, call.name, number, " and ".join(self.functions))
-            self.body = self.call = None
+            self.items.append(Done(*event.when(), self.call))
+            self.functions_of(self.call.callback, self.call.name, self.call.number, " and ".join(self.functions))
+            self.call = None
         return True
 
     # ---- the rest
@@ -440,19 +486,19 @@ class Maker:
                     return False
                 self.runs -= 1
                 self.where.see_other()
-                self.add(event, "end", text=event.words)
+                self.items.append(End(*event.when(), event.words))
             case "P" | "p":
                 self.read_poll(event)
             case "T":
                 if bound := self.bound.get(int(event.words)):
-                    self.add(event, "take", name=bound.name)
-                    self.functions_of("work", bound.name, self.program.counts["after", bound.name] + 1, self.function(bound.id, "work"))
+                    self.items.append(Take(*event.when(), bound.name))
+                    self.functions_of("work", bound.name, len(self.program.bodies["after", bound.name]) + 1, self.function(bound.id, "work"))
             case "F":
                 if bound := self.bound.get(int(event.words)):
-                    self.add(event, "finish", name=bound.name)
+                    self.items.append(Finish(*event.when(), bound.name))
             case "S":
                 if event.clock != NO_CLOCK and (bound := self.bound.get(int(event.words.split(" ")[0]))) and not bound.closing:
-                    self.add(event, "send", name=bound.name)
+                    self.items.append(Send(*event.when(), bound.name))
             case "W":
                 self.read_foreign(event)
             case "K":
@@ -468,16 +514,14 @@ class Maker:
         self.runs += 1
         self.where.see_run(mode, bool(put_off))
         self.program.main.append(f"run {mode}")
-        self.add(event, "run", text=mode)
+        self.items.append(Run(*event.when(), mode))
 
     def read_poll(self, event: Event) -> None:
         found = self.where.see_poll(event.type == "p")
-        if found == NEW:
-            self.add(event, "poll", text=event.words)
-        elif found == MORE:
-            self.add(event, "poll", text=MORE)
+        if found != LOOKED:
+            self.items.append(Poll(*event.when(), int(event.words) if found == NEW else None))
         elif event.type == "P":
-            next(it for it in reversed(self.program.items) if it.type == "poll").text = event.words
+            next(it for it in reversed(self.items) if isinstance(it, Poll)).timeout = int(event.words)
 
     def read_place(self, event: Event) -> None:
         """Where an object lies, and its first callback: its name is made of these, and they may come behind its first op."""
