@@ -9,7 +9,7 @@ from pathlib import Path
 from bodies import merged
 from checks import Asked, Fault, Said, Trial, check
 from proofs import Proofs
-from reading import lemmas_of
+from reading import lemmas_of, whole_word
 from tactics import Made
 
 
@@ -113,7 +113,7 @@ class Rounds:
             said = check(self.asked, self.proofs.folder, "kept-real")
             if said.status == 0:
                 return live, said
-            bad = self.refused(said, live)
+            bad = self.refused(said, live) or self.cited(said, live)
             if not bad:
                 raise Fault(f"the check fails elsewhere, and all of this round is put back: {said.text.strip()[-1000:]}")
             for it in bad:
@@ -130,6 +130,15 @@ class Rounds:
             if error.is_own and path in paths:
                 wrong |= {it.key for it in lemmas_of(path) if it.first < error.line <= it.end}
         return [it for it in live if it.lemma.key in wrong]
+
+    def cited(self, said: Said, live: list[Made]) -> list[Made]:
+        """Those of the copies whose lemmas are cited where the check tells an error: what cites them computed with the old text."""
+        citing = []
+        for error in said.errors():
+            path = self.proofs.folder / error.file
+            if error.is_own and path.is_file():
+                citing += [it for it in lemmas_of(path) if it.first < error.line <= it.end]
+        return [it for it in live if any(whole_word(it.lemma.name).search("\n".join(lemma.lines)) for lemma in citing)]
 
     def drop(self, said: Said) -> Said:
         """Takes out what nobody cites any more, and checks that."""
