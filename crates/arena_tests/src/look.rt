@@ -1,7 +1,7 @@
 //! How a handle looks.
 
-use uv_handle::HandleRecord;
 use uv_ids::{Code, Kind, Var};
+use uv_records::HandleRecord;
 
 /// The record of a handle by its name and kind and by what became of it since it was made, or the refusal.
 #[derive(Clone, Copy)]

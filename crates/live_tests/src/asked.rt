@@ -25,13 +25,11 @@ impl<M: Machine> Machine for Asked<M> {
     ghost MayHaveNoLayout = { M.MayHaveNoLayout };
 
     fn begin(alloc: Global, script: Script) -> Result<Self, Fault> {
-        match M::begin(alloc, script) {
-            Ok(machine) => Ok(Asked {
-                machine,
-                finishes: 0,
-            }),
-            Err(fault) => Err(fault),
-        }
+        let machine = M::begin(alloc, script)?;
+        Ok(Asked {
+            machine,
+            finishes: 0,
+        })
     }
 
     fn step(&mut self, event: Event) -> Result<Outcome, Fault> {

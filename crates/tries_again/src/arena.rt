@@ -44,13 +44,9 @@ fn filled(alloc: Global) -> Result<Slots<Number>, AllocError> {
 fn insert_and_back(slots: &mut Slots<Number>, content: u64) -> Result<Id, InsertFault>
     ensures { slots.new.image ≡ slots.old.image }
 {
-    match slots.insert(Number(content)) {
-        Err(fault) => Err(fault),
-        Ok((id, undo)) => {
-            slots.undo_insert(undo);
-            Ok(id)
-        }
-    }
+    let (id, undo) = slots.insert(Number(content))?;
+    slots.undo_insert(undo);
+    Ok(id)
 }
 
 /// Whether no slot of the second piece was taken.

@@ -24,23 +24,17 @@ use Rattle.uv_arena.proofs.Fresh.{get_last, get_other, cell_of, length_grown, li
 
 -- another place reads as before a write
 get_set : {A : Type 0} (xs : List A) (x y : ℕ) (a : A) → x ≢ y → slice_get (set xs x a) y ≡ slice_get xs y
-get_set [] x y a n = refl
-get_set (b ∷ bs) zero zero a n = absurd (n refl)
-get_set (b ∷ bs) zero (suc y) a n = refl
-get_set (b ∷ bs) (suc x) zero a n = refl
 get_set (b ∷ bs) (suc x) (suc y) a n = get_set bs x y a (λ e. n (omega arith))
+get_set each e1 e2 a n = grind arith
 
 pub none_first : (xs : List ℕ) → first xs None ≡ None → xs ≡ []
-none_first [] e = refl
-none_first (x ∷ xs) e = cc
+none_first xs e = grind arith
 
 pub some_first : (xs : List ℕ) (x : ℕ) → first xs None ≡ Some x → (rest : List ℕ) × (xs ≡ x ∷ rest)
-some_first [] x e = cc
-some_first (y ∷ ys) x e = let same : y ≡ x = cc in (ys, ap (λ z. z ∷ ys) same)
+some_first xs x e = grind arith
 
 pub next_some : (n u : ℕ) → 0 < u → plain.next_unused n u ≡ Some (record { slot = n; generation = 0 })
-next_some n zero lt = absurd (omega arith)
-next_some n (suc u) lt = refl
+next_some n u lt = grind arith
 
 module _ {X : Type 0} where
   held_gone : (m : Memory X) (d : Id) (c : Cell X) → slice_get m.row.items d.slot ≡ Some c → c.slot.generation ≢ d.generation

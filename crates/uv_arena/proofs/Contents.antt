@@ -17,9 +17,8 @@ pub set_there : {A : Type 0} (xs : List A) (k j : ℕ) (b : A) → (j ≡ k → 
 set_there xs k j b n = grind (arith, elements)
 
 pub set_back : {A : Type 0} (xs : List A) (k : ℕ) (a b : A) → slice_get xs k ≡ Some a → set (set xs k b) k a ≡ xs
-set_back [] k a b e = refl
-set_back (x ∷ xs) zero a b e = let same : a ≡ x = cc in ap (λ z. z ∷ xs) same
 set_back (x ∷ xs) (suc k) a b e = ap (λ l. x ∷ l) (set_back xs k a b e)
+set_back each e1 a b e = grind arith
 
 module _ {X : Type 0} where
   -- a slot without content holds nothing

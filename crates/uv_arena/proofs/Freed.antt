@@ -14,10 +14,7 @@ use Rattle.uv_arena.proofs.Memories.{member_tells, get-links}
 any_in : (xs : List ℕ) (x : ℕ) → IsIn x xs → list_any (λ n. n == x) xs ≡ true
 any_in [] x h = absurd h
 any_in (y ∷ ys) x (inl e) = ap (λ b. b || list_any (λ n. n == x) ys) (eq-eqb y x (sym e))
-any_in (y ∷ ys) x (inr h) = at (y == x) (any_in ys x h) where
-  at : (a : Bool) {b : Bool} → b ≡ true → (a || b) ≡ true
-  at true e = refl
-  at false e = e
+any_in (y ∷ ys) x (inr h) = grind (arith, (any_in ys x h))
 
 same : (n x : ℕ) → (n == x) ≡ true → n ≡ x
 same n x e = elim (eqb_tells n x) [ inl q ↦ q.1 | inr q ↦ (let differ = q.0 in cc (differ, e)) ]
@@ -26,8 +23,7 @@ in_any : (xs : List ℕ) (x : ℕ) → list_any (λ n. n == x) xs ≡ true → I
 in_any [] x e = cc
 in_any (y ∷ ys) x e = at (y == x) refl (λ r. in_any ys x r) e where
   at : (b : Bool) → (y == x) ≡ b → (list_any (λ n. n == x) ys ≡ true → IsIn x ys) → (b || list_any (λ n. n == x) ys) ≡ true → IsIn x (y ∷ ys)
-  at true is rest e = inl (sym (same y x is))
-  at false is rest e = inr (rest e)
+  at b is rest e = grind arith
 
 module _ {X : Type 0} (m : Memory X) (s : IsLinked m) (x : ℕ) where
   pub linked_free : x < length m.row.items → (links_at m x).list ≡ Some FREE → list_any (λ n. n == x) (chain m FREE) ≡ true

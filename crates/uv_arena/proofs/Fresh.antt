@@ -17,10 +17,8 @@ pub get_more : {A : Type 0} (xs : List A) (z : A) (j : ℕ) (x : A) → slice_ge
 get_more xs z j x e = grind (arith, elements)
 
 get_less : {A : Type 0} (xs : List A) (z : A) (j : ℕ) (x : A) → slice_get (xs ++ z ∷ []) j ≡ Some x → (slice_get xs j ≡ Some x) ⊎ (x ≡ z)
-get_less [] z zero x e = inr cc
-get_less [] z (suc j) x e = cc
-get_less (y ∷ ys) z zero x e = inl e
 get_less (y ∷ ys) z (suc j) x e = get_less ys z j x e
+get_less each z e2 x e = grind arith
 
 pub get_last : {A : Type 0} (xs : List A) (z : A) → slice_get (xs ++ z ∷ []) (length xs) ≡ Some z
 get_last xs z = grind (arith, elements)
@@ -29,11 +27,6 @@ get_last xs z = grind (arith, elements)
 pub get_other : {A : Type 0} (xs : List A) (z : A) (j : ℕ) → (j ≡ length xs → ⊥) → slice_get (xs ++ z ∷ []) j ≡ slice_get xs j
 get_other xs z j n = grind (arith, elements)
 
-get_same : {A : Type 0} (n j : ℕ) (x : A) → j < n → slice_get (replicate n x) j ≡ Some x
-get_same zero j x lt = absurd (omega arith)
-get_same (suc n) zero x lt = refl
-get_same (suc n) (suc j) x lt = get_same n j x (omega arith)
-
 segment_more : (ls : List Links) (m : Links) (k : ℕ) (p : Option ℕ) (xs : List ℕ) (n : Option ℕ) → IsSegment ls k p xs n
     → IsSegment (ls ++ m ∷ []) k p xs n
 segment_more ls m k p [] n h = tt
@@ -41,44 +34,19 @@ segment_more ls m k p (x ∷ xs) n h = (get_more ls m x (link k p (first xs n)) 
 
 stands_more : (c : Chains) (xs : ℕ → List ℕ) → Stands c xs → Stands (record { links = c.links ++ loose ∷ []; ends = c.ends }) xs
 stands_more c xs s = record {
-  lists = λ k lt. let old = s.lists k lt in record {
-    segment = segment_more c.links loose k None (xs k) None old.segment;
-    apart = old.apart;
-    ends = old.ends;
-  };
+  lists = grind (arith, segment_more);
   listed = λ y m k g is. elim (get_less c.links loose y m g) [ inl was ↦ s.listed y m k was is | inr new ↦ cc (ap (λ (z : Links). z.list) new, is) ];
   rest = λ y m g is. elim (get_less c.links loose y m g) [ inl was ↦ s.rest y m was is | inr new ↦ new ];
 }
 
-stands_none : (es : List Ends) → es ≡ replicate CHAIN_COUNT no_ends → Stands (record { links = []; ends = es }) (λ k. [])
-stands_none es e = record {
-  lists = λ k lt. record { segment = tt; apart = tt; ends = ap (λ l. slice_get l k) e ∙ get_same CHAIN_COUNT k no_ends lt };
-  listed = λ y m k g is. cc;
-  rest = λ y m g is. cc;
-}
-
 -- the names of fourteen lists in their order
 in_order : (k : ℕ) → k < LIST_COUNT → name_at (0 ∷ 1 ∷ 2 ∷ 3 ∷ 4 ∷ 5 ∷ 6 ∷ 7 ∷ 8 ∷ 9 ∷ 10 ∷ 11 ∷ 12 ∷ 13 ∷ []) k ≡ k
-in_order zero lt = refl
-in_order (suc zero) lt = refl
-in_order (suc (suc zero)) lt = refl
-in_order (suc (suc (suc zero))) lt = refl
-in_order (suc (suc (suc (suc zero)))) lt = refl
-in_order (suc (suc (suc (suc (suc zero))))) lt = refl
-in_order (suc (suc (suc (suc (suc (suc zero)))))) lt = refl
-in_order (suc (suc (suc (suc (suc (suc (suc zero))))))) lt = refl
-in_order (suc (suc (suc (suc (suc (suc (suc (suc zero)))))))) lt = refl
-in_order (suc (suc (suc (suc (suc (suc (suc (suc (suc zero))))))))) lt = refl
-in_order (suc (suc (suc (suc (suc (suc (suc (suc (suc (suc zero)))))))))) lt = refl
-in_order (suc (suc (suc (suc (suc (suc (suc (suc (suc (suc (suc zero))))))))))) lt = refl
-in_order (suc (suc (suc (suc (suc (suc (suc (suc (suc (suc (suc (suc zero)))))))))))) lt = refl
-in_order (suc (suc (suc (suc (suc (suc (suc (suc (suc (suc (suc (suc (suc zero))))))))))))) lt = refl
-in_order (suc (suc (suc (suc (suc (suc (suc (suc (suc (suc (suc (suc (suc (suc k)))))))))))))) lt = absurd (omega arith)
+in_order each lt = grind arith
 
 pub fresh_sound : {X : Type 0} (capacity last : ℕ) → capacity < 2 ^ 32 → last < 2 ^ 32 → IsSound (fresh_image X capacity last)
 fresh_sound {X} capacity last lt ll = record {
   linked = record {
-    stands = stands_walked (record { links = []; ends = replicate CHAIN_COUNT no_ends }) (λ k. []) (stands_none (replicate CHAIN_COUNT no_ends) refl);
+    stands = stands_walked (record { links = []; ends = replicate CHAIN_COUNT no_ends }) (λ k. []) (grind arith);
     all_ends = refl;
     within = omega arith;
     few = lt;

@@ -18,21 +18,16 @@ use Rattle.uv_arena.proofs.Memories.{or_none, placed, member_tells}
 use Rattle.uv_arena.proofs.Names.{number_apart, number_below}
 
 some_is : {A : Type 0} (o : Option A) → is_some o ≡ true → (a : A) × (o ≡ Some a)
-some_is None e = cc
-some_is (Some a) e = (a, refl)
+some_is o e = grind arith
 
 none_is : {A : Type 0} (o : Option A) → is_some o ≡ false → o ≡ None
-none_is None e = refl
-none_is (Some a) e = cc
+none_is o e = grind arith
 
 -- ---- a list without one of its members
 
 pub without_none : (xs : List ℕ) (x : ℕ) → (IsIn x xs → ⊥) → without eqb xs x ≡ xs
 without_none [] x h = refl
-without_none (y ∷ ys) x h = elim (eqb_tells y x) [
-  | inl e ↦ absurd (h (inl (sym e.1)))
-  | inr n ↦ ap (λ (u : Bool). if not u then y ∷ without eqb ys x else without eqb ys x) n.0 ∙ ap (λ l. y ∷ l) (without_none ys x (λ i. h (inr i)))
-]
+without_none (y ∷ ys) x h = grind (arith, eqb_tells, (without_none ys x (λ i. h (inr i))))
 
 without_first : (xs : List ℕ) (x : ℕ) → without eqb (x ∷ xs) x ≡ without eqb xs x
 without_first xs x = ap (λ (u : Bool). if not u then x ∷ without eqb xs x else without eqb xs x) (eq-eqb x x refl)

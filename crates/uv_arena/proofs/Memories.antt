@@ -26,9 +26,8 @@ or_none None = inl refl
 or_none (Some a) = inr (a, refl)
 
 pub get-each_none : {A : Type 0} (f : ℕ → A → A) (xs : List A) (j : ℕ) → slice_get xs j ≡ None → slice_get (each f xs) j ≡ None
-get-each_none f [] j e = refl
-get-each_none f (x ∷ xs) zero e = cc
 get-each_none f (x ∷ xs) (suc j) e = get-each_none (λ i. f (suc i)) xs j e
+get-each_none f each e2 e = search (sym)
 
 module _ {X : Type 0} where
   -- ---- what is read off the slots

@@ -12,16 +12,13 @@ use Rattle.uv_arena.proofs.Stand.{ends_put, with_list, IsRelinked, relinked_stan
 
 segment_end : (ls : List Links) (k : ℕ) (p : Option ℕ) (xs : List ℕ) (n : Option ℕ) → IsSegment ls k p xs n → (i : ℕ) (m : Links)
     → last None xs ≡ Some i → slice_get ls i ≡ Some m → m.next ≡ n
-segment_end ls k p [] n h i m e g = cc
-segment_end ls k p (x ∷ []) n h i m e g =
-    let same : x ≡ i = cc in let is : m ≡ link k p n = cc (ap (slice_get ls) same, h.0, g) in ap (λ (z : Links). z.next) is
 segment_end ls k p (x ∷ y ∷ ys) n h i m e g = segment_end ls k (Some x) (y ∷ ys) n h.1 i m e g
+segment_end ls k p each n h i m e g = search (sym)
 
 segment_start : (ls : List Links) (k : ℕ) (p : Option ℕ) (xs : List ℕ) (n : Option ℕ) → IsSegment ls k p xs n → (i : ℕ) (m : Links)
     → first xs None ≡ Some i → slice_get ls i ≡ Some m → m.prev ≡ p
 segment_start ls k p [] n h i m e g = cc
-segment_start ls k p (x ∷ xs) n h i m e g =
-    let same : x ≡ i = cc in let is : m ≡ link k p (first xs n) = cc (ap (slice_get ls) same, h.0, g) in ap (λ (z : Links). z.prev) is
+segment_start ls k p (x ∷ xs) n h i m e g = cc
 
 -- where a place is: list k is us and then vs
 abbrev pub between : ℕ → List ℕ → ℕ → List ℕ → ChainPlace

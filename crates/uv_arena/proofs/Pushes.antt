@@ -21,8 +21,7 @@ use Rattle.uv_arena.proofs.Places.{between}
 use Rattle.uv_arena.proofs.Lookups.{is_there, is_loose, is_on, IsThereOn, on_list_by, name_below, name_other, without_none, without_one}
 
 pub and_false : (b : Bool) → (b && false) ≡ false
-and_false true = refl
-and_false false = refl
+and_false b = grind arith
 
 module _ {X : Type 0} where
   -- ---- the parts that both share

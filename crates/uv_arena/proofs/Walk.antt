@@ -39,13 +39,11 @@ unfolding walk
 walk_segment ls k zero p [] le h = refl
 walk_segment ls k zero p (x ∷ xs) le h = absurd (omega arith)
 walk_segment ls k (suc f) p [] le h = refl
-walk_segment ls k (suc f) p (x ∷ xs) le h = ap (λ o. x ∷ walk ls f (next_of o)) h.0
-    ∙ ap (λ l. x ∷ l) (walk_segment ls k f (Some x) xs (omega arith) h.1)
+walk_segment ls k (suc f) p (x ∷ xs) le h = cc (walk_segment ls k f (Some x) xs (omega arith) h.1)
 
 pub walked : (c : Chains) (k : ℕ) (xs : List ℕ) → IsList c k xs → list_of c k ≡ xs
 unfolding list_of
-walked c k xs h = ap (λ o. walk c.links (length c.links) (head_of o)) h.ends
-    ∙ walk_segment c.links k (length c.links) None xs (short c.links k xs h.apart h.segment) h.segment
+walked c k xs h = grind (arith, walk_segment, short)
 
 -- what stands for some lists stands for those that are walked
 pub stands_walked : (c : Chains) (xs : ℕ → List ℕ) → Stands c xs → Stands c (list_of c)

@@ -1,5 +1,8 @@
 //! The slots of handles and requests in pieces that never move, each on at most one doubly linked list, and every change with an
 //! undo that gives back the very links that stood before.
+//!
+//! The main type is `Slots`. Read `specs/Image.antt` first: the lists as lists of ids, and the slots; then `Calls.antt` for what
+//! each call leaves, and `Undo.antt` for what takes it back.
 #![tactic(auto)]
 
 mod arena;

@@ -8,7 +8,8 @@ use Rattle.uv_ids.specs.declared.code.Code.{Code}
 use Rattle.uv_ids.specs.declared.event.Event.TheVariants as event
 use Rattle.uv_ids.specs.declared.phase.Phase.{Phase}
 use Rattle.uv_ids.specs.declared.phase.Phase.TheVariants as phase
-use Rattle.uv_ids.specs.Words.{code_word, phase_word}
+use Rattle.uv_ids.specs.Words.{code_word, code_named, phase_word, phase_named}
+use Rattle.uv_ids.proofs.Words.{same, code_right, code_found, phase_right}
 use Rattle.uv_script.specs.Lines.{fields_of}
 use Rattle.uv_script.specs.Words.{IsDeclared}
 use Rattle.uv_script.specs.Checks.{is_line, is_skipped}
@@ -28,9 +29,9 @@ use Rattle.uv_asking.specs.declared.part.Said.TheVariants.{Nothing, Bad}
 use Rattle.uv_asking.specs.Limits.{MOST_COUNT, MOST_MS}
 use Rattle.uv_asking.specs.Grammar as is
 use Rattle.uv_asking.specs.Grammar.{IsWithin, IsOffer, IsQuestion, IsPart, IsNoPart, Says, nothing, one, bad}
-use Rattle.uv_asking.specs.Tests.{code_of, phase_of, number_in, offer_of, times_of, waits, may_of, calls_of, bound_of, most_of, stuck_of, section_of, plain_of, nth_call_of, late_of, numbered_of, before_of, three_of, code_name_of, four_of, question_of, part_by, part_of, said_by, said_of}
+use Rattle.uv_asking.specs.Tests.{number_in, offer_of, times_of, waits, may_of, calls_of, bound_of, most_of, stuck_of, section_of, plain_of, nth_call_of, late_of, numbered_of, before_of, three_of, code_name_of, four_of, question_of, part_by, part_of, said_by, said_of}
 use Rattle.uv_asking.proofs.Found.{Has, mapped, bound, Found, sure, found_is, found_map, found_both}
-use Rattle.uv_asking.proofs.FieldWords.{same, code_right, code_found, phase_right, number_right, number_found, place_right, place_found}
+use Rattle.uv_asking.proofs.FieldWords.{number_right, number_found, place_right, place_found}
 
 -- ---- what is found is so
 
@@ -115,7 +116,7 @@ unfolding section_of
 section_right names what word w =
     let P = IsQuestion names (what ∷ word ∷ []) in
     cond_both (bytes_eq word (codes "poll")) _ _ (Has P) (λ a. is.poll (two [] w (same _ _ a)))
-    (λ _. mapped (λ (x : Phase). word ≡ phase_word x) P _ (phase_of word) (phase_right word) (λ x h. is.section x (two [] w h)))
+    (λ _. mapped (λ (x : Phase). word ≡ phase_word x) P _ (phase_named word) (phase_right word) (λ x h. is.section x (two [] w h)))
 
 plain_right : (names : List (List ℕ)) (what argument : List ℕ) → Has (IsQuestion names (what ∷ argument ∷ [])) (plain_of names what argument)
 unfolding plain_of
@@ -125,7 +126,7 @@ plain_right names what argument =
     (λ a. mapped (IsDeclared names argument) P _ (place_of names argument) (place_right names argument)
     (λ v h. is.call argument v (front _ (same _ _ a)) h))
     (λ _. cond_both (bytes_eq what (codes "code")) _ _ (Has P)
-    (λ a. mapped (λ (c : Code). argument ≡ code_word c) P _ (code_of argument) (code_right argument) (λ c h. is.code c (two [] (same _ _ a) h)))
+    (λ a. mapped (λ (c : Code). argument ≡ code_word c) P _ (code_named argument) (code_right argument) (λ c h. is.code c (two [] (same _ _ a) h)))
     (λ _. cond_both (bytes_eq what (codes "section")) _ _ (Has P) (λ a. section_right names what argument (same _ _ a))
     (λ _. cond_both (bytes_eq what (codes "never")) _ _ (Has P)
     (λ a. mapped (IsDeclared names argument) P _ (place_of names argument) (place_right names argument)
@@ -178,7 +179,7 @@ code_name_right : (names : List (List ℕ)) (what word of name : List ℕ) → w
 unfolding code_name_of
 code_name_right names what word of name w o =
     let P = IsQuestion names (what ∷ word ∷ of ∷ name ∷ []) in
-    bound (λ (c : Code). word ≡ code_word c) P _ (code_of word) (code_right word)
+    bound (λ (c : Code). word ≡ code_word c) P _ (code_named word) (code_right word)
     (λ c h. mapped (IsDeclared names name) P _ (place_of names name) (place_right names name)
     (λ v k. is.code_of c name v (two _ w h ∙ ap (λ (x : List ℕ). codes "code" ∷ code_word c ∷ x ∷ name ∷ []) o) k))
 
@@ -222,7 +223,7 @@ offer_found names what argument o (is.tick ms w h) =
     found_is (ap (λ (x : List ℕ). offer_of names x argument) w) (found_map (λ (n : ℕ). Step (event.Tick n)) (number_found 1 MOST_MS argument ms h))
 
 section_found : (x : Phase) → section_of (phase_word x) ≡ Some (question.Section x)
-unfolding section_of phase_of
+unfolding section_of phase_named
 section_found phase.Pending = refl
 section_found phase.Idle = refl
 section_found phase.Prepare = refl

@@ -1,4 +1,4 @@
--- The fields of a line: words, numbers and names.
+-- The fields of a line: numbers and names.
 use Rattle.std.proofs.Common.{◌≡◌, ℕ, List, true, ◌&&◌, nat_le, Option, Some, None, codes, refl, ap, sym, ◌∙◌}
 use Rattle.std.specs.Prelude.{option_and_then}
 use Rattle.std.specs.Str.{bytes_eq}
@@ -17,48 +17,8 @@ use Rattle.uv_script.proofs.Checks.{number_of-sound, number_of-complete}
 use Rattle.uv_script.proofs.Places.{place_of-sound, place_of-finds}
 use Rattle.uv_script.proofs.Agrees.{AreDistinct, declared_contains, place_complete}
 use Rattle.uv_asking.specs.Grammar.{IsWithin}
-use Rattle.uv_asking.specs.Tests.{code_of, phase_of, if_within, number_in}
+use Rattle.uv_asking.specs.Tests.{if_within, number_in}
 use Rattle.uv_asking.proofs.Found.{Has, Found, sure}
-
-pub same : (a b : List ℕ) → bytes_eq a b ≡ true → a ≡ b
-same a b e = (bytes_eq-Decides a b).0 e
-
-pub code_right : (word : List ℕ) → Has (λ (c : Code). word ≡ code_word c) (code_of word)
-unfolding code_of
-code_right word =
-    let P : Option Code → Type 0 = Has (λ (c : Code). word ≡ code_word c) in
-    cond_both (bytes_eq word (codes "ok")) _ _ P (λ a. same _ _ a)
-    (λ _. cond_both (bytes_eq word (codes "EINVAL")) _ _ P (λ a. same _ _ a)
-    (λ _. cond_both (bytes_eq word (codes "EBUSY")) _ _ P (λ a. same _ _ a)
-    (λ _. cond_both (bytes_eq word (codes "ECANCELED")) _ _ P (λ a. same _ _ a)
-    (λ _. cond_both (bytes_eq word (codes "EBOUND")) _ _ P (λ a. same _ _ a)
-    (λ _. cond_both (bytes_eq word (codes "EFULL")) _ _ P (λ a. same _ _ a)
-    (λ _. cond_both (bytes_eq word (codes "ESTALE")) _ _ P (λ a. same _ _ a)
-    (λ _. cond_both (bytes_eq word (codes "EKIND")) _ _ P (λ a. same _ _ a) (λ _. tt))))))))
-
-pub code_found : (c : Code) → code_of (code_word c) ≡ Some c
-unfolding code_of
-code_found code.Ok = refl
-code_found code.Einval = refl
-code_found code.Ebusy = refl
-code_found code.Ecanceled = refl
-code_found code.Ebound = refl
-code_found code.Efull = refl
-code_found code.Estale = refl
-code_found code.Ekind = refl
-
-pub phase_right : (word : List ℕ) → Has (λ (x : Phase). word ≡ phase_word x) (phase_of word)
-unfolding phase_of
-phase_right word =
-    let P : Option Phase → Type 0 = Has (λ (x : Phase). word ≡ phase_word x) in
-    cond_both (bytes_eq word (codes "pending")) _ _ P (λ a. same _ _ a)
-    (λ _. cond_both (bytes_eq word (codes "idle")) _ _ P (λ a. same _ _ a)
-    (λ _. cond_both (bytes_eq word (codes "prepare")) _ _ P (λ a. same _ _ a)
-    (λ _. cond_both (bytes_eq word (codes "done")) _ _ P (λ a. same _ _ a)
-    (λ _. cond_both (bytes_eq word (codes "async")) _ _ P (λ a. same _ _ a)
-    (λ _. cond_both (bytes_eq word (codes "check")) _ _ P (λ a. same _ _ a)
-    (λ _. cond_both (bytes_eq word (codes "closing")) _ _ P (λ a. same _ _ a)
-    (λ _. cond_both (bytes_eq word (codes "timers")) _ _ P (λ a. same _ _ a) (λ _. tt))))))))
 
 pub number_right : (low high : ℕ) (text : List ℕ) → Has (IsWithin low high text) (number_in low high text)
 unfolding number_in

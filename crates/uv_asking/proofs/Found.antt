@@ -1,11 +1,10 @@
 -- What a reader finds.
 use Rattle.std.proofs.Common.{◌≡◌, Option, Some, None, option_map, refl, ap, ◌∙◌}
-use Rattle.std.specs.Prelude.{option_and_then}
+use Rattle.std.specs.Prelude.{option_and_then, IfSome}
 
 -- this holds of what was found
 abbrev pub Has : {A : Type 0} → (A → Type 0) → Option A → Type 0
-Has P (Some x) = P x
-Has P None = Unit {0}
+Has P o = IfSome o P
 
 pub mapped : {A B : Type 0} (P : A → Type 0) (Q : B → Type 0) (f : A → B) (o : Option A) → Has P o → ((x : A) → P x → Q (f x)) →
     Has Q (option_map f o)

@@ -3,10 +3,8 @@ use Rattle.std.specs.Prelude.{ℕ, List, [], ◌∷◌, ◌&&◌, nat_le, Option
 use Rattle.std.specs.Str.{bytes_eq}
 use Rattle.uv_ids.specs.declared.id.Var.{Var}
 use Rattle.uv_ids.specs.declared.code.Code as ids
-use Rattle.uv_ids.specs.declared.code.Code.TheVariants as code
 use Rattle.uv_ids.specs.declared.event.Event.TheVariants as event
-use Rattle.uv_ids.specs.declared.phase.Phase.{Phase}
-use Rattle.uv_ids.specs.declared.phase.Phase.TheVariants as phase
+use Rattle.uv_ids.specs.Words.{code_named, phase_named}
 use Rattle.uv_script.specs.Lines.{fields_of}
 use Rattle.uv_script.specs.Checks.{is_line, is_skipped, number_of}
 use Rattle.uv_script.specs.Reading.{place_of}
@@ -19,32 +17,6 @@ use Rattle.uv_asking.specs.declared.part.Part.TheVariants.{Offers, Clock, Calls,
 use Rattle.uv_asking.specs.declared.part.Said.{Said}
 use Rattle.uv_asking.specs.declared.part.Said.TheVariants.{Nothing, One, Bad}
 use Rattle.uv_asking.specs.Limits.{MOST_COUNT, MOST_MS}
-
--- the code that a word names
-unfoldable pub code_of : List ℕ → Option ids.Code
-code_of word =
-    if bytes_eq word (codes "ok") then Some code.Ok
-    else if bytes_eq word (codes "EINVAL") then Some code.Einval
-    else if bytes_eq word (codes "EBUSY") then Some code.Ebusy
-    else if bytes_eq word (codes "ECANCELED") then Some code.Ecanceled
-    else if bytes_eq word (codes "EBOUND") then Some code.Ebound
-    else if bytes_eq word (codes "EFULL") then Some code.Efull
-    else if bytes_eq word (codes "ESTALE") then Some code.Estale
-    else if bytes_eq word (codes "EKIND") then Some code.Ekind
-    else None
-
--- the section that a word names
-unfoldable pub phase_of : List ℕ → Option Phase
-phase_of word =
-    if bytes_eq word (codes "pending") then Some phase.Pending
-    else if bytes_eq word (codes "idle") then Some phase.Idle
-    else if bytes_eq word (codes "prepare") then Some phase.Prepare
-    else if bytes_eq word (codes "done") then Some phase.Done
-    else if bytes_eq word (codes "async") then Some phase.Async
-    else if bytes_eq word (codes "check") then Some phase.Check
-    else if bytes_eq word (codes "closing") then Some phase.Closing
-    else if bytes_eq word (codes "timers") then Some phase.Timers
-    else None
 
 -- a number, if it is of this range
 abbrev pub if_within : ℕ → ℕ → ℕ → Option ℕ
@@ -108,13 +80,13 @@ stuck_of what = if bytes_eq what (codes "stuck") then Some question.Stuck else N
 
 -- a section's word, or `poll`
 unfoldable pub section_of : List ℕ → Option Question
-section_of word = if bytes_eq word (codes "poll") then Some question.Poll else option_map question.Section (phase_of word)
+section_of word = if bytes_eq word (codes "poll") then Some question.Poll else option_map question.Section (phase_named word)
 
 -- the two fields behind `find`
 unfoldable pub plain_of : List (List ℕ) → List ℕ → List ℕ → Option Question
 plain_of names what argument =
     if bytes_eq what (codes "call") then option_map (λ (v : Var). question.Call v None) (place_of names argument)
-    else if bytes_eq what (codes "code") then option_map (λ (c : ids.Code). question.Code c None) (code_of argument)
+    else if bytes_eq what (codes "code") then option_map (λ (c : ids.Code). question.Code c None) (code_named argument)
     else if bytes_eq what (codes "section") then section_of argument
     else if bytes_eq what (codes "never") then option_map question.Never (place_of names argument)
     else None
@@ -156,7 +128,7 @@ abbrev pub code_by : ids.Code → Option Var → Option Question
 code_by c name = option_map (λ (v : Var). question.Code c (Some v)) name
 
 unfoldable pub code_name_of : List (List ℕ) → List ℕ → List ℕ → Option Question
-code_name_of names word name = option_and_then (λ (c : ids.Code). code_by c (place_of names name)) (code_of word)
+code_name_of names word name = option_and_then (λ (c : ids.Code). code_by c (place_of names name)) (code_named word)
 
 -- the four fields behind `find`
 unfoldable pub four_of : List (List ℕ) → List ℕ → List ℕ → List ℕ → List ℕ → Option Question

@@ -1,4 +1,6 @@
 //! What a search through the orders of a run is asked: what may come from outside, how far it goes, and what it looks for.
+//!
+//! The main type is `Asking`; `read_part` reads a line. Read `specs/Grammar.antt`; `Tests.antt` has the code's own tests.
 #![tactic(auto)]
 
 mod asking;

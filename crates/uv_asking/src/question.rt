@@ -3,8 +3,8 @@ ghost use Rattle.std.specs.Prelude.{◌≡◌};
 ghost use Rattle.uv_asking.specs.Tests.{question_of, stuck_of, section_of, plain_of, nth_call_of, late_of, numbered_of, before_of, three_of, code_name_of, four_of};
 
 use crate::asking::Question;
-use crate::words::{MOST_MS, code_by_word, count_from, number_in, phase_by_word};
-use uv_ids::is;
+use crate::words::{MOST_MS, count_from, number_in};
+use uv_ids::{Code, Phase, is};
 use uv_script::{Fields, Names};
 
 /// What stands behind `find`.
@@ -46,7 +46,7 @@ fn plain(names: &Names, what: &[u8], argument: &[u8]) -> Option<Question>
         let name = names.number(argument)?;
         Some(Question::Call(name, None))
     } else if is(what, b"code") {
-        let code = code_by_word(argument)?;
+        let code = Code::from_word(argument)?;
         Some(Question::Code(code, None))
     } else if is(what, b"section") {
         section(argument)
@@ -66,7 +66,7 @@ fn section(word: &[u8]) -> Option<Question>
     if is(word, b"poll") {
         return Some(Question::Poll);
     }
-    let phase = phase_by_word(word)?;
+    let phase = Phase::from_word(word)?;
     Some(Question::Section(phase))
 }
 
@@ -139,7 +139,7 @@ fn of_four(names: &Names, what: &[u8], word: &[u8], of: &[u8], name: &[u8]) -> O
 fn code_of_name(names: &Names, word: &[u8], name: &[u8]) -> Option<Question>
     ensures { result ≡ code_name_of names.now word.now name.now }
 {
-    let code = code_by_word(word)?;
+    let code = Code::from_word(word)?;
     let name = names.number(name)?;
     Some(Question::Code(code, Some(name)))
 }

@@ -1,3 +1,4 @@
+pub mod Begun
 pub mod Buffers
 pub mod Faults
 pub mod Fronts

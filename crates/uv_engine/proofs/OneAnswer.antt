@@ -1,10 +1,11 @@
 -- An input has one answer.
-use Rattle.uv_engine.proofs.Names.{◌≡◌, ℕ, ◌==◌, List, [], ◌∷◌, ◌++◌, false, refl, ap, sym, subst, ◌∙◌, nat_lt, nat_le, cond_both, Event, Next, Moves, Refuses, All-head, All-tail, All-from_recursion, lines_of, IsScript, IsBadLine, Program, some_reading, distinct_names, one_script, no_bad_line, one_bad_line, AreDistinct, Break, Shown, moved_back, moved_forward, BREAKS, Loop, Step, Back, Forward, AddBreak, ClearBreaks, BackToBreak, Trace, State, Image, Record, Quit, Asked, Nothing, Do, Bad, Asks, asks, asks_one, Ended, NoFeed, IsAnswer, image_in, images_in, asked_after, Talks, input_ends, quits, goes_on, Begins, here, here_at_end, later, NeverBegins, nothing, last_line, one_line, fresh_session, Ends, BadScript, talks, bad_line, no_begin, bad_input, HasAnswer, HasOneAnswer, Reply, Full, reply, reply_to, reply_after, may_follow, back_after, forward_after, add_after, last_break, break_back_after, has_step, PrintsFor, done_after}
-use Rattle.std.specs.Prelude.{zero, suc, length, Option, Some, None, codes}
+use Rattle.uv_engine.proofs.Names.{◌≡◌, ℕ, ◌==◌, List, [], ◌∷◌, ◌++◌, refl, ap, sym, subst, ◌∙◌, nat_lt, nat_le, cond_both, Event, Next, Moves, Refuses, lines_of, IsScript, IsBadLine, Program, some_reading, distinct_names, one_script, no_bad_line, one_bad_line, AreDistinct, Break, Shown, moved_back, moved_forward, BREAKS, Loop, Step, Quit, Asked, Do, Bad, Asks, asks, asks_one, Ended, IsAnswer, image_in, images_in, asked_after, Talks, input_ends, quits, goes_on, fresh_session, Ends, BadScript, talks, bad_line, no_begin, bad_input, HasAnswer, HasOneAnswer, Reply, Full, reply, reply_to, reply_after, may_follow, back_after, forward_after, add_after, break_back_after, has_step, PrintsFor, done_after}
+use Rattle.std.specs.Prelude.{zero, suc, length, Option, Some, None}
 use Rattle.uv_ids.specs.declared.event.Event.TheVariants as event
 use Rattle.uv_model.specs.Next.{next}
 use Rattle.uv_model.specs.After.{after}
 use Rattle.uv_engine.specs.Reply.{loop_after}
+use Rattle.uv_engine.proofs.Begun.{begins_one, never_begins}
 use Rattle.uv_engine.proofs.Starting.{some_out}
 
 -- ---- the commands
@@ -104,77 +105,6 @@ talks_one ls ms s t a b x y e f distinct (goes_on {line = l} {lines = ls'} asked
           let first = prints_one asked s text text' (images_in k) (images_in k') h answer images in
           ap (λ (w : List ℕ). w ++ rest) first.text ∙ ap (λ (w : List ℕ). text' ++ w) (more.text first.rest);
     }
-
--- ---- where the commands begin
-
-feed_free : (line rest : List ℕ) (other : List ℕ) → NoFeed other → other ≡ line ++ 10 ∷ rest → ⊥
-feed_free [] rest other h e = let free = All-head (λ b. (b == 10) ≡ false) 10 rest (subst NoFeed e h) in cc free
-feed_free (b ∷ line) rest [] h e = cc e
-feed_free (b ∷ line) rest (c ∷ other) h e = let same : other ≡ line ++ 10 ∷ rest = cc e in feed_free line rest other
-    (All-tail (λ b. (b == 10) ≡ false) c other h) same
-
--- a text is cut in one way at its first line feed
-record OneCut (a b x y : List ℕ) : Type 0 where
-  line : a ≡ b
-  rest : x ≡ y
-
-cut_one : (a b x y : List ℕ) → NoFeed a → NoFeed b → a ++ 10 ∷ x ≡ b ++ 10 ∷ y → OneCut a b x y
-cut_one [] [] x y h k e = let same : x ≡ y = cc e in record { line = refl; rest = same }
-cut_one [] (c ∷ b) x y h k e = let head : 10 ≡ c = cc e in absurd (fed c (All-head (λ z. (z == 10) ≡ false) c b k) head) where
-  fed : (c : ℕ) → (c == 10) ≡ false → 10 ≡ c → ⊥
-  fed c f g = let free : (10 == 10) ≡ false = subst (λ (z : ℕ). (z == 10) ≡ false) (sym g) f in cc free
-cut_one (c ∷ a) [] x y h k e = let head : c ≡ 10 = cc e in absurd (fed c (All-head (λ z. (z == 10) ≡ false) c a h) head) where
-  fed : (c : ℕ) → (c == 10) ≡ false → c ≡ 10 → ⊥
-  fed c f g = let free : (10 == 10) ≡ false = subst (λ (z : ℕ). (z == 10) ≡ false) g f in cc free
-cut_one (c ∷ a) (d ∷ b) x y h k e =
-    let head : c ≡ d = cc e in
-    let tail : a ++ 10 ∷ x ≡ b ++ 10 ∷ y = cc e in
-    let more = cut_one a b x y (All-tail (λ z. (z == 10) ≡ false) c a h) (All-tail (λ z. (z == 10) ≡ false) d b k) tail in
-    record { line = ap (λ (z : ℕ). z ∷ a) head ∙ ap (λ (z : List ℕ). d ∷ z) more.line; rest = more.rest }
-
--- the script and the commands of a text are settled by it
-record OneBegin (a b x y : List ℕ) : Type 0 where
-  script : a ≡ b
-  commands : x ≡ y
-
-begin_free : NoFeed (codes "begin")
-begin_free = All-from_recursion (λ b. (b == 10) ≡ false) (codes "begin") (refl, (refl, (refl, (refl, (refl, tt)))))
-
-begins_one : (i j a b x y : List ℕ) → i ≡ j → Begins i a x → Begins j b y → OneBegin a b x y
-begins_one i j a b x y e (here {commands = c}) (here {commands = d}) = let same : c ≡ d = cc e in record { script = refl; commands = same }
-begins_one i j a b x y e (here {commands = c}) here_at_end = absurd (too_long e) where
-  too_long : codes "begin\n" ++ c ≡ codes "begin" → ⊥
-  too_long f = cc f
-begins_one i j a b x y e here_at_end (here {commands = d}) = absurd (too_long e) where
-  too_long : codes "begin" ≡ codes "begin\n" ++ d → ⊥
-  too_long f = cc f
-begins_one i j a b x y e here_at_end here_at_end = record { script = refl; commands = refl }
-begins_one i j a b x y e (here {commands = c}) (later {line = l} {rest = r} free other more) = let cut = cut_one
-    (codes "begin") l c r begin_free free e in absurd (other (sym cut.line))
-begins_one i j a b x y e (later {line = l} {rest = r} free other more) (here {commands = d}) = let cut = cut_one l
-    (codes "begin") r d free begin_free e in absurd (other cut.line)
-begins_one i j a b x y e here_at_end (later {line = l} {rest = r} free other more) = absurd (feed_free l r (codes "begin") begin_free e)
-begins_one i j a b x y e (later {line = l} {rest = r} free other more) here_at_end = absurd (feed_free l r (codes "begin") begin_free (sym e))
-begins_one i j a b x y e (later {line = l} {rest = r} {script = s} free other more) (later {line = m} {rest = t} {script = u} free' other' more') =
-    let cut = cut_one l m r t free free' e in
-    let one = begins_one r t s u x y cut.rest more more' in
-    record { script = ap (λ (z : List ℕ). z ++ 10 ∷ s) cut.line ∙ ap (λ (z : List ℕ). m ++ 10 ∷ z) one.script; commands = one.commands }
-
-never_begins : (i j a x : List ℕ) → i ≡ j → Begins i a x → NeverBegins j → ⊥
-never_begins i j a x e (here {commands = c}) nothing = cc e
-never_begins i j a x e (here {commands = c}) (last_line free other) = feed_free (codes "begin") c j free (sym e)
-never_begins i j a x e (here {commands = c}) (one_line {line = l} {rest = r} free other more) = let cut = cut_one
-    (codes "begin") l c r begin_free free e in other (sym cut.line)
-never_begins i j a x e here_at_end nothing = cc e
-never_begins i j a x e here_at_end (last_line free other) = other (sym e)
-never_begins i j a x e here_at_end (one_line {line = l} {rest = r} free other more) = feed_free l r (codes "begin") begin_free e
-never_begins i j a x e (later {line = l} {rest = r} free other more) nothing = empty l r e where
-  empty : (l r : List ℕ) → l ++ 10 ∷ r ≡ [] → ⊥
-  empty [] r f = cc f
-  empty (c ∷ l) r f = cc f
-never_begins i j a x e (later {line = l} {rest = r} free other more) (last_line free' other') = feed_free l r j free' (sym e)
-never_begins i j a x e (later {line = l} {rest = r} {script = s} free other more)
-    (one_line {line = m} {rest = t} free' other' more') = let cut = cut_one l m r t free free' e in never_begins r t s x cut.rest more more'
 
 -- ---- all of it
 

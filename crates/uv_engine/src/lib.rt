@@ -1,4 +1,8 @@
 //! A conversation: bytes in, bytes out.
+//!
+//! The main calls are `converse` (`conversation.rt`, clause `text`) and `replay` (`replaying.rt`, clause `text`). Read
+//! `specs/Out.antt` and `Reply.antt` for what a conversation writes, `Recordings.antt` and `Verdict.antt` for a replay. What
+//! reads and writes is any `Source` and `Sink`.
 #![tactic(auto)]
 
 mod alone;

@@ -119,7 +119,8 @@ module _ (r : Rules) where
   course_answers s es l a =
       let way = course_moves s es a.place a.course in
       let here : Spot = record { place = a.place; steps = s.steps ++ es } in
-      let goes : next_spot r here a.leads.number ≡ Some (after_event here l, answers r a.place l) = ap (spot_of r here) (leads_led a.place l a.leads) in (
+      let goes : next_spot r here a.leads.number ≡ Some (after_event here l, answers r a.place l) = ap (spot_of r here)
+      (leads_led a.place l a.leads) in (
         way.0,
         a.leads.number,
         after_event here l,

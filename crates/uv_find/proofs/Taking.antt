@@ -31,7 +31,8 @@ set_again (y ∷ ys) zero n o x e same =
     ap (λ z. z ∷ ys) (same ∙ sym one)
 set_again (y ∷ ys) (suc number) n o x e same = by (slice_get (slice_set ys number x) number) refl (set_again ys number n o x e same)
   where
-    by : (z : Option (Option ℕ)) → slice_get (slice_set ys number x) number ≡ z → put_back_by (slice_set ys number x) number n (slice_get (slice_set ys number x) number) ≡ ys
+    by : (z : Option (Option ℕ)) → slice_get (slice_set ys number x) number ≡ z → put_back_by (slice_set ys number x) number n
+        (slice_get (slice_set ys number x) number) ≡ ys
         → put_back_by (y ∷ slice_set ys number x) (suc number) n (slice_get (slice_set ys number x) number) ≡ y ∷ ys
     by None is h = rw is (ap (λ zs. y ∷ zs) (rw is at h))
     by (Some z) is h = rw is (ap (λ zs. y ∷ zs) (rw is at h))
@@ -112,7 +113,8 @@ takes_one E s t offers clock most question left due made number offered times ou
         refl,
         (λ i. record { program = k.program i; offers = offers; clock = clock; most = most; question = question }),
         ap (λ (es : List Event). record { place = taken r p number (state_in t); steps = es }) k.standing,
-        (λ i. spots_before (k.program i) (k.standing i) (lessened left number) (turned i)) ∙ before_more s.program s.standing e left times m (reverse made) may refl,
+        (λ i. spots_before (k.program i) (k.standing i) (lessened left number) (turned i)) ∙ before_more s.program s.standing e left times m
+            (reverse made) may refl,
       ),
     )
 
@@ -133,7 +135,8 @@ pub as_many : (left : List (Option ℕ)) (offers : List Offered) → map is_some
 as_many left offers e =
     sym (length-map left is_some) ∙ ap length e ∙ length-map (times_of offers) is_some ∙ length-map offers (λ (offered : Offered). offered.times)
 
-pub taken_searched : (B : Type 0) (s t : Shown) (offers : List Offered) (most : List Most) (left : List (Option ℕ)) (made : List Made) (number : ℕ) (m : Made)
+pub taken_searched : (B : Type 0) (s t : Shown) (offers : List Offered) (most : List Most) (left : List (Option ℕ)) (made : List Made) (number : ℕ)
+    (m : Made)
     (E : Type 0) (clock : Option ℕ) (offer : Offer) (times : Option ℕ) (outcome : Outcome) → IsSearched B s offers left made
     → TakesOffer {E = E} clock most s offer times (Ok (Some outcome)) t
     → IsSearched B t offers (lessened left number) (made ++ m ∷ [])

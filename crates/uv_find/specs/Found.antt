@@ -45,4 +45,5 @@ Finds r s limit answer.TooDeep t = (u : Spot) × (es : List Event) × (u.steps �
 
 -- the key of a place tells which one it is, of those that events lead to
 abbrev pub KeysTell : Type 0
-KeysTell = (r : Rules) (es fs : List Event) (p q : Place) → Course r (beginning r) es p → Course r (beginning r) fs q → place_code p ≡ place_code q → p ≡ q
+KeysTell = (r : Rules) (es fs : List Event) (p q : Place) → Course r (beginning r) es p → Course r (beginning r) fs q → place_code p ≡ place_code q
+    → p ≡ q

@@ -43,9 +43,11 @@ places_tell r s t is js e =
     sym (append_assoc (state_code p.state) (left_code p.left) (number_code p.due)) ∙ e
     ∙ append_assoc (state_code q.state) (left_code q.left) (number_code q.due) in
     let same = states.keys_tell r.program s.steps t.steps (left_code p.left ++ number_code p.due) (left_code q.left ++ number_code q.due)
-    (subst (λ x. state_code x ++ (left_code p.left ++ number_code p.due) ≡ state_code (after r.program t.steps) ++ (left_code q.left ++ number_code q.due))
+    (subst (λ x. state_code x ++ (left_code p.left ++ number_code p.due) ≡ state_code (after r.program t.steps) ++
+    (left_code q.left ++ number_code q.due))
     is.state
-    (subst (λ x. state_code p.state ++ (left_code p.left ++ number_code p.due) ≡ state_code x ++ (left_code q.left ++ number_code q.due)) js.state one)) in
+    (subst (λ x. state_code p.state ++ (left_code p.left ++ number_code p.due) ≡ state_code x ++ (left_code q.left ++ number_code q.due)) js.state
+    one)) in
     let lefts = lefts_tell p.left q.left (number_code p.due) (number_code q.due) (is.bounded ∙ sym js.bounded) same.1 in
     let due = numbers_tell p.due q.due [] [] (ap (λ xs. xs ++ []) lefts.1) in
     let state : p.state ≡ q.state = is.state ∙ same.0 ∙ sym js.state in
@@ -74,7 +76,8 @@ module _ (r : Rules) (p : Place) (number : ℕ) (l : Led) where
       subst (LeadsOn r p) one (record { number = number; offered = offered; accepted = accepted; within = within; taken = refl })
   by_within e s line false offered accepted within is = absurd (let f : ⊥ = cc in f)
 
-  by_next : (e : Event) (x : Next) → event_at r p number ≡ Some e → next r.program p.state e ≡ x → placed r p number (with_event e (reached r.most x)) ≡ Some l → LeadsOn r p l
+  by_next : (e : Event) (x : Next) → event_at r p number ≡ Some e → next r.program p.state e ≡ x → placed r p number
+      (with_event e (reached r.most x)) ≡ Some l → LeadsOn r p l
   by_next e (Refuses why) offered accepted is = absurd (let f : ⊥ = cc in f)
   by_next e (Moves s line) offered accepted is = by_within e s line (is_within r.most s) offered accepted refl is
 

@@ -1,4 +1,7 @@
 //! The orders in which what comes from outside may meet a script's loop, and a search through all of them.
+//!
+//! The main call is `find` (`finding.rt`, clause `found`). Read `specs/Orders.antt` and `Questions.antt` first, then `Found.antt`
+//! (`IsNever`).
 #![tactic(auto)]
 
 mod beginning;

@@ -12,12 +12,11 @@ ghost use Rattle.uv_arena.specs.Calls.{IsFirst, IsSpliced};
 ghost use Rattle.uv_handle.specs.Counted.{counted, record_at, found, IsCounted, take_undone, CanUndoTake};
 ghost use Rattle.uv_handle.specs.Changes.{Did, Refused, IsClosed, IsTaken};
 
-use crate::content::HoldsHandle;
 use crate::handles::Handles;
 use crate::undo::{ListUndo, RecordUndo, TakeUndo};
 use uv_arena::{Slots, SpliceUndo};
 use uv_ids::{Code, Id};
-use uv_records::{HandleRecord, ListName};
+use uv_records::{HandleRecord, HoldsHandle, ListName};
 
 /// The record of a handle. ESTALE if nothing is held under the id, EKIND if it is no handle.
 pub fn handle_at<T: HoldsHandle>(slots: &Slots<T>, id: Id) -> Result<HandleRecord, Code>

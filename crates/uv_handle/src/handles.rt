@@ -9,12 +9,11 @@ ghost use Rattle.uv_arena.specs.Calls.{IsInserted, IsSet, RefusesInsert, room_af
 ghost use Rattle.uv_handle.specs.Changes.{IsAdded, IsChanged};
 ghost use Rattle.uv_handle.specs.Counted.{counted, record_at, found, IsCounted, record_undone, CanUndoRecord, add_undone, CanUndoAdd};
 
-use crate::content::HoldsHandle;
 use crate::undo::{AddUndo, RecordUndo};
 use std::marker::Model;
 use uv_arena::{InsertFault, Slots};
 use uv_ids::{Id, Kind, Var};
-use uv_records::{HandleRecord, recounted};
+use uv_records::{HandleRecord, HoldsHandle, recounted};
 
 /// The count of active referenced handles of an arena.
 #[derive(Drop)]
@@ -61,14 +60,10 @@ impl Handles {
     {
         let handle = HandleRecord::new(name, kind);
         let active = self.active;
-        match slots.insert(T::of(handle)) {
-            Ok((id, inserted)) => {
-                slots.is_sound();
-                self.active = recounted(active, false, handle.keeps_alive());
-                Ok((id, AddUndo { inserted, active }))
-            }
-            Err(fault) => Err(fault),
-        }
+        let (id, inserted) = slots.insert(T::of(handle))?;
+        slots.is_sound();
+        self.active = recounted(active, false, handle.keeps_alive());
+        Ok((id, AddUndo { inserted, active }))
     }
 
     /// Takes a new handle back.

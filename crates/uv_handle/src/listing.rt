@@ -4,12 +4,11 @@ ghost use Rattle.uv_arena.specs.Image.{on_list};
 ghost use Rattle.uv_handle.specs.Counted.{counted, record_at, IsCounted, enlist_undone, CanUndoEnlist, delist_undone, CanUndoDelist};
 ghost use Rattle.uv_handle.specs.Changes.{IsEnlisted, IsDelisted};
 
-use crate::content::HoldsHandle;
 use crate::handles::Handles;
 use crate::undo::{DelistUndo, ListUndo};
 use uv_arena::Slots;
 use uv_ids::Id;
-use uv_records::{HandleRecord, ListName};
+use uv_records::{HandleRecord, HoldsHandle, ListName};
 
 impl Handles {
     /// Writes another record of a handle that is on no list, and puts it at the front of one.

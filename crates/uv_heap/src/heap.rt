@@ -55,10 +55,7 @@ impl TimerHeap {
         ensures wanted { OnErr result (self.old.room ≤ slot) }
         ensures memory { IfErr result (λ fault. fault ≡ Memory) }
     {
-        match self.entries.reserve(slot) {
-            Ok(()) => Ok(()),
-            Err(_) => Err(Fault::Memory),
-        }
+        Ok(self.entries.reserve(slot)?)
     }
 
     pub fn len(&self) -> usize

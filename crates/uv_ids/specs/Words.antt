@@ -1,5 +1,6 @@
 -- The words that scripts, traces, states and answers share, a byte a character.
-use Rattle.std.specs.Prelude.{◌≡◌, ℕ, List, codes}
+use Rattle.std.specs.Prelude.{◌≡◌, ℕ, List, Option, Some, None, if◌then◌else◌, codes}
+use Rattle.std.specs.Str.{bytes_eq}
 use Rattle.uv_ids.specs.declared.phase.Kind.{Kind}
 use Rattle.uv_ids.specs.declared.phase.Kind.TheVariants as kind
 use Rattle.uv_ids.specs.declared.phase.Mode.{Mode}
@@ -56,6 +57,19 @@ phase_word phase.Check = codes "check"
 phase_word phase.Closing = codes "closing"
 phase_word phase.Timers = codes "timers"
 
+-- the section that a word names, if it names one
+unfoldable pub phase_named : List ℕ → Option Phase
+phase_named word =
+    if bytes_eq word (codes "pending") then Some phase.Pending
+    else if bytes_eq word (codes "idle") then Some phase.Idle
+    else if bytes_eq word (codes "prepare") then Some phase.Prepare
+    else if bytes_eq word (codes "done") then Some phase.Done
+    else if bytes_eq word (codes "async") then Some phase.Async
+    else if bytes_eq word (codes "check") then Some phase.Check
+    else if bytes_eq word (codes "closing") then Some phase.Closing
+    else if bytes_eq word (codes "timers") then Some phase.Timers
+    else None
+
 -- what an op answers
 abbrev pub code_word : Code → List ℕ
 code_word code.Ok = codes "ok"
@@ -66,6 +80,19 @@ code_word code.Ebound = codes "EBOUND"
 code_word code.Efull = codes "EFULL"
 code_word code.Estale = codes "ESTALE"
 code_word code.Ekind = codes "EKIND"
+
+-- the code that a word names, if it names one
+unfoldable pub code_named : List ℕ → Option Code
+code_named word =
+    if bytes_eq word (codes "ok") then Some code.Ok
+    else if bytes_eq word (codes "EINVAL") then Some code.Einval
+    else if bytes_eq word (codes "EBUSY") then Some code.Ebusy
+    else if bytes_eq word (codes "ECANCELED") then Some code.Ecanceled
+    else if bytes_eq word (codes "EBOUND") then Some code.Ebound
+    else if bytes_eq word (codes "EFULL") then Some code.Efull
+    else if bytes_eq word (codes "ESTALE") then Some code.Estale
+    else if bytes_eq word (codes "EKIND") then Some code.Ekind
+    else None
 
 -- why a step was refused
 abbrev pub why_word : Why → List ℕ

@@ -1,8 +1,9 @@
 //! What an op answers.
 ghost use Rattle.std.specs.Prelude.{◌≡◌};
-ghost use Rattle.uv_ids.specs.Words.{code_word};
+ghost use Rattle.uv_ids.specs.Words.{code_word, code_named};
 
 use crate::id::Id;
+use crate::word::is;
 
 /// A status: success, or one of libuv's error codes, or one of this profile's own.
 #[derive(Clone, Copy, PartialEq, Eq)]
@@ -38,6 +39,32 @@ impl Code {
             Code::Efull => "EFULL",
             Code::Estale => "ESTALE",
             Code::Ekind => "EKIND",
+        }
+    }
+
+    /// The code that a word names.
+    #[tactic(auto, unfolding(crate::specs::Words::code_named))]
+    pub fn from_word(word: &[u8]) -> Option<Code>
+        ensures named { result ≡ code_named word.now }
+    {
+        if is(word, b"ok") {
+            Some(Code::Ok)
+        } else if is(word, b"EINVAL") {
+            Some(Code::Einval)
+        } else if is(word, b"EBUSY") {
+            Some(Code::Ebusy)
+        } else if is(word, b"ECANCELED") {
+            Some(Code::Ecanceled)
+        } else if is(word, b"EBOUND") {
+            Some(Code::Ebound)
+        } else if is(word, b"EFULL") {
+            Some(Code::Efull)
+        } else if is(word, b"ESTALE") {
+            Some(Code::Estale)
+        } else if is(word, b"EKIND") {
+            Some(Code::Ekind)
+        } else {
+            None
         }
     }
 }

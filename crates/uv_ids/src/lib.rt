@@ -1,4 +1,7 @@
 //! The plain words that every crate of the loop shares: ids, names, events, answers, trace lines and faults.
+//!
+//! The words are in `specs/Words.antt`, in one table a kind of word. `Fault` is what every call of the program may answer beside
+//! its result, and `Why` why a step was refused.
 #![tactic(auto)]
 
 mod code;

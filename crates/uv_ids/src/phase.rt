@@ -1,6 +1,6 @@
 //! The words of the loop: kinds of handle, modes of a run, sections of an iteration.
 ghost use Rattle.std.specs.Prelude.{◌≡◌, IfSome, IfNone};
-ghost use Rattle.uv_ids.specs.Words.{kind_word, mode_word, phase_word, IsNoKind, IsNoMode};
+ghost use Rattle.uv_ids.specs.Words.{kind_word, mode_word, phase_word, phase_named, IsNoKind, IsNoMode};
 
 use crate::word::is;
 
@@ -129,6 +129,32 @@ impl Phase {
             Phase::Check => "check",
             Phase::Closing => "closing",
             Phase::Timers => "timers",
+        }
+    }
+
+    /// The section that a word names.
+    #[tactic(auto, unfolding(crate::specs::Words::phase_named))]
+    pub fn from_word(word: &[u8]) -> Option<Phase>
+        ensures named { result ≡ phase_named word.now }
+    {
+        if is(word, b"pending") {
+            Some(Phase::Pending)
+        } else if is(word, b"idle") {
+            Some(Phase::Idle)
+        } else if is(word, b"prepare") {
+            Some(Phase::Prepare)
+        } else if is(word, b"done") {
+            Some(Phase::Done)
+        } else if is(word, b"async") {
+            Some(Phase::Async)
+        } else if is(word, b"check") {
+            Some(Phase::Check)
+        } else if is(word, b"closing") {
+            Some(Phase::Closing)
+        } else if is(word, b"timers") {
+            Some(Phase::Timers)
+        } else {
+            None
         }
     }
 }

@@ -4,6 +4,5 @@ pub mod Cuts
 pub mod Pieces
 pub mod Inquiries
 pub mod Ops
-pub mod Begun
 pub mod Once
 pub mod Sessions

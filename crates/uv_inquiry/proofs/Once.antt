@@ -18,7 +18,7 @@ use Rattle.uv_inquiry.specs.Grammar.{Reads, ReadsAll, none, one, Asks, IsBadAski
 use Rattle.uv_inquiry.specs.Laws.{HasReading}
 use Rattle.uv_inquiry.specs.Tests.{after_line}
 use Rattle.uv_inquiry.proofs.Lines.{after_sound, after_complete, reads_push, refused_line}
-use Rattle.uv_inquiry.proofs.Begun.{begins_one, never_begins}
+use Rattle.uv_engine.proofs.Begun.{begins_one, never_begins}
 
 -- ---- the lines behind `begin`, where no name is declared twice
 module _ (names : List (List ℕ)) (distinct : AreDistinct names) where

@@ -128,10 +128,7 @@ impl Draft {
                 if !self.is_new(part) {
                     return Err(Fault::Script { line: number });
                 }
-                match self.add(part) {
-                    Ok(()) => Ok(()),
-                    Err(_) => Err(Fault::Memory),
-                }
+                Ok(self.add(part)?)
             }
             Said::Bad => Err(Fault::Script { line: number }),
         }
@@ -162,10 +159,7 @@ fn read_lines(alloc: Global, names: &Names, text: &[u8], before: usize) -> Resul
     let mut number = before;
     for line in Lines::of(text) {
         number += 1;
-        match draft.read_line(names, number, line) {
-            Ok(()) => {}
-            Err(fault) => return Err(fault),
-        }
+        draft.read_line(names, number, line)?;
     }
     Ok(draft)
 }
@@ -181,10 +175,7 @@ pub(crate) fn read_asking(
     requires few { before + length text.now < 2 ^ 64 - 1 }
     ensures { ReadsAsking names.now text.now before result }
 {
-    let draft = match read_lines(alloc, names, text, before) {
-        Ok(draft) => draft,
-        Err(fault) => return Err(fault),
-    };
+    let draft = read_lines(alloc, names, text, before)?;
     match draft.finish() {
         Some(asking) => Ok(asking),
         None => Err(Fault::Script {

@@ -29,14 +29,9 @@ impl Inquiry {
         let Some((front, behind)) = cut_begin(input) else {
             return Err(without_begin(alloc, input));
         };
-        let script = match Script::parse(alloc, front) {
-            Ok(script) => script,
-            Err(fault) => return Err(fault),
-        };
-        match read_asking(alloc, script.names(), behind, line_count(front) + 1) {
-            Ok(asking) => Ok(Inquiry { script, asking }),
-            Err(fault) => Err(fault),
-        }
+        let script = Script::parse(alloc, front)?;
+        let asking = read_asking(alloc, script.names(), behind, line_count(front) + 1)?;
+        Ok(Inquiry { script, asking })
     }
 }
 

@@ -1,4 +1,6 @@
 //! A script with what is asked of it: how such an input is read, and the texts of the answers.
+//!
+//! The main call is `read_inquiry`, over any `Source`. Read `specs/Grammar.antt` for the input, and `Texts.antt` for the answers.
 #![tactic(auto)]
 
 mod answer;

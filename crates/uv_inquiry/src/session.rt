@@ -11,7 +11,8 @@ ghost use Rattle.uv_inquiry.specs.Texts.{session_text};
 
 use std::alloc::AllocError;
 use uv_ids::Event;
-use uv_script::{Names, Script, push_number, text_read_back};
+use uv_script::{Names, Script, text_read_back};
+use uv_text::push_step;
 
 /// The session of a script and of steps that it takes, which stands behind the first line of `found_text`, is read by a conversation as
 /// that script and those steps, one a line.
@@ -19,39 +20,6 @@ pub fn session_read_back()
     ensures { (text : List ℕ) (p : Program) (es : List Event) → IsScript text p → AllTaken p es → IsSession (session_text p es) p es }
 {
     text_read_back();
-}
-
-/// A step's line, without its line feed.
-fn push_step(text: &mut Vec<u8>, names: &Names, step: Event) -> Result<(), AllocError>
-    ensures { OnOk result (text.new.items ≡ text.old.items ++ step_line names.now step) }
-{
-    match step {
-        Event::Loop => text.extend_from_slice(b"loop"),
-        Event::Take(worker) => {
-            text.extend_from_slice(b"take ")?;
-            push_number(text, u64::from(worker))
-        }
-        Event::Finish(worker) => {
-            text.extend_from_slice(b"finish ")?;
-            push_number(text, u64::from(worker))
-        }
-        Event::Cancel(name) => {
-            text.extend_from_slice(b"cancel ")?;
-            names.push_name(text, name)
-        }
-        Event::Send(name) => {
-            text.extend_from_slice(b"send ")?;
-            names.push_name(text, name)
-        }
-        Event::Io(name) => {
-            text.extend_from_slice(b"io ")?;
-            names.push_name(text, name)
-        }
-        Event::Tick(ms) => {
-            text.extend_from_slice(b"tick ")?;
-            push_number(text, ms)
-        }
-    }
 }
 
 fn push_step_lines(text: &mut Vec<u8>, names: &Names, steps: &[Event]) -> Result<(), AllocError>

@@ -1,4 +1,6 @@
 //! What a loop's memory shows of the state that it stands for, and how it lies.
+//!
+//! Read `specs/Laid.antt`. The one call of the loop is `layout_of`, beside what shows single values.
 #![tactic(auto)]
 
 mod laying;

@@ -54,14 +54,8 @@ impl<L: Ledger> Crew<L> {
         ensures answer { OnOk result (vec_len self.new.answers + vec_len self.new.started < vec_capacity self.new.answers) }
         ensures err { IfErr result (λ fault. fault ≡ Memory) }
     {
-        match self.answers.reserve(self.started.len() + 1) {
-            Ok(()) => {}
-            Err(_) => return Err(Fault::Memory),
-        }
-        match self.started.reserve(1) {
-            Ok(()) => Ok(()),
-            Err(_) => Err(Fault::Memory),
-        }
+        self.answers.reserve(self.started.len() + 1)?;
+        Ok(self.started.reserve(1)?)
     }
 
     /// A thread more, which was started.

@@ -3,6 +3,8 @@
 //! Workers and senders run on threads of their own (libuv's "Thread pool work scheduling", uv_async_send). The loop's thread takes
 //! the steps of a session, beside a book that it shares with the workers and a board by which senders wake it. What the workers did
 //! it applies to the session, as the same events in the same order, whenever it holds the book's lock.
+//!
+//! The main call is `live` (`running.rt`), over any `Follower`. Read `specs/Settling.antt` first: what a settled run is.
 #![tactic(auto)]
 
 mod clock;

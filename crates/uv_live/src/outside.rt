@@ -175,10 +175,7 @@ fn absorb_one<S: Follower>(
     if !board.absorb(seat, name) {
         return Ok(());
     }
-    match session.send(name) {
-        Ok(()) => Ok(()),
-        Err(fault) => Err(fault),
-    }
+    session.send(name)
 }
 
 /// Absorbs the words of these names, in their order, and records a send for each in which one stood.
@@ -267,10 +264,7 @@ impl<'a> Outside<'a> {
         ensures threads { OnOk result (self.new.seat.knows.splits ≡ self.old.seat.knows.splits + threads_below 64 lines.now) }
         ensures err { IfErr result (λ f. (f ≡ fault.Memory) ⊎ (f ≡ fault.Limit)) }
     {
-        let mut own = match OwnNames::of(*self.names.allocator(), lines) {
-            Ok(own) => own,
-            Err(_) => return Err(Fault::Memory),
-        };
+        let mut own = OwnNames::of(*self.names.allocator(), lines)?;
         'threads: for thread in 0..MOST_SENDERS {
             let names = own.take(thread);
             self.start_one(scope, gate, thread, lines, names)?;
@@ -317,10 +311,7 @@ impl<'a> Outside<'a> {
         ensures err { IfErr result (λ f. (f ≡ fault.Memory) ⊎ (f ≡ fault.Limit)) }
     {
         self.absorbed = None;
-        match self.senders.reserve(1) {
-            Ok(()) => {}
-            Err(_) => return Err(Fault::Memory),
-        }
+        self.senders.reserve(1)?;
         let board = self.board;
         let sent = self.sent;
         let given = board.split(&mut self.seat)?;

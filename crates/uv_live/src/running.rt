@@ -76,10 +76,8 @@ fn unblock<S: Follower, L: Ledger, C: Clock, R: Threads + Wait>(
     if outside.join_one(rt) {
         return Ok(None);
     }
-    match pass_time(session, clock) {
-        Ok(()) => Ok(None),
-        Err(fault) => Err(fault),
-    }
+    pass_time(session, clock)?;
+    Ok(None)
 }
 
 /// A turn under the book's lock: what its step did, and whether the book was open.
@@ -92,11 +90,8 @@ fn locked_turn<S: Follower, L: Ledger, R: Wait>(
     ensures refused { Refuses result.0 (S.refusal session.new) }
 {
     let mut guard = book.lock(rt);
-    let answer = match turn_rest(session, &mut guard) {
-        Ok((_, did)) => Ok(did),
-        Err(fault) => Err(fault),
-    };
-    (answer, WasOpen::look(&guard))
+    let answer = turn_rest(session, &mut guard);
+    (answer.map(|(_, did)| did), WasOpen::look(&guard))
 }
 
 /// Takes turns until the loop is at its end. False where the book was closed before.
@@ -124,10 +119,9 @@ fn run<S: Follower, L: Ledger, C: Clock, R: Threads + Wait>(
             Err(Fault::Refused(Why::Ended)) => return Ok(true),
             Err(Fault::Refused(Why::Blocked)) => match open {
                 None => return Ok(false),
-                Some(open) => match unblock(rt, session, book, outside, clock, open) {
-                    Ok(_) => {}
-                    Err(fault) => return Err(fault),
-                },
+                Some(open) => {
+                    unblock(rt, session, book, outside, clock, open)?;
+                }
             },
             Err(fault) => return Err(fault),
         }
@@ -221,24 +215,19 @@ fn within<
     if let Some(fault) = fault_of(halt, lowest_fault(answers.as_slice())) {
         return Err(fault);
     }
-    match shifts_of(alloc, answers) {
-        Ok(shifts) => Ok(Joined {
-            session,
-            seat,
-            shifts,
-        }),
-        Err(fault) => Err(fault),
-    }
+    let shifts = shifts_of(alloc, answers)?;
+    Ok(Joined {
+        session,
+        seat,
+        shifts,
+    })
 }
 
 /// The script's `thread` lines, for threads to read while the session goes on.
 fn copied_lines<S: Follower>(alloc: Global, session: &S) -> Result<Vec<ThreadLine>, Fault>
     ensures { IfOk result (λ lines. AreNamed (S.plan session.now).names lines.items) }
 {
-    match Vec::from_slice(alloc, session.thread_lines()) {
-        Ok(lines) => Ok(lines),
-        Err(_) => Err(Fault::Memory),
-    }
+    Ok(Vec::from_slice(alloc, session.thread_lines())?)
 }
 
 /// Applies what is left of the log, and compares what the session did with what the threads did.
@@ -260,14 +249,9 @@ fn conclude<S: Follower + Drop, L: Ledger>(
     if book.workers() != session.worker_count() {
         return Err(Fault::Torn { at: 0 });
     }
-    match sync(&mut session, book) {
-        Ok(_) => {}
-        Err(fault) => return Err(fault),
-    }
-    match settle(&session, book, shifts.as_slice(), &seat) {
-        Ok(()) => Ok(session),
-        Err(fault) => Err(fault),
-    }
+    sync(&mut session, book)?;
+    settle(&session, book, shifts.as_slice(), &seat)?;
+    Ok(session)
 }
 
 /// Runs threads and loop in a scope, which ends when all its threads have.
@@ -323,10 +307,7 @@ fn live_over<
 {
     let book = PoolBook::<L>::new(alloc, blank, session.worker_count())?;
     let names = session.name_count() as usize;
-    let (board, seat) = match Board::new(alloc, names, MOST_SENDERS as u64) {
-        Ok(both) => both,
-        Err(fault) => return Err(fault),
-    };
+    let (board, seat) = Board::new(alloc, names, MOST_SENDERS as u64)?;
     let lines = copied_lines(alloc, &session)?;
     let book = LockedBook::new(book);
     let sent = AtomicU64::new(0);
@@ -338,10 +319,8 @@ fn live_over<
         lines: lines.as_slice(),
         gate,
     };
-    match scoped(rt, shared, session, seat, clock) {
-        Ok(joined) => conclude(joined, &book.into_book()),
-        Err(fault) => Err(fault),
-    }
+    let joined = scoped(rt, shared, session, seat, clock)?;
+    conclude(joined, &book.into_book())
 }
 
 /// Runs a session to its end with a thread for each worker and each sender, and answers it once what it did was compared with what they

@@ -78,10 +78,7 @@ pub(crate) fn turn_rest<F: Follower, L: Ledger>(
         → OnFull result (F.most (F.plan session.old).script ≤ length (F.course session.new).steps) }
 {
     book.is_sound();
-    match sync_rest(session, book) {
-        Ok(_) => {}
-        Err(fault) => return Err(fault),
-    }
+    sync_rest(session, book)?;
     book.reserve()?;
     let outcome = session.step()?;
     let did = session.did(outcome);
@@ -110,8 +107,6 @@ pub fn turn<F: Follower, L: Ledger>(
     if let Some(n) = first_apart(session.pool_events(), book.log()) {
         return Err(Fault::Torn { at: n + 1 });
     }
-    match turn_rest(session, book) {
-        Ok((outcome, _)) => Ok(outcome),
-        Err(fault) => Err(fault),
-    }
+    let (outcome, _) = turn_rest(session, book)?;
+    Ok(outcome)
 }

@@ -1,5 +1,5 @@
 -- One step more with its record, and one step less.
-use Rattle.uv_loop.proofs.Names.{◌≡◌, ◌+◌, ◌-◌, ◌<◌, ◌≤◌, ℕ, suc, List, [], ◌∷◌, ◌++◌, length, length-append, take, get_or, Option, Some, Result, Ok, Err, refl, inl, inr, sym, ap, ◌∙◌, subst, arith, take_more, take_all, Event, Tick, Finish, Seen, Fault, Why, Program, arena_size, Outcome, Place, State, Next, Moves, Refuses, Job, RefusesResult, AnswersResult, job_run, Answers, goes_on, state_of, IsMove, STEPS, after-moves, seen_by-nil, seen_by-moves, seen_by-take, Record, Image, Held, unwind, unwound, DropsOne, CanUnwind, IsFit, unwound-push, begins_same, unwind_still, StandsFor, Returns, OfEach, reached, Course, StandFrom, IsCourse, Leads, first_image}
+use Rattle.uv_loop.proofs.Names.{◌≡◌, ◌+◌, ◌-◌, ◌<◌, ◌≤◌, ℕ, suc, List, [], ◌∷◌, ◌++◌, length, length-append, take, get_or, Option, Some, None, Result, Ok, Err, refl, inl, inr, sym, ap, ◌∙◌, subst, arith, take_more, take_all, Event, Tick, Finish, Seen, Fault, Why, Program, arena_size, Outcome, Place, State, Next, Moves, Refuses, Job, RefusesResult, AnswersResult, job_run, Answers, goes_on, state_of, IsMove, refusal_of, STEPS, after-moves, seen_by-nil, seen_by-moves, seen_by-take, Record, Image, Held, unwind, unwound, DropsOne, CanUnwind, IsFit, unwound-push, begins_same, unwind_still, StandsFor, Returns, OfEach, reached, Course, StandFrom, IsCourse, Leads, first_image}
 use Rattle.uv_ids.specs.declared.fault.Fault.TheVariants as fault
 use Rattle.uv_model.specs.State as state
 use Rattle.uv_model.specs.Next.{next}
@@ -103,6 +103,15 @@ course_roomier p es seen rs h k same grown c = record {
 is_move : (n : Next) (t : State) (line : Option Seen) → n ≡ Moves t line → IsMove n
 is_move n t line h = rw h tt
 
+-- a step is refused so, or taken, by why it is refused
+refuses_by : (n : Next) (why : Why) → refusal_of n ≡ Some why → n ≡ Refuses why
+refuses_by (Moves t line) why e = cc
+refuses_by (Refuses w) why e = let same : w ≡ why = cc e in ap (λ x. Refuses x) same
+
+moves_by : (n : Next) → refusal_of n ≡ None → IsMove n
+moves_by (Moves t line) e = tt
+moves_by (Refuses w) e = cc
+
 -- an accepted step, with its line and its record
 pub course_added : (p : Program) (es : List Event) (seen : List (Option Seen)) (rs : List (Record Place)) (h k : Held Place) (r : Record Place)
     (e : Event) (t : State) (line : Option Seen) → length es < STEPS → IsCourse p es seen rs h → Returns r h k
@@ -184,13 +193,8 @@ course_shorter p es fs seen lines rs qs h k r split a b image room c =
 
 -- ---- what callers see
 
-abbrev course : Program → List Event → List (Record Place) → Held Place → ℕ → Course
+abbrev pub course : Program → List Event → List (Record Place) → Held Place → ℕ → Course
 course p es rs h n = record { program = p; standing = es; walk = record { image = h.image; records = rs }; pieces = n }
-
-pub course_seen : (p : Program) (es : List Event) (rs : List (Record Place)) (h k : Held Place) (w : Course) {n : ℕ} → k.image ≡ h.image
-    → course p es rs h n ≡ w → course p es rs k n ≡ w
-course_seen p es rs h k w {n} image same =
-    (λ l. record { program = p; standing = es; walk = record { image = image l; records = rs }; pieces = n }) ∙ same
 
 module _ (p : Program) (es : List Event) (seen : List (Option Seen)) (rs : List (Record Place)) (h : Held Place) (w : Course)
     {n : ℕ} (same : course p es rs h n ≡ w) (c : IsCourse p es seen rs h) where
@@ -233,30 +237,19 @@ module _ (p : Program) (es : List Event) (seen : List (Option Seen)) (rs : List 
         subst (λ (x : Course). Answers STEPS x.program x.standing e (Ok (record { seen = line })) fs) same
         (few, is, t.1 ∙ ap (λ z. Moves z line) (sym there))
 
-    pub answers_memory : (fs : List Event) → ((s : State) → StandsFor h.image s → IsMove (next p s e)) → fs ≡ es
+    -- there is no memory for it
+    pub answers_wanting : (fs : List Event) → OfEach h.image (λ s. refusal_of (next p s e) ≡ None) → fs ≡ es
         → Answers STEPS w.program w.standing e (Err fault.Memory) fs
-    answers_memory fs moves is =
+    answers_wanting fs free is =
         subst (λ (x : Course). Answers STEPS x.program x.standing e (Err fault.Memory) fs) same
-        (few, is, moves (after p es) (course_stands p es seen rs h c))
+        (few, is, moves_by _ (free (after p es) (course_stands p es seen rs h c) (reached p es)))
 
-    pub answers_refused : (why : Why) → ((s : State) → StandsFor h.image s → next p s e ≡ Refuses why)
-        → Answers STEPS w.program w.standing e (Err (fault.Refused why)) w.standing
-    answers_refused why refuses =
-        subst (λ (x : Course). Answers STEPS x.program x.standing e (Err (fault.Refused why)) x.standing) same
-        (few, refl, refuses (after p es) (course_stands p es seen rs h c))
-
-    -- the same, by what holds of each state that steps lead to
-    pub answers_wanting : (fs : List Event) → OfEach h.image (λ s. IsMove (next p s e)) → fs ≡ es
-        → Answers STEPS w.program w.standing e (Err fault.Memory) fs
-    answers_wanting fs moves is =
-        subst (λ (x : Course). Answers STEPS x.program x.standing e (Err fault.Memory) fs) same
-        (few, is, moves (after p es) (course_stands p es seen rs h c) (reached p es))
-
-    pub answers_refusing : (fs : List Event) (why : Why) → OfEach h.image (λ s. next p s e ≡ Refuses why) → fs ≡ es
+    -- it is refused
+    pub answers_refusing : (fs : List Event) (why : Why) → OfEach h.image (λ s. refusal_of (next p s e) ≡ Some why) → fs ≡ es
         → Answers STEPS w.program w.standing e (Err (fault.Refused why)) fs
     answers_refusing fs why refuses is =
         subst (λ (x : Course). Answers STEPS x.program x.standing e (Err (fault.Refused why)) fs) same
-        (few, is, refuses (after p es) (course_stands p es seen rs h c) (reached p es))
+        (few, is, refuses_by _ why (refuses (after p es) (course_stands p es seen rs h c) (reached p es)))
 
   pub drops : (fs : List Event) (qs : List (Record Place)) (r : Record Place) (j : Image Place) (m : ℕ) → rs ≡ qs ++ r ∷ []
       → fs ≡ take (length qs) es → j ≡ unwind r h.image → m ≡ n

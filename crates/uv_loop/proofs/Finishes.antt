@@ -1,5 +1,5 @@
 -- A worker finishes the request that it runs.
-use Rattle.uv_loop.proofs.Names.{◌≡◌, ℕ, List, [], slice_get, slice_set, Some, None, Ok, Err, refl, sym, ap, ◌∙◌, subst, inr, Id, Finish, Why, Program, text_of, padded, rounds_within, text_within, with_last, Job, Request, finished, job_of, FinishUndo, id_in, IsFinished, RefusesFinish, RunsOther, id_is, content_of, Place, found_or, State, with_id, Moves, Refuses, finish, work_of, IsMove, job_in, job_run, RefusesResult, Content, Asked, request_of, Image, Held, working_of, OnlyWork, StandsFor, Leads, MayFinish, slots_set, ids_kept, asked_there, run_there, list_same, done_more, pool_stands, running_is}
+use Rattle.uv_loop.proofs.Names.{◌≡◌, ℕ, List, [], slice_get, slice_set, Some, None, Ok, Err, refl, sym, ap, ◌∙◌, subst, inr, Id, Finish, Why, Program, text_of, padded, rounds_within, text_within, with_last, Job, Request, finished, job_of, FinishUndo, id_in, IsFinished, RefusesFinish, RunsOther, id_is, content_of, Place, found_or, State, with_id, Moves, Refuses, finish, work_of, job_in, job_run, RefusesResult, Content, Asked, request_of, Image, Held, working_of, OnlyWork, StandsFor, Leads, MayFinish, slots_set, ids_kept, asked_there, run_there, list_same, done_more, pool_stands, running_is}
 use Rattle.uv_ids.specs.declared.seen.Seen.TheVariants as seen
 use Rattle.uv_ids.specs.declared.fault.Why.TheVariants as why
 use Rattle.uv_records.specs.declared.lists.ListName.TheVariants as name
@@ -70,26 +70,6 @@ finish_refused p i s k why.Range h e = absurd (e no_job)
 pub other_refused : (p : Program) (i : Image Place) (s : State) (k : ℕ) (d : Id) (r : Request) (job : Job) → StandsFor i s → MayFinish i k d r
     → (job_of d r ≡ job → ⊥) → RefusesResult p s k job why.NoWork
 other_refused p i s k d r job h may other = inr (refl, (job_of d r, job_there i s k d r h may.runs may.request, other))
-
-pub finish_may : (p : Program) (i : Image Place) (k : ℕ) (d : Id) (r : Request) → MayFinish i k d r → (s : State) → StandsFor i s
-    → IsMove (next p s (Finish k))
-finish_may p i k d r may s h = rw (finish_moves i s k d r h may.runs may.request p) tt
-
--- where a worker may finish its request with its job's result, it isn't refused
-pub finishes : (i : Image Place) (k : ℕ) (d : Id) (r : Request) (job : Job) (w : Why) → MayFinish i k d r → job_of d r ≡ job
-    → RefusesFinish request_of (working_of i) k job w → ⊥
-finishes i k d r job why.NoWorker may is e = let runs = may.runs in cc
-finishes i k d r job why.IdleWorker may is e = let runs = may.runs in cc
-finishes i k d r job why.NoWork may is e =
-    let same : e.id ≡ d = cc (e.runs, may.runs) in
-    let there : work.request_in request_of i.arena d ≡ Some e.request =
-    subst (λ z. work.request_in request_of i.arena z ≡ Some e.request) same e.is in
-    let one : e.request ≡ r = cc (may.request, there) in
-    e.other ((λ l. job_of (same l) (one l)) ∙ is)
-finishes i k d r job why.Blocked may is e = e
-finishes i k d r job why.Ended may is e = e
-finishes i k d r job why.BusyWorker may is e = e
-finishes i k d r job why.Range may is e = e
 
 -- ---- what the memory stands for then
 

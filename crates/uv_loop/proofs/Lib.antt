@@ -1,3 +1,4 @@
+pub mod Begun
 pub mod CallsOfIo
 pub mod Clear
 pub mod Courses
@@ -8,6 +9,7 @@ pub mod KeptRecords
 pub mod Lasts
 pub mod Lines
 mod Names
+pub mod Planned
 pub mod Ready
 pub mod Refusing
 pub mod Simulation

@@ -9,6 +9,7 @@ pub use Rattle.uv_arena.specs.Image.{IsSound, fresh_image, plain_slots}
 pub use Rattle.uv_arena.specs.Undo.{insert_undone, remove_undone}
 pub use Rattle.uv_arena.specs.declared.undo.InsertUndo.{InsertUndo}
 pub use Rattle.uv_arena.specs.declared.undo.RemoveUndo.{RemoveUndo}
+pub use Rattle.std.proofs.lemmas.Result.{err_from_is_err_and}
 pub use Rattle.uv_ids.specs.declared.code.Answer.{Answer}
 pub use Rattle.uv_ids.specs.declared.code.Code.{Code}
 pub use Rattle.uv_ids.specs.declared.event.Event.{Event}
@@ -22,12 +23,14 @@ pub use Rattle.uv_ids.specs.declared.seen.Seen.{Seen}
 pub use Rattle.uv_layout.proofs.Lies.{IsWhole, lies_for}
 pub use Rattle.uv_layout.proofs.Same.{slots_long}
 pub use Rattle.uv_layout.specs.Laid.{ShowsAll}
-pub use Rattle.uv_loop.specs.Acting.{MayAt, MayCall, Refusal}
+pub use Rattle.uv_loop.specs.Acting.{MayAct, MayAt, MayCall, Plans, outside_event, planned_event}
 pub use Rattle.uv_loop.specs.Begins.{IsClear, IsClearAt, IsClearBehind, IsClearIn}
 pub use Rattle.uv_loop.specs.Course.{Course, IsCourse, Leads, StandFrom, first_image}
 pub use Rattle.uv_loop.specs.Pooling.{MayFinish, MayTake}
-pub use Rattle.uv_loop.specs.Taken.{event_of, events_of}
+pub use Rattle.uv_loop.specs.Taken.{AreRoomier, AreSame, IsOneMore, event_of, events_of}
 pub use Rattle.uv_loop.specs.Turning.{PerformsAt, Turns}
+pub use Rattle.uv_loop.specs.declared.plan.Plan.{Plan}
+pub use Rattle.uv_loop.specs.declared.steps.Steps.{Steps}
 pub use Rattle.uv_model.proofs.Bounded.{after_able}
 pub use Rattle.uv_model.proofs.Calls.{at_name, count_below}
 pub use Rattle.uv_model.proofs.Refusals.{OfLoop, loop_lines}

@@ -1,5 +1,5 @@
 -- What a step of the loop does, by where the memory stands.
-use Rattle.uv_loop.proofs.Names.{◌≡◌, ℕ, slice_get, Option, Some, None, Result, Ok, Err, IfOk, IfNone, sym, ap, ◌∙◌, Seen, Why, Loop, Program, order_of, Place, Main, Running, Run, State, Next, Moves, Refuses, loop_step, main_step, run_step, refusal_of, IsMove, Record, Image, Held, OfEach, StandsFor, MayAt, Refusal, Turns, place_is}
+use Rattle.uv_loop.proofs.Names.{◌≡◌, ℕ, slice_get, Option, Result, Ok, Err, IfOk, sym, ap, ◌∙◌, Seen, Loop, Program, order_of, Place, Main, Running, Run, State, Next, loop_step, main_step, run_step, Record, Image, Held, StandsFor, Turns, place_is}
 use Rattle.uv_model.specs.Next.{next}
 
 module _ (p : Program) (i : Image Place) (s : State) (h : StandsFor i s) where
@@ -21,18 +21,3 @@ pub turns_where : {E : Type 0} (f g : State → Next) (r : Record Place) (h k : 
     → ((s : State) → StandsFor h.image s → g s ≡ f s) → IfOk o (λ line. Turns f r h k line) → IfOk o (λ line. Turns g r h k line)
 turns_where f g r h k (Ok line) same t = turns_by f g r h k line same t
 turns_where f g r h k (Err fault) same t = tt
-
--- a step is refused so, or taken, by why it is refused
-pub refuses_by : (n : Next) (why : Why) → refusal_of n ≡ Some why → n ≡ Refuses why
-refuses_by (Moves t line) why e = cc
-refuses_by (Refuses w) why e = let same : w ≡ why = cc e in ap (λ x. Refuses x) same
-
-pub moves_by : (n : Next) → refusal_of n ≡ None → IsMove n
-moves_by (Moves t line) e = tt
-moves_by (Refuses w) e = cc
-
--- the loop's own step
-pub loop_refused : (p : Program) (i : Image Place) (o : Option Why) → OfEach i (λ s. refusal_of (next p s Loop) ≡ o)
-    → IfNone o (MayAt p i.place i) → Refusal p Loop i o
-loop_refused p i None f may = (may, λ s h r. moves_by (next p s Loop) (f s h r))
-loop_refused p i (Some why) f may = λ s h r. refuses_by (next p s Loop) why (f s h r)

@@ -1,5 +1,5 @@
 -- A worker takes the request that waits longest.
-use Rattle.uv_loop.proofs.Names.{◌≡◌, ℕ, List, [], ◌∷◌, map, slice_get, slice_set, drop, Some, None, Ok, Err, sym, ap, ◌∙◌, subst, Id, Take, Why, Program, IsFirst, Request, TakeWorkUndo, id_in, IsTaken, RefusesTake, Place, found_or, State, with_id, front_request, Moves, Refuses, next_work, IsMove, request_of, Image, Held, working_of, OnlyWork, StandsFor, Leads, MayTake, map_same, asked_there, front_there, first_one, run_there, list_same, ids_moved, pool_stands, running_is}
+use Rattle.uv_loop.proofs.Names.{◌≡◌, ℕ, List, [], ◌∷◌, map, slice_get, slice_set, drop, Some, None, Ok, Err, sym, ap, ◌∙◌, subst, Id, Take, Why, Program, IsFirst, Request, TakeWorkUndo, id_in, IsTaken, RefusesTake, Place, found_or, State, with_id, front_request, Moves, Refuses, next_work, request_of, Image, Held, working_of, OnlyWork, StandsFor, Leads, MayTake, map_same, asked_there, front_there, first_one, run_there, list_same, ids_moved, pool_stands, running_is}
 use Rattle.uv_ids.specs.declared.seen.Seen.TheVariants as seen
 use Rattle.uv_ids.specs.declared.fault.Why.TheVariants as why
 use Rattle.uv_records.specs.declared.lists.ListName.TheVariants as name
@@ -41,20 +41,6 @@ take_refused p i s k why.Blocked h e = absurd e
 take_refused p i s k why.Ended h e = absurd e
 take_refused p i s k why.IdleWorker h e = absurd e
 take_refused p i s k why.Range h e = absurd e
-
-pub take_may : (p : Program) (i : Image Place) (k : ℕ) (d : Id) (r : Request) → MayTake i k d r → (s : State) → StandsFor i s
-    → IsMove (next p s (Take k))
-take_may p i k d r may s h = rw (take_moves i s k d r h may.idle may.first may.request p) tt
-
--- where a worker may take a request, it isn't refused
-pub takes : (i : Image Place) (k : ℕ) (d : Id) (r : Request) (w : Why) → MayTake i k d r → RefusesTake request_of (working_of i) k w → ⊥
-takes i k d r why.NoWorker may e = let idle = may.idle in cc
-takes i k d r why.BusyWorker may e = let idle = may.idle in let busy = e.1 in cc
-takes i k d r why.NoWork may e = let is = may.first.is in let none = e.1 in cc
-takes i k d r why.Blocked may e = e
-takes i k d r why.Ended may e = e
-takes i k d r why.IdleWorker may e = e
-takes i k d r why.Range may e = e
 
 -- ---- what the memory stands for then
 

@@ -1,13 +1,12 @@
--- When an event is refused, and when nothing refuses it.
-use Rattle.std.specs.Prelude.{◌≡◌, ◌+◌, ◌<◌, ◌≤◌, true, Option, Some, None, is_some, length, slice_get}
+-- What is to be done of an event, or why it is refused, and what may be done.
+use Rattle.std.specs.Prelude.{◌≡◌, ◌+◌, ◌<◌, ◌≤◌, true, Option, Some, None, is_some, Result, IfOk, length, slice_get}
+use Rattle.std.specs.Result.{result_err}
 use Rattle.uv_ids.specs.declared.id.Id.{Id}
 use Rattle.uv_ids.specs.declared.id.Var.{Var}
 use Rattle.uv_ids.specs.declared.event.Event.{Event}
-use Rattle.uv_ids.specs.declared.event.Event.TheVariants.{Loop, Take, Finish, Cancel, Send, Io, Tick}
+use Rattle.uv_ids.specs.declared.event.Event.TheVariants as event
 use Rattle.uv_ids.specs.declared.fault.Why.{Why}
 use Rattle.uv_script.specs.Program.{Program}
-use Rattle.uv_records.specs.Names.{named}
-use Rattle.uv_work.specs.declared.request.Request.{Request}
 use Rattle.uv_model.specs.Limits.{LATEST}
 use Rattle.uv_model.specs.declared.place.Body.{Body}
 use Rattle.uv_model.specs.declared.place.Place.{Place}
@@ -16,11 +15,17 @@ use Rattle.uv_model.specs.declared.place.Run.{Run}
 use Rattle.uv_model.specs.declared.place.Stage.{Stage}
 use Rattle.uv_model.specs.declared.place.Stage.TheVariants.{Poll}
 use Rattle.uv_model.specs.State.{live_handle}
-use Rattle.uv_model.specs.Next.{Refuses, next, may_leave, io_run, io_handle}
-use Rattle.uv_model.specs.After.{IsMove}
+use Rattle.uv_model.specs.Next.{next, may_leave, io_run, io_handle}
+use Rattle.uv_model.specs.After.{refusal_of}
 use Rattle.uv_step.specs.Image.{Image}
 use Rattle.uv_stands.specs.Doing.{OfEach}
 use Rattle.uv_loop.specs.Pooling.{MayTake, MayFinish}
+use Rattle.uv_loop.specs.declared.plan.Outside.{Outside}
+use Rattle.uv_loop.specs.declared.plan.Outside.TheVariants as outside
+use Rattle.uv_loop.specs.declared.plan.Plan.{Plan}
+use Rattle.uv_loop.specs.declared.plan.Plan.TheVariants.{Take, Finish, Cancel, Send, Io, Tick}
+
+-- ---- the loop's own step
 
 -- behind a stage with no body under way: a poll may be left
 abbrev pub MayBehind : Stage → Image Place → Type 0
@@ -36,27 +41,43 @@ abbrev pub MayAt : Program → Place → Image Place → Type 0
 MayAt p (Main line) i = is_some (slice_get p.main line) ≡ true
 MayAt p (Running run) i = MayIn run.body run.stage i
 
--- a run is under way where a callback of I/O may begin, and the name is that of a handle of I/O that is called
-pub record MayCall (p : Program) (i : Image Place) (v : Var) : Type 0 where
+-- ---- an event from outside
+
+-- the event that it is
+abbrev pub outside_event : Outside → Event
+outside_event (outside.Take k) = event.Take k
+outside_event (outside.Finish k) = event.Finish k
+outside_event (outside.Cancel v) = event.Cancel v
+outside_event (outside.Send v) = event.Send v
+outside_event (outside.Io v) = event.Io v
+outside_event (outside.Tick ms) = event.Tick ms
+
+-- the event that is done so
+abbrev pub planned_event : Plan → Event
+planned_event (Take k d r) = event.Take k
+planned_event (Finish k d r) = event.Finish k
+planned_event (Cancel v) = event.Cancel v
+planned_event (Send v) = event.Send v
+planned_event (Io run v d) = event.Io v
+planned_event (Tick ms) = event.Tick ms
+
+-- the run is under way, a callback of I/O may begin in it, and the name is that of this handle of I/O, which is called
+pub record MayCall (p : Program) (i : Image Place) (run : Run) (v : Var) (d : Id) : Type 0 where
   pub within : v.0 < length i.names
-  pub run : Run
-  pub place : i.place ≡ Running run
   pub begins : OfEach i (λ s. io_run p s s.place ≡ Some run)
-  pub id : Id
-  pub bound : (named i.names v.0).id ≡ Some id
-  pub waits : OfEach i (λ s. io_handle (live_handle s v) ≡ Some id)
+  pub waits : OfEach i (λ s. io_handle (live_handle s v) ≡ Some d)
 
--- nothing that the memory shows refuses the event
-abbrev pub MayAct : Program → Event → Image Place → Type 0
-MayAct p Loop i = MayAt p i.place i
-MayAct p (Take k) i = (d : Id) × (r : Request) × MayTake i k d r
-MayAct p (Finish k) i = (d : Id) × (r : Request) × MayFinish i k d r
-MayAct p (Cancel v) i = v.0 < length i.names
-MayAct p (Send v) i = v.0 < length i.names
-MayAct p (Io v) i = MayCall p i v
-MayAct p (Tick ms) i = i.clock + ms ≤ LATEST
+-- nothing that the memory shows refuses what is to be done
+abbrev pub MayAct : Program → Image Place → Plan → Type 0
+MayAct p i (Take k d r) = MayTake i k d r
+MayAct p i (Finish k d r) = MayFinish i k d r
+MayAct p i (Cancel v) = v.0 < length i.names
+MayAct p i (Send v) = v.0 < length i.names
+MayAct p i (Io run v d) = MayCall p i run v d
+MayAct p i (Tick ms) = i.clock + ms ≤ LATEST
 
--- why the event is refused, or that it isn't
-abbrev pub Refusal : Program → Event → Image Place → Option Why → Type 0
-Refusal p e i None = MayAct p e i × OfEach i (λ s. IsMove (next p s e))
-Refusal p e i (Some why) = OfEach i (λ s. next p s e ≡ Refuses why)
+-- what is to be done of the event, or why it is refused
+pub record Plans (p : Program) (i : Image Place) (e : Event) (r : Result Plan Why) : Type 0 where
+  pub event : IfOk r (λ done. planned_event done ≡ e)
+  pub may : IfOk r (λ done. MayAct p i done)
+  pub refusal : OfEach i (λ s. refusal_of (next p s e) ≡ result_err r)

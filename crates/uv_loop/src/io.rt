@@ -1,24 +1,23 @@
 //! Callbacks of I/O, which come when the environment says so.
-ghost use Rattle.std.specs.Prelude.{◌≡◌, IfSome, IfNone, Some};
+ghost use Rattle.std.specs.Prelude.{◌≡◌, Some};
 ghost use Rattle.uv_ids.specs.declared.event.Event.TheVariants.{Io};
-ghost use Rattle.uv_script.specs.Program.{Program};
-ghost use Rattle.uv_records.specs.Names.{named};
-ghost use Rattle.uv_model.specs.declared.place.Place.TheVariants.{Running};
 ghost use Rattle.uv_model.specs.State.{State, live_handle};
 ghost use Rattle.uv_model.specs.Next.{takes_io, io_run, io_handle};
 ghost use Rattle.uv_step.specs.Image.{held};
 ghost use Rattle.uv_stands.specs.Doing.{OfEach, Returns};
 ghost use Rattle.uv_stands.specs.Ready.{IsReady};
 ghost use Rattle.uv_stands.specs.Stands.{StandsFor};
-ghost use Rattle.uv_loop.specs.Acting.{MayCall, Refusal};
 ghost use Rattle.uv_loop.specs.Course.{Leads};
+ghost use Rattle.uv_loop.specs.Acting.{MayCall, Plans};
 
+use crate::plan::Plan;
+use crate::planning::check_name;
 use uv_ids::{Id, Seen, Var, Why};
 use uv_model::{Place, Run, Stage};
 use uv_records::{ListName, WatcherKind};
 use uv_script::Script;
 use uv_sections::call_io;
-use uv_stands::{bound_id, has_members, live_handle};
+use uv_stands::{has_members, live_handle};
 use uv_step::Memory;
 
 /// Whether a callback of I/O may begin there.
@@ -44,8 +43,7 @@ fn takes_io(memory: &Memory<Place>, run: Run) -> bool
 
 /// The run under way, where a callback of I/O may begin.
 fn io_run(memory: &Memory<Place>, script: &Script) -> Option<Run>
-    ensures is { OfEach (held memory.now).image (λ s. io_run script.now s s.place ≡ result) }
-    ensures place { IfSome result (λ run. (held memory.now).image.place ≡ Running run) }
+    ensures { OfEach (held memory.now).image (λ s. io_run script.now s s.place ≡ result) }
 {
     match memory.place() {
         Place::Main(_) => None,
@@ -55,43 +53,39 @@ fn io_run(memory: &Memory<Place>, script: &Script) -> Option<Run>
 
 /// The handle of I/O of a name, if it is live and active.
 fn io_handle(memory: &Memory<Place>, name: Var) -> Option<Id>
-    ensures is { (s : State) → StandsFor (held memory.now).image s → io_handle (live_handle s name) ≡ result }
-    ensures bound { IfSome result (λ id. (named (held memory.now).image.names name.0).id ≡ Some id) }
+    ensures { (s : State) → StandsFor (held memory.now).image s → io_handle (live_handle s name) ≡ result }
 {
-    let id = bound_id(memory, name)?;
-    let (_, handle) = live_handle(memory, name).ok()?;
+    let (id, handle) = live_handle(memory, name).ok()?;
     (handle.is_io() && handle.active).then_some(id)
 }
 
 /// There has to be such a name, and its handle has to wait for I/O where its callback may begin.
-pub(crate) fn io_refusal(memory: &Memory<Place>, script: &Script, name: Var) -> Option<Why>
-    ensures { Refusal script.now (Io name) (held memory.now).image result }
+pub(crate) fn io_plan(memory: &Memory<Place>, script: &Script, name: Var) -> Result<Plan, Why>
+    ensures { Plans script.now (held memory.now).image (Io name) result }
 {
-    if name.0 as usize >= memory.names().len() {
-        return Some(Why::Range);
-    }
-    match io_run(memory, script) {
-        None => Some(Why::Blocked),
-        Some(_) => match io_handle(memory, name) {
-            None => Some(Why::Blocked),
-            Some(_) => None,
-        },
-    }
+    check_name(memory, name)?;
+    let Some(run) = io_run(memory, script) else {
+        return Err(Why::Blocked);
+    };
+    let Some(id) = io_handle(memory, name) else {
+        return Err(Why::Blocked);
+    };
+    Ok(Plan::Io(run, name, id))
 }
 
 /// Has the handle of I/O of a name called.
-pub(crate) fn call_named(memory: &mut Memory<Place>, script: &Script, name: Var) -> Seen
+pub(crate) fn call_named(
+    memory: &mut Memory<Place>,
+    script: &Script,
+    run: Run,
+    name: Var,
+    id: Id,
+) -> Seen
     requires ready { IsReady (held memory.old) }
-    requires may { MayCall script.now (held memory.old).image name }
+    requires may { MayCall script.now (held memory.old).image run name id }
     ensures returns { Returns memory.new.step_record (held memory.old) (held memory.new) }
     ensures leads { Leads script.now (held memory.old).image (held memory.new).image (Io name) (Some result) }
     ensures pieces { memory.new.slots.room ≡ memory.old.slots.room }
 {
-    match memory.place() {
-        Place::Main(_) => unreachable!(),
-        Place::Running(run) => match bound_id(memory, name) {
-            None => unreachable!(),
-            Some(id) => call_io(memory, script, run, name, id),
-        },
-    }
+    call_io(memory, script, run, name, id)
 }

@@ -1,4 +1,7 @@
 //! The loop over one memory: a machine whose every step has a record that takes it back.
+//!
+//! The main type is `ArenaLoop`, the machine that the program runs. Its main clauses are `records` of `step` and `drops` of
+//! `back` (`machine.rt`), beside those of `Machine`. Read `specs/Course.antt` first.
 #![tactic(auto)]
 
 mod acting;
@@ -9,9 +12,10 @@ mod kept_place;
 mod line_row;
 mod looping;
 mod machine;
+mod plan;
+mod planning;
 mod pooling;
 mod record_row;
-mod refusals;
 mod sending;
 mod staging;
 mod stepping;

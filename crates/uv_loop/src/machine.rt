@@ -9,8 +9,8 @@ ghost use Rattle.uv_layout.specs.Laid.{ShowsAll};
 ghost use Rattle.uv_loop.specs.Course.{Adds, Drops, first_image};
 
 use crate::arena_loop::{ArenaLoop, fresh_memory};
+use crate::plan::outside_of;
 use crate::pooling::finish_work;
-use crate::stepping::is_of_loop;
 use crate::steps::Steps;
 use std::alloc::Global;
 use uv_ids::{Event, Fault, Id, Seen, Var, Why};
@@ -55,10 +55,9 @@ impl Machine for ArenaLoop {
         ensures answer { Answers STEPS self.old.program self.old.standing event result self.new.standing }
         ensures records { Adds result self.old self.new }
     {
-        if is_of_loop(event) {
-            self.go_on()
-        } else {
-            self.meet(event)
+        match outside_of(event) {
+            None => self.go_on(),
+            Some(outside) => self.meet(outside),
         }
     }
 

@@ -1,36 +1,28 @@
 //! A step is taken: what refuses it, the room that it needs, and then what it does, with its line and its record. One of the loop stands
 //! apart from one from outside: what most steps go through is compiled alone then, and hands on no more than it has to.
-ghost use Rattle.std.specs.Prelude.{◌≡◌, ◌≢◌, ◌≤◌, OnOk, length, true, false};
+ghost use Rattle.std.specs.Prelude.{◌≡◌, ◌≤◌, OnOk, length};
 ghost use Rattle.uv_ids.specs.declared.event.Event.TheVariants.{Loop};
 ghost use Rattle.uv_model.specs.After.{Answers, STEPS};
 ghost use Rattle.uv_step.specs.Image.{held};
 ghost use Rattle.uv_loop.specs.Course.{Adds};
-ghost use Rattle.uv_loop.specs.Taken.{AreSame, HasRoom};
+ghost use Rattle.uv_loop.specs.Acting.{outside_event};
+ghost use Rattle.uv_loop.specs.Taken.{AreRoomier, HasRoom};
 
 use crate::acting::act;
 use crate::arena_loop::ArenaLoop;
 use crate::looping::turn;
-use crate::refusals::refusal;
+use crate::plan::Outside;
+use crate::planning::{loop_refusal, plan_of};
 use crate::steps::Steps;
 use std::alloc::AllocError;
-use uv_ids::{Event, Fault};
+use uv_ids::Fault;
 use uv_model::{Outcome, Place, STEPS};
 use uv_step::Memory;
-
-/// Whether the loop itself does the step, and it isn't from outside.
-pub(crate) fn is_of_loop(event: Event) -> bool
-    ensures own { result ≡ true → event ≡ Loop }
-    ensures outside { result ≡ false → event ≢ Loop }
-{
-    matches!(event, Event::Loop)
-}
 
 /// Makes room for one step more, and on the heap for the timer of each slot that is used.
 #[inline(always)]
 fn make_room(steps: &mut Steps, memory: &mut Memory<Place>) -> Result<(), AllocError>
-    ensures same { AreSame steps.old steps.new }
-    ensures image { (held memory.new).image ≡ (held memory.old).image }
-    ensures kept { (held memory.old).room ≤ (held memory.new).room }
+    ensures same { AreRoomier steps.old steps.new (held memory.old) (held memory.new) }
     ensures pieces { memory.new.slots.room ≡ memory.old.slots.room }
     ensures steps { OnOk result (HasRoom steps.new) }
     ensures heap { OnOk result (length (held memory.new).image.arena.memory.row.items ≤ (held memory.new).room) }
@@ -50,7 +42,7 @@ impl ArenaLoop {
         if self.steps.seen.len() >= STEPS {
             return Err(Fault::StepsFull);
         }
-        match refusal(&self.memory, &self.script, Event::Loop) {
+        match loop_refusal(&self.memory, &self.script) {
             Some(why) => return Err(Fault::Refused(why)),
             None => {}
         }
@@ -67,24 +59,23 @@ impl ArenaLoop {
 
     /// A step from outside.
     #[inline(never)]
-    pub(crate) fn meet(&mut self, event: Event) -> Result<Outcome, Fault>
-        requires outside { event ≢ Loop }
+    pub(crate) fn meet(&mut self, outside: Outside) -> Result<Outcome, Fault>
         ensures program { self.new.program ≡ self.old.program }
-        ensures answer { Answers STEPS self.old.program self.old.standing event result self.new.standing }
+        ensures answer { Answers STEPS self.old.program self.old.standing (outside_event outside) result self.new.standing }
         ensures records { Adds result self.old self.new }
     {
         if self.steps.seen.len() >= STEPS {
             return Err(Fault::StepsFull);
         }
-        match refusal(&self.memory, &self.script, event) {
-            Some(why) => return Err(Fault::Refused(why)),
-            None => {}
-        }
+        let plan = match plan_of(&self.memory, &self.script, outside) {
+            Err(why) => return Err(Fault::Refused(why)),
+            Ok(plan) => plan,
+        };
         if make_room(&mut self.steps, &mut self.memory).is_err() {
             return Err(Fault::Memory);
         }
         self.memory.is_sound();
-        let line = act(&mut self.memory, &self.script, event);
+        let line = act(&mut self.memory, &self.script, plan);
         let seen = Some(line);
         self.steps.push(seen, self.memory.step_record());
         Ok(Outcome { seen })

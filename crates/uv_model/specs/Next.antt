@@ -1,4 +1,25 @@
 -- One step of the loop: a place and what holds there give the line and the next place (design overview, the orders of 1.44 and 1.45).
+-- The loop's own steps in short; what comes from outside stands behind them, and needs no place but for a callback of I/O:
+--
+--   place                     line                                        next place
+--   main program: an op       the op = its answer                         the next line
+--   main program: `run`       run MODE                                    the run's entry
+--   main program: its end     (refused: ended)
+--   callback: an op           the op = its answer                         its next op
+--   callback: its end         none                                        the stage that it came from
+--   entry                     timers, pending or end                      as `way` says
+--   timers, collecting        none, for each that is due                  the same; with none due as in firing
+--   timers, firing            call NAME ID                                its callback; with none ready as `way` says
+--   pending                   idle                                        idle
+--   idle                      call NAME ID                                its callback; with none left `prepare` begins
+--   prepare                   call NAME ID                                its callback; with none left `poll T` begins
+--   poll                      done                                        done (refused while it is blocked)
+--   done                      after NAME ID CODE                          its callback; with none left `async` begins
+--   async                     call NAME ID, or none for one not sent to   its callback; with none left `check` begins
+--   check                     call NAME ID                                its callback; with none left `closing` begins
+--   closing                   closed NAME ID                              its callback; with none left as `way` says
+--
+-- In a script with `timers heap` a due timer is called at once, and none is collected.
 use Rattle.std.specs.Prelude.{ℕ, ◌+◌, List, [], ◌∷◌, ◌++◌, Bool, true, false, ◌&&◌, not, drop, Option, Some, None, Result, Ok, Err, slice_get, slice_set, length, nat_le, nat_lt, ◌||◌, if◌then◌else◌}
 use Rattle.uv_ids.specs.declared.id.Id.{Id}
 use Rattle.uv_ids.specs.declared.id.Var.{Var}

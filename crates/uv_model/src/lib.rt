@@ -1,5 +1,9 @@
 //! The model of the loop: its state, what one step does to it, what every machine does, and the plain loop, a machine of
 //! lists and an ordered map.
+//!
+//! The main trait is `Machine` (`machine.rt`): what any loop answers to a step, and what stands behind it. Read
+//! `specs/State.antt`, then `Next.antt` with `Ops.antt` and `Timeout.antt`: one step of the loop. `PlainLoop` runs in no program
+//! but those of tests.
 #![tactic(auto)]
 
 mod arena;

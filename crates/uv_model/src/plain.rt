@@ -125,14 +125,8 @@ impl Machine for PlainLoop {
             Some(why) => return Err(Fault::Refused(why)),
             None => {}
         }
-        match reserve_step(&mut self.steps, &mut self.seen) {
-            Ok(()) => {}
-            Err(_) => return Err(Fault::Memory),
-        }
-        let outcome = match self.state.step(&self.script, event) {
-            Ok(outcome) => outcome,
-            Err(fault) => return Err(fault),
-        };
+        reserve_step(&mut self.steps, &mut self.seen)?;
+        let outcome = self.state.step(&self.script, event)?;
         self.steps.push_reserved(event);
         self.seen.push_reserved(outcome.seen);
         Ok(outcome)
@@ -146,14 +140,8 @@ impl Machine for PlainLoop {
         if let Some(why) = refusal {
             return Err(Fault::Refused(why));
         }
-        match reserve_step(&mut self.steps, &mut self.seen) {
-            Ok(()) => {}
-            Err(_) => return Err(Fault::Memory),
-        }
-        let outcome = match self.state.finish_with(&self.script, worker, work) {
-            Ok(outcome) => outcome,
-            Err(fault) => return Err(fault),
-        };
+        reserve_step(&mut self.steps, &mut self.seen)?;
+        let outcome = self.state.finish_with(&self.script, worker, work)?;
         self.steps.push_reserved(Event::Finish(worker));
         self.seen.push_reserved(outcome.seen);
         Ok(outcome)
@@ -164,15 +152,12 @@ impl Machine for PlainLoop {
             return Ok(false);
         }
         let shorter = self.steps.len() - 1;
-        match replay(
+        replay(
             &mut self.state,
             self.alloc,
             &self.script,
             &self.steps[..shorter],
-        ) {
-            Ok(()) => {}
-            Err(_) => return Err(Fault::Memory),
-        }
+        )?;
         self.steps.truncate(shorter);
         self.seen.truncate(shorter);
         Ok(true)

@@ -16,9 +16,7 @@ freed_turns last s id c e = cond_both (id.generation == last) _ _ (λ (u : Slots
 
 -- the front of a list of requests, with what is behind it
 pub record FrontRequest (s : State) (ids : List Id) (t : Id × Request) : Type 0 where
-  pub rest : List Id
-  pub are : ids ≡ t.0 ∷ rest
-  pub behind : drop 1 ids ≡ rest
+  pub are : ids ≡ t.0 ∷ drop 1 ids
   pub holds : held s.arena.slots t.0 ≡ Some (Content.Request t.1)
 
 pub request_front : (s : State) (ids : List Id) (t : Id × Request) → front_request s ids ≡ Some t → FrontRequest s ids t

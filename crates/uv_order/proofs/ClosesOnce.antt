@@ -1,14 +1,15 @@
 -- Each handle closes once: every op and every step of the loop appends a line that may follow those before it.
-use Rattle.uv_order.proofs.Names.{◌≡◌, inl, inr, ℕ, suc, ◌+◌, ◌==◌, ◌||◌, List, ◌∷◌, ◌++◌, true, false, drop, Option, Some, None, Ok, slice_get, slice_set, unwrap_or, replicate, refl, ap, subst, ◌∙◌, arith, cond_both, eqb-true, none-some, Id, Var, Kind, Phase, Seen, Site, Op, Program, op_at, arena_size, HandleRecord, WatcherKind, Slots, freed, Content, Named, Request, digest_in, request_in, text_of, Finished, Run, Stage, Done, Walk, has_id, AreDistinct, run_ids, State, fresh, handle, live, live_handle, live_request, with_handle, with_request, watched, unbound, stopped, started, restarted, do_op, Next, Moves, Refuses, call, calls, front_moved, CancelSays, MakesNew, MayFollow, activity, kind_as, Callback, digest_of, [], OpSays, sym}
+use Rattle.uv_order.proofs.Names.{◌≡◌, inl, inr, ℕ, ◌+◌, ◌==◌, ◌||◌, List, ◌∷◌, ◌++◌, true, false, drop, Option, Some, None, Ok, slice_set, refl, ap, subst, ◌∙◌, arith, cond_both, eqb-true, none-some, Id, Var, Phase, Seen, Site, Op, Program, op_at, arena_size, HandleRecord, WatcherKind, Slots, freed, Content, Request, digest_in, request_in, text_of, Finished, Run, Stage, has_id, AreDistinct, run_ids, State, fresh, handle, live, live_handle, live_request, with_handle, with_request, watched, stopped, restarted, do_op, Next, Moves, Refuses, call, calls, front_moved, CancelSays, MakesNew, MayFollow, activity, kind_as, Callback, digest_of, [], OpSays, sym}
 use Rattle.uv_records.specs.Handles as records
 use Rattle.uv_model.specs.Ops as ops
 use Rattle.uv_model.specs.Next as step
-use Rattle.uv_order.proofs.Lemmas.{live_held, cancel_both, make_both, on_list, Each, each_back, itself, has_new_middle, distinct_back, names_turned, same_handles, is_held, put_same, Fits, its_handle, Everyone, request_turns, freed_turns, FrontRequest, TakesFront, RunsWork, HasEnded, its_fit, once_middle, worker, none_run, waits_open, runs_now, fewer_wait, more_run, fewer_run, Working, has_number, Watches, Closes, Rests, Kept, members, not_free, Did, FrontOf, FirstOf, IsStill, timed, IsGone, gone_turned}
-use Rattle.uv_order.proofs.KeptSteps.{opened, first_is}
+use Rattle.uv_order.proofs.Lemmas.{live_held, cancel_both, make_both, on_list, itself, has_new_middle, distinct_back, names_turned, same_handles, is_held, put_same, Fits, request_turns, freed_turns, FrontRequest, TakesFront, RunsWork, HasEnded, its_fit, once_middle, worker, none_run, waits_open, runs_now, fewer_wait, more_run, fewer_run, Working, has_number, Watches, Closes, Rests, Kept, not_free, Did, FrontOf, FirstOf, IsStill, timed, IsGone, gone_turned, Touches, still_touches, again_touches, again_as, held_at}
+use Rattle.uv_order.proofs.KeptSteps.{opened, first_is, front_fits}
 use Rattle.uv_order.proofs.Started.{StartedAt, gone_freed, freed_gone, new_id, active_started, ready_started, watcher_is_started}
 use Rattle.uv_order.proofs.Worked.{Worked, IsIdle, worked_ended, worked_taken, worked_finished, worked_collected, not_called, says_true}
-use Rattle.uv_order.proofs.Known.{id_in, counted_ids, Known, not_closed, not_over, known_names, IsQuiet, known_told, known_quiet, known_gone}
-use Rattle.uv_order.proofs.OpsOnce.{KnownAt, changed, twice, cancel_told, send_known, op_known}
+use Rattle.uv_order.proofs.Known.{counted_ids, Known, not_closed, not_over, known_names, IsQuiet, known_told, known_quiet, known_gone}
+use Rattle.uv_order.proofs.OpsOnce.{KnownAt, changed, cancel_told, send_known, op_known, touched}
+use Rattle.uv_order.proofs.OpEffects.{none_bound}
 
 -- ---- steps
 
@@ -36,35 +37,30 @@ begins_known : (p : Program) (past : List Seen) (s : State) (run : Run) (x : Sta
     Follows p past (step.begins s run x word)
 begins_known p past s run x word k = still_known p past (step.at s run x) (Some (Seen.Section word)) (IsStill.section word) k
 
--- a callback counts one call more of its name
-called_known : (p : Program) (past : List Seen) (s : State) (v : Var) (x : Named) → x.id ≡ id_in s.names v → KnownAt p past s →
-    Known p past s.arena (slice_set s.names v.0 x) s.waiting (run_ids s.running)
-called_known p past s v x e k = known_names p past s.arena (slice_set s.names v.0 x) s.names (counted_ids s.names v x e) k
-
 -- the callback of a handle that was started, and doesn't close
 call_known : (p : Program) (past : List Seen) (s : State) (run : Run) (id : Id) (v : Var) (h : HandleRecord) → handle s id ≡ Some h →
     h.closing ≡ false → (activity p past id).started ≡ true → KnownAt p past s → Follows p past (call p s run id v)
 call_known p past s run id v h e stays begun k = (
   (not_closed p past s.arena s.names id h e stays k, begun),
-  known_quiet p past (Seen.Call v id) s.arena _ (assumption) (assumption) (called_known p past s v _ refl k),
+  known_quiet p past (Seen.Call v id) s.arena _ (assumption) (assumption) (grind (arith, known_names, counted_ids)),
 )
 
--- what holds of each of a list holds of the front of its end
-front_fits : (s : State) (P : HandleRecord → Type 0) (xs ids : List Id) (t : Id × HandleRecord) → Each (Fits s.arena.slots P) (xs ++ ids) →
-    FrontOf s ids t → P t.1
-front_fits s P xs ids t each f = grind (arith, its_handle, each_back)
+-- with its record changed
+call_touched : (p : Program) (past : List Seen) (s u : State) (run : Run) (t : Id × HandleRecord) (x : HandleRecord) → Touches s t.0 t.1 x u →
+    x.closing ≡ t.1.closing → t.1.closing ≡ false → (activity p past t.0).started ≡ true → KnownAt p past s →
+    Follows p past (call p u run t.0 t.1.name)
+call_touched p past s u run t x c o stays begun k = call_known p past u run t.0 t.1.name x
+    (ap (λ (a : Slots Content). held_at a.slots t.0) c.arena ∙ put_same s.arena.slots t.0 t.1 x c.holds) (o ∙ stays) begun
+    (touched p past s u t.0 t.1 x c o k)
 
 -- the front of the ready list is called
 fired_known : (p : Program) (past : List Seen) (s : State) (run : Run) (t : Id × HandleRecord) → FrontOf s s.ready t → Kept s →
     StartedAt p past s → KnownAt p past s → Follows p past (call p (restarted (record s { ready = drop 1 s.ready }) t.0 t.1) run t.0 t.1.name)
 fired_known p past s run t f kept begun k =
-    let on = ready_started p past s t f begun in
-    let stays : t.1.closing ≡ false = (front_fits s Rests [] s.ready t kept.ready.each f).stays in
     let u : State = record s { ready = drop 1 s.ready } in
-    cond_both (t.1.repeat == 0) u (started u t.0 t.1 t.1.repeat t.1.repeat) (λ (x : State). Follows p past (call p x run t.0 t.1.name))
-    (λ z. call_known p past u run t.0 t.1.name t.1 f.holds stays on k)
-    (λ z. call_known p past (started u t.0 t.1 t.1.repeat t.1.repeat) run t.0 t.1.name _ (put_same s.arena.slots t.0 t.1 _ f.holds) stays on
-    (changed p past u t _ f.holds refl refl k))
+    call_touched p past s (restarted u t.0 t.1) run t (again_as u t.1 t.1)
+    (again_touches s u t.0 t.1 t.1 (still_touches s (drop 1 s.ready) t.0 t.1 f.holds)) (grind arith)
+    (front_fits s Rests [] s.ready t kept.ready.each f).stays (ready_started p past s t f begun) k
 
 -- ---- sections of watchers
 
@@ -76,15 +72,10 @@ due_known : (p : Program) (past : List Seen) (s : State) (run : Run) (t : Id × 
     KnownAt p past s → Follows p past (call p (restarted (stopped s t.0 t.1) t.0 t.1) run t.0 t.1.name)
 due_known p past s run t f kept begun k =
     let first = first_is s t f kept in
-    let is_started = active_started p past s t.0 t.1 f.holds first.set.active begun in
-    cond_both (t.1.repeat == 0) (stopped s t.0 t.1) (started (stopped s t.0 t.1) t.0 t.1 t.1.repeat t.1.repeat)
-    (λ (u : State). Follows p past (call p u run t.0 t.1.name))
-    (λ z. call_known p past (stopped s t.0 t.1) run t.0 t.1.name (records.stopped t.1)
-    (put_same s.arena.slots t.0 t.1 (records.stopped t.1) f.holds) first.stays is_started
-    (changed p past s t (records.stopped t.1) f.holds refl refl k))
-    (λ z. call_known p past (started (stopped s t.0 t.1) t.0 t.1 t.1.repeat t.1.repeat) run t.0 t.1.name _
-    (put_same _ t.0 (records.stopped t.1) _ (put_same s.arena.slots t.0 t.1 (records.stopped t.1) f.holds)) first.stays is_started
-    (twice p past s t (records.stopped t.1) _ f.holds refl refl refl refl k))
+    let u : State = stopped s t.0 t.1 in
+    call_touched p past s (restarted u t.0 t.1) run t (again_as u t.1 (records.stopped t.1))
+    (again_touches s u t.0 t.1 (records.stopped t.1) (assumption f.holds)) (grind arith) first.stays
+    (active_started p past s t.0 t.1 f.holds first.set.active begun) k
 
 -- an active handle of I/O is called
 answered_known : (p : Program) (past : List Seen) (s : State) (run : Run) (time : ℕ) (v : Var) (t : Id × HandleRecord) → live_handle s v ≡ Ok t →
@@ -96,17 +87,13 @@ answered_known p past s run time v t e on kept begun k =
         not_closed p past s.arena s.names t.0 t.1 held (opened t.1 on (kept.sound t.0 t.1 held)) k,
         active_started p past s t.0 t.1 held on begun,
       ),
-      known_quiet p past (Seen.Io v t.0) s.arena _ (assumption) (assumption) (called_known p past s v _ refl k),
+      known_quiet p past (Seen.Io v t.0) s.arena _ (assumption) (assumption) (grind (arith, known_names, counted_ids)),
     )
 
 -- who is yet to run doesn't close
-front_stays : (s : State) (q : Kind) (w : Walk Id) (t : Id × HandleRecord) → Everyone s.arena.slots (Watches q) (members w) → FrontOf s w.yet t →
-    Kept s → t.1.closing ≡ false
-front_stays s q w t every f kept =
-    opened t.1 (front_fits s (Watches q) w.list w.yet t every.lists.each f).active (kept.sound t.0 t.1 f.holds)
-
 watched_stays : (s : State) (q : WatcherKind) (t : Id × HandleRecord) → FrontOf s (watched s q).yet t → Kept s → t.1.closing ≡ false
-watched_stays s q t f kept = front_stays s (kind_as q) (watched s q) t (kept.watchers q) f kept
+watched_stays s q t f kept = opened t.1 (front_fits s (Watches (kind_as q)) (watched s q).list (watched s q).yet t (kept.watchers q).each f).active
+    (kept.sound t.0 t.1 f.holds)
 
 walked_known : (p : Program) (past : List Seen) (s : State) (run : Run) (q : WatcherKind) (t : Id × HandleRecord) → FrontOf s (watched s q).yet t →
     Kept s → StartedAt p past s → KnownAt p past s → Follows p past (call p (front_moved s q t.0) run t.0 t.1.name)
@@ -116,9 +103,8 @@ woken_known : (p : Program) (past : List Seen) (s : State) (run : Run) (t : Id �
     StartedAt p past s → KnownAt p past s →
     Follows p past (call p (with_handle (front_moved s WatcherKind.Async t.0) t.0 (records.woken t.1)) run t.0 t.1.name)
 woken_known p past s run t f kept begun k =
-    call_known p past (with_handle (front_moved s WatcherKind.Async t.0) t.0 (records.woken t.1)) run t.0 t.1.name _
-    (put_same s.arena.slots t.0 t.1 _ f.holds) (watched_stays s WatcherKind.Async t f kept)
-    (watcher_is_started p past s WatcherKind.Async t f kept begun) (changed p past s t (records.woken t.1) f.holds refl refl k)
+    call_touched p past s (with_handle (front_moved s WatcherKind.Async t.0) t.0 (records.woken t.1)) run t (records.woken t.1) (assumption f.holds)
+    refl (watched_stays s WatcherKind.Async t f kept) (watcher_is_started p past s WatcherKind.Async t f kept begun) k
 
 -- ---- the closing section
 
@@ -141,7 +127,7 @@ closed_known : (p : Program) (past : List Seen) (s : State) (run : Run) (t : Id 
       closing = record s.closing { yet = drop 1 s.closing.yet };
     }) run Callback.Close t.1.name (Seen.Closed t.1.name t.0))
 closed_known p past s run t f kept k =
-    let shut = front_fits s Closes s.closing.list s.closing.yet t kept.closing.lists.each f in
+    let shut = front_fits s Closes s.closing.list s.closing.yet t kept.closing.each f in
     let its : Fits s.arena.slots Closes t.0 = record { handle = t.1; holds = f.holds; fits = shut } in (
       (k.closing t.0 its, not_over p past s.arena s.names t.0 t.1 f.holds k),
       known_names p (Seen.Closed t.1.name t.0 ∷ past) (freed (arena_size p).last_generation t.0 s.arena) _ s.names
@@ -161,7 +147,7 @@ ended_known p past s run t f kept work k =
     let gone : (i : Id) → IsGone s.arena.slots s.arena.free i → IsGone (freed last t.0 s.arena).slots (freed last t.0 s.arena).free i =
     λ i g. gone_freed s last t.0 (Content.Request t.1) f.holds kept i g in
     let ended = its_fit s.arena.slots HasEnded (s.done.list ++ s.done.yet) t.0 t.1 (ap request_in f.holds)
-    (ap (λ (ids : List Id). has_id (s.done.list ++ ids) t.0) f.are ∙ has_new_middle s.done.list f.rest t.0) work.ended in (
+    (ap (λ (ids : List Id). has_id (s.done.list ++ ids) t.0) f.are ∙ has_new_middle s.done.list (drop 1 s.done.yet) t.0) work.ended in (
       record {
         task = t.1.task;
         queued = k.worked.queued t.0 t.1 (ap request_in f.holds);
@@ -210,7 +196,7 @@ taken_known : (p : Program) (past : List Seen) (s : State) (n : ℕ) (t : Id × 
     Follows p past (step.take s n (Ok t))
 taken_known p past s n t f work k =
     let waits : has_id s.waiting t.0 ≡ true = ap (λ (ids : List Id). has_id ids t.0) f.front.are ∙ rw (itself t.0 t.0 refl) refl in
-    let apart : AreDistinct ((t.0 ∷ f.front.rest) ++ run_ids s.running) =
+    let apart : AreDistinct ((t.0 ∷ drop 1 s.waiting) ++ run_ids s.running) =
     subst (λ (ids : List Id). AreDistinct (ids ++ run_ids s.running)) f.front.are work.open_ones.distinct in
     let r = worker s.running n None f.idle in (
       (
@@ -221,7 +207,7 @@ taken_known p past s n t f work k =
       known_told p past (Seen.Take n t.1.name t.0) s.arena s.arena s.names (assumption) (λ i. refl) (λ i u g. g) (λ i g. g)
           (worked_taken p past s.arena s.waiting (run_ids s.running) (drop 1 s.waiting) (run_ids (slice_set s.running n (Some t.0))) n t.1.name t.0
           t.1 (ap request_in f.front.holds) (waits_open s.arena.slots s.waiting s.running s.done t.0 t.1 f.front.holds waits work) waits
-          (λ i e. fewer_wait s.waiting (run_ids s.running) f.front.rest (drop 1 s.waiting) t.0 i f.front.are f.front.behind apart.0 e)
+          (λ i e. fewer_wait s.waiting (run_ids s.running) (drop 1 s.waiting) t.0 i f.front.are apart.0 e)
           (λ i e. more_run (run_ids s.running) _ r.front r.behind t.0 i r.were (r.are (Some t.0)) e) k.worked) k,
     )
 
@@ -265,35 +251,9 @@ did_known p past s n (Did.ended run t f) kept work begun k = ended_known p past 
 did_known p past s n (Did.taken n' t f) kept work begun k = taken_known p past s n' t f work k
 did_known p past s n (Did.finished n' t f) kept work begun k = finished_known p past s n' t f work k
 did_known p past s n (Did.cancelled v) kept work begun k = (cancel_says p past s v k, cancel_outside p past s v k)
-did_known p past s n each kept work begun k =
-    search (
-      still_known,
-      op_line,
-      op_known,
-      new_id,
-      begin_known,
-      begins_known,
-      changed,
-      fired_known,
-      due_known,
-      answered_known,
-      walked_known,
-      woken_known,
-      closed_known,
-      ended_known,
-      taken_known,
-      finished_known,
-      plain,
-      send_known,
-      cancel_says,
-      cancel_outside,
-    )
+did_known p past s n each kept work begun k = search (begin_known, begins_known, plain, send_known)
 
 -- ---- all steps
 
-unbound_id : (n i : ℕ) → (unwrap_or (slice_get (replicate n unbound) i) unbound).id ≡ None
-unbound_id (suc n) (suc i) = unbound_id n i
-unbound_id each i = assumption
-
 pub known_fresh : (p : Program) → KnownAt p [] (fresh p)
-known_fresh p = grind (arith, unbound_id, none-some, none_run)
+known_fresh p = grind (arith, none_bound, none-some, none_run)

@@ -1,7 +1,7 @@
 -- How often each name was called, as the lines tell it and as the state counts it.
 use Rattle.uv_order.proofs.Names.{◌≡◌, ℕ, zero, suc, ◌+◌, ◌<◌, ◌≤◌, ◌==◌, List, ◌∷◌, length, false, slice_get, slice_set, unwrap_or, replicate, refl, ap, ◌∙◌, arith, elements, eqb-true, eq-eqb, cases_lt, Id, Var, Callback, Program, Callbacks, no_callbacks, Calls, Named, without_id, fresh, unbound, count_of, counted, body_from, Told, nothing_told, told_of, times, next_call, body_of}
 use Rattle.uv_order.proofs.Bodies.{IsBody, whole_body}
-use Rattle.uv_order.proofs.OpEffects.{SameCalls, set_long}
+use Rattle.uv_order.proofs.OpEffects.{SameCalls, set_long, none_bound}
 
 abbrev counts_in : List Named → Var → Calls
 counts_in names v = (unwrap_or (slice_get names v.0) unbound).calls
@@ -14,20 +14,12 @@ pub record Counted (p : Program) (names : List Named) (told : Told) : Type 0 whe
 pub counted_kept : (p : Program) (now was : List Named) (told : Told) → SameCalls now was → Counted p was told → Counted p now told
 counted_kept p now was told same k = record { long = same.long ∙ k.long; calls = λ kind v l. ap (count_of kind) (same.each v) ∙ k.calls kind v l }
 
-no_calls : (kind : Callback) (n : ℕ) (i : ℕ) → count_of kind (unwrap_or (slice_get (replicate n unbound) i) unbound).calls ≡ 0
-no_calls kind (suc n) (suc i) = no_calls kind n i
-no_calls kind each i = grind arith
-
 replicate_long : (n : ℕ) → length (replicate n unbound) ≡ n
 replicate_long zero = refl
 replicate_long (suc n) = ap suc (replicate_long n)
 
 pub counted_fresh : (p : Program) → Counted p (fresh p).names nothing_told
-counted_fresh p = grind (arith, replicate_long, no_calls)
-
-set_here : (names : List Named) (i : ℕ) (x : Named) → i < length names → (unwrap_or (slice_get (slice_set names i x) i) unbound).calls ≡ x.calls
-set_here (n ∷ names) (suc i) x l = set_here names i x (omega arith)
-set_here each i x l = grind arith
+counted_fresh p = grind (arith, replicate_long, none_bound)
 
 pub set_there : (names : List Named) (i j : ℕ) (x : Named) → (j ≡ i → ⊥) → slice_get (slice_set names i x) j ≡ slice_get names j
 set_there names i j x d = grind (arith, elements)
@@ -50,12 +42,11 @@ told_same kind other v u id told f = grind arith
 -- a name is called once more
 pub counted_call : (p : Program) (names : List Named) (told : Told) (kind : Callback) (v : Var) (id : Id) (x : Named) →
     x.calls ≡ counted kind (counts_in names v) → Counted p names told → Counted p (slice_set names v.0 x) (told_call kind v id told)
-counted_call p names told kind v id x e k = grind (arith, eqb-true, eq-eqb, set_long, set_here, set_there, told_same)
+counted_call p names told kind v id x e k = grind (arith, eqb-true, eq-eqb, set_long, elements, set_there, told_same)
 
 -- a name without lines has the same body in each call
 past : (all : List Callbacks) (i : ℕ) → length all ≤ i → unwrap_or (slice_get all i) no_callbacks ≡ no_callbacks
-past (x ∷ all) (suc i) l = past all i (omega arith)
-past each i l = grind arith
+past all i l = grind (arith, elements)
 
 -- the body of the next call is that which the lines tell
 pub next_body : (p : Program) (names : List Named) (told : Told) (kind : Callback) (v : Var) (call : ℕ) → call ≡ count_of kind (counts_in names v) +

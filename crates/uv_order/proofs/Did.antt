@@ -1,12 +1,11 @@
 -- What a step does, in a row for each way: the tree of the steps is walked here, once, and whatever steps keep is shown by rows.
-use Rattle.uv_order.proofs.Names.{arith, ◌≡◌, ℕ, ◌+◌, ◌&&◌, List, ◌∷◌, Bool, true, false, Option, Some, None, Result, Ok, Err, drop, length, nat_le, nat_lt, slice_get, option_map, refl, ap, cond_both, and_parts, Id, Var, Due, Event, Cancel, Send, Io, Tick, Why, Blocked, Ended, Range, Mode, Phase, Seen, Site, HandleRecord, WatcherKind, is_io, CallbackLine, MainOp, Op, Program, arena_size, from_heap, lines_in, main_op, op_at, order_of, Request, digest_in, Body, Place, Run, Stage, Pending, Poll, Polled, Done, DoneUnwoken, Closing, Timers, Collecting, Firing, TimersOf, Turn, Behind, BehindClosing, Way, ToTimers, ToPending, ToEnd, State, handle, with_handle, live_handle, live_request, front, front_request, watched, refreshed, stopped, restarted, do_op, Next, Moves, Refuses, call, calls, first_due, front_moved, goes, io_handle, io_run, may_leave, next_work, stage_polled, time_polled, work_of, found_both, BeginsBehind, BeginsAt, Walking, Kind, Callback, Code, next, []}
+use Rattle.uv_order.proofs.Names.{arith, ◌≡◌, ℕ, ◌+◌, ◌&&◌, List, ◌∷◌, Bool, true, false, Option, Some, None, Result, Ok, Err, drop, length, nat_le, nat_lt, slice_get, option_map, refl, ap, cond_both, and_parts, Id, Var, Due, Event, Cancel, Send, Tick, Why, Blocked, Ended, Range, Mode, Phase, Seen, Site, HandleRecord, WatcherKind, is_io, CallbackLine, MainOp, Op, Program, arena_size, from_heap, lines_in, main_op, op_at, order_of, Request, digest_in, Body, Place, Run, Stage, Pending, Poll, Polled, Done, DoneUnwoken, Closing, Timers, Collecting, Firing, TimersOf, Turn, Behind, BehindClosing, Way, ToTimers, ToPending, ToEnd, State, handle, with_handle, live_handle, live_request, front, front_request, watched, refreshed, stopped, restarted, do_op, Next, Moves, Refuses, call, calls, first_due, front_moved, goes, io_handle, io_run, may_leave, next_work, stage_polled, time_polled, work_of, found_both, BeginsBehind, BeginsAt, Walking, Kind, Callback, Code, next, []}
 use Rattle.uv_records.specs.Handles as records
 use Rattle.uv_records.specs.Slots as slots
 use Rattle.uv_model.specs.declared.place.Place.TheVariants.{Running}
 use Rattle.uv_model.specs.declared.place.Stage.TheVariants.{Entry}
 use Rattle.uv_model.specs.Ops as ops
 use Rattle.uv_model.specs.Next as step
-use Rattle.uv_order.proofs.Contents.{holds}
 use Rattle.uv_order.proofs.OpCases.{io_kind}
 use Rattle.uv_order.proofs.Asked.{FrontRequest, request_front, TakesFront, takes_front, RunsWork, runs_work}
 
@@ -14,9 +13,7 @@ use Rattle.uv_order.proofs.Asked.{FrontRequest, request_front, TakesFront, takes
 
 -- the front of a list, with what is behind it
 pub record FrontOf (s : State) (ids : List Id) (t : Id × HandleRecord) : Type 0 where
-  pub rest : List Id
-  pub are : ids ≡ t.0 ∷ rest
-  pub behind : drop 1 ids ≡ rest
+  pub are : ids ≡ t.0 ∷ drop 1 ids
   pub holds : handle s t.0 ≡ Some t.1
 
 pub front_of : (s : State) (ids : List Id) (t : Id × HandleRecord) → front s ids ≡ Some t → FrontOf s ids t
@@ -24,9 +21,7 @@ front_of s ids t e = grind arith
 
 pub record FirstOf (s : State) (ts : List (Due × Id)) (t : Id × HandleRecord) : Type 0 where
   pub key : Due
-  pub rest : List (Due × Id)
-  pub are : ts ≡ (key, t.0) ∷ rest
-  pub behind : drop 1 ts ≡ rest
+  pub are : ts ≡ (key, t.0) ∷ drop 1 ts
   pub due : nat_le key.at s.time ≡ true
   pub holds : handle s t.0 ≡ Some t.1
 

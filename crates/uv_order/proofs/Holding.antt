@@ -1,7 +1,7 @@
 -- What the slots hold, and the lists of ids of handles.
-use Rattle.uv_order.proofs.Names.{◌≡◌, ◌⊎◌, inl, inr, ℕ, ◌<◌, List, ◌∷◌, ◌++◌, Bool, true, false, Option, Some, None, slice_set, refl, ap, sym, subst, ◌∙◌, arith, same_Some, Id, Var, Due, HandleRecord, Slot, held, Content, handle_in, same_id, without_id, with_timer, without_timer, Has, InOrder, has_id, AreDistinct, if◌then◌else◌, false_from_ne_true, or_left, or_right, none-some, Kind, option_map}
+use Rattle.uv_order.proofs.Names.{◌≡◌, inl, inr, ℕ, ◌<◌, List, ◌∷◌, ◌++◌, Bool, true, false, Option, Some, None, slice_set, refl, ap, sym, subst, ◌∙◌, arith, same_Some, Id, Var, Due, HandleRecord, Slot, held, Content, handle_in, same_id, without_id, with_timer, without_timer, Has, InOrder, has_id, if◌then◌else◌, false_from_ne_true, Kind, option_map, State, handle, ◌==◌, begun_at, due_after, started, restarted, suc, slice_get, AreAll, []}
 use Rattle.uv_order.proofs.Contents.{slot_with, turned_to, holds, Turns, set_turns, emptied, emptied_turns, as_handle}
-use Rattle.uv_order.proofs.IdLists.{same, other, turned, Each, each_mapped, each_without, absent, distinct_without, still_there, without_absent, each_middle, distinct_middle, has_new_middle, has_old_middle, each_but, distinct_but, has_but}
+use Rattle.uv_order.proofs.IdLists.{same, other, distinct_without, distinct_but, AreSome, some_alike, some_less, all_alike, all_less, all_more, has_but_one, but_middle}
 use Rattle.uv_order.proofs.TimerKeys.{one_id, not_before_itself, before_each, still_has, had, in_order_without, IsNew, has_new, has_old, new_or_old, in_order_with, is_new}
 
 -- ---- slots
@@ -118,11 +118,6 @@ pub fitted : (slots : List (Slot Content)) (P : HandleRecord → Type 0) (id : I
     (i ≡ id → ⊥) → Fits (put slots id x) P i → Fits slots P i
 fitted slots P id h x e i d k = record { handle = k.handle; holds = sym (put_other slots id i h x e d) ∙ k.holds; fits = k.fits }
 
--- it fitted before, where the changed one did if it does now
-pub fits_back : (slots : List (Slot Content)) (P : HandleRecord → Type 0) (id : Id) (h x : HandleRecord) → held_at slots id ≡ Some h → (P x → P h) →
-    (i : Id) → Fits (put slots id x) P i → Fits slots P i
-fits_back slots P id h x e g i l = grind (arith, holds, same, other, fitted, its_handle, put_same)
-
 -- whoever fits then is another one that fitted before, where the changed one doesn't fit
 fits_apart : (slots : List (Slot Content)) (P : HandleRecord → Type 0) (id : Id) (h x : HandleRecord) → held_at slots id ≡ Some h → (P x → ⊥) →
     (i : Id) → Fits (put slots id x) P i → (i ≡ id → ⊥) × Fits slots P i
@@ -130,130 +125,105 @@ fits_apart slots P id h x e d i l = (apart, fitted slots P id h x e i apart l) w
   apart : i ≡ id → ⊥
   apart is = d (its_handle (put slots id x) P id x (put_same slots id h x e) (subst (Fits (put slots id x) P) is l))
 
--- whoever fits then is that one, or fitted before
-fits_either : (slots : List (Slot Content)) (P : HandleRecord → Type 0) (id : Id) (h x : HandleRecord) → held_at slots id ≡ Some h → (i : Id) →
-    Fits (put slots id x) P i → (same_id id i ≡ true) ⊎ Fits slots P i
-fits_either slots P id h x e i l = grind (arith, turned, put_at slots id h x e)
+fits_not : (slots : List (Slot Content)) (P : HandleRecord → Type 0) (id : Id) (h : HandleRecord) → held_at slots id ≡ Some h → (P h → ⊥) → (i : Id) →
+    Fits slots P i → i ≡ id → ⊥
+fits_not slots P id h e f i k is = f (its_handle slots P id h e (subst (Fits slots P) is k))
 
--- ---- lists of such ids, on which none stands twice
+-- another list of slots has the same handle there
+fits_by : (slots more : List (Slot Content)) (P : HandleRecord → Type 0) (i : Id) → held_at more i ≡ held_at slots i → Fits slots P i → Fits more P i
+fits_by slots more P i f k = record { handle = k.handle; holds = f ∙ k.holds; fits = k.fits }
 
-pub record Lists (slots : List (Slot Content)) (P : HandleRecord → Type 0) (ids : List Id) : Type 0 where
-  pub each : Each (Fits slots P) ids
-  pub distinct : AreDistinct ids
-
-pub lists_put : (slots : List (Slot Content)) (P : HandleRecord → Type 0) (id : Id) (h x : HandleRecord) (ids : List Id) → held_at slots id ≡ Some h →
-    (P h → P x) → Lists slots P ids → Lists (put slots id x) P ids
-lists_put slots P id h x ids e f k = assumption (each_mapped (Fits slots P) (Fits (put slots id x) P) (fits_put slots P id h x e f) ids k.each, k)
-
-pub lists_without : (slots : List (Slot Content)) (P : HandleRecord → Type 0) (id : Id) (h x : HandleRecord) (ids : List Id) →
-    held_at slots id ≡ Some h → Lists slots P ids → Lists (put slots id x) P (without_id ids id)
-lists_without slots P id h x ids e k = search (each_without, fits_other, distinct_without)
-
-pub lists_same : (slots more : List (Slot Content)) (P : HandleRecord → Type 0) (ids : List Id) → SameHandles more slots → Lists slots P ids →
-    Lists more P ids
-lists_same slots more P ids f k = grind (arith, each_mapped)
-
--- a handle that doesn't fit is on no such list
-pub not_listed : (slots : List (Slot Content)) (P : HandleRecord → Type 0) (id : Id) (h : HandleRecord) (ids : List Id) → held_at slots id ≡ Some h →
-    (P h → ⊥) → Lists slots P ids → has_id ids id ≡ false
-not_listed slots P id h ids e f k = absent (Fits slots P) id (λ g. f (its_handle slots P id h e g)) ids k.each
-
--- ---- all handles of which something holds
-
-pub record Everyone (slots : List (Slot Content)) (P : HandleRecord → Type 0) (ids : List Id) : Type 0 where
-  pub lists : Lists slots P ids
-  pub all : (id : Id) → Fits slots P id → has_id ids id ≡ true
-
-pub everyone_same : (slots more : List (Slot Content)) (P : HandleRecord → Type 0) (ids : List Id) → SameHandles more slots → Everyone slots P ids →
-    Everyone more P ids
-everyone_same slots more P ids f k = grind (arith, lists_same)
-
--- a handle is changed that fits before and after, or doesn't
-pub everyone_put : (slots : List (Slot Content)) (P : HandleRecord → Type 0) (id : Id) (h x : HandleRecord) (ids : List Id) →
-    held_at slots id ≡ Some h → (P h → P x) → (P x → P h) → Everyone slots P ids → Everyone (put slots id x) P ids
-everyone_put slots P id h x ids e f g k = grind (arith, fits_back, lists_put)
-
--- one that doesn't fit any more is taken off
-pub everyone_without : (slots : List (Slot Content)) (P : HandleRecord → Type 0) (id : Id) (h x : HandleRecord) (ids : List Id) →
-    held_at slots id ≡ Some h → (P x → ⊥) → Everyone slots P ids → Everyone (put slots id x) P (without_id ids id)
-everyone_without slots P id h x ids e g k = record {
-  lists = lists_without slots P id h x ids e k.lists;
-  all = λ i l. let b = fits_apart slots P id h x e g i l in
-      still_there ids id i (false_from_ne_true (same_id i id) (λ s. b.0 (same i id s))) (k.all i b.1);
-}
-
--- one that fits from now on is put in front
-pub everyone_front : (slots : List (Slot Content)) (P : HandleRecord → Type 0) (id : Id) (h x : HandleRecord) (ids : List Id) →
-    held_at slots id ≡ Some h → (P h → ⊥) → P x → Everyone slots P ids → Everyone (put slots id x) P (id ∷ ids)
-everyone_front slots P id h x ids e f g k =
-    let away : has_id ids id ≡ false = not_listed slots P id h ids e f k.lists in
-    let rest : Lists (put slots id x) P ids = subst (Lists (put slots id x) P) (without_absent ids id away)
-    (lists_without slots P id h x ids e k.lists) in
-    record {
-      lists = record { each = (record { handle = x; holds = put_same slots id h x e; fits = g }, rest.each); distinct = (away, rest.distinct) };
-      all = λ i l. elim (fits_either slots P id h x e i l) [ inl s ↦ or_left _ _ s | inr old ↦ or_right _ _ (k.all i old) ];
-    }
-
--- ---- one handle more, or one less
-
--- it fitted before, unless it is the new one
-pub fitted_grown : (slots more : List (Slot Content)) (P : HandleRecord → Type 0) (id : Id) (x : HandleRecord) → Grown slots more id x → (i : Id) →
-    Fits more P i → ((i ≡ id) × P x) ⊎ Fits slots P i
-fitted_grown slots more P id x g i l = grind arith
-
-pub lists_grown : (slots more : List (Slot Content)) (P : HandleRecord → Type 0) (id : Id) (x : HandleRecord) (ids : List Id) →
-    Grown slots more id x → Lists slots P ids → Lists more P ids
-lists_grown slots more P id x ids g k = grind (arith, each_mapped)
-
-pub everyone_grown : (slots more : List (Slot Content)) (P : HandleRecord → Type 0) (id : Id) (x : HandleRecord) (ids : List Id) →
-    Grown slots more id x → (P x → ⊥) → Everyone slots P ids → Everyone more P ids
-everyone_grown slots more P id x ids g d k = grind (arith, fitted_grown, lists_grown)
-
--- the new one is listed, anywhere
-pub everyone_listed : (slots more : List (Slot Content)) (P : HandleRecord → Type 0) (id : Id) (x : HandleRecord) (xs ys : List Id) →
-    Grown slots more id x → P x → Everyone slots P (xs ++ ys) → Everyone more P (xs ++ id ∷ ys)
-everyone_listed slots more P id x xs ys g fits k =
-    let new : Fits more P id = record { handle = x; holds = g.here; fits = fits } in
-    let away = absent (Fits slots P) id (λ f. none-some f.handle (sym g.new ∙ f.holds)) (xs ++ ys) k.lists.each in
-    record {
-      lists = record {
-        each = each_middle (Fits more P) xs ys id new (lists_grown slots more P id x (xs ++ ys) g k.lists).each;
-        distinct = distinct_middle xs ys id k.lists.distinct away;
-      };
-      all = λ i l. elim (fitted_grown slots more P id x g i l) [
-        | inl is ↦ subst (λ (j : Id). has_id (xs ++ id ∷ ys) j ≡ true) (sym is.0) (has_new_middle xs ys id)
-        | inr old ↦ has_old_middle xs ys id i (k.all i old)
-      ];
-    }
+-- whoever fits is not the new one, and fits still
+pub fits_grown : (slots more : List (Slot Content)) (P : HandleRecord → Type 0) (id : Id) (x : HandleRecord) → Grown slots more id x → (i : Id) →
+    Fits slots P i → (i ≡ id → ⊥) × Fits more P i
+fits_grown slots more P id x g i k = grind arith
 
 -- a slot is emptied, whose handle fitted nowhere
 pub fits_emptied : (slots : List (Slot Content)) (P : HandleRecord → Type 0) (id : Id) (h : HandleRecord) (n : ℕ) → held_at slots id ≡ Some h →
     (i : Id) → (i ≡ id → ⊥) → Fits slots P i → Fits (emptied slots id n) P i
-fits_emptied slots P id h n e i d k = record { handle = k.handle; holds = emptied_other slots id i h n e d ∙ k.holds; fits = k.fits }
+fits_emptied slots P id h n e i d k = fits_by slots (emptied slots id n) P i (emptied_other slots id i h n e d) k
 
 pub fitted_emptied : (slots : List (Slot Content)) (P : HandleRecord → Type 0) (id : Id) (h : HandleRecord) (n : ℕ) → held_at slots id ≡ Some h →
     (i : Id) → Fits (emptied slots id n) P i → (i ≡ id → ⊥) × Fits slots P i
 fitted_emptied slots P id h n e i l = grind (arith, emptied_same, emptied_other)
 
+-- ---- lists of such ids, on which none stands twice
+
+abbrev pub Lists : List (Slot Content) → (HandleRecord → Type 0) → List Id → Type 0
+Lists slots P ids = AreSome (Fits slots P) ids
+
+pub lists_put : (slots : List (Slot Content)) (P : HandleRecord → Type 0) (id : Id) (h x : HandleRecord) (ids : List Id) → held_at slots id ≡ Some h →
+    (P h → P x) → Lists slots P ids → Lists (put slots id x) P ids
+lists_put slots P id h x ids e f k = some_alike (fits_put slots P id h x e f) k
+
+pub lists_without : (slots : List (Slot Content)) (P : HandleRecord → Type 0) (id : Id) (h x : HandleRecord) (ids : List Id) →
+    held_at slots id ≡ Some h → Lists slots P ids → Lists (put slots id x) P (without_id ids id)
+lists_without slots P id h x ids e k = some_less id (fits_other slots P id h x e) k
+
+pub lists_same : (slots more : List (Slot Content)) (P : HandleRecord → Type 0) (ids : List Id) → SameHandles more slots → Lists slots P ids →
+    Lists more P ids
+lists_same slots more P ids f k = some_alike (λ i. fits_by slots more P i (f i)) k
+
+pub lists_grown : (slots more : List (Slot Content)) (P : HandleRecord → Type 0) (id : Id) (x : HandleRecord) (ids : List Id) →
+    Grown slots more id x → Lists slots P ids → Lists more P ids
+lists_grown slots more P id x ids g k = some_alike (λ i a. (fits_grown slots more P id x g i a).1) k
+
 pub lists_emptied : (slots : List (Slot Content)) (P : HandleRecord → Type 0) (id : Id) (h : HandleRecord) (n : ℕ) (ids : List Id) →
     held_at slots id ≡ Some h → (P h → ⊥) → Lists slots P ids → Lists (emptied slots id n) P ids
-lists_emptied slots P id h n ids e d k = assumption (
-  each_mapped (Fits slots P) (Fits (emptied slots id n) P)
-      (λ i f. fits_emptied slots P id h n e i (λ is. d (its_handle slots P id h e (subst (Fits slots P) is f))) f) ids k.each,
-  k,
-)
+lists_emptied slots P id h n ids e d k = some_alike (λ i f. fits_emptied slots P id h n e i (fits_not slots P id h e d i f) f) k
+
+-- a handle that doesn't fit is on no such list
+pub not_listed : (slots : List (Slot Content)) (P : HandleRecord → Type 0) (id : Id) (h : HandleRecord) (ids : List Id) → held_at slots id ≡ Some h →
+    (P h → ⊥) → ((i : Id) → has_id ids i ≡ true → Fits slots P i) → has_id ids id ≡ false
+not_listed slots P id h ids e f each = false_from_ne_true (has_id ids id) (λ on. f (its_handle slots P id h e (each id on)))
+
+-- ---- all handles of which something holds
+
+abbrev pub Everyone : List (Slot Content) → (HandleRecord → Type 0) → List Id → Type 0
+Everyone slots P ids = AreAll (Fits slots P) ids
+
+pub everyone_same : (slots more : List (Slot Content)) (P : HandleRecord → Type 0) (ids : List Id) → SameHandles more slots → Everyone slots P ids →
+    Everyone more P ids
+everyone_same slots more P ids f k = all_alike (λ i. fits_by slots more P i (f i)) (λ i. fits_by more slots P i (sym (f i))) k
+
+-- a handle is changed that fits before and after, or doesn't
+pub everyone_put : (slots : List (Slot Content)) (P : HandleRecord → Type 0) (id : Id) (h x : HandleRecord) (ids : List Id) →
+    held_at slots id ≡ Some h → (P h → P x) → (P x → P h) → Everyone slots P ids → Everyone (put slots id x) P ids
+everyone_put slots P id h x ids e f g k = all_alike (fits_put slots P id h x e f) (grind (arith, holds, same, other, fitted, its_handle, put_same)) k
+
+-- one that doesn't fit any more is taken off
+pub everyone_without : (slots : List (Slot Content)) (P : HandleRecord → Type 0) (id : Id) (h x : HandleRecord) (ids : List Id) →
+    held_at slots id ≡ Some h → (P x → ⊥) → Everyone slots P ids → Everyone (put slots id x) P (without_id ids id)
+everyone_without slots P id h x ids e g k =
+    all_less id (fits_other slots P id h x e) (fits_apart slots P id h x e g) (has_but_one ids id) (distinct_without ids id k.distinct) k
+
+-- one that fits from now on is put in front
+pub everyone_front : (slots : List (Slot Content)) (P : HandleRecord → Type 0) (id : Id) (h x : HandleRecord) (ids : List Id) →
+    held_at slots id ≡ Some h → (P h → ⊥) → P x → Everyone slots P ids → Everyone (put slots id x) P (id ∷ ids)
+everyone_front slots P id h x ids e f g k = all_more [] ids id
+    (λ i a. let d = fits_not slots P id h e f i a in (d, fits_other slots P id h x e i d a)) (fitted slots P id h x e)
+    (record { handle = x; holds = put_same slots id h x e; fits = g }) k
+
+-- a new one doesn't fit, or it is listed, anywhere
+pub everyone_grown : (slots more : List (Slot Content)) (P : HandleRecord → Type 0) (id : Id) (x : HandleRecord) (ids : List Id) →
+    Grown slots more id x → (P x → ⊥) → Everyone slots P ids → Everyone more P ids
+everyone_grown slots more P id x ids g d k = grind arith
+
+pub everyone_listed : (slots more : List (Slot Content)) (P : HandleRecord → Type 0) (id : Id) (x : HandleRecord) (xs ys : List Id) →
+    Grown slots more id x → P x → Everyone slots P (xs ++ ys) → Everyone more P (xs ++ id ∷ ys)
+everyone_listed slots more P id x xs ys g fits k = all_more xs ys id (fits_grown slots more P id x g)
+    (λ i d a. fits_by more slots P i (sym (g.others i d)) a) (record { handle = x; holds = g.here; fits = fits }) k
 
 pub everyone_emptied : (slots : List (Slot Content)) (P : HandleRecord → Type 0) (id : Id) (h : HandleRecord) (n : ℕ) (ids : List Id) →
     held_at slots id ≡ Some h → (P h → ⊥) → Everyone slots P ids → Everyone (emptied slots id n) P ids
-everyone_emptied slots P id h n ids e d k = grind (arith, fitted_emptied, lists_emptied)
+everyone_emptied slots P id h n ids e d k = all_alike (λ i f. fits_emptied slots P id h n e i (fits_not slots P id h e d i f) f)
+    (λ i l. (fitted_emptied slots P id h n e i l).1) k
 
 -- the one whose slot is emptied is the first of a list, and leaves it
 pub everyone_rest : (slots : List (Slot Content)) (P : HandleRecord → Type 0) (id : Id) (h : HandleRecord) (n : ℕ) (xs ys : List Id) →
     held_at slots id ≡ Some h → Everyone slots P (xs ++ id ∷ ys) → Everyone (emptied slots id n) P (xs ++ ys)
-everyone_rest slots P id h n xs ys e k = record {
-  lists = search (each_but, fits_emptied, distinct_but);
-  all = λ i l. let f = fitted_emptied slots P id h n e i l in has_but xs ys id i (f.0) (k.all i f.1);
-}
+everyone_rest slots P id h n xs ys e k = all_less id (fits_emptied slots P id h n e) (fitted_emptied slots P id h n e)
+    (but_middle xs ys id k.distinct) (distinct_but xs ys id k.distinct) k
 
 -- ---- the timers
 
@@ -273,7 +243,7 @@ pub times_put : (slots : List (Slot Content)) (drawn : ℕ) (ts : List (Due × I
     ((key : Due) → IsSet key h → IsSet key x) → ((key : Due) → IsSet key x → IsSet key h) → Times slots drawn ts → Times (put slots id x) drawn ts
 times_put slots drawn ts id h x e f g k = record {
   each = λ key i l. let n = k.each key i l in (fits_put slots (IsSet key) id h x e (f key) i n.0, n.1);
-  all = λ key i l. k.all key i (fits_back slots (IsSet key) id h x e (g key) i l);
+  all = λ key i l. k.all key i (grind (arith, holds, same, other, fitted, its_handle, put_same));
   sorted = k.sorted;
 }
 
@@ -342,3 +312,39 @@ times_grown slots more drawn ts id x g d k = grind arith
 pub times_emptied : (slots : List (Slot Content)) (drawn : ℕ) (ts : List (Due × Id)) (id : Id) (h : HandleRecord) (n : ℕ) →
     held_at slots id ≡ Some h → ((key : Due) → IsSet key h → ⊥) → Times slots drawn ts → Times (emptied slots id n) drawn ts
 times_emptied slots drawn ts id h n e d k = grind (arith, fits_emptied, fitted_emptied, its_handle)
+
+-- ---- one handle's record
+
+-- the record of a handle changes, which is called as before, and nothing else of the slots, of the names and of the requests
+pub record Touches (s : State) (id : Id) (h x : HandleRecord) (u : State) : Type 0 where
+  pub holds : handle s id ≡ Some h
+  pub arena : u.arena ≡ record s.arena { slots = put s.arena.slots id x }
+  pub names : u.names ≡ s.names
+  pub waiting : u.waiting ≡ s.waiting
+  pub running : u.running ≡ s.running
+  pub done : u.done ≡ s.done
+  pub name : x.name ≡ h.name
+
+set_twice : (slots : List (Slot Content)) (i : ℕ) (a b : Slot Content) → slice_set (slice_set slots i a) i b ≡ slice_set slots i b
+set_twice (x ∷ xs) (suc i) a b = ap (λ (ys : List (Slot Content)). x ∷ ys) (set_twice xs i a b)
+set_twice each i a b = assumption
+
+set_itself : (slots : List (Slot Content)) (i : ℕ) (a : Slot Content) → slice_get slots i ≡ Some a → slots ≡ slice_set slots i a
+set_itself (x ∷ xs) (suc i) a e = ap (λ (ys : List (Slot Content)). x ∷ ys) (set_itself xs i a e)
+set_itself each i a e = grind arith
+
+-- it stays
+pub still_touches : (s : State) (ready : List Id) (id : Id) (h : HandleRecord) → handle s id ≡ Some h → Touches s id h h (record s { ready = ready })
+still_touches s ready id h e = grind (arith, holds, is_held, same, set_itself)
+
+-- a timer is started
+pub start_touches : (s u : State) (id : Id) (h x : HandleRecord) (timeout repeat : ℕ) → Touches s id h x u →
+    Touches s id h (begun_at (due_after u timeout) repeat h) (started u id h timeout repeat)
+start_touches s u id h x timeout repeat t = grind (arith, set_twice)
+
+-- it is started again where it repeats
+abbrev pub again_as : State → HandleRecord → HandleRecord → HandleRecord
+again_as u h x = if h.repeat == 0 then x else begun_at (due_after u h.repeat) h.repeat h
+
+pub again_touches : (s u : State) (id : Id) (h x : HandleRecord) → Touches s id h x u → Touches s id h (again_as u h x) (restarted u id h)
+again_touches s u id h x t = grind (arith, start_touches)

@@ -1,5 +1,5 @@
 -- Lists of ids, and what was taken off them.
-use Rattle.uv_order.proofs.Names.{arith, list_any, ◌≡◌, ◌&&◌, ◌||◌, List, ◌∷◌, ◌++◌, Bool, true, false, refl, ap, sym, ◌∙◌, if◌then◌else◌, filter, not, eq-eqb, both_ways, Id, same_id, without_id, has_id, AreDistinct, AllOff, []}
+use Rattle.uv_order.proofs.Names.{arith, list_any, ◌≡◌, ◌&&◌, ◌||◌, List, ◌∷◌, ◌++◌, Bool, true, false, refl, ap, sym, ◌∙◌, if◌then◌else◌, filter, not, eq-eqb, both_ways, Id, same_id, without_id, has_id, AreDistinct, AllOff, [], AreAll, false_from_ne_true, ◌⊎◌, inl, inr, subst}
 
 -- ---- one id and another
 
@@ -16,33 +16,6 @@ pub turned : (a b : Id) → same_id a b ≡ same_id b a
 turned a b = grind (arith, other, same)
 
 -- ---- members
-
--- what holds of each id on a list
-abbrev pub Each : (Id → Type 0) → List Id → Type 0
-Each P [] = Unit {0}
-Each P (id ∷ ids) = P id × Each P ids
-
-pub each_mapped : (P Q : Id → Type 0) → ((id : Id) → P id → Q id) → (ids : List Id) → Each P ids → Each Q ids
-each_mapped P Q f [] h = tt
-each_mapped P Q f (id ∷ ids) h = (f id h.0, each_mapped P Q f ids h.1)
-
-pub each_back : (P : Id → Type 0) (xs ys : List Id) → Each P (xs ++ ys) → Each P ys
-each_back P [] ys h = h
-each_back P (x ∷ xs) ys h = each_back P xs ys h.1
-
-pub each_push : (P : Id → Type 0) (xs : List Id) (y : Id) → Each P xs → P y → Each P (xs ++ y ∷ [])
-each_push P [] y h k = (k, tt)
-each_push P (x ∷ xs) y h k = (h.0, each_push P xs y h.1 k)
-
--- whoever stays is another one
-pub each_without : (P Q : Id → Type 0) (x : Id) → ((id : Id) → (id ≡ x → ⊥) → P id → Q id) → (ids : List Id) → Each P ids → Each Q (without_id ids x)
-each_without P Q x f [] h = tt
-each_without P Q x f (id ∷ ids) h = grind (arith, other, each_without P Q x f ids h.1)
-
--- an id of which that doesn't hold isn't there
-pub absent : (P : Id → Type 0) (x : Id) → (P x → ⊥) → (ids : List Id) → Each P ids → has_id ids x ≡ false
-absent P x f [] h = refl
-absent P x f (id ∷ ids) h = grind (arith, same, absent P x f ids h.1)
 
 -- who is on two lists, and who on a list without one
 pub has_both : (xs ys : List Id) (i : Id) → has_id (xs ++ ys) i ≡ (has_id xs i || has_id ys i)
@@ -61,11 +34,6 @@ still_absent ids x i h = grind (arith, has_but_one)
 
 pub still_there : (ids : List Id) (x i : Id) → same_id i x ≡ false → has_id ids i ≡ true → has_id (without_id ids x) i ≡ true
 still_there ids x i d h = grind (arith, has_but_one)
-
--- what holds of each member holds of this one
-pub member : (P : Id → Type 0) (ids : List Id) → Each P ids → (id : Id) → has_id ids id ≡ true → P id
-member P [] h id e = cc e
-member P (x ∷ ids) h id e = grind (arith, same, member P ids h.1 id)
 
 -- whether another one is there
 pub has_without : (ids : List Id) (x i : Id) → same_id i x ≡ false → has_id (without_id ids x) i ≡ has_id ids i
@@ -106,19 +74,12 @@ distinct_push (id ∷ ids) x h k = grind (arith, has_both, turned, distinct_push
 
 -- ---- one in the middle
 
-pub each_middle : (P : Id → Type 0) (xs ys : List Id) (id : Id) → P id → Each P (xs ++ ys) → Each P (xs ++ id ∷ ys)
-each_middle P [] ys id p h = (p, h)
-each_middle P (x ∷ xs) ys id p h = (h.0, each_middle P xs ys id p h.1)
-
 pub distinct_middle : (xs ys : List Id) (id : Id) → AreDistinct (xs ++ ys) → has_id (xs ++ ys) id ≡ false → AreDistinct (xs ++ id ∷ ys)
 distinct_middle [] ys id h d = (d, h)
 distinct_middle (x ∷ xs) ys id h d = grind (arith, has_both, turned, distinct_middle xs ys id h.1)
 
 pub has_new_middle : (xs ys : List Id) (id : Id) → has_id (xs ++ id ∷ ys) id ≡ true
 has_new_middle xs ys id = grind (arith, itself, has_both)
-
-pub has_old_middle : (xs ys : List Id) (id i : Id) → has_id (xs ++ ys) i ≡ true → has_id (xs ++ id ∷ ys) i ≡ true
-has_old_middle xs ys id i h = grind (arith, has_both)
 
 -- the one in the middle goes
 has_no_other : (xs ys : List Id) (id i : Id) → has_id (xs ++ id ∷ ys) i ≡ false → has_id (xs ++ ys) i ≡ false
@@ -128,21 +89,60 @@ pub distinct_but : (xs ys : List Id) (id : Id) → AreDistinct (xs ++ id ∷ ys)
 distinct_but [] ys id h = h.1
 distinct_but (x ∷ xs) ys id h = (has_no_other xs ys id x h.0, distinct_but xs ys id h.1)
 
-pub has_but : (xs ys : List Id) (id i : Id) → (i ≡ id → ⊥) → has_id (xs ++ id ∷ ys) i ≡ true → has_id (xs ++ ys) i ≡ true
-has_but xs ys id i d h = grind (arith, same, has_both)
+in_middle : (xs ys : List Id) (id i : Id) → has_id (xs ++ id ∷ ys) i ≡ true → (id ≡ i) ⊎ (has_id (xs ++ ys) i ≡ true)
+in_middle xs ys id i h = grind (arith, has_both, same)
 
--- none of the others is that one
-gone : (xs ys : List Id) (id x : Id) → has_id (xs ++ id ∷ ys) x ≡ false → x ≡ id → ⊥
-gone xs ys id x h e = grind (arith, itself, has_both)
+-- where none stands twice, it stands nowhere else
+pub once_middle : (xs ys : List Id) (id : Id) → AreDistinct (xs ++ id ∷ ys) → has_id (xs ++ ys) id ≡ false
+once_middle [] ys id d = d.0
+once_middle (x ∷ xs) ys id d = grind (arith, false_from_ne_true, same, has_new_middle, once_middle xs ys id d.1)
 
-each_apart : (P Q : Id → Type 0) (ys : List Id) (id : Id) → ((i : Id) → (i ≡ id → ⊥) → P i → Q i) → has_id ys id ≡ false → Each P ys → Each Q ys
-each_apart P Q [] id f h e = tt
-each_apart P Q (y ∷ ys) id f h e = grind (arith, other, each_apart P Q ys id f)
+pub but_middle : (xs ys : List Id) (id : Id) → AreDistinct (xs ++ id ∷ ys) → (i : Id) →
+    has_id (xs ++ ys) i ≡ (not (same_id i id) && has_id (xs ++ id ∷ ys) i)
+but_middle xs ys id d i = grind (arith, has_both, same, turned, once_middle xs ys id d)
 
-pub each_but : (P Q : Id → Type 0) (xs ys : List Id) (id : Id) → ((i : Id) → (i ≡ id → ⊥) → P i → Q i) → AreDistinct (xs ++ id ∷ ys) →
-    Each P (xs ++ id ∷ ys) → Each Q (xs ++ ys)
-each_but P Q [] ys id f d h = each_apart P Q ys id f d.0 h.1
-each_but P Q (x ∷ xs) ys id f d h = (f x (gone xs ys id x d.0) h.0, each_but P Q xs ys id f d.1 h.1)
+-- ---- of which something holds
+
+-- it holds of each of these, of which none stands twice
+pub record AreSome (P : Id → Type 0) (ids : List Id) : Type 0 where
+  pub each : (id : Id) → has_id ids id ≡ true → P id
+  pub distinct : AreDistinct ids
+
+pub some_alike : {P Q : Id → Type 0} {ids : List Id} → ((i : Id) → P i → Q i) → AreSome P ids → AreSome Q ids
+some_alike f k = record { each = λ i h. f i (k.each i h); distinct = k.distinct }
+
+not_both : (a b : Bool) → (not b && a) ≡ true → (a ≡ true) × (b ≡ false)
+not_both a b e = grind arith
+
+pub some_less : {P Q : Id → Type 0} {ids : List Id} (x : Id) → ((i : Id) → (i ≡ x → ⊥) → P i → Q i) → AreSome P ids → AreSome Q (without_id ids x)
+some_less {ids = ids} x f k = record {
+  each = λ i h. let b = not_both (has_id ids i) (same_id i x) (sym (has_but_one ids x i) ∙ h) in f i (other i x b.1) (k.each i b.0);
+  distinct = distinct_without ids x k.distinct;
+}
+
+-- all of which it holds: it holds of the same ones
+pub all_alike : {P Q : Id → Type 0} {ids : List Id} → ((i : Id) → P i → Q i) → ((i : Id) → Q i → P i) → AreAll P ids → AreAll Q ids
+all_alike f g k = record { each = λ i h. f i (k.each i h); all = λ i q. k.all i (g i q); distinct = k.distinct }
+
+-- one leaves, by who is left
+pub all_less : {P Q : Id → Type 0} {ids few : List Id} (x : Id) → ((i : Id) → (i ≡ x → ⊥) → P i → Q i) → ((i : Id) → Q i → (i ≡ x → ⊥) × P i) →
+    ((i : Id) → has_id few i ≡ (not (same_id i x) && has_id ids i)) → AreDistinct few → AreAll P ids → AreAll Q few
+all_less {ids = ids} x f g on once k = record {
+  each = λ i h. let b = not_both (has_id ids i) (same_id i x) (sym (on i) ∙ h) in f i (other i x b.1) (k.each i b.0);
+  all = λ i q. let b = g i q in on i ∙ rw (false_from_ne_true (same_id i x) (λ s. b.0 (same i x s)), k.all i b.1) refl;
+  distinct = once;
+}
+
+-- one comes
+pub all_more : {P Q : Id → Type 0} (xs ys : List Id) (x : Id) → ((i : Id) → P i → (i ≡ x → ⊥) × Q i) → ((i : Id) → (i ≡ x → ⊥) → Q i → P i) → Q x →
+    AreAll P (xs ++ ys) → AreAll Q (xs ++ x ∷ ys)
+all_more {Q = Q} xs ys x f g new k = record {
+  each = λ i h. elim (in_middle xs ys x i h) [ inl is ↦ subst Q is new | inr old ↦ (f i (k.each i old)).1 ];
+  all = λ i q. all i q (same_id i x) refl;
+  distinct = distinct_middle xs ys x k.distinct (false_from_ne_true (has_id (xs ++ ys) x) (λ h. (f x (k.each x h)).0 refl));
+} where
+  all : (i : Id) → Q i → (b : Bool) → same_id i x ≡ b → has_id (xs ++ x ∷ ys) i ≡ true
+  all i q b s = grind (arith, same, has_new_middle, has_both, other)
 
 -- ---- those that were not taken off
 

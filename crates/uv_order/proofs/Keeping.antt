@@ -258,17 +258,17 @@ pub in_front : (s : State) (id : Id) (h x : HandleRecord) (q : Kind) (ids : List
     x.active ≡ true → Everyone s.arena.slots (Watches q) ids → Everyone (put s.arena.slots id x) (Watches q) (id ∷ ids)
 in_front s id h x q ids e off u on l = everyone_front s.arena.slots (Watches q) id h x ids e (λ w. on_off h w.active off) (assumption) l
 
--- what a watcher's start leaves of all but the lists
-abbrev pub StillSound : State → Id → HandleRecord → Type 0
-StillSound s id x = AllSound (put s.arena.slots id x) × AreFree (put s.arena.slots id x) s.arena.free × Everyone (put s.arena.slots id x) Closes
-    (members s.closing)
-
-pub activated_sound : (s : State) (id : Id) (h : HandleRecord) → handle s id ≡ Some h → h.closing ≡ false → Kept s → StillSound s id (activated h)
-activated_sound s id h e stays k = (
-  sound_put s.arena.slots id h (activated h) e (record { shut = λ shut. absurd (open_shut h shut stays); awake = λ q unshut. refl }) k.sound,
-  free_put s.arena.slots id h (activated h) s.arena.free e k.free,
-  everyone_put s.arena.slots Closes id h (activated h) (members s.closing) e (λ shut. shut) (λ shut. shut) k.closing,
-)
+-- a handle that is no timer is started, and the lists of watchers are these then
+activated_kept : (s : State) (id : Id) (h : HandleRecord) (q : Kind) (watching : Watchers) → handle s id ≡ Some h → h.kind ≡ q → Apart q Kind.Timer →
+    h.closing ≡ false → Kept s →
+    ((r : WatcherKind) → Everyone (put s.arena.slots id (activated h)) (Watches (kind_as r)) (members (those_of r watching))) →
+    Agree (record s.arena { slots = put s.arena.slots id (activated h) }) s.next_start s.timers s.ready watching s.closing
+activated_kept s id h q watching e t untimed stays k listed =
+    let x = activated h in
+    kept_all (sound_put s.arena.slots id h x e (record { shut = λ shut. absurd (open_shut h shut stays); awake = λ q unshut. refl }) k.sound)
+    (free_put s.arena.slots id h x s.arena.free e k.free) (others_times s id h x q e t t untimed k)
+    (lists_put s.arena.slots Rests id h x s.ready e (λ r. absurd (untimed (sym t ∙ r.kind))) k.ready) listed
+    (everyone_put s.arena.slots Closes id h x (members s.closing) e (λ shut. shut) (λ shut. shut) k.closing)
 
 -- the lists of one kind are others, and of another kind as they were
 started_lists : (s : State) (k q : WatcherKind) (id : Id) (x : HandleRecord) →
@@ -281,21 +281,15 @@ pub watcher_started_kept : (s : State) (k : WatcherKind) (id : Id) (h : HandleRe
     h.closing ≡ false → Kept s → Kept (ops.watcher_started s k id h)
 watcher_started_kept s q id h e t off stays k =
     let x = activated h in
-    let still = activated_sound s id h e stays k in
-    let untimed : Apart (kind_as q) Kind.Timer = λ f. not_timer q (sym f) in
-    kept_all still.0 still.1 (others_times s id h x (kind_as q) e t t untimed k) (grind (arith, lists_put))
+    activated_kept s id h (kind_as q) (with_watched s q (with_first (watched s q) id)).watchers e t (λ f. not_timer q (sym f)) stays k
     (λ r. started_lists s q r id x (in_front s id h x (kind_as q) (members (watched s q)) e off t refl (k.watchers q))
-    (λ apart. others s.arena.slots (kind_as q) (kind_as r) id h x (members (watched s r)) e t t apart (k.watchers r))) still.2
+    (λ apart. others s.arena.slots (kind_as q) (kind_as r) id h x (members (watched s r)) e t t apart (k.watchers r)))
 
 -- one is started, which is on no list
 pub io_started_kept : (s : State) (id : Id) (h : HandleRecord) → handle s id ≡ Some h → h.kind ≡ Kind.Io → h.closing ≡ false → Kept s →
     Kept (with_handle s id (activated h))
-io_started_kept s id h e t stays k =
-    let x = activated h in
-    let still = activated_sound s id h e stays k in
-    let untimed : Apart Kind.Io Kind.Timer = λ f. cc f in
-    kept_all still.0 still.1 (others_times s id h x Kind.Io e t t untimed k) (grind (arith, lists_put))
-    (λ q. others s.arena.slots Kind.Io (kind_as q) id h x (members (watched s q)) e t t (grind arith) (k.watchers q)) still.2
+io_started_kept s id h e t stays k = activated_kept s id h Kind.Io s.watchers e t (λ f. cc f) stays k
+    (λ q. others s.arena.slots Kind.Io (kind_as q) id h (activated h) (members (watched s q)) e t t (grind arith) (k.watchers q))
 
 -- ---- a new handle
 

@@ -1,8 +1,8 @@
 -- Each op and each step of the loop keeps what is kept.
-use Rattle.uv_order.proofs.Names.{arith, ◌≡◌, inl, ℕ, ◌+◌, ◌==◌, List, ◌∷◌, ◌++◌, true, false, Some, None, drop, refl, ap, sym, subst, ◌∙◌, append_assoc, append-nil, cond_both, false_from_ne_true, Id, Var, Due, HandleRecord, Slot, WatcherKind, repeating, Slots, held, freed, taken, next_free, Walk, all_yet, moved_on, Op, Task, Program, arena_size, Content, Request, queued, Run, State, fresh, handle, with_handle, with_request, live, front, watched, with_watched, stopped, started, restarted, do_op, Next, Moves, Refuses, collected, front_moved, begin_walk, has_id, kind_as, Kind, []}
+use Rattle.uv_order.proofs.Names.{arith, ◌≡◌, inl, ℕ, ◌+◌, ◌==◌, List, ◌∷◌, ◌++◌, true, false, Some, None, drop, refl, ap, subst, ◌∙◌, append_assoc, append-nil, cond_both, false_from_ne_true, Id, Var, Due, HandleRecord, Slot, WatcherKind, repeating, Slots, held, freed, taken, next_free, Walk, all_yet, moved_on, Op, Task, Program, arena_size, Content, Request, queued, Run, State, fresh, handle, with_handle, with_request, live, front, watched, with_watched, stopped, started, restarted, do_op, Next, Moves, Refuses, collected, front_moved, begin_walk, has_id, kind_as, Kind, [], with_id, inr, ◌⊎◌, sym}
 use Rattle.uv_records.specs.Handles as records
 use Rattle.uv_model.specs.Ops as ops
-use Rattle.uv_order.proofs.Lemmas.{Each, each_push, distinct_push, member, has_new_middle, holds, emptied, get_set_same, is_held, put, same_handles, Fits, its_handle, Lists, lists_emptied, not_listed, Everyone, everyone_put, everyone_emptied, everyone_rest, fitted_emptied, IsSet, Times, times_rest, times_emptied, put_same, DidOp, op_did, live_held, request_turns, freed_turns, FrontRequest, Did, FrontOf, FirstOf, kept_all, fills, agree_same, free_held, Rests, Watches, Closes, IsSound, AreFree, members, Agree, Kept, on_off, open_shut, others, off_list, sound_put, free_put, free_set, not_free, put_kept, stopped_kept, closed_kept, started_kept, started_again_kept, restarted_again_kept, watcher_started_kept, io_started_kept, new_kept, not_timer}
+use Rattle.uv_order.proofs.Lemmas.{distinct_push, has_new_middle, holds, emptied, get_set_same, is_held, put, same_handles, Fits, its_handle, Lists, lists_emptied, not_listed, Everyone, everyone_put, everyone_emptied, everyone_rest, fitted_emptied, IsSet, Times, times_rest, times_emptied, put_same, DidOp, op_did, live_held, request_turns, freed_turns, FrontRequest, Did, FrontOf, FirstOf, kept_all, fills, agree_same, free_held, Rests, Watches, Closes, IsSound, AreFree, members, Agree, Kept, on_off, open_shut, others, off_list, sound_put, free_put, free_set, not_free, put_kept, stopped_kept, closed_kept, started_kept, started_again_kept, restarted_again_kept, watcher_started_kept, io_started_kept, new_kept, not_timer, AreSome, same, has_both}
 
 -- ---- the ops
 
@@ -41,8 +41,16 @@ op_kept s o k = did_op_kept s o (do_op s o) (op_did s o) k
 
 -- ---- fronts of lists
 
-pub no_front : (s : State) (P : HandleRecord → Type 0) (ids : List Id) → Each (Fits s.arena.slots P) ids → front s ids ≡ None → ids ≡ []
-no_front s P ids h e = grind arith
+-- each of a list is a handle, so it has a front where it has a member, and of that the same holds
+pub no_front : (s : State) (P : HandleRecord → Type 0) (xs ids : List Id) → ((i : Id) → has_id (xs ++ ids) i ≡ true → Fits s.arena.slots P i) →
+    front s ids ≡ None → ids ≡ []
+no_front s P xs [] each e = refl
+no_front s P xs (id ∷ ids) each e = let a = each id (has_new_middle xs ids id) in cc (ap (with_id id) (sym a.holds) ∙ e)
+
+pub front_fits : (s : State) (P : HandleRecord → Type 0) (xs ids : List Id) (t : Id × HandleRecord) →
+    ((i : Id) → has_id (xs ++ ids) i ≡ true → Fits s.arena.slots P i) → FrontOf s ids t → P t.1
+front_fits s P xs ids t each f = its_handle s.arena.slots P t.0 t.1 f.holds
+    (each t.0 (ap (λ (is : List Id). has_id (xs ++ is) t.0) f.are ∙ has_new_middle xs (drop 1 ids) t.0))
 
 -- ---- the rows
 
@@ -55,13 +63,13 @@ pub front_kept : (s : State) (id : Id) (rest : List Id) → s.ready ≡ id ∷ r
 front_kept s id rest e k = grind arith
 
 fired_kept : (s : State) (t : Id × HandleRecord) → FrontOf s s.ready t → Kept s → Kept (restarted (record s { ready = drop 1 s.ready }) t.0 t.1)
-fired_kept s t f k = subst (λ (rest : List Id). Kept (restarted (record s { ready = rest }) t.0 t.1)) (sym f.behind) (
-    let l : Lists s.arena.slots Rests (t.0 ∷ f.rest) = subst (Lists s.arena.slots Rests) f.are k.ready in
-    let rests : Rests t.1 = its_handle s.arena.slots Rests t.0 t.1 f.holds l.each.0 in
-    let u : State = record s { ready = f.rest } in
-    let kept : Kept u = front_kept s t.0 f.rest f.are k in
+fired_kept s t f k =
+    let l : Lists s.arena.slots Rests (t.0 ∷ drop 1 s.ready) = subst (Lists s.arena.slots Rests) f.are k.ready in
+    let rests : Rests t.1 = front_fits s Rests [] s.ready t k.ready.each f in
+    let u : State = record s { ready = drop 1 s.ready } in
+    let kept : Kept u = front_kept s t.0 (drop 1 s.ready) f.are k in
     cond_both (t.1.repeat == 0) u (started u t.0 t.1 t.1.repeat t.1.repeat) Kept (λ z. kept)
-    (λ z. search started_kept))
+    (λ z. search started_kept)
 
 -- an active handle doesn't close
 pub opened : (h : HandleRecord) → h.active ≡ true → IsSound h → h.closing ≡ false
@@ -74,32 +82,40 @@ pub record IsFirst (key : Due) (h : HandleRecord) : Type 0 where
 
 pub first_is : (s : State) (t : Id × HandleRecord) (f : FirstOf s s.timers t) → Kept s → IsFirst f.key t.1
 first_is s t f k =
-    let times : Times s.arena.slots s.next_start ((f.key, t.0) ∷ f.rest) = subst (Times s.arena.slots s.next_start) f.are k.timers in
+    let times : Times s.arena.slots s.next_start ((f.key, t.0) ∷ drop 1 s.timers) = subst (Times s.arena.slots s.next_start) f.are k.timers in
     let set : IsSet f.key t.1 = its_handle s.arena.slots (IsSet f.key) t.0 t.1 f.holds (times.each f.key t.0 (inl (refl, refl))).0 in
     record { set = set; stays = opened t.1 set.active (k.sound t.0 t.1 f.holds) }
 
 called_due_kept : (s : State) (t : Id × HandleRecord) → FirstOf s s.timers t → Kept s → Kept (restarted (stopped s t.0 t.1) t.0 t.1)
 called_due_kept s t f k = let first = first_is s t f k in restarted_again_kept s t.0 t.1 f.holds first.set.kind first.stays k
 
+-- one more is put at the end
+listed_last : {P : Id → Type 0} (ids : List Id) (x : Id) → AreSome P ids → P x → has_id ids x ≡ false → AreSome P (ids ++ x ∷ [])
+listed_last {P} ids x k p off = record {
+  each = λ i h. elim (has_last ids x i h) [ inl is ↦ subst P is p | inr old ↦ k.each i old ];
+  distinct = distinct_push ids x k.distinct off;
+} where
+  has_last : (ids : List Id) (x i : Id) → has_id (ids ++ x ∷ []) i ≡ true → (x ≡ i) ⊎ (has_id ids i ≡ true)
+  has_last ids x i h = grind (arith, has_both, same)
+
 pub collected_kept : (s : State) (t : Id × HandleRecord) → FirstOf s s.timers t → Kept s → Kept (collected s t.0 t.1)
 collected_kept s t f k =
     let first = first_is s t f k in
     let set = first.set in
     let x = records.stopped t.1 in
-    let away : has_id s.ready t.0 ≡ false = not_listed s.arena.slots Rests t.0 t.1 s.ready f.holds (λ r. on_off t.1 set.active r.inactive) k.ready in
+    let away = not_listed s.arena.slots Rests t.0 t.1 s.ready f.holds (λ r. on_off t.1 set.active r.inactive) k.ready.each in
     let ready : Lists (put s.arena.slots t.0 x) Rests s.ready = off_list s.arena.slots Rests t.0 t.1 x s.ready f.holds away k.ready in
     let last : Fits (put s.arena.slots t.0 x) Rests t.0 = record {
       handle = x;
       holds = put_same s.arena.slots t.0 t.1 x f.holds;
       fits = record { kind = set.kind; inactive = refl; stays = first.stays };
     } in
-    let times : Times s.arena.slots s.next_start ((f.key, t.0) ∷ f.rest) = subst (Times s.arena.slots s.next_start) f.are k.timers in
+    let times : Times s.arena.slots s.next_start ((f.key, t.0) ∷ drop 1 s.timers) = subst (Times s.arena.slots s.next_start) f.are k.timers in
     record {
       sound = sound_put s.arena.slots t.0 t.1 x f.holds (record { shut = λ shut. refl; awake = λ q stays. cc (set.kind, q) }) k.sound;
       free = free_put s.arena.slots t.0 t.1 x s.arena.free f.holds k.free;
-      timers = subst (Times (put s.arena.slots t.0 x) s.next_start) (sym f.behind) (times_rest s.arena.slots s.next_start (f.key, t.0) f.rest t.1 x
-          f.holds refl times);
-      ready = search (each_push, distinct_push);
+      timers = times_rest s.arena.slots s.next_start (f.key, t.0) (drop 1 s.timers) t.1 x f.holds refl times;
+      ready = listed_last s.ready t.0 ready last away;
       watchers = λ q. others s.arena.slots Kind.Timer (kind_as q) t.0 t.1 x (members (watched s q)) f.holds set.kind set.kind (not_timer q)
           (k.watchers q);
       closing = everyone_put s.arena.slots Closes t.0 t.1 x (members s.closing) f.holds (λ shut. shut) (λ shut. shut) k.closing;
@@ -139,7 +155,7 @@ pub gone_kept : (s : State) (t : Id × HandleRecord) (rest : List Id) (n : ℕ) 
 gone_kept s t rest n free e are f k =
     let l : Everyone s.arena.slots Closes (s.closing.list ++ t.0 ∷ rest) = subst (λ (ids : List Id). Everyone s.arena.slots Closes (s.closing.list
     ++ ids)) are k.closing in
-    let shut : t.1.closing ≡ true = its_handle s.arena.slots Closes t.0 t.1 e (grind (arith, member, has_new_middle)) in
+    let shut : t.1.closing ≡ true = its_handle s.arena.slots Closes t.0 t.1 e (l.each t.0 (has_new_middle s.closing.list rest t.0)) in
     let off : t.1.active ≡ false = (k.sound t.0 t.1 e).shut shut in
     record {
       sound = λ i y h. k.sound i y ((fitted_emptied s.arena.slots (λ x. x ≡ y) t.0 t.1 n e i (search holds)).1.holds ∙ ap Some (grind arith));
@@ -180,14 +196,12 @@ gone_closed : (p : Program) (s : State) (t : Id × HandleRecord) → FrontOf s s
 gone_closed p s t f k =
     let c = Content.Handle t.1 in
     let e = is_held s.arena.slots t.0 t.1 f.holds in
-    subst (λ (rest : List Id). Agree (freed (arena_size p).last_generation t.0 s.arena) s.next_start s.timers s.ready s.watchers
-    (record s.closing { yet = rest })) (sym f.behind)
-    (cond_both (t.0.generation == (arena_size p).last_generation) _ _
-    (λ (u : Slots Content). Agree u s.next_start s.timers s.ready s.watchers (record s.closing { yet = f.rest }))
-    (λ last. gone_kept s t f.rest t.0.generation s.arena.free f.holds f.are
+    cond_both (t.0.generation == (arena_size p).last_generation) _ _
+    (λ (u : Slots Content). Agree u s.next_start s.timers s.ready s.watchers (record s.closing { yet = drop 1 s.closing.yet }))
+    (λ last. gone_kept s t (drop 1 s.closing.yet) t.0.generation s.arena.free f.holds f.are
     (freed_free s.arena.slots t.0 c t.0.generation s.arena.free e k.free).0 k)
-    (λ more. gone_kept s t f.rest (t.0.generation + 1) (t.0.slot ∷ s.arena.free) f.holds f.are
-    (freed_free s.arena.slots t.0 c (t.0.generation + 1) s.arena.free e k.free).1 k))
+    (λ more. gone_kept s t (drop 1 s.closing.yet) (t.0.generation + 1) (t.0.slot ∷ s.arena.free) f.holds f.are
+    (freed_free s.arena.slots t.0 c (t.0.generation + 1) s.arena.free e k.free).1 k)
 
 -- the slot of a request that is done is freed
 gone_ended : (p : Program) (s : State) (t : Id × Request) → FrontRequest s s.done.yet t → Kept s →

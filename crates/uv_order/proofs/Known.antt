@@ -1,7 +1,8 @@
 -- What the lines of a trace tell of the names and of the handles that close, and how each change of the slots keeps it.
-use Rattle.uv_order.proofs.Names.{arith, ◌≡◌, ◌⊎◌, inl, inr, ℕ, zero, suc, ◌<◌, ◌≤◌, ◌==◌, ◌||◌, List, ◌∷◌, Bool, true, false, Option, Some, None, slice_get, slice_set, unwrap_or, option_map, refl, ap, sym, subst, ◌∙◌, if◌then◌else◌, eqb-true, eq-eqb, or_left, or_right, or_cases, none-some, Id, Var, Answer, Seen, Site, Op, Program, op_at, HandleRecord, Slots, Content, Named, same_id, unbound, answered, queues, binds, bound_by, bound, closes, closes_by, is_some_id, was_closed, is_closed_line, has_closed_line, makes, made_by, made_as, cancels, Code, []}
-use Rattle.uv_order.proofs.Lemmas.{same, other, itself, Turns, emptied, emptied_turns, name_at, NoNewNames, put_names, names_turned, held_at, is_held, put, put_same, Fits, fits_put, fits_back, fitted, fits_emptied, fitted_emptied, SameHandles, Grown, set_there, has_number, Closes, open_shut, IsGone, gone_put, gone_emptied, gone_now, SameRequests, same_requests, same_put}
+use Rattle.uv_order.proofs.Names.{arith, ◌≡◌, ◌⊎◌, inl, inr, ℕ, ◌<◌, ◌≤◌, ◌==◌, ◌||◌, List, ◌∷◌, Bool, true, false, Option, Some, None, slice_get, slice_set, unwrap_or, option_map, refl, ap, sym, subst, ◌∙◌, if◌then◌else◌, eqb-true, eq-eqb, or_left, or_right, or_cases, none-some, Id, Var, Answer, Seen, Site, Op, Program, op_at, HandleRecord, Slots, Content, Named, same_id, unbound, answered, queues, binds, bound_by, bound, closes, closes_by, is_some_id, was_closed, is_closed_line, has_closed_line, makes, made_by, made_as, cancels, Code, elements}
+use Rattle.uv_order.proofs.Lemmas.{same, other, itself, Turns, emptied, emptied_turns, name_at, NoNewNames, put_names, names_turned, held_at, is_held, put, put_same, Fits, fits_put, fitted, fits_emptied, fitted_emptied, SameHandles, Grown, set_there, has_number, Closes, open_shut, IsGone, gone_put, gone_emptied, gone_now, SameRequests, same_requests, same_put}
 use Rattle.uv_order.proofs.Worked.{Worked, IsIdle, worked_idle, worked_same}
+use Rattle.uv_order.proofs.OpEffects.{set_says}
 
 -- ---- names
 
@@ -13,22 +14,13 @@ id_in names v = (unwrap_or (slice_get names v.0) unbound).id
 abbrev pub SameIds : List Named → List Named → Type 0
 SameIds now was = (v : Var) → id_in now v ≡ id_in was v
 
-set_id : (names : List Named) (i j : ℕ) (x : Named) → x.id ≡ (unwrap_or (slice_get names i) unbound).id →
-    (unwrap_or (slice_get (slice_set names i x) j) unbound).id ≡ (unwrap_or (slice_get names j) unbound).id
-set_id [] i j x e = refl
-set_id (n ∷ names) zero zero x e = e
-set_id (n ∷ names) zero (suc j) x e = refl
-set_id (n ∷ names) (suc i) zero x e = refl
-set_id (n ∷ names) (suc i) (suc j) x e = set_id names i j x e
-
 -- a name gets other counts
 pub counted_ids : (names : List Named) (v : Var) (x : Named) → x.id ≡ id_in names v → SameIds (slice_set names v.0 x) names
-counted_ids names v x e u = set_id names v.0 u.0 x e
+counted_ids names v x e u = set_says (λ (y : Named). y.id) names v.0 u.0 x e
 
 -- a name that is bound anew is bound to that, if it is there
 own_id : (names : List Named) (i : ℕ) (x : Named) (id : Id) → (unwrap_or (slice_get (slice_set names i x) i) unbound).id ≡ Some id → x.id ≡ Some id
-own_id (n ∷ names) (suc i) x id e = own_id names i x id e
-own_id each i x id e = grind arith
+own_id names i x id e = grind (arith, elements)
 
 -- ---- what is known
 
@@ -76,7 +68,7 @@ pub known_put : {waiting runs : List Id} (p : Program) (past : List Seen) (arena
     Known p past (record arena { slots = put arena.slots id x }) names waiting runs
 known_put p past arena names id h x e o called k =
     known_held p past arena (record arena { slots = put arena.slots id x }) names (put_names arena.slots id h x e called)
-    (fits_back arena.slots Closes id h x e (λ c. sym o ∙ c)) (λ i f. inl (fits_put arena.slots Closes id h x e (λ c. o ∙ c) i f))
+    (grind (arith, same, other, fitted, put_same)) (λ i f. inl (fits_put arena.slots Closes id h x e (λ c. o ∙ c) i f))
     (λ i g. gone_put arena.slots arena.free id h x i e g) (same_put arena.slots id h x e) k
 
 -- ---- lines
@@ -147,8 +139,7 @@ known_close p past place v arena names id h x e is holds shut called k = record 
   closing i f true s = or_left _ _ (ap (is_some_id i) its_id ∙ itself id i (sym (same i id s)))
   closing i f false s = or_right _ _ (k.closing i (fitted arena.slots Closes id h x holds i (other i id s) f))
 
-  closed : (i : Id) → (is_some_id i (bound p past v) ≡ true) ⊎ (was_closed p past i ≡ true) →
-      IsShut (record arena { slots = put arena.slots id x }) i
+  closed : (i : Id) → (is_some_id i (bound p past v) ≡ true) ⊎ (was_closed p past i ≡ true) → IsShut (record arena { slots = put arena.slots id x }) i
   closed i (inl c) = inl (record {
     handle = x;
     holds = ap (held_at (put arena.slots id x)) (sym (same id i (sym (ap (is_some_id i) its_id) ∙ c))) ∙ put_same arena.slots id h x holds;

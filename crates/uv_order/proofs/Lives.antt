@@ -1,5 +1,5 @@
 -- Whether the loop is alive by its lists is whether it is by what its slots hold.
-use Rattle.uv_order.proofs.Names.{arith, ◌≡◌, ℕ, suc, ◌&&◌, ◌||◌, List, ◌∷◌, ◌++◌, Bool, true, false, Option, Some, None, refl, ap, sym, ◌∙◌, or-true, or_assoc, not, list_any, eq-eqb, or_left, or_right, Id, Due, Mode, Slot, is_open, Content, Request, content_keeps, request_in, has_some, State, is_alive, poll_timeout_by, goes, has_id, run_ids, is_kept_by, has_handle, has_run, has_request, closes_some, lives, may_wait, []}
+use Rattle.uv_order.proofs.Names.{arith, ◌≡◌, ℕ, suc, ◌&&◌, ◌||◌, List, ◌∷◌, ◌++◌, Bool, true, false, Option, Some, None, refl, ap, sym, ◌∙◌, or-true, or_assoc, not, list_any, eq-eqb, or_left, or_right, Id, Due, Mode, Slot, is_open, Content, Request, content_keeps, request_in, has_some, State, is_alive, poll_timeout_by, goes, has_id, run_ids, is_kept_by, has_handle, has_run, has_request, closes_some, lives, may_wait, [], held}
 use Rattle.uv_order.proofs.Lemmas.{itself, asked_at, AllAsk, IsOpen, HasEnded, Working}
 
 -- ---- words
@@ -27,32 +27,24 @@ split (x ∷ xs) = one_split x.content _ _ _ (split xs)
 
 -- ---- the requests that slots hold
 
-record Found (slots : List (Slot Content)) : Type 0 where
-  id : Id
-  request : Request
-  holds : asked_at slots id ≡ Some request
+-- some slot holds such a thing just where some id stands for one
+pub found : (f : Option Content → Bool) (slots : List (Slot Content)) → list_any (λ (slot : Slot Content). f slot.content) slots ≡ true →
+    (id : Id) × (f (held slots id) ≡ true)
+found f [] e = cc e
+found f (x ∷ xs) e = at (f x.content) refl (found f xs) e where
+  at : (b : Bool) → f x.content ≡ b → (list_any (λ (slot : Slot Content). f slot.content) xs ≡ true → (id : Id) × (f (held xs id) ≡ true)) →
+      (b || list_any (λ (slot : Slot Content). f slot.content) xs) ≡ true → (id : Id) × (f (held (x ∷ xs) id) ≡ true)
+  at true g more h = (record { slot = 0; generation = x.generation }, rw (eq-eqb x.generation x.generation refl) g)
+  at false g more h = let r = more h in (record { slot = suc r.0.slot; generation = r.0.generation }, r.1)
 
-found_here : (x : Slot Content) (xs : List (Slot Content)) (c : Option Content) → x.content ≡ c → is_asked c ≡ true → Found (x ∷ xs)
-found_here x xs (Some (Content.Request r)) e f = record {
-  id = record { slot = 0; generation = x.generation };
-  request = r;
-  holds = rw (eq-eqb x.generation x.generation refl) (ap request_in e);
-}
-found_here x xs each e f = grind arith
+pub is_any : (f : Option Content → Bool) (slots : List (Slot Content)) (n g : ℕ) → f None ≡ false →
+    f (held slots (record { slot = n; generation = g })) ≡ true → list_any (λ (slot : Slot Content). f slot.content) slots ≡ true
+is_any f (x ∷ xs) (suc n) g none e = rw (is_any f xs n g none e) (or-true (f x.content))
+is_any f each n g none e = grind arith
 
-found : (slots : List (Slot Content)) → any_asked slots ≡ true → Found slots
-found [] e = cc e
-found (x ∷ xs) e = at (is_asked x.content) refl (found xs) e where
-  at : (b : Bool) → is_asked x.content ≡ b → (any_asked xs ≡ true → Found xs) → (b || any_asked xs) ≡ true → Found (x ∷ xs)
-  at true f more h = found_here x xs x.content refl f
-  at false f more h =
-      let r = more h in
-      record { id = record { slot = suc r.id.slot; generation = r.id.generation }; request = r.request; holds = r.holds }
-
-is_any : (slots : List (Slot Content)) (n g : ℕ) (r : Request) → asked_at slots (record { slot = n; generation = g }) ≡ Some r →
-    any_asked slots ≡ true
-is_any (x ∷ xs) (suc n) g r e = rw (is_any xs n g r e) (or-true (is_asked x.content))
-is_any each n g r e = grind arith
+asked_some : (c : Option Content) → is_asked c ≡ true → (r : Request) × (request_in c ≡ Some r)
+asked_some (Some (Content.Request r)) e = (r, refl)
+asked_some each e = cc e
 
 -- ---- lists with members
 
@@ -74,16 +66,16 @@ some_runs each = assumption
 -- those of both lists are all requests that are held
 listed : (slots : List (Slot Content)) (open_ones ended : List Id) → AllAsk slots IsOpen open_ones → AllAsk slots HasEnded ended →
     (has_some open_ones || has_some ended) ≡ any_asked slots
-listed slots open_ones ended j k = either_way _ _ (held (has_some open_ones) refl) (λ e. on (found slots e)) where
-  held : (b : Bool) → has_some open_ones ≡ b → (b || has_some ended) ≡ true → any_asked slots ≡ true
-  held true f e = let m = first open_ones f in let a = j.each m.id m.on in is_any slots m.id.slot m.id.generation a.request a.holds
-  held false f e = let m = first ended e in let a = k.each m.id m.on in is_any slots m.id.slot m.id.generation a.request a.holds
+listed slots open_ones ended j k = either_way _ _ (there (has_some open_ones) refl) (λ e. on (found is_asked slots e)) where
+  there : (b : Bool) → has_some open_ones ≡ b → (b || has_some ended) ≡ true → any_asked slots ≡ true
+  there true f e = let m = first open_ones f in let a = j.each m.id m.on in is_any is_asked slots m.id.slot m.id.generation refl (grind arith)
+  there false f e = let m = first ended e in let a = k.each m.id m.on in is_any is_asked slots m.id.slot m.id.generation refl (grind arith)
 
-  on : Found slots → (has_some open_ones || has_some ended) ≡ true
-  on r = by (is_open r.request.outcome) refl where
-    by : (b : Bool) → is_open r.request.outcome ≡ b → (has_some open_ones || has_some ended) ≡ true
-    by true f = or_left _ _ (some_of open_ones r.id (j.all r.id (record { request = r.request; holds = r.holds; fits = f })))
-    by false f = or_right _ _ (some_of ended r.id (k.all r.id (record { request = r.request; holds = r.holds; fits = f })))
+  on : (id : Id) × (is_asked (held slots id) ≡ true) → (has_some open_ones || has_some ended) ≡ true
+  on r = let a = asked_some (held slots r.0) r.1 in by a.0 a.1 (is_open a.0.outcome) refl where
+    by : (x : Request) → asked_at slots r.0 ≡ Some x → (b : Bool) → is_open x.outcome ≡ b → (has_some open_ones || has_some ended) ≡ true
+    by x e true f = or_left _ _ (some_of open_ones r.0 (j.all r.0 (record { request = x; holds = e; fits = f })))
+    by x e false f = or_right _ _ (some_of ended r.0 (k.all r.0 (record { request = x; holds = e; fits = f })))
 
 -- ---- the loop
 

@@ -53,14 +53,14 @@ pub use Rattle.uv_model.specs.declared.place.Turn.{Turn}
 pub use Rattle.uv_model.specs.declared.place.Turn.TheVariants.{AtEntry, Behind, BehindClosing}
 pub use Rattle.uv_model.specs.declared.place.Way.{Way}
 pub use Rattle.uv_model.specs.declared.place.Way.TheVariants.{ToEnd, ToPending, ToTimers}
-pub use Rattle.uv_order.specs.Active.{AreActive, AreClosing, AreDistinct, AreDue, AreEnded, AreOpened, AreTimers, Before, Has, InOrder, IsEnded, IsOpened, has_id, run_ids}
+pub use Rattle.uv_order.specs.Active.{AreActive, AreAll, AreClosing, AreDistinct, AreDue, AreEnded, AreOpened, AreTimers, Before, Has, InOrder, IsEnded, IsOpened, has_id, run_ids}
 pub use Rattle.uv_order.specs.Alive.{closes_some, has_handle, has_request, has_run, is_kept_by, lives, may_wait}
 pub use Rattle.uv_order.specs.Documented.{AllOff, AllOffOrUnsent, Answering, Begun, Between, CallsNext, Documented, Entry, Goes, GoesOn, In, IsCallLine, IsOver, Lasting, MayAnswer, MayLeave, Names, NoneDue, Opens, Polling, Position, Running, Section, Standing, Told, Within, after_op, at_first, body_of, callback_in, cut, ids_of, is_called, lasting, line, names_by, next_call, nothing_told, off_by, part_after, part_of, sent_after, sent_by, sites_from, taken_off, times, told_by, told_of, without_ids, word_of}
 pub use Rattle.uv_order.specs.History.{history_from, line_of_step}
 pub use Rattle.uv_order.specs.Line.{Line}
-pub use Rattle.uv_order.specs.Once.{Activity, Answered, CancelSays, MakesNew, MayFollow, OnceFrom, OpSays, SaysTrue, activity, activity_answered, activity_by, activity_called, activity_done, answered, binds, bound, bound_by, cancels, closes, closes_by, first_of, has_after_line, has_cancel_line, has_closed_line, has_finish_line, has_take_line, is_after_line, is_cancel_line, is_closed_line, is_finish_line, is_some_id, is_take_line, made_as, made_by, makes, new_activity, queued_by, queued_task, queues, was_closed}
+pub use Rattle.uv_order.specs.Once.{Activity, Answered, CancelSays, MakesNew, MayFollow, OnceFrom, OpSays, SaysTrue, activity, activity_answered, activity_by, activity_called, activity_done, answered, binds, bound, bound_by, cancels, closes, closes_by, first_of, has_after_line, has_cancel_line, has_closed_line, has_finish_line, handle_of, has_take_line, is_after_line, is_cancel_line, is_closed_line, is_finish_line, is_some_id, is_take_line, made_as, made_by, makes, new_activity, queued_by, queued_task, queues, was_closed}
 pub use Rattle.uv_order.specs.PoolEvents.{done_as, line_events, op_events, outside_events, pool_events, pool_of, was_finished}
-pub use Rattle.uv_order.specs.Reached.{AreSetAside, BeginsAt, BeginsBehind, IsReached, IsSetAside}
+pub use Rattle.uv_order.specs.Reached.{AreSetAside, BeginsAt, BeginsBehind, BeginsIn, IsReached, IsSetAside}
 pub use Rattle.uv_order.specs.Refused.{is_send_op, AllSilent, AllWithin, RefusedOnce, RefusedOrder, holds_io, is_send, is_within, past_after}
 pub use Rattle.uv_order.specs.Taking.{IsTakenAs}
 pub use Rattle.uv_records.specs.Handles.{activated, begun_at, inited, is_async, is_io, is_timer, referenced_as, repeating, sent}

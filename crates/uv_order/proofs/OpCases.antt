@@ -1,6 +1,5 @@
 -- An op by its cases: it is refused, or done with the handle of a live name.
-use Rattle.uv_order.proofs.Names.{arith, ℕ, ◌≡◌, Bool, true, false, Option, Some, None, Result, Ok, Err, refl, ap, not, list_any, cond_both, Id, Var, Code, Success, Answer, Kind, HandleRecord, WatcherKind, is_timer, is_async, is_io, activated, sent, watcher_kind, only_if, invalid_if, is_startable, timer_refusal, start_timer_refusal, stop_refusal, again_refusal, close_refusal, send_refusal, no_refusal, held, next_free, Op, Task, Content, Request, handle_in, same_id, State, handle, named, live, live_handle, live_request, as_request, with_handle, refreshed, do_op, found_both, Names, kind_as}
-use Rattle.std.specs.Prelude.{◌||◌}
+use Rattle.uv_order.proofs.Names.{arith, ℕ, ◌≡◌, Bool, true, false, Option, Some, None, Result, Ok, Err, refl, ap, list_any, cond_both, Id, Var, Code, Success, Answer, Kind, HandleRecord, WatcherKind, is_timer, is_io, activated, sent, watcher_kind, is_startable, timer_refusal, start_timer_refusal, stop_refusal, again_refusal, close_refusal, send_refusal, no_refusal, held, next_free, Op, Task, Content, Request, handle_in, same_id, State, handle, named, live, live_handle, live_request, as_request, with_handle, refreshed, do_op, found_both, Names, kind_as}
 use Rattle.uv_model.specs.Ops as ops
 use Rattle.uv_order.proofs.Holding.{name_at}
 
@@ -14,9 +13,11 @@ io_kind each e = grind arith
 
 -- ---- live names
 
--- what the names of a state are bound to, and what is held is called
-abbrev pub names_at : State → Names
-names_at s = record { bound = λ v. (named s v).id; made = name_at s.arena.slots }
+-- what a name is bound to, and what is held is called, these say too; and what a name is bound to was made under it
+pub record Agrees (names : Names) (s : State) : Type 0 where
+  pub bound : (v : Var) (id : Id) → (named s v).id ≡ Some id → names.bound v ≡ Some id
+  pub made : (id : Id) (v : Var) → name_at s.arena.slots id ≡ Some v → names.made id ≡ Some v
+  pub under : (v : Var) (id : Id) → (named s v).id ≡ Some id → names.made id ≡ Some v
 
 -- what a live name stands for is held, and the name is bound to it
 pub record IsLive (s : State) (v : Var) (id : Id) (c : Content) : Type 0 where
@@ -44,49 +45,30 @@ IsRefusal c = c ≡ Success → ⊥
 abbrev pub Refuses : (HandleRecord → Option Code) → Type 0
 Refuses why = (h : HandleRecord) (c : Code) → why h ≡ Some c → IsRefusal c
 
-invalid_refuses : (b : Bool) (c : Code) → invalid_if b ≡ Some c → IsRefusal c
-invalid_refuses b c e ok = grind arith
-
-only_refuses : (b : Bool) (why : Option Code) (c : Code) → (why ≡ Some c → IsRefusal c) → only_if b why ≡ Some c → IsRefusal c
-only_refuses b why c f e ok = grind arith
-
-no_code : (c : Code) → ◌≡◌ {A = Option Code} None (Some c) → IsRefusal c
-no_code c e ok = cc e
-
 pub refuses_none : Refuses no_refusal
-refuses_none h c e = no_code c e
+refuses_none h c e ok = cc e
 
 pub refuses_timer : Refuses timer_refusal
-refuses_timer h c e = only_refuses (is_timer h.kind) None c (no_code c) e
+refuses_timer h c e ok = grind arith
 
 pub refuses_start : Refuses start_timer_refusal
-refuses_start h c e = only_refuses (is_timer h.kind) (invalid_if h.closing) c (invalid_refuses h.closing c) e
+refuses_start h c e ok = grind arith
 
 pub refuses_stop : Refuses stop_refusal
-refuses_stop h c e = only_refuses (not (is_async h.kind)) None c (no_code c) e
+refuses_stop h c e ok = grind arith
 
 pub refuses_again : Refuses again_refusal
-refuses_again h c e = only_refuses (is_timer h.kind) (invalid_if (h.closing || not h.begun)) c (invalid_refuses (h.closing || not h.begun) c) e
+refuses_again h c e ok = grind arith
 
 pub refuses_close : Refuses close_refusal
-refuses_close h c e = invalid_refuses h.closing c e
+refuses_close h c e ok = grind arith
 
 -- what is not refused
-only_passes : (b : Bool) (why : Option Code) → only_if b why ≡ None → (b ≡ true) × (why ≡ None)
-only_passes b why e = grind arith
-
-invalid_passes : (b : Bool) → invalid_if b ≡ None → b ≡ false
-invalid_passes b e = grind arith
-
 pub start_passes : (h : HandleRecord) → start_timer_refusal h ≡ None → (h.kind ≡ Kind.Timer) × (h.closing ≡ false)
-start_passes h e = let parts = only_passes (is_timer h.kind) (invalid_if h.closing) e in (timer_kind h.kind parts.0, invalid_passes h.closing parts.1)
+start_passes h e = grind arith
 
 pub again_passes : (h : HandleRecord) → again_refusal h ≡ None → (h.kind ≡ Kind.Timer) × (h.closing ≡ false)
 again_passes h e = grind arith
-
--- what an async handle isn't asked
-pub stop_passes : (h : HandleRecord) → stop_refusal h ≡ None → h.kind ≡ Kind.Async → ⊥
-stop_passes h e q = grind arith
 
 pub send_passes : (h : HandleRecord) → send_refusal h ≡ None → (h.kind ≡ Kind.Async) × (h.closing ≡ false)
 send_passes h e = grind arith
@@ -198,7 +180,7 @@ op_did s (Op.Cancel v) = cancel_both s v (DidOp s (Op.Cancel v)) (λ c r. refuse
 op_did s (Op.Start v timeout repeat) = held_did s (Op.Start v timeout repeat) v start_timer_refusal _ tt refuses_start
     (λ t e is. let p = start_passes t.1 is in started v timeout repeat t e p.0 p.1)
 op_did s (Op.StartWatcher v) = grind (arith, held_did, watcher_did)
-op_did s (Op.Stop v) = held_did s (Op.Stop v) v stop_refusal _ tt refuses_stop (λ t e is. stopped v t e (stop_passes t.1 is))
+op_did s (Op.Stop v) = held_did s (Op.Stop v) v stop_refusal _ tt refuses_stop (λ t e is. stopped v t e (grind arith))
 op_did s (Op.Again v) = held_did s (Op.Again v) v again_refusal _ tt refuses_again
     (λ t e is. let p = again_passes t.1 is in again v t e p.0 p.1)
 op_did s (Op.SetRepeat v n) = held_did s (Op.SetRepeat v n) v timer_refusal _ tt refuses_timer (λ t e is. repeated v n t e)

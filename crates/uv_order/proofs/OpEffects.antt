@@ -1,10 +1,10 @@
 -- What an op leaves of the lists that a section walks, of the counts of calls, and of what lasts from line to line.
-use Rattle.uv_order.proofs.Names.{Bool, true, false, arith, ◌≡◌, ℕ, ◌==◌, List, ◌∷◌, Option, Some, None, Ok, length, slice_get, slice_set, unwrap_or, refl, ap, sym, ◌∙◌, zero, suc, cond_both, Id, Var, Code, Answer, Kind, Phase, Op, HandleRecord, Named, Walk, without_id, State, handle, live_handle, unbound, stopped, started, do_op, has_id, Names, lasting, after_op, taken_off, ids_of, off_by, WatcherKind, kind_as, watched, []}
+use Rattle.uv_order.proofs.Names.{Bool, true, false, arith, ◌≡◌, ℕ, ◌==◌, List, ◌∷◌, Option, Some, None, Ok, length, slice_get, slice_set, unwrap_or, refl, ap, sym, ◌∙◌, zero, suc, cond_both, Id, Var, Code, Answer, Kind, Phase, Op, HandleRecord, Named, Walk, without_id, State, handle, live_handle, unbound, stopped, do_op, has_id, Names, lasting, after_op, taken_off, ids_of, off_by, WatcherKind, kind_as, watched, [], elements, replicate}
 use Rattle.uv_model.specs.Ops as ops
 use Rattle.uv_order.proofs.IdLists.{left_of, none_off, without_absent, has_back}
 use Rattle.uv_order.proofs.Holding.{Everyone, not_listed}
 use Rattle.uv_order.proofs.Keeping.{Kept, Watches, members}
-use Rattle.uv_order.proofs.OpCases.{DidOp, IsAsked, op_did, names_at, live_held, live_bound, IsRefusal, IsRef}
+use Rattle.uv_order.proofs.OpCases.{DidOp, IsAsked, op_did, Agrees, live_held, live_bound, IsRefusal, IsRef}
 
 -- ---- counts of calls
 
@@ -17,27 +17,29 @@ pub same_calls : (names : List Named) → SameCalls names names
 same_calls names = record { long = refl; each = λ v. refl }
 
 pub set_long : (names : List Named) (i : ℕ) (x : Named) → length (slice_set names i x) ≡ length names
-set_long (n ∷ names) (suc i) x = ap suc (set_long names i x)
-set_long each i x = assumption
+set_long names i x = grind (arith, elements)
 
-set_calls : (names : List Named) (i j : ℕ) (x : Named) → x.calls ≡ (unwrap_or (slice_get names i) unbound).calls →
-    (unwrap_or (slice_get (slice_set names i x) j) unbound).calls ≡ (unwrap_or (slice_get names j) unbound).calls
-set_calls [] i j x e = refl
-set_calls (n ∷ names) zero zero x e = e
-set_calls (n ∷ names) zero (suc j) x e = refl
-set_calls (n ∷ names) (suc i) zero x e = refl
-set_calls (n ∷ names) (suc i) (suc j) x e = set_calls names i j x e
+-- what is said of each name, where it is said of the one that changes as before
+pub set_says : {A : Type 0} (f : Named → A) (names : List Named) (i j : ℕ) (x : Named) → f x ≡ f (unwrap_or (slice_get names i) unbound) →
+    f (unwrap_or (slice_get (slice_set names i x) j) unbound) ≡ f (unwrap_or (slice_get names j) unbound)
+set_says f (n ∷ names) zero zero x e = e
+set_says f (n ∷ names) (suc i) (suc j) x e = set_says f names i j x e
+set_says f each e2 e3 x e = assumption
+
+pub none_bound : (n i : ℕ) → unwrap_or (slice_get (replicate n unbound) i) unbound ≡ unbound
+none_bound (suc n) (suc i) = none_bound n i
+none_bound each i = assumption
 
 -- ---- an op's effect
 
-pub record Effect (s : State) (o : Op) (d : ops.Done) : Type 0 where
+pub record Effect (names : Names) (s : State) (o : Op) (d : ops.Done) : Type 0 where
   pub lasts : lasting d.state ≡ after_op o s
   pub calls : SameCalls d.state.names s.names
-  pub ready : d.state.ready ≡ left_of s.ready (taken_off Phase.Timers (names_at s) o d.answer)
-  pub idle : d.state.watchers.idle.yet ≡ left_of s.watchers.idle.yet (taken_off Phase.Idle (names_at s) o d.answer)
-  pub prepare : d.state.watchers.prepare.yet ≡ left_of s.watchers.prepare.yet (taken_off Phase.Prepare (names_at s) o d.answer)
-  pub check : d.state.watchers.check.yet ≡ left_of s.watchers.check.yet (taken_off Phase.Check (names_at s) o d.answer)
-  pub async : d.state.watchers.async.yet ≡ left_of s.watchers.async.yet (taken_off Phase.Async (names_at s) o d.answer)
+  pub ready : d.state.ready ≡ left_of s.ready (taken_off Phase.Timers names o d.answer)
+  pub idle : d.state.watchers.idle.yet ≡ left_of s.watchers.idle.yet (taken_off Phase.Idle names o d.answer)
+  pub prepare : d.state.watchers.prepare.yet ≡ left_of s.watchers.prepare.yet (taken_off Phase.Prepare names o d.answer)
+  pub check : d.state.watchers.check.yet ≡ left_of s.watchers.check.yet (taken_off Phase.Check names o d.answer)
+  pub async : d.state.watchers.async.yet ≡ left_of s.watchers.async.yet (taken_off Phase.Async names o d.answer)
   pub closing : d.state.closing.yet ≡ s.closing.yet
   pub done : d.state.done.yet ≡ s.done.yet
 
@@ -56,19 +58,16 @@ record SameLists (now was : State) : Type 0 where
   done : now.done.yet ≡ was.done.yet
 
 -- nobody is taken off, and the lists stay
-quiet : (s : State) (o : Op) (d : ops.Done) → TakesNone (names_at s) o d.answer → lasting d.state ≡ after_op o s → SameCalls d.state.names s.names →
-    SameLists d.state s → Effect s o d
-quiet s o d none lasts calls lists = grind (arith, none_off)
-
-pub refusal_takes_none : (names : Names) (o : Op) (c : Code) → IsRefusal c → TakesNone names o (Answer.Code c)
-refusal_takes_none names o c no_success word = grind arith
+quiet : (names : Names) (s : State) (o : Op) (d : ops.Done) → TakesNone names o d.answer → lasting d.state ≡ after_op o s →
+    SameCalls d.state.names s.names → SameLists d.state s → Effect names s o d
+quiet names s o d none lasts calls lists = grind (arith, none_off)
 
 -- an op that is refused, or that only answers
-says_effect : (s : State) (o : Op) (a : Answer) → TakesNone (names_at s) o a → after_op o s ≡ lasting s → Effect s o (ops.says s a)
-says_effect s o a none lasts = quiet s o (ops.says s a) none (sym lasts) (same_calls s.names) (grind arith)
+says_effect : (names : Names) (s : State) (o : Op) (a : Answer) → TakesNone names o a → after_op o s ≡ lasting s → Effect names s o (ops.says s a)
+says_effect names s o a none lasts = quiet names s o (ops.says s a) none (sym lasts) (same_calls s.names) (grind arith)
 
-refused_effect : (s : State) (o : Op) → after_op o s ≡ lasting s → (c : Code) → IsRefusal c → Effect s o (ops.refuses s c)
-refused_effect s o lasts c no_success = says_effect s o (Answer.Code c) (refusal_takes_none (names_at s) o c no_success) lasts
+refused_effect : (names : Names) (s : State) (o : Op) → after_op o s ≡ lasting s → (c : Code) → IsRefusal c → Effect names s o (ops.refuses s c)
+refused_effect names s o lasts c no_success = says_effect names s o (Answer.Code c) (grind arith) lasts
 
 -- ---- stopping
 
@@ -76,30 +75,32 @@ refused_effect s o lasts c no_success = says_effect s o (Answer.Code c) (refusal
 not_yet : (s : State) (q : Kind) (w : Walk Id) (id : Id) (h : HandleRecord) → handle s id ≡ Some h → (h.kind ≡ q → ⊥) →
     Everyone s.arena.slots (Watches q) (members w) → without_id w.yet id ≡ left_of w.yet []
 not_yet s q w id h e d l =
-    let away : has_id w.yet id ≡ false = has_back w.list w.yet id (not_listed s.arena.slots (Watches q) id h (members w) e (λ x. d x.kind) l.lists) in
+    let away : has_id w.yet id ≡ false = has_back w.list w.yet id (not_listed s.arena.slots (Watches q) id h (members w) e (λ x. d x.kind) l.each) in
     without_absent w.yet id away ∙ sym (none_off w.yet)
 
 -- the id of a live name
-pub one_taken : (s : State) (v : Var) (t : Id × HandleRecord) → live_handle s v ≡ Ok t → ids_of (names_at s) (Some v) ≡ t.0 ∷ []
-one_taken s v t e = rw (live_bound s v t e) refl
+pub one_taken : (names : Names) (s : State) (v : Var) (t : Id × HandleRecord) → Agrees names s → live_handle s v ≡ Ok t →
+    ids_of names (Some v) ≡ t.0 ∷ []
+one_taken names s v t a e = rw (a.bound v t.0 (live_bound s v t e)) refl
 
-taken_one : (s : State) (v : Var) (t : Id × HandleRecord) (ids : List Id) → live_handle s v ≡ Ok t →
-    without_id ids t.0 ≡ left_of ids (ids_of (names_at s) (Some v))
-taken_one s v t ids e = rw (one_taken s v t e) (grind arith)
+taken_one : (names : Names) (s : State) (v : Var) (t : Id × HandleRecord) (ids : List Id) → Agrees names s → live_handle s v ≡ Ok t →
+    without_id ids t.0 ≡ left_of ids (ids_of names (Some v))
+taken_one names s v t ids a e = rw (one_taken names s v t a e) (grind arith)
 
-stop_effect : (s : State) (v : Var) (t : Id × HandleRecord) → live_handle s v ≡ Ok t → (t.1.kind ≡ Kind.Async → ⊥) → Kept s →
-    Effect s (Op.Stop v) (ops.stop s t.0 t.1)
-stop_effect s v t e apart k = assumption (
+stop_effect : (names : Names) (s : State) (v : Var) (t : Id × HandleRecord) → Agrees names s → live_handle s v ≡ Ok t → (t.1.kind ≡ Kind.Async → ⊥) →
+    Kept s → Effect names s (Op.Stop v) (ops.stop s t.0 t.1)
+stop_effect names s v t a e apart k = assumption (
   same_calls s.names,
-  taken_one s v t s.ready e,
-  taken_one s v t s.watchers.idle.yet e,
-  taken_one s v t s.watchers.prepare.yet e,
-  taken_one s v t s.watchers.check.yet e,
+  taken_one names s v t s.ready a e,
+  taken_one names s v t s.watchers.idle.yet a e,
+  taken_one names s v t s.watchers.prepare.yet a e,
+  taken_one names s v t s.watchers.check.yet a e,
   not_yet s Kind.Async s.watchers.async t.0 t.1 (live_held s v t e) apart (k.watchers WatcherKind.Async),
 )
 
-close_effect : (s : State) (v : Var) (t : Id × HandleRecord) → live_handle s v ≡ Ok t → Effect s (Op.Close v) (ops.close s t.0 t.1)
-close_effect s v t e = grind arith
+close_effect : (names : Names) (s : State) (v : Var) (t : Id × HandleRecord) → Agrees names s → live_handle s v ≡ Ok t →
+    Effect names s (Op.Close v) (ops.close s t.0 t.1)
+close_effect names s v t a e = grind (arith, taken_one names s v t)
 
 -- ---- timers
 
@@ -107,13 +108,13 @@ close_effect s v t e = grind arith
 apart : (h : HandleRecord) (q : Kind) → h.kind ≡ Kind.Timer → (Kind.Timer ≡ q → ⊥) → h.kind ≡ q → ⊥
 apart h q e d f = d (sym e ∙ f)
 
-timer_effect : (s u : State) (o : Op) (v : Var) (t : Id × HandleRecord) → live_handle s v ≡ Ok t → t.1.kind ≡ Kind.Timer → Kept s →
-    ((word : Phase) → off_by word o ≡ off_by word (Op.Again v)) → after_op o s ≡ lasting s → lasting u ≡ lasting s → u.names ≡ s.names →
-    SameLists u (stopped s t.0 t.1) → Effect s o (ops.succeeds u)
-timer_effect s u o v t e is k off lasts same names lists = record {
+timer_effect : (names : Names) (s u : State) (o : Op) (v : Var) (t : Id × HandleRecord) → Agrees names s → live_handle s v ≡ Ok t →
+    t.1.kind ≡ Kind.Timer → Kept s → ((word : Phase) → off_by word o ≡ off_by word (Op.Again v)) → after_op o s ≡ lasting s → lasting u ≡ lasting s →
+    u.names ≡ s.names → SameLists u (stopped s t.0 t.1) → Effect names s o (ops.succeeds u)
+timer_effect names s u o v t a e is k off lasts same kept lists = record {
   lasts = same ∙ sym lasts;
-  calls = rw names (same_calls s.names);
-  ready = lists.ready ∙ taken_one s v t s.ready e ∙ ap (λ (x : Option Var). left_of s.ready (ids_of (names_at s) x)) (sym (off Phase.Timers));
+  calls = rw kept (same_calls s.names);
+  ready = lists.ready ∙ taken_one names s v t s.ready a e ∙ ap (λ (x : Option Var). left_of s.ready (ids_of names x)) (sym (off Phase.Timers));
   idle = lists.idle ∙ away WatcherKind.Idle (λ f. cc f) ∙ none_by Phase.Idle s.watchers.idle.yet refl;
   prepare = lists.prepare ∙ away WatcherKind.Prepare (λ f. cc f) ∙ none_by Phase.Prepare s.watchers.prepare.yet refl;
   check = lists.check ∙ away WatcherKind.Check (λ f. cc f) ∙ none_by Phase.Check s.watchers.check.yet refl;
@@ -125,26 +126,23 @@ timer_effect s u o v t e is k off lasts same names lists = record {
   away q other = not_yet s (kind_as q) (watched s q) t.0 t.1 (live_held s v t e) (apart t.1 (kind_as q) is other) (k.watchers q)
 
   none_by : (word : Phase) (ids : List Id) → off_by word (Op.Again v) ≡ None → left_of ids [] ≡ left_of ids
-      (taken_off word (names_at s) o (Answer.Code Code.Ok))
-  none_by word ids none = ap (λ (x : Option Var). left_of ids (ids_of (names_at s) x)) (sym none ∙ sym (off word))
+      (taken_off word names o (Answer.Code Code.Ok))
+  none_by word ids none = ap (λ (x : Option Var). left_of ids (ids_of names x)) (sym none ∙ sym (off word))
 
 pub start_off : (v : Var) (timeout repeat : ℕ) (word : Phase) → off_by word (Op.Start v timeout repeat) ≡ off_by word (Op.Again v)
 start_off v timeout repeat word = grind arith
 
-start_effect : (s : State) (v : Var) (timeout repeat : ℕ) (t : Id × HandleRecord) → live_handle s v ≡ Ok t → t.1.kind ≡ Kind.Timer → Kept s →
-    Effect s (Op.Start v timeout repeat) (ops.start s timeout repeat t.0 t.1)
-start_effect s v timeout repeat t e is k = search (timer_effect, start_off)
+start_effect : (names : Names) (s : State) (v : Var) (timeout repeat : ℕ) (t : Id × HandleRecord) → Agrees names s → live_handle s v ≡ Ok t →
+    t.1.kind ≡ Kind.Timer → Kept s → Effect names s (Op.Start v timeout repeat) (ops.start s timeout repeat t.0 t.1)
+start_effect names s v timeout repeat t a e is k = search (timer_effect, start_off)
 
-again_effect : (s : State) (v : Var) (t : Id × HandleRecord) → live_handle s v ≡ Ok t → t.1.kind ≡ Kind.Timer → Kept s → Effect s (Op.Again v)
-    (ops.again s t.0 t.1)
-again_effect s v t e is k = cond_both (t.1.repeat == 0) _ _ (λ (u : State). Effect s (Op.Again v) (ops.succeeds u))
-    (λ z. timer_effect s (stopped s t.0 t.1) (Op.Again v) v t e is k (λ word. refl) refl refl refl (assumption))
+again_effect : (names : Names) (s : State) (v : Var) (t : Id × HandleRecord) → Agrees names s → live_handle s v ≡ Ok t → t.1.kind ≡ Kind.Timer →
+    Kept s → Effect names s (Op.Again v) (ops.again s t.0 t.1)
+again_effect names s v t a e is k = cond_both (t.1.repeat == 0) _ _ (λ (u : State). Effect names s (Op.Again v) (ops.succeeds u))
+    (λ z. timer_effect names s (stopped s t.0 t.1) (Op.Again v) v t a e is k (λ word. refl) refl refl refl (assumption))
     (λ z. search timer_effect)
 
 -- ---- the other ops
-
-pub none_taken : (names : Names) (o : Op) (a : Answer) → ((word : Phase) → off_by word o ≡ None) → TakesNone names o a
-none_taken names o a e word = grind arith
 
 -- such an op takes nobody off in any section
 abbrev pub Harmless : Op → Type 0
@@ -162,36 +160,38 @@ pub harmless : (o : Op) → takes o ≡ false → Harmless o
 harmless o e word = grind arith
 
 -- it leaves all of that as it was
-still : (s : State) (o : Op) (d : ops.Done) → takes o ≡ false → lasting d.state ≡ after_op o s → SameCalls d.state.names s.names →
-    SameLists d.state s → Effect s o d
-still s o d e = quiet s o d (none_taken (names_at s) o d.answer (harmless o e))
+still : (names : Names) (s : State) (o : Op) (d : ops.Done) → takes o ≡ false → lasting d.state ≡ after_op o s → SameCalls d.state.names s.names →
+    SameLists d.state s → Effect names s o d
+still names s o d e = quiet names s o d (grind arith)
 
 -- such an op changes one record, or nothing
-simple : (s : State) (o : Op) (d : ops.Done) → takes o ≡ false → lasting d.state ≡ after_op o s → d.state.names ≡ s.names → SameLists d.state s →
-    Effect s o d
-simple s o d e lasts names lists = still s o d e lasts (rw names (same_calls s.names)) lists
+simple : (names : Names) (s : State) (o : Op) (d : ops.Done) → takes o ≡ false → lasting d.state ≡ after_op o s → d.state.names ≡ s.names →
+    SameLists d.state s → Effect names s o d
+simple names s o d e lasts kept lists = still names s o d e lasts (rw kept (same_calls s.names)) lists
 
-new_effect : (s : State) (v : Var) (q : Kind) (id : Id) → Effect s (Op.Init v q) (record { state = ops.with_new s v q id; answer = Answer.Id id })
-new_effect s v Kind.Timer id = search (still, set_long, set_calls)
-new_effect s v each id = still s (Op.Init v each) _ refl refl (grind (arith, set_long, set_calls)) (assumption)
+new_effect : (names : Names) (s : State) (v : Var) (q : Kind) (id : Id) →
+    Effect names s (Op.Init v q) (record { state = ops.with_new s v q id; answer = Answer.Id id })
+new_effect names s v Kind.Timer id = search (still, set_long, set_says (λ (x : Named). x.calls))
+new_effect names s v each id = still names s (Op.Init v each) _ refl refl (grind (arith, set_long, set_says (λ (x : Named). x.calls))) (assumption)
 
-asked_effect : (s : State) (o : Op) (a : Answer) → IsAsked o → Effect s o (ops.says s a)
-asked_effect s o a (IsAsked.due_in v) = simple s (Op.DueIn v) _ refl refl refl (grind arith)
-asked_effect s o a each = simple s o _ refl refl refl (grind arith)
+asked_effect : (names : Names) (s : State) (o : Op) (a : Answer) → IsAsked o → Effect names s o (ops.says s a)
+asked_effect names s o a (IsAsked.due_in v) = simple names s (Op.DueIn v) _ refl refl refl (grind arith)
+asked_effect names s o a each = simple names s o _ refl refl refl (grind arith)
 
-did_op_effect : (s : State) (o : Op) (d : ops.Done) → DidOp s o d → Kept s → Effect s o d
-did_op_effect s o d (DidOp.refused o' c r may) k = refused_effect s o' (grind arith) c r
-did_op_effect s o d (DidOp.asked o' a is) k = asked_effect s o' a is
-did_op_effect s o d (DidOp.made v q id e) k = new_effect s v q id
-did_op_effect s o d (DidOp.queued v task id e) k = still s (Op.Queue v task) _ refl refl (grind (arith, set_long, set_calls)) (assumption)
-did_op_effect s o d (DidOp.started v timeout repeat t e is stays) k = start_effect s v timeout repeat t e is k
-did_op_effect s o d (DidOp.again v t e is stays) k = again_effect s v t e is k
-did_op_effect s o d (DidOp.stopped v t e sync) k = stop_effect s v t e sync k
-did_op_effect s o d (DidOp.closed v t e stays) k = close_effect s v t e
-did_op_effect s o d (DidOp.watching v WatcherKind.Idle t e is off stays) k = simple s (Op.StartWatcher v) _ refl refl refl (assumption)
-did_op_effect s o d (DidOp.watching v each t e is off stays) k = simple s (Op.StartWatcher v) _ refl refl refl (assumption)
-did_op_effect s o d (DidOp.referenced o' u flag t e (IsRef.ref v)) k = simple s o _ refl refl refl (assumption)
-did_op_effect s o d each k = simple s o d refl refl refl (assumption)
+did_op_effect : (names : Names) (s : State) (o : Op) (d : ops.Done) → DidOp s o d → Agrees names s → Kept s → Effect names s o d
+did_op_effect names s o d (DidOp.refused o' c r may) x k = refused_effect names s o' (grind arith) c r
+did_op_effect names s o d (DidOp.asked o' a is) x k = asked_effect names s o' a is
+did_op_effect names s o d (DidOp.made v q id e) x k = new_effect names s v q id
+did_op_effect names s o d (DidOp.queued v task id e) x k =
+    still names s (Op.Queue v task) _ refl refl (grind (arith, set_long, set_says (λ (n : Named). n.calls))) (assumption)
+did_op_effect names s o d (DidOp.started v timeout repeat t e is stays) x k = start_effect names s v timeout repeat t x e is k
+did_op_effect names s o d (DidOp.again v t e is stays) x k = again_effect names s v t x e is k
+did_op_effect names s o d (DidOp.stopped v t e sync) x k = stop_effect names s v t x e sync k
+did_op_effect names s o d (DidOp.closed v t e stays) x k = close_effect names s v t x e
+did_op_effect names s o d (DidOp.watching v WatcherKind.Idle t e is off stays) x k = simple names s (Op.StartWatcher v) _ refl refl refl (assumption)
+did_op_effect names s o d (DidOp.watching v each t e is off stays) x k = simple names s (Op.StartWatcher v) _ refl refl refl (assumption)
+did_op_effect names s o d (DidOp.referenced o' u flag t e (IsRef.ref v)) x k = simple names s o _ refl refl refl (assumption)
+did_op_effect names s o d each x k = simple names s o d refl refl refl (assumption)
 
-pub op_effect : (s : State) (o : Op) → Kept s → Effect s o (do_op s o)
-op_effect s o k = did_op_effect s o (do_op s o) (op_did s o) k
+pub op_effect : (names : Names) (s : State) (o : Op) → Agrees names s → Kept s → Effect names s o (do_op s o)
+op_effect names s o x k = did_op_effect names s o (do_op s o) (op_did s o) x k

@@ -1,8 +1,8 @@
 -- What happens once, by the ops: what the line of each tells, and that the handles and the requests are as it tells.
-use Rattle.uv_order.proofs.Names.{◌≡◌, ◌⊎◌, ℕ, ◌==◌, List, ◌∷◌, ◌++◌, Bool, true, false, Option, Some, None, Ok, option_map, slice_set, if◌then◌else◌, refl, ap, sym, ◌∙◌, arith, list_any, cond_both, or_left, same_Some, Id, Var, Code, Answer, Kind, Seen, Site, Op, Task, Program, op_at, HandleRecord, Slot, inited, referenced_as, repeating, Slots, held, taken, taken_from, next_free, next_id, Content, Request, queued, request_in, Cancelled, same_id, without_id, has_id, run_ids, State, named, handle, live, live_handle, with_request, stopped, restarted, do_op, makes, made_as, has_take_line, has_cancel_line, queued_task, []}
+use Rattle.uv_order.proofs.Names.{◌≡◌, ◌⊎◌, ℕ, List, ◌∷◌, ◌++◌, Bool, true, false, Option, Some, None, slice_set, if◌then◌else◌, refl, ap, sym, ◌∙◌, arith, list_any, or_left, same_Some, Id, Var, Code, Answer, Kind, Seen, Site, Op, Task, Program, op_at, HandleRecord, Slot, inited, Slots, held, taken, taken_from, next_free, next_id, Content, Request, queued, request_in, Cancelled, same_id, without_id, has_id, run_ids, State, named, handle, live, live_handle, with_request, stopped, do_op, makes, made_as, has_take_line, has_cancel_line, queued_task, []}
 use Rattle.uv_records.specs.Handles as records
 use Rattle.uv_model.specs.Ops as ops
-use Rattle.uv_order.proofs.Lemmas.{has_both, has_but_one, on_list, same, itself, turned, still_absent, Turns, name_in, name_at, names_turned, same_handles, put, put_same, DidOp, IsAsked, IsLive, op_did, live_as_handle, live_held, live_bound, IsRefusal, send_both, IsRef, request_turns, same_requests, AreFree, Kept, fills, taken_handle, IsGone, not_held, gone_push, gone_fill, gone_turned}
+use Rattle.uv_order.proofs.Lemmas.{has_both, has_but_one, on_list, same, itself, turned, still_absent, Turns, name_in, name_at, names_turned, same_handles, put, DidOp, IsAsked, IsLive, op_did, live_held, live_bound, IsRefusal, send_both, IsRef, request_turns, same_requests, AreFree, Kept, fills, taken_handle, IsGone, not_held, gone_push, gone_fill, gone_turned, Touches, start_touches, again_touches}
 use Rattle.uv_order.proofs.Worked.{Worked, Tells, worked_told, worked_idle, worked_ended, worked_fewer, worked_queued}
 use Rattle.uv_order.proofs.Known.{Known, IsQuiet, known_told, known_put, known_quiet, IsQuietOp, IsIdleOp, quiet_op, idle_op, known_close, known_bound, known_grown}
 
@@ -33,17 +33,10 @@ pub changed : (p : Program) (past : List Seen) (s : State) (t : Id × HandleReco
     KnownAt p past s → Known p past (record s.arena { slots = put s.arena.slots t.0 x }) s.names s.waiting (run_ids s.running)
 changed p past s t x e o called k = known_put p past s.arena s.names t.0 t.1 x e o called k
 
--- it changes twice
-pub twice : (p : Program) (past : List Seen) (s : State) (t : Id × HandleRecord) (x y : HandleRecord) → handle s t.0 ≡ Some t.1 →
-    x.closing ≡ t.1.closing → y.closing ≡ x.closing → x.name ≡ t.1.name → y.name ≡ x.name → KnownAt p past s →
-    Known p past (record s.arena { slots = put (put s.arena.slots t.0 x) t.0 y }) s.names s.waiting (run_ids s.running)
-twice p past s t x y e o r called still k = known_put p past (record s.arena { slots = put s.arena.slots t.0 x }) s.names t.0 x y
-    (put_same s.arena.slots t.0 t.1 x e) r still (changed p past s t x e o called k)
-
-pub again_known : (p : Program) (past : List Seen) (s : State) (t : Id × HandleRecord) → handle s t.0 ≡ Some t.1 → KnownAt p past s →
-    KnownAt p past (restarted (stopped s t.0 t.1) t.0 t.1)
-again_known p past s t e k = cond_both (t.1.repeat == 0) _ _ (KnownAt p past) (λ z. changed p past s t (records.stopped t.1) e refl refl k)
-    (λ z. twice p past s t (records.stopped t.1) _ e refl refl refl refl k)
+pub touched : (p : Program) (past : List Seen) (s u : State) (id : Id) (h x : HandleRecord) → Touches s id h x u → x.closing ≡ h.closing →
+    KnownAt p past s → KnownAt p past u
+touched p past s u id h x t o k =
+    rw (t.arena, t.names, t.waiting, t.running) (known_put p past s.arena s.names id h x t.holds o t.name k)
 
 -- the next taking
 pub gone_taken : (s : Slots Content) (free : List ℕ) (id : Id) (x : Content) → s.free ≡ free → AreFree s.slots free →
@@ -177,36 +170,24 @@ did_op_known : (p : Program) (past : List Seen) (s : State) (o : Op) (d : ops.Do
     IsUnmade p past s → KnownAt p past s → KnownBy p past o d
 did_op_known p past s o d (DidOp.refused o' c r may) kept unmade k = known_by p past o d (grind arith) k
 did_op_known p past s o d (DidOp.asked o' a is) kept unmade k = known_by p past o d (harmless o' (asked_harmless o' is) a) k
-did_op_known p past s o d DidOp.loop_stopped kept unmade k = known_by p past o d (harmless Op.StopLoop refl _) k
-did_op_known p past s o d DidOp.time_updated kept unmade k = known_by p past o d (harmless Op.UpdateTime refl _) k
 did_op_known p past s o d (DidOp.made v q id e) kept unmade k = new_known p past s v q id e kept unmade k
 did_op_known p past s o d (DidOp.queued v task id e) kept unmade k = queued_known p past s v task id e kept unmade k
 did_op_known p past s o d (DidOp.cancelled v t live on) kept unmade k = cancel_op_known p past s v t live on k
-did_op_known p past s o d (DidOp.started v timeout repeat t e is stays) kept unmade k = search (known_by, harmless, twice, live_held)
-did_op_known p past s o d (DidOp.again v t e is stays) kept unmade k =
-    known_by p past o d (harmless (Op.Again v) refl _) (again_known p past s t (live_held s v t e) k)
+did_op_known p past s o d (DidOp.started v timeout repeat t e is stays) kept unmade k = known_by p past o d (harmless o refl _)
+    (touched p past s d.state t.0 t.1 _ (start_touches s (stopped s t.0 t.1) t.0 t.1 (records.stopped t.1) timeout repeat
+    (assumption (live_held s v t e))) refl k)
+did_op_known p past s o d (DidOp.again v t e is stays) kept unmade k = known_by p past o d (harmless (Op.Again v) refl _)
+    (touched p past s d.state t.0 t.1 _ (again_touches s (stopped s t.0 t.1) t.0 t.1 (records.stopped t.1) (assumption (live_held s v t e)))
+    (grind arith) k)
 did_op_known p past s o d (DidOp.watching v q t e is off stays) kept unmade k = search (known_by, past, harmless, changed, live_held)
-did_op_known p past s o d (DidOp.io_started v t e is off stays) kept unmade k =
-    known_by p past o d (harmless (Op.StartWatcher v) refl _)
-    (changed p past s t (records.activated t.1) (live_held s v t e) refl refl k)
-did_op_known p past s o d (DidOp.watches v t e on) kept unmade k = known_by p past o d (harmless (Op.StartWatcher v) refl _) k
-did_op_known p past s o d (DidOp.stopped v t e sync) kept unmade k =
-    known_by p past o d (harmless (Op.Stop v) refl _)
-    (changed p past s t (records.stopped t.1) (live_held s v t e) refl refl k)
-did_op_known p past s o d (DidOp.closed v t e stays) kept unmade k = λ place at.
-    known_close p past place v s.arena s.names t.0 t.1 (records.closed t.1) at (live_bound s v t e) (live_held s v t e) refl refl k
-did_op_known p past s o d (DidOp.repeated v n t e) kept unmade k =
-    known_by p past o d (harmless (Op.SetRepeat v n) refl _)
-    (changed p past s t (repeating n t.1) (live_held s v t e) refl refl k)
-did_op_known p past s o d (DidOp.referenced o' u flag t e (IsRef.ref v)) kept unmade k =
-    known_by p past o d (harmless (Op.Ref v) refl _)
-    (changed p past s t (referenced_as flag t.1) (live_held s u t e) refl refl k)
-did_op_known p past s o d (DidOp.referenced o' u flag t e (IsRef.unref v)) kept unmade k =
-    known_by p past o d (harmless (Op.Unref v) refl _)
-    (changed p past s t (referenced_as flag t.1) (live_held s u t e) refl refl k)
-did_op_known p past s o d (DidOp.sent_to v t e is stays) kept unmade k =
-    known_by p past o d (harmless (Op.Send v) refl _)
-    (changed p past s t (records.sent t.1) (live_held s v t e) refl refl k)
+did_op_known p past s o d (DidOp.io_started v t e is off stays) kept unmade k = search (known_by, past, harmless, changed, live_held)
+did_op_known p past s o d (DidOp.stopped v t e sync) kept unmade k = search (known_by, past, harmless, changed, live_held)
+did_op_known p past s o d (DidOp.closed v t e stays) kept unmade k = search (known_close, live_bound, live_held)
+did_op_known p past s o d (DidOp.repeated v n t e) kept unmade k = search (known_by, past, harmless, changed, live_held)
+did_op_known p past s o d (DidOp.referenced o' u flag t e (IsRef.ref v)) kept unmade k = search (known_by, past, harmless, changed, live_held)
+did_op_known p past s o d (DidOp.referenced o' u flag t e each) kept unmade k = search (known_by, past, harmless, changed, live_held)
+did_op_known p past s o d (DidOp.sent_to v t e is stays) kept unmade k = search (known_by, past, harmless, changed, live_held)
+did_op_known p past s o d each kept unmade k = search (known_by, past, harmless)
 
 pub op_known : (p : Program) (past : List Seen) (s : State) (o : Op) → Kept s → IsUnmade p past s → KnownAt p past s → KnownBy p past o (do_op s o)
 op_known p past s o kept unmade k = did_op_known p past s o (do_op s o) (op_did s o) kept unmade k
@@ -214,9 +195,3 @@ op_known p past s o kept unmade k = did_op_known p past s o (do_op s o) (op_did 
 pub send_known : (p : Program) (past : List Seen) (s : State) (v : Var) → KnownAt p past s → KnownAt p past (ops.send s (live_handle s v)).state
 send_known p past s v k = send_both s v (λ (c : ops.Coded). KnownAt p past c.state) (λ c no_success. k)
     (λ t e stays. changed p past s t (records.sent t.1) (live_held s v t e) refl refl k)
-
--- a live name's handle was made under it
-pub its_name : (p : Program) (past : List Seen) (s : State) (v : Var) (t : Id × HandleRecord) → live_handle s v ≡ Ok t → KnownAt p past s →
-    t.1.name ≡ v
-its_name p past s v t e k = let live = live_as_handle s v t e in
-    same_Some _ _ (sym (k.made t.0 t.1.name (ap (option_map name_in) live.holds)) ∙ k.under v t.0 live.bound)

@@ -1,5 +1,5 @@
 -- Each line is the event of the thread pool that it says, by the rules of the pool.
-use Rattle.uv_order.proofs.Names.{arith, ◌≡◌, ℕ, ◌||◌, List, ◌∷◌, ◌++◌, map, Bool, true, false, Option, Some, None, Ok, drop, slice_set, refl, ap, sym, subst, ◌∙◌, append_assoc, append-nil, map-append, or_comm, list_any, both_ways, or_right, false_from_ne_true, same_Some, none-some, Id, Var, Code, Answer, Site, Slot, held, freed, next_free, Op, Task, Program, arena_size, op_at, text_of, Pool, runs, is_done, has, without, collected_from, after_event, after_events, is_open, Finished, Cancelled, Content, Request, request_in, same_id, without_id, State, request, live_request, do_op, Next, Moves, Refuses, has_id, AreDistinct, run_ids, op_events, outside_events, line_events, was_finished, done_as, pool_of, Seen, PoolEvent, digest_of, []}
+use Rattle.uv_order.proofs.Names.{arith, ◌≡◌, ℕ, ◌||◌, List, ◌∷◌, ◌++◌, map, Bool, true, false, Option, Some, None, Ok, drop, slice_set, refl, ap, sym, subst, ◌∙◌, append_assoc, append-nil, map-append, or_comm, list_any, both_ways, or_right, false_from_ne_true, same_Some, none-some, Id, Var, Code, Answer, Site, Slot, held, freed, next_free, Op, Task, Program, arena_size, op_at, text_of, Pool, runs, is_done, has, without, collected_from, after_event, after_events, is_open, Finished, Cancelled, Content, Request, request_in, same_id, without_id, State, request, live_request, do_op, Next, Moves, Refuses, has_id, AreDistinct, run_ids, op_events, outside_events, line_events, done_as, pool_of, Seen, PoolEvent, digest_of, []}
 use Rattle.uv_work.specs.Pool.{Done as Ended, waits}
 use Rattle.uv_model.specs.Ops as ops
 use Rattle.uv_model.specs.Next as step
@@ -90,10 +90,6 @@ without_first : (ids : List Id) (id : Id) → AreDistinct ids → without ids id
 without_first [] id d = refl
 without_first (x ∷ ids) id d = grind (arith, same, without_absent, without_first ids id d.1)
 
-its_outcome : (s t : State) (id : Id) (r x : Request) → Turns s.arena.slots t.arena.slots id (Some (Content.Request r)) (Some (Content.Request x)) →
-    done_as t id ≡ record { id = id; finished = was_finished (Some x) }
-its_outcome s t id r x turns = ap (λ (o : Option Request). record { id = id; finished = was_finished o }) (ap request_in turns.here)
-
 -- a request that waits is cancelled
 cancelled_pool : (s : State) (t : Id × Request) → held s.arena.slots t.0 ≡ Some (Content.Request t.1) → list_any (same_id t.0) s.waiting ≡ true →
     Working s → after_event (pool_of s) (PoolEvent.Cancel t.0) ≡ Some (pool_of (ops.cancelled s t.0 t.1))
@@ -106,7 +102,7 @@ cancelled_pool s t e on k =
     let apart = apart_done s u t.0 (Some (Content.Request t.1)) (Some (Content.Request x)) turns
     (λ r f. ap (λ (y : Request). is_open y.outcome) (sym (same_Some _ _ f)) ∙ opened) k in
     let distinct = distinct_front s.waiting (run_ids s.running) k.open_ones.distinct in
-    grind (arith, waits_has, equal_pools, without_first, append_assoc, map-append, its_outcome, turns, apart)
+    grind (arith, waits_has, equal_pools, without_first, append_assoc, map-append, turns, apart)
 
 -- a worker finishes the one that it runs
 finished_pool : (s : State) (n : ℕ) (t : Id × Request) → RunsWork s n t → Working s → after_event (pool_of s) (PoolEvent.Finish n t.0)
@@ -118,7 +114,7 @@ finished_pool s n t f k =
     let opened = runs_open s.arena.slots s.waiting s.running s.done t.0 t.1 f.holds (runs_now s.running n t.0 f.busy) k in
     let apart = apart_done s u t.0 (Some (Content.Request t.1)) (Some (Content.Request x)) turns
     (λ r h. ap (λ (y : Request). is_open y.outcome) (sym (same_Some _ _ h)) ∙ opened) k in
-    grind (arith, itself, equal_pools, append_assoc, map-append, its_outcome, turns, apart)
+    grind (arith, itself, equal_pools, append_assoc, map-append, turns, apart)
 
 -- the first of those that are done calls back
 collected_pool : (s : State) (last : ℕ) (t : Id × Request) → FrontRequest s s.done.yet t → Working s → after_event (pool_of s) (PoolEvent.Collect t.0)
@@ -126,16 +122,14 @@ collected_pool : (s : State) (last : ℕ) (t : Id × Request) → FrontRequest s
 collected_pool s last t f k =
     let u = record s { arena = freed last t.0 s.arena; done = record s.done { yet = drop 1 s.done.yet } } in
     let turns = freed_turns last s.arena t.0 (Content.Request t.1) f.holds in
-    let rest = f.rest ++ s.done.list in
-    let apart : has_id rest t.0 ≡ false = distinct_round f.rest s.done.list t.0
+    let rest = drop 1 s.done.yet ++ s.done.list in
+    let apart : has_id rest t.0 ≡ false = distinct_round (drop 1 s.done.yet) s.done.list t.0
     (subst (λ (ids : List Id). AreDistinct (s.done.list ++ ids)) f.are k.ended.distinct) in
     let same_rest : map (done_as u) rest ≡ map (done_as s) rest =
     done_same s u rest (λ i h. ap request_in (turns.others i (λ is. both_ways (has_id rest t.0) apart (ap (has_id rest) (sym is) ∙ h)))) in
-    let yet : map (done_as u) (drop 1 s.done.yet ++ s.done.list) ≡ map (done_as s) rest =
-    ap (λ (ids : List Id). map (done_as u) (ids ++ s.done.list)) f.behind ∙ same_rest in
     let front : map (done_as s) (s.done.yet ++ s.done.list) ≡ done_as s t.0 ∷ map (done_as s) rest =
     ap (λ (ids : List Id). map (done_as s) (ids ++ s.done.list)) f.are in
-    ap (collected_from (pool_of s) t.0) front ∙ rw (itself t.0 t.0 refl) (ap Some (equal_pools _ _ _ _ _ _ refl refl (sym yet)))
+    ap (collected_from (pool_of s) t.0) front ∙ rw (itself t.0 t.0 refl) (ap Some (equal_pools _ _ _ _ _ _ refl refl (sym same_rest)))
   where
     distinct_round : (xs ys : List Id) (x : Id) → AreDistinct (ys ++ x ∷ xs) → has_id (xs ++ ys) x ≡ false
     distinct_round xs ys x d = grind (arith, has_both, once_middle ys xs x d)
@@ -175,21 +169,8 @@ quiet_step : (p : Program) (s : State) (n : Next) → KeepsWork s n → IsQuiet 
 quiet_step p s n q none = grind (arith, pool_same)
 
 did_quiet : (p : Program) (s : State) (n : Next) (d : Did p s n) → IsOfLoop d → IsQuiet p n
-did_quiet p s n (Did.refused why) h = tt
 did_quiet p s n (Did.still x time clock stop idled l IsStill.unseen) h = tt
-did_quiet p s n (Did.still x time clock stop idled l each) h = refl
-did_quiet p s n (Did.begun run q e) h = refl
-did_quiet p s n (Did.begun_closing run e) h = refl
-did_quiet p s n (Did.collected run part t f) h = tt
-did_quiet p s n (Did.fired run t f) h = refl
-did_quiet p s n (Did.called_due run t f) h = refl
-did_quiet p s n (Did.answered run time v t e is on) h = refl
-did_quiet p s n (Did.walked run q t sync f) h = refl
-did_quiet p s n (Did.passed run t f off) h = tt
-did_quiet p s n (Did.woken run t f on) h = refl
-did_quiet p s n (Did.closed run t f) h = refl
-did_quiet p s n (Did.sent v) h = refl
-did_quiet p s n each h = absurd h
+did_quiet p s n each h = grind arith
 
 outside_pools : (p : Program) (s : State) (v : Var) → Working s →
     after_events (Some (pool_of s)) (outside_events (ops.cancel s (live_request s v)).answer) ≡ Some (pool_of (ops.cancel s (live_request s v)).state)

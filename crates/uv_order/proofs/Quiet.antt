@@ -1,14 +1,14 @@
 -- The steps that change no request: those of handles, of the loop's sections but for the requests that are done, and of the clock.
-use Rattle.uv_order.proofs.Names.{◌≡◌, ◌==◌, List, Option, Some, None, drop, refl, ◌∙◌, cond_both, Id, Var, Kind, HandleRecord, Slot, Walk, inited, activated, referenced_as, repeating, taken, next_free, Op, Program, arena_size, Content, State, handle, stopped, restarted, do_op, Next, Moves, Refuses, WatcherKind}
+use Rattle.uv_order.proofs.Names.{◌≡◌, List, Option, Some, None, drop, refl, Id, Var, Kind, HandleRecord, Slot, Walk, inited, activated, referenced_as, repeating, taken, next_free, Op, Program, arena_size, Content, State, handle, stopped, restarted, do_op, Next, Moves, Refuses, WatcherKind}
 use Rattle.uv_records.specs.Handles as records
 use Rattle.uv_model.specs.Ops as ops
 use Rattle.uv_order.proofs.Contents.{Turns}
-use Rattle.uv_order.proofs.Holding.{put, put_same, is_held}
+use Rattle.uv_order.proofs.Holding.{put, is_held, Touches, still_touches, start_touches, again_touches}
 use Rattle.uv_order.proofs.Asked.{freed_turns}
 use Rattle.uv_order.proofs.Works.{SameRequests, same_requests, same_put}
 use Rattle.uv_order.proofs.OpCases.{DidOp, op_did, live_held}
 use Rattle.uv_order.proofs.Keeping.{Kept, fills}
-use Rattle.uv_order.proofs.Did.{Did, FrontOf}
+use Rattle.uv_order.proofs.Did.{Did}
 
 -- no request changes, and no list of requests
 pub record IsSame (now : List (Slot Content)) (waiting : List Id) (running : List (Option Id)) (done : Walk Id) (was : List (Slot Content))
@@ -37,16 +37,17 @@ by_slots s slots f = record { requests = f; waiting_is = refl; running_is = refl
 changed : (s : State) (t : Id × HandleRecord) (x : HandleRecord) → handle s t.0 ≡ Some t.1 → SameSlots s (put s.arena.slots t.0 x)
 changed s t x e = by_slots s (put s.arena.slots t.0 x) (same_put s.arena.slots t.0 t.1 x e)
 
--- it changes twice
-twice : (s : State) (t : Id × HandleRecord) (x y : HandleRecord) → handle s t.0 ≡ Some t.1 → SameSlots s (put (put s.arena.slots t.0 x) t.0 y)
-twice s t x y e =
-    let slots = put s.arena.slots t.0 x in
-    by_slots s (put slots t.0 y)
-    (λ i. same_put slots t.0 x y (put_same s.arena.slots t.0 t.1 x e) i ∙ same_put s.arena.slots t.0 t.1 x e i)
+touched : (s u : State) (id : Id) (h x : HandleRecord) → Touches s id h x u → SameWork s u
+touched s u id h x t = record {
+  requests = rw t.arena (same_put s.arena.slots id h x t.holds);
+  waiting_is = t.waiting;
+  running_is = t.running;
+  done_is = t.done;
+}
 
+-- a timer is stopped, and started again where it repeats
 again_same : (s : State) (t : Id × HandleRecord) → handle s t.0 ≡ Some t.1 → SameWork s (restarted (stopped s t.0 t.1) t.0 t.1)
-again_same s t e = cond_both (t.1.repeat == 0) _ _ (SameWork s) (λ z. changed s t (records.stopped t.1) e)
-    (λ z. twice s t (records.stopped t.1) _ e)
+again_same s t e = touched s _ t.0 t.1 _ (again_touches s (stopped s t.0 t.1) t.0 t.1 (records.stopped t.1) (assumption e))
 
 -- a slot is taken for a handle
 new_same : (s : State) (v : Var) (q : Kind) (id : Id) → next_free s.arena ≡ Some id → Kept s → SameWork s (ops.with_new s v q id)
@@ -70,7 +71,8 @@ did_op_same : (s : State) (o : Op) (d : ops.Done) → DidOp s o d → IsOfHandle
 did_op_same s o d (DidOp.made v q id e) h kept = new_same s v q id e kept
 did_op_same s o d (DidOp.queued v task id e) h kept = absurd h
 did_op_same s o d (DidOp.cancelled v t live on) h kept = absurd h
-did_op_same s o d (DidOp.started v timeout repeat t e is stays) h kept = twice s t (records.stopped t.1) _ (live_held s v t e)
+did_op_same s o d (DidOp.started v timeout repeat t e is stays) h kept = touched s d.state t.0 t.1 _
+    (start_touches s (stopped s t.0 t.1) t.0 t.1 (records.stopped t.1) timeout repeat (assumption (live_held s v t e)))
 did_op_same s o d (DidOp.again v t e is stays) h kept = again_same s t (live_held s v t e)
 did_op_same s o d (DidOp.watching v WatcherKind.Idle t e is off stays) h kept = changed s t (activated t.1) (live_held s v t e)
 did_op_same s o d (DidOp.watching v each t e is off stays) h kept = changed s t (activated t.1) (live_held s v t e)
@@ -91,9 +93,6 @@ abbrev pub KeepsWork : State → Next → Type 0
 KeepsWork s (Moves t seen) = SameWork s t
 KeepsWork s (Refuses why) = Unit {0}
 
-fired_same : (s : State) (t : Id × HandleRecord) → FrontOf s s.ready t → SameWork s (restarted (record s { ready = drop 1 s.ready }) t.0 t.1)
-fired_same s t f = cond_both (t.1.repeat == 0) _ _ (SameWork s) (λ z. same s) (λ z. changed s t _ f.holds)
-
 -- the step is none of requests, nor of a script
 abbrev pub IsOfLoop : {p : Program} {s : State} {n : Next} → Did p s n → Type 0
 IsOfLoop (Did.op x at o e) = ⊥
@@ -111,7 +110,8 @@ did_same p s n (Did.begun run WatcherKind.Idle e) h kept = same s
 did_same p s n (Did.begun run each e) h kept = same s
 did_same p s n (Did.begun_closing run e) h kept = same s
 did_same p s n (Did.collected run part t f) h kept = changed s t (records.stopped t.1) f.holds
-did_same p s n (Did.fired run t f) h kept = fired_same s t f
+did_same p s n (Did.fired run t f) h kept = touched s _ t.0 t.1 _
+    (again_touches s (record s { ready = drop 1 s.ready }) t.0 t.1 t.1 (still_touches s (drop 1 s.ready) t.0 t.1 f.holds))
 did_same p s n (Did.called_due run t f) h kept = again_same s t f.holds
 did_same p s n (Did.answered run time v t e is on) h kept = same s
 did_same p s n (Did.walked run WatcherKind.Idle t sync f) h kept = same s

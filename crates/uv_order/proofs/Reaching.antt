@@ -1,6 +1,6 @@
 -- Each state that steps lead to is a reached one.
 use Rattle.uv_order.proofs.Names.{List, Id, Event, Program, State, IsReached, IsSetAside, AreSetAside, kind_as, watched, after}
-use Rattle.uv_order.proofs.Lemmas.{member, Fits, Lists, Rests, members}
+use Rattle.uv_order.proofs.Lemmas.{Fits, Lists, Rests, members}
 use Rattle.uv_order.proofs.Documents.{HoldsAt, holds_after}
 use Rattle.uv_order.proofs.Standing.{are_timers, all_active, all_ended, all_opened, all_closing}
 use Rattle.uv_order.proofs.Follows.{begins_at}
@@ -8,7 +8,7 @@ use Rattle.uv_order.proofs.Follows.{begins_at}
 -- ---- what it says
 
 set_aside : (s : State) (ids : List Id) → Lists s.arena.slots Rests ids → AreSetAside s ids
-set_aside s ids k = record { each = λ id h. rests id (member (Fits s.arena.slots Rests) ids k.each id h); distinct = k.distinct } where
+set_aside s ids k = record { each = λ id h. rests id (k.each id h); distinct = k.distinct } where
   rests : (id : Id) → Fits s.arena.slots Rests id → IsSetAside s id
   rests id f = record { its = f.handle; holds = f.holds; kind = f.fits.kind; inactive = f.fits.inactive; stays = f.fits.stays }
 

@@ -1,8 +1,8 @@
 -- What the documented order refuses.
-use Rattle.uv_order.proofs.Names.{arith, ◌≡◌, ℕ, List, [], ◌∷◌, ◌++◌, Bool, true, false, Option, Some, refl, ap, sym, subst, ◌∙◌, if◌then◌else◌, not, both_ways, same_Some, Id, Var, Due, Success, Answer, Mode, Phase, Callback, Seen, Site, Op, Program, from_heap, op_at, State, Line, has_id, closes_some, may_wait, bound, Names, names_by, taken_off, Told, nothing_told, told_by, Lasting, lasting, Section, word_of, In, is_called, Standing, IsCallLine, CallsNext, MayAnswer, Within, Position, Between, Running, Goes, GoesOn, line, at_first, past_after, is_within, AllWithin, is_send_op, is_send, AllSilent, RefusedOrder, holds_io}
+use Rattle.uv_order.proofs.Names.{arith, ◌≡◌, ℕ, List, [], ◌∷◌, ◌++◌, Bool, true, false, Option, Some, refl, ap, sym, subst, ◌∙◌, if◌then◌else◌, not, both_ways, same_Some, Id, Var, Answer, Mode, Phase, Callback, Seen, Site, Op, Program, from_heap, op_at, State, Line, has_id, closes_some, Names, names_by, taken_off, Told, nothing_told, told_by, Lasting, lasting, Section, word_of, is_called, Standing, IsCallLine, CallsNext, Within, Position, Between, Running, Goes, GoesOn, line, at_first, past_after, is_within, AllWithin, is_send, AllSilent, RefusedOrder, holds_io}
 use Rattle.uv_order.specs.Documented as doc
 use Rattle.uv_order.specs.Documented.{Walk}
-use Rattle.uv_order.proofs.Lemmas.{has_both, itself, without_itself, still_absent}
+use Rattle.uv_order.proofs.Lemmas.{has_both, without_itself, still_absent}
 
 -- ---- where the lines stand
 
@@ -78,12 +78,6 @@ record Stays (p : Program) (told : Told) (names : Names) (m : Mode) (i : ℕ) (p
   grown : (id : Id) → has_id w.off id ≡ true → has_id walk.off id ≡ true
   tells : Tells p told names part w walk what
 
-still_off : (taken off : List Id) (id : Id) → has_id off id ≡ true → has_id (taken ++ off) id ≡ true
-still_off taken off id e = grind (arith, has_both)
-
-also_off : (taken off : List Id) (id : Id) → has_id taken id ≡ true → has_id (taken ++ off) id ≡ true
-also_off taken off id e = grind (arith, has_both)
-
 -- a callback of I/O begins in it, and nobody is taken off
 record Answered (part : Section) (w : Walk) (to : Standing) : Type 0 where
   walk : Walk
@@ -92,9 +86,6 @@ record Answered (part : Section) (w : Walk) (to : Standing) : Type 0 where
 
 answered : (s : State) (told : Told) (body : List Site) (part : Section) (w : Walk) → Answered part w (doc.answering s told body (Within part w))
 answered s told body part w = grind arith
-
-answers_in : (part : Section) (w : Walk) → MayAnswer (Within part w) → holds_io (word_of part) ≡ true
-answers_in part w a = grind arith
 
 -- who is called in a section wasn't taken off
 call_tells : (p : Program) (told : Told) (names : Names) (part : Section) (w walk : Walk) (s : State) (kind : Callback) (v : Var) (id : Id)
@@ -115,16 +106,10 @@ stays p told names m i part w l to e g = at to e g where
   at to e (doc.section next a b c d f) = cc (ap is_within c, e)
   at to e (doc.poll timeout a b c d f) = cc (ap is_within d, e)
   at to e (doc.ends a b c d) = cc (ap is_within c, e)
-  at to e (doc.call kind v id behind a b c d f) =
-      let walk : Walk = record w { ahead = behind; body = body kind v } in
-      so walk (λ x on. on) l.seen refl (call_tells p told names part w walk l.before kind v id behind l.seen b d)
-  at to e (doc.fires v id due others a b c d f g h i) =
-      so (record w { body = body Callback.Handle v }) (λ x on. on) (Seen.Call v id) h ((λ heap. cc (a, heap)), rw b refl)
-  at to e (doc.answers v id a b c d f g) =
-      let s = answered l.before told (body Callback.Handle v) part w in
-      subst (λ (y : Standing). Stays p told names m i part w (Running m i y) l.seen) (sym s.is)
-      (so s.walk (λ x on. ap (λ (ids : List Id). has_id ids x) s.off ∙ on) (Seen.Io v id) f (answers_in part w b))
-  at to e (doc.body_op place rest o a b c d f) = grind (arith, still_off, also_off, same_Some)
+  at to e (doc.call kind v id behind a b c d f) = grind arith
+  at to e (doc.fires v id due others a b c d f g h i) = grind arith
+  at to e (doc.answers v id a b c d f g) = grind arith
+  at to e (doc.body_op place rest o a b c d f) = grind (arith, has_both, same_Some)
   at to e (doc.sent v code a b) = so w (λ x on. on) _ a tt
   at to e (doc.taken n v id a b c) = so w (λ x on. on) _ a tt
   at to e (doc.finished n v id a b c) = so w (λ x on. on) _ a tt
@@ -175,27 +160,10 @@ sent_on p m i part w told past was xs l v id ls is a e h =
 
 -- ---- lines that aren't sends
 
-absent_ids : (sent gone : List Id) (id : Id) → has_id sent id ≡ false → has_id (doc.without_ids sent gone) id ≡ false
-absent_ids sent [] id e = e
-absent_ids sent (x ∷ gone) id e = still_absent (doc.without_ids sent gone) x id (absent_ids sent gone id e)
-
-absent_op : (names : Names) (o : Option Op) (a : Answer) (sent : List Id) (id : Id) → is_send_op o ≡ false → has_id sent id ≡ false →
-    has_id (doc.sent_after o a names sent) id ≡ false
-absent_op names o a sent id e h = grind (arith, still_absent, absent_ids)
-
-absent_line : (p : Program) (told : Told) (names : Names) (l : Seen) (id : Id) → is_send p l ≡ false → has_id told.sent id ≡ false →
-    has_id (told_by p told names l).sent id ≡ false
-absent_line p told names each id e h = grind (arith, absent_op, still_absent)
-
 absent_on : (p : Program) (xs : List Line) (told : Told) (past : List Seen) (id : Id) → AllSilent p xs → has_id told.sent id ≡ false →
     has_id (told_after p told past xs).sent id ≡ false
 absent_on p [] told past id a h = h
-absent_on p (x ∷ xs) told past id a h = absent_on p xs _ _ id a.1 (absent_line p told (names_by p past) x.seen id a.0 h)
-
--- a call takes in what was sent
-absent_called : (p : Program) (told : Told) (names : Names) (l : Seen) (v : Var) (id : Id) → l ≡ Seen.Call v id →
-    has_id (told_by p told names l).sent id ≡ false
-absent_called p told names l v id e = rw e (without_itself told.sent id)
+absent_on p (x ∷ xs) told past id a h = absent_on p xs _ _ id a.1 (grind (arith, still_absent))
 
 -- ---- the laws
 
@@ -203,21 +171,10 @@ no_wait : (a b c d : Bool) (n : Option ℕ) → d ≡ true →
     (if a then Some 0 else (if not b then Some 0 else (if c then Some 0 else (if d then Some 0 else n)))) ≡ Some 0
 no_wait a b c d n e = grind arith
 
-closing_zero : (s : State) (timers : List (Due × Id)) (m : Mode) → closes_some s ≡ true → may_wait s timers m ≡ Some 0
-closing_zero s timers m e = grind (arith, no_wait)
-
 -- behind which a poll waits for nothing
 zero_waits : (p : Program) (told : Told) (names : Names) (l : Line) (at to : Position) (timeout : Option ℕ) → closes_some l.before ≡ true →
     l.seen ≡ Seen.Poll timeout → Goes p told names at l to → timeout ≡ Some 0
-zero_waits p told names l at to timeout shut e g = grind (arith, closing_zero)
-
-zero_on : (p : Program) (at : Position) (told : Told) (past : List Seen) (was : Lasting) (l : Line) (ls : List Line) (timeout : Option ℕ) →
-    closes_some l.before ≡ true → l.seen ≡ Seen.Poll timeout → GoesOn p at told past was (l ∷ ls) → timeout ≡ Some 0
-zero_on p at told past was l ls timeout shut e (line {to = to} f g h) = zero_waits p told (names_by p past) l at to timeout shut e g
-
-off_started : (names : Names) (v : Var) (id : Id) (timeout repeat : ℕ) (word : Phase) → word ≡ Phase.Timers → names.bound v ≡ Some id →
-    has_id (taken_off word names (Op.Start v timeout repeat) (Answer.Code Success)) id ≡ true
-off_started names v id timeout repeat word e f = grind (arith, itself)
+zero_waits p told names l at to timeout shut e g = grind (arith, no_wait)
 
 -- a callback of I/O stands in such a section
 io_on : (p : Program) (m : Mode) (i : ℕ) (part : Section) (w : Walk) (told : Told) (past : List Seen) (was : Lasting) (l : Line) (v : Var)
@@ -231,7 +188,7 @@ pub refused : (p : Program) (before more : List Line) → RefusedOrder p before 
 refused p before more = record {
   closing_waits = λ l timeout shut d e h.
       let k = behind p before (l ∷ more) (Between 0) nothing_told [] at_first h in
-      d (zero_on p k.at _ _ k.was l more timeout shut e k.goes);
+      d (grind (arith, zero_waits));
   early_timer = λ s l y front mid v x id place timeout repeat heap es fs el o names ms ek h.
       let k = behind p before (s ∷ (front ++ l ∷ (mid ++ y ∷ more))) (Between 0) nothing_told [] at_first h in
       let b = section_on p k.at _ _ k.was s Phase.Timers (front ++ l ∷ (mid ++ y ∷ more)) es k.goes in
@@ -239,7 +196,7 @@ refused p before more = record {
       let two = op_on p b.mode b.number b.part one.walk _ _ one.was l place (Op.Start v timeout repeat) _ (mid ++ y ∷ more) el o one.rest in
       let three = within_on p b.mode b.number b.part mid (y ∷ more) two.walk _ _ two.was ms two.rest in
       both_ways (has_id three.walk.off id) ((call_on p b.mode b.number b.part three.walk _ _ three.was y x id more ek three.rest).0 heap)
-      (grind (arith, off_started, past_both));
+      (grind (arith, past_both));
   second_call = λ a s b mid front v x id ea ms es fs fq eb h.
       let now : Told = told_after p nothing_told [] before in
       let past : List Seen = past_after [] before in
@@ -248,7 +205,7 @@ refused p before more = record {
       let told : Told = told_after p now past (a ∷ mid) in
       let two = section_on p one.at told (past_after past (a ∷ mid)) one.was s Phase.Async (front ++ b ∷ more) es one.goes in
       let off : has_id told.sent id ≡ false =
-      absent_on p mid _ (a.seen ∷ past) id ms (absent_called p now (names_by p past) a.seen v id ea) in
+      absent_on p mid _ (a.seen ∷ past) id ms (grind (arith, without_itself)) in
       both_ways (has_id (told_after p told (past_after past (a ∷ mid)) (s ∷ front)).sent id)
       (absent_on p (s ∷ front) told (past_after past (a ∷ mid)) id (ap (is_send p) es, fq) off)
       (sent_on p two.mode two.number two.part two.walk _ _ two.was front b x id more two.its fs eb two.rest);
@@ -261,7 +218,7 @@ refused p before more = record {
       let told : Told = told_after p now past (s ∷ front) in
       let gone : List Seen = past_after past (s ∷ front) in
       both_ways (has_id (told_after p told gone (a ∷ mid)).sent id)
-      (absent_on p mid _ (a.seen ∷ gone) id mq (absent_called p told (names_by p gone) a.seen v id ea))
+      (absent_on p mid _ (a.seen ∷ gone) id mq (grind (arith, without_itself)))
       (sent_on p one.mode one.number one.part two.walk told gone two.was (a ∷ mid) b x id more one.its (ap is_within ea, ms) eb two.rest);
   io_elsewhere = λ s l front word v id apart es fs el h.
       let k = behind p before (s ∷ (front ++ l ∷ more)) (Between 0) nothing_told [] at_first h in

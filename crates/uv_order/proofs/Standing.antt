@@ -1,9 +1,9 @@
 -- Where a state stands in the documented order, and the lists of the sections there.
-use Rattle.uv_order.proofs.Names.{arith, ◌≡◌, ℕ, List, ◌++◌, Bool, true, false, Option, Some, None, refl, subst, append-nil, Order, Id, Due, Kind, Mode, Phase, Seen, Site, Program, Body, Run, Stage, TimersOf, Turn, AtEntry, Behind, BehindClosing, Way, ToTimers, ToPending, ToEnd, Collecting, Firing, Place, Listed, Slot, Content, State, Next, Moves, Refuses, time_at, idled_at, from_heap, Line, has_id, AreTimers, AreDistinct, AreActive, AreClosing, IsEnded, AreEnded, IsOpened, AreOpened, run_ids, Told, told_by, AllOffOrUnsent, lasting, Section, Entry, In, word_of, part_after, part_of, Opens, IsOver, Standing, Answering, Begun, Within, Polling, Position, Between, Running, Goes, WatcherKind, phase_of, []}
+use Rattle.uv_order.proofs.Names.{arith, ◌≡◌, ℕ, List, ◌++◌, Bool, true, false, Option, Some, None, refl, subst, append-nil, Order, Id, Due, Kind, Mode, Phase, Seen, Site, Program, Run, Stage, TimersOf, Turn, AtEntry, Behind, BehindClosing, Way, ToTimers, ToPending, ToEnd, Collecting, Firing, Place, Listed, Slot, Content, State, Next, Moves, Refuses, time_at, idled_at, from_heap, Line, has_id, AreTimers, AreDistinct, AreActive, AreClosing, AreEnded, AreOpened, run_ids, Told, told_by, AllOffOrUnsent, lasting, Section, Entry, In, word_of, part_after, part_of, Opens, IsOver, Standing, Answering, Begun, Within, Polling, Position, Between, Running, Goes, WatcherKind, phase_of, [], Names}
 use Rattle.uv_order.specs.Documented as doc
 use Rattle.uv_order.specs.Documented.{Walk}
-use Rattle.uv_order.proofs.Lemmas.{names_at, left_of, member, due_ids, distinct_due, its_handle, Everyone, Times, Kept, Watches, Closes, members, Asks, AllAsk, IsOpen, HasEnded, Working, IsBody, Counted}
-use Rattle.uv_order.proofs.Sends.{pends}
+use Rattle.uv_order.proofs.Lemmas.{left_of, due_ids, distinct_due, its_handle, Everyone, Times, Kept, Watches, Closes, members, AllAsk, HasEnded, Working, IsBody, Counted, Agrees, all_alike}
+use Rattle.uv_order.proofs.Sends.{pends, SentAt}
 
 -- ---- where a state stands
 
@@ -15,25 +15,29 @@ abbrev pub section_of : TimersOf → Section
 section_of TimersOf.Entry = Entry
 section_of TimersOf.Iteration = In Phase.Timers
 
--- by the body and the stage of a run
-pub data StandsIn (p : Program) : Option Body → Stage → Standing → Type 0 where
-  begun : StandsIn p None Stage.Entry Begun
-  pending : {w : Walk} {body : Option Body} → w.ahead ≡ [] → IsBody p body w.body → StandsIn p body Stage.Pending (Within (In Phase.Pending) w)
-  walking : {q : WatcherKind} {w : Walk} {body : Option Body} → IsBody p body w.body → StandsIn p body (Stage.Walking q) (Within (In (phase_of q)) w)
-  polls : {deadline : Option ℕ} → StandsIn p None (Stage.Poll deadline) (Polling deadline)
-  polled : {woken : Bool} {sites : List Site} {body : Option Body} → IsBody p body sites →
-      StandsIn p body (Stage.Polled woken) (Answering woken sites)
-  done : {w : Walk} {body : Option Body} → w.woken ≡ true → IsBody p body w.body → StandsIn p body Stage.Done (Within (In Phase.Done) w)
-  unwoken : {w : Walk} {body : Option Body} → w.woken ≡ false → w.ahead ≡ [] → IsBody p body w.body →
-      StandsIn p body Stage.DoneUnwoken (Within (In Phase.Done) w)
-  closing : {w : Walk} {body : Option Body} → IsBody p body w.body → StandsIn p body Stage.Closing (Within (In Phase.Closing) w)
-  collects : {part : TimersOf} {w : Walk} → from_heap p ≡ false → w.body ≡ [] →
-      StandsIn p None (Stage.Timers part Collecting) (Within (section_of part) w)
-  fires : {part : TimersOf} {w : Walk} {body : Option Body} → from_heap p ≡ false → IsBody p body w.body →
-      StandsIn p body (Stage.Timers part Firing) (Within (section_of part) w)
+-- the ops of the callback under way that are still to be done
+abbrev pub sites_at : Standing → List Site
+sites_at Begun = []
+sites_at (Within part w) = w.body
+sites_at (Polling deadline) = []
+sites_at (Answering woken body) = body
+
+-- by the stage of a run
+pub data StandsIn (p : Program) : Stage → Standing → Type 0 where
+  begun : StandsIn p Stage.Entry Begun
+  pending : {w : Walk} → w.ahead ≡ [] → StandsIn p Stage.Pending (Within (In Phase.Pending) w)
+  walking : {q : WatcherKind} {w : Walk} → StandsIn p (Stage.Walking q) (Within (In (phase_of q)) w)
+  polls : {deadline : Option ℕ} → StandsIn p (Stage.Poll deadline) (Polling deadline)
+  polled : {woken : Bool} {sites : List Site} → StandsIn p (Stage.Polled woken) (Answering woken sites)
+  done : {w : Walk} → w.woken ≡ true → StandsIn p Stage.Done (Within (In Phase.Done) w)
+  unwoken : {w : Walk} → w.woken ≡ false → w.ahead ≡ [] → StandsIn p Stage.DoneUnwoken (Within (In Phase.Done) w)
+  closing : {w : Walk} → StandsIn p Stage.Closing (Within (In Phase.Closing) w)
+  -- no callback is under way while timers are collected
+  collects : {part : TimersOf} {w : Walk} → from_heap p ≡ false → w.body ≡ [] → StandsIn p (Stage.Timers part Collecting) (Within (section_of part) w)
+  fires : {part : TimersOf} {w : Walk} → from_heap p ≡ false → StandsIn p (Stage.Timers part Firing) (Within (section_of part) w)
   -- where due timers are called straight from their heap, none is set aside
-  calls_due : {part : TimersOf} {w : Walk} {body : Option Body} → from_heap p ≡ true → w.ahead ≡ [] → IsBody p body w.body →
-      StandsIn p body (Stage.Timers part Collecting) (Within (section_of part) w)
+  calls_due : {part : TimersOf} {w : Walk} → from_heap p ≡ true → w.ahead ≡ [] →
+      StandsIn p (Stage.Timers part Collecting) (Within (section_of part) w)
 
 -- the timers that a section has yet to call: while it collects, those that are due too
 abbrev pub waiting : Stage → Bool → List Id → List Id → List Id
@@ -130,30 +134,38 @@ due_now s = due_ids s.time s.timers
 
 pub data StandsAt (p : Program) (s : State) : Place → Position → Type 0 where
   between : {i : ℕ} → NobodyLeft (rest s.ready s) → StandsAt p s (Place.Main i) (Between i)
-  running : {run : Run} {at : Standing} → StandsIn p run.body run.stage at →
+  running : {run : Run} {at : Standing} → IsBody p run.body (sites_at at) → StandsIn p run.stage at →
       Leaves (rest (waiting run.stage (from_heap p) s.ready (due_now s)) s) at → StandsAt p s (Place.Running run) (Running run.mode run.line at)
 
 pub record Stands (p : Program) (told : Told) (s : State) (at : Position) : Type 0 where
   pub stands : StandsAt p s s.place at
   pub counted : Counted p s.names told
 
+-- what is known where a step begins: what is kept, and what the lines have told
+pub record Has (p : Program) (told : Told) (names : Names) (s : State) : Type 0 where
+  pub kept : Kept s
+  pub sent : SentAt told.sent s
+  pub working : Working s
+  pub counted : Counted p s.names told
+  pub agrees : Agrees names s
+
 -- ---- what a step has to do
 
-pub record FollowsLine (p : Program) (told : Told) (from : Position) (s : State) (what : Seen) (t : State) : Type 0 where
+pub record FollowsLine (p : Program) (told : Told) (names : Names) (from : Position) (s : State) (what : Seen) (t : State) : Type 0 where
   pub to : Position
-  pub goes : Goes p told (names_at s) from (record { before = s; seen = what; after = t }) to
-  pub stands : Stands p (told_by p told (names_at s) what) t to
+  pub goes : Goes p told names from (record { before = s; seen = what; after = t }) to
+  pub stands : Stands p (told_by p told names what) t to
 
 -- a line goes on to where the state behind it stands
-pub follows_to : {p : Program} {told : Told} {from to : Position} {s t : State} {what : Seen} →
-    Goes p told (names_at s) from (record { before = s; seen = what; after = t }) to → StandsAt p t t.place to →
-    Counted p t.names (told_by p told (names_at s) what) → FollowsLine p told from s what t
+pub follows_to : {p : Program} {told : Told} {names : Names} {from to : Position} {s t : State} {what : Seen} →
+    Goes p told names from (record { before = s; seen = what; after = t }) to → StandsAt p t t.place to →
+    Counted p t.names (told_by p told names what) → FollowsLine p told names from s what t
 follows_to {to = to} g a c = record { to = to; goes = g; stands = record { stands = a; counted = c } }
 
-abbrev pub Follows : Program → Told → Position → State → Next → Type 0
-Follows p told at s (Moves t (Some what)) = FollowsLine p told at s what t
-Follows p told at s (Moves t None) = Stands p told t at × (lasting t ≡ lasting s)
-Follows p told at s (Refuses why) = Unit {0}
+abbrev pub Follows : Program → Told → Names → Position → State → Next → Type 0
+Follows p told names at s (Moves t (Some what)) = FollowsLine p told names at s what t
+Follows p told names at s (Moves t None) = Stands p told t at × (lasting t ≡ lasting s)
+Follows p told names at s (Refuses why) = Unit {0}
 
 -- ---- the order of the parts
 
@@ -203,7 +215,7 @@ due_distinct s time k = grind (arith, distinct_due, its_handle)
 
 -- those that watch are the active handles of their kind
 pub all_active : (s : State) (q : Kind) (ids : List Id) → Everyone s.arena.slots (Watches q) ids → AreActive s q ids
-all_active s q ids k = grind (arith, member)
+all_active s q ids k = all_alike (λ i f. grind arith) (λ i f. grind arith) k
 
 pub are_active : (s : State) (q : Kind) (w : Listed Id) → w.yet ≡ [] → Everyone s.arena.slots (Watches q) (members w) → AreActive s q w.list
 are_active s q w e k = subst (AreActive s q) (grind (arith, append-nil)) (all_active s q (members w) k)
@@ -222,32 +234,19 @@ pub opens_unwoken : (p : Program) (told : Told) (l : Line) → Opens p Phase.Don
 opens_unwoken p told l = record { list = refl; off = refl; sent = refl; body = refl; kept = refl }
 
 pub all_ended : (s : State) (ids : List Id) → AllAsk s.arena.slots HasEnded ids → AreEnded s ids
-all_ended s ids all = record {
-  each = λ id h. ended id (all.each id h);
-  all = λ id a. all.all id (asks id a);
-  distinct = all.distinct;
-} where
-  ended : (id : Id) → Asks s.arena.slots HasEnded id → IsEnded s id
-  ended id a = record { its = a.request; holds = a.holds; ended = a.fits }
-
-  asks : (id : Id) → IsEnded s id → Asks s.arena.slots HasEnded id
-  asks id a = record { request = a.its; holds = a.holds; fits = a.ended }
+all_ended s ids k = all_alike (λ i a. record { its = a.request; holds = a.holds; ended = a.fits })
+    (λ i a. record { request = a.its; holds = a.holds; fits = a.ended }) k
 
 -- those that wait, and those that workers run, are the open requests
 pub all_opened : (s : State) → Working s → AreOpened s (s.waiting ++ run_ids s.running)
-all_opened s k = record {
-  each = λ id h. opened id (k.open_ones.each id h);
-  all = λ id a. k.open_ones.all id (record { request = a.its; holds = a.holds; fits = a.opened });
-  distinct = k.open_ones.distinct;
-} where
-  opened : (id : Id) → Asks s.arena.slots IsOpen id → IsOpened s id
-  opened id a = record { its = a.request; holds = a.holds; opened = a.fits }
+all_opened s k = all_alike (λ i a. record { its = a.request; holds = a.holds; opened = a.fits })
+    (λ i a. record { request = a.its; holds = a.holds; fits = a.opened }) k.open_ones
 
 pub are_ended : (s : State) → s.done.yet ≡ [] → Working s → AreEnded s s.done.list
 are_ended s e k = subst (AreEnded s) (grind (arith, append-nil)) (all_ended s (members s.done) k.ended)
 
 pub all_closing : (s : State) (ids : List Id) → Everyone s.arena.slots Closes ids → AreClosing s ids
-all_closing s ids all = grind (arith, member)
+all_closing s ids k = all_alike (λ i f. grind arith) (λ i f. grind arith) k
 
 pub are_closing : (s : State) → s.closing.yet ≡ [] → Kept s → AreClosing s s.closing.list
 are_closing s e k = subst (AreClosing s) (grind (arith, append-nil)) (all_closing s (members s.closing) k.closing)

@@ -1,9 +1,9 @@
 -- Who was started, as the lines tell it and as the handles say it, and which ids were made: each step keeps that they agree.
-use Rattle.uv_order.proofs.Names.{arith, ◌≡◌, ◌⊎◌, inl, inr, ℕ, ◌==◌, ◌||◌, ◌&&◌, List, ◌∷◌, ◌++◌, Bool, true, false, drop, if◌then◌else◌, Option, Some, None, Ok, refl, ap, sym, subst, ◌∙◌, cond_both, or_right, same_Some, none-some, Id, Var, Code, Answer, Kind, Seen, Site, Op, Program, op_at, arena_size, Task, Request, queued, Content, HandleRecord, WatcherKind, Slot, inited, is_timer, referenced_as, repeating, Slots, held, freed, taken, next_free, handle_in, same_id, without_id, State, fresh, handle, live_handle, live_request, with_handle, with_request, watched, stopped, started, restarted, do_op, Next, Moves, Refuses, has_id, Activity, Answered, activity, activity_answered, activity_done, activity_by, activity_called, new_activity, is_some_id, bound, makes, made_as, kind_as, []}
+use Rattle.uv_order.proofs.Names.{arith, ◌≡◌, ◌⊎◌, inl, inr, ℕ, ◌||◌, ◌&&◌, List, ◌∷◌, Bool, true, false, drop, if◌then◌else◌, Option, Some, None, Ok, refl, ap, sym, subst, ◌∙◌, or_right, same_Some, Id, Var, Code, Answer, Kind, Seen, Site, Op, Program, op_at, Task, Request, queued, Content, HandleRecord, WatcherKind, inited, is_timer, referenced_as, repeating, Slots, held, freed, taken, next_free, handle_in, same_id, without_id, State, fresh, handle, live_handle, live_request, with_handle, with_request, watched, stopped, restarted, do_op, Next, Moves, Refuses, has_id, Activity, Answered, activity, activity_answered, activity_done, activity_by, activity_called, is_some_id, bound, makes, made_as, kind_as, [], handle_of, collected, front_moved, false_from_ne_true}
 use Rattle.uv_records.specs.Handles as records
 use Rattle.uv_model.specs.Ops as ops
-use Rattle.uv_order.proofs.Lemmas.{Each, each_back, absent, same, other, itself, turned, has_without, has_new_middle, without_itself, Turns, IsHeld, held_at, is_held, put, put_turns, put_same, SameHandles, same_handles, Fits, its_handle, Lists, IsSet, Times, DidOp, IsAsked, IsRefusal, op_did, live_held, live_bound, send_both, cancel_both, IsRef, request_turns, freed_turns, IsGone, gone_put, gone_turned, gone_emptied, gone_now, Rests, Watches, Kept, fills, not_free, Did, FrontOf, FirstOf, IsStill}
-use Rattle.uv_order.proofs.KeptSteps.{first_is}
+use Rattle.uv_order.proofs.Lemmas.{same, other, itself, turned, has_without, has_new_middle, without_itself, Turns, IsHeld, held_at, is_held, put, put_turns, put_same, SameHandles, same_handles, Lists, DidOp, IsAsked, IsRefusal, op_did, live_held, live_bound, send_both, cancel_both, IsRef, request_turns, freed_turns, IsGone, gone_put, gone_turned, gone_emptied, gone_now, Rests, Watches, Kept, fills, not_free, Did, FrontOf, FirstOf, IsStill, Touches, still_touches, start_touches, again_as, again_touches, put_other, turned_to, has_both}
+use Rattle.uv_order.proofs.KeptSteps.{first_is, front_fits}
 use Rattle.uv_order.proofs.Known.{is_answered}
 use Rattle.uv_order.proofs.OpsOnce.{KnownAt, asked_harmless, harmless, refused_harmless, gone_taken, next_not_gone}
 
@@ -42,22 +42,26 @@ abbrev pub StaysGone : Slots Content → Slots Content → Type 0
 StaysGone arena now = (i : Id) → IsGone arena.slots arena.free i → IsGone now.slots now.free i
 
 -- the record of a handle changes
-pub started_turned : (p : Program) (past more : List Seen) (arena now : Slots Content) (ready list : List Id) (id : Id) (h x : HandleRecord) →
-    Turns arena.slots now.slots id (Some (Content.Handle h)) (Some (Content.Handle x)) → StaysGone arena now → Adds p past more id →
-    ((i : Id) → same_id i id ≡ false → has_id list i ≡ has_id ready i) →
-    (activity p past id ≡ shown h (has_id ready id) → activity p more id ≡ shown x (has_id list id)) → Started p past arena ready →
-    Started p more now list
-started_turned p past more arena now ready list id h x t gone adds lists own k = record {
-  active = λ i y e. active i y e (same_id i id) refl;
-  old = λ i v e. old i (k.old i v (adds.made i v e));
-} where
-  active : (i : Id) (y : HandleRecord) → held_at now.slots i ≡ Some y → (b : Bool) → same_id i id ≡ b → activity p more i ≡ shown y (has_id list i)
-  active i y e true s = grind (arith, same)
-  active i y e false s = grind (arith, other)
+pub started_touched : (p : Program) (past more : List Seen) (s u : State) (id : Id) (h x : HandleRecord) → Touches s id h x u → Adds p past more id →
+    ((i : Id) → same_id i id ≡ false → has_id u.ready i ≡ has_id s.ready i) →
+    (activity p past id ≡ shown h (has_id s.ready id) → activity p more id ≡ shown x (has_id u.ready id)) → StartedAt p past s → StartedAt p more u
+started_touched p past more s u id h x t adds lists own k =
+    rw t.arena (record { active = λ i y e. active i y e (same_id i id) refl; old = λ i v e. old i (k.old i v (adds.made i v e)) }) where
+      turns : Turns s.arena.slots (put s.arena.slots id x) id (Some (Content.Handle h)) (Some (Content.Handle x))
+      turns = put_turns s.arena.slots id h x t.holds
 
-  old : (i : Id) → IsOld arena i → IsOld now i
-  old i (inl here) = inl (grind arith)
-  old i (inr g) = inr (gone i g)
+      active : (i : Id) (y : HandleRecord) → held_at (put s.arena.slots id x) i ≡ Some y → (b : Bool) → same_id i id ≡ b →
+          activity p more i ≡ shown y (has_id u.ready i)
+      active i y e true d =
+          let is = same i id d in
+          let now : x ≡ y = same_Some _ _ (sym (put_same s.arena.slots id h x t.holds) ∙ ap (held_at (put s.arena.slots id x)) (sym is) ∙ e) in
+          grind arith
+      active i y e false d = adds.others i d ∙ k.active i y (sym (put_other s.arena.slots id i h x t.holds (other i id d)) ∙ e)
+          ∙ ap (shown y) (sym (lists i d))
+
+      old : (i : Id) → IsOld s.arena i → IsOld (record s.arena { slots = put s.arena.slots id x }) i
+      old i (inl here) = inl (grind (arith, turned_to turns))
+      old i (inr g) = inr (gone_put s.arena.slots s.arena.free id h x i t.holds g)
 
 -- no handle changes
 pub started_same : (p : Program) (past more : List Seen) (arena now : Slots Content) (ready : List Id) → SameHandles now.slots arena.slots →
@@ -74,25 +78,10 @@ old_turned arena now id i was c t gone (inl here) = inl (grind arith)
 old_turned arena now id i was c t gone (inr g) = inr (gone i g)
 
 -- the record of a handle changes, which is as active as before
-pub still_started : (p : Program) (past more : List Seen) (s : State) (id : Id) (h x : HandleRecord) → handle s id ≡ Some h →
-    ((ready : Bool) → shown x ready ≡ shown h ready) → Silent p past more → StartedAt p past s →
-    Started p more (record s.arena { slots = put s.arena.slots id x }) s.ready
-still_started p past more s id h x e alike q k =
-    started_turned p past more s.arena (record s.arena { slots = put s.arena.slots id x }) s.ready s.ready id h x
-    (put_turns s.arena.slots id h x e) (λ i g. gone_put s.arena.slots s.arena.free id h x i e g) (grind arith) (λ i d. refl)
-    (λ f. q.same id ∙ f ∙ sym (alike (has_id s.ready id))) k
-
--- it changes twice
-twice_turns : (slots : List (Slot Content)) (id : Id) (h x y : HandleRecord) → held_at slots id ≡ Some h →
-    Turns slots (put (put slots id x) id y) id (Some (Content.Handle h)) (Some (Content.Handle y))
-twice_turns slots id h x y e =
-    let t = put_turns slots id h x e in
-    let u = put_turns (put slots id x) id x y (put_same slots id h x e) in
-    record { before = t.before; here = u.here; others = λ i d. u.others i d ∙ t.others i d }
-
-twice_gone : (slots : List (Slot Content)) (free : List ℕ) (id : Id) (h x y : HandleRecord) (i : Id) → held_at slots id ≡ Some h →
-    IsGone slots free i → IsGone (put (put slots id x) id y) free i
-twice_gone slots free id h x y i e g = gone_put (put slots id x) free id x y i (put_same slots id h x e) (gone_put slots free id h x i e g)
+pub still_started : (p : Program) (past more : List Seen) (s u : State) (id : Id) (h x : HandleRecord) → Touches s id h x u → u.ready ≡ s.ready →
+    ((ready : Bool) → shown x ready ≡ shown h ready) → Silent p past more → StartedAt p past s → StartedAt p more u
+still_started p past more s u id h x t r alike q k = started_touched p past more s u id h x t (grind arith) (λ i d. rw r refl)
+    (λ f. q.same id ∙ f ∙ sym (alike (has_id s.ready id)) ∙ rw r refl) k
 
 -- ---- the lines of ops
 
@@ -109,111 +98,45 @@ asked_still : (p : Program) (past : List Seen) (o : Op) (a : Answer) (i : Id) (x
 asked_still p past o a i x (IsAsked.due_in v) = refl
 asked_still p past o a i x each = refl
 
--- an op on the handle of a name
-pub record IsOn (p : Program) (past : List Seen) (o : Op) (v : Var) : Type 0 where
-  pub makes : (i : Id) → makes o (Answer.Code Code.Ok) i ≡ None
-  pub does : (i : Id) (x : Activity) →
-      activity_done p past o (Answer.Code Code.Ok) i x ≡ (if is_some_id i (bound p past v) && true then activity_by o x else x)
-
--- the line of such an op that was done, with the handle's record after it
-pub op_started : (p : Program) (past : List Seen) (s : State) (place : Site) (o : Op) (v : Var) (t : Id × HandleRecord) (x : HandleRecord)
-    (now : Slots Content) (list : List Id) → op_at p place ≡ Some o → IsOn p past o v → bound p past v ≡ Some t.0 →
-    Turns s.arena.slots now.slots t.0 (Some (Content.Handle t.1)) (Some (Content.Handle x)) → StaysGone s.arena now →
-    ((i : Id) → same_id i t.0 ≡ false → has_id list i ≡ has_id s.ready i) →
-    activity_by o (shown t.1 (has_id s.ready t.0)) ≡ shown x (has_id list t.0) → StartedAt p past s →
-    Started p (Seen.Op place (Answer.Code Code.Ok) ∷ past) now list
-op_started p past s place o v t x now list at on is turns gone lists own k =
-    started_turned p past (Seen.Op place (Answer.Code Code.Ok) ∷ past) s.arena now s.ready list t.0 t.1 x turns gone
-    (grind (arith, turned)) lists (λ f. told t.0 ∙ chosen t.0 true is (itself t.0 t.0 refl) ∙ ap (activity_by o) f ∙ own) k
-  where
-    chosen : (i : Id) (b : Bool) → bound p past v ≡ Some t.0 → same_id t.0 i ≡ b →
-        (if is_some_id i (bound p past v) && true then activity_by o (activity p past i) else activity p past i) ≡
-        (if b then activity_by o (activity p past i) else activity p past i)
-    chosen i b e d = grind arith
-
-    told : (i : Id) → activity p (Seen.Op place (Answer.Code Code.Ok) ∷ past) i ≡
-        (if is_some_id i (bound p past v) && true then activity_by o (activity p past i) else activity p past i)
-    told i = op_tells p past place o (Answer.Code Code.Ok) i at ∙ on.does i (activity p past i)
-
 -- ---- ops
 
 -- what agrees with the line of an op
 abbrev pub StartedBy : Program → List Seen → Op → ops.Done → Type 0
 StartedBy p past o d = (place : Site) → op_at p place ≡ Some o → StartedAt p (Seen.Op place d.answer ∷ past) d.state
 
--- a timer is started
-timer_started : (p : Program) (past : List Seen) (s : State) (v : Var) (timeout repeat : ℕ) (t : Id × HandleRecord) → live_handle s v ≡ Ok t →
-    bound p past v ≡ Some t.0 → StartedAt p past s → StartedBy p past (Op.Start v timeout repeat) (ops.start s timeout repeat t.0 t.1)
-timer_started p past s v timeout repeat t e is k place at =
-    let h = live_held s v t e in
-    op_started p past s place (Op.Start v timeout repeat) v t _ _ (without_id s.ready t.0) at
-    (record { makes = λ i. refl; does = λ i x. refl }) is (twice_turns s.arena.slots t.0 t.1 (records.stopped t.1) _ h)
-    (λ i g. twice_gone s.arena.slots s.arena.free t.0 t.1 (records.stopped t.1) _ i h g) (λ i d. has_without s.ready t.0 i d)
-    (rw (without_itself s.ready t.0) refl) k
+-- an op on the handle of a name
+record IsOn (p : Program) (past : List Seen) (o : Op) (v : Var) : Type 0 where
+  makes : (i : Id) → makes o (Answer.Code Code.Ok) i ≡ None
+  does : (i : Id) (x : Activity) →
+      activity_done p past o (Answer.Code Code.Ok) i x ≡ (if is_some_id i (bound p past v) && true then activity_by o x else x)
 
--- a timer is stopped, and started again where it repeats
-timer_again : (p : Program) (past : List Seen) (s : State) (v : Var) (t : Id × HandleRecord) → live_handle s v ≡ Ok t →
-    bound p past v ≡ Some t.0 → StartedAt p past s → StartedBy p past (Op.Again v) (ops.again s t.0 t.1)
-timer_again p past s v t e is k place at =
-    let h = live_held s v t e in
-    let on : IsOn p past (Op.Again v) v = record { makes = λ i. refl; does = λ i x. refl } in
-    let u : State = stopped s t.0 t.1 in
-    cond_both (t.1.repeat == 0) u (started u t.0 t.1 t.1.repeat t.1.repeat) (StartedAt p (Seen.Op place (Answer.Code Code.Ok) ∷ past))
-    (λ z. op_started p past s place (Op.Again v) v t (records.stopped t.1) _ (without_id s.ready t.0) at on is (put_turns s.arena.slots t.0 t.1 _ h)
-    (λ i g. gone_put s.arena.slots s.arena.free t.0 t.1 _ i h g) (λ i d. has_without s.ready t.0 i d)
-    (rw z (rw (without_itself s.ready t.0) refl)) k)
-    (λ z. op_started p past s place (Op.Again v) v t _ _ (without_id s.ready t.0) at on is
-    (twice_turns s.arena.slots t.0 t.1 (records.stopped t.1) _ h)
-    (λ i g. twice_gone s.arena.slots s.arena.free t.0 t.1 (records.stopped t.1) _ i h g) (λ i d. has_without s.ready t.0 i d)
-    (rw z (rw (without_itself s.ready t.0) refl)) k)
+is_on : (p : Program) (past : List Seen) (o : Op) (v : Var) → handle_of o ≡ Some v → IsOn p past o v
+is_on p past o v e = record { makes = λ i. grind arith; does = λ i x. grind arith }
 
--- a handle is stopped or closed
-handle_stopped : (p : Program) (past : List Seen) (s : State) (o : Op) (v : Var) (t : Id × HandleRecord) (x : HandleRecord) → live_handle s v ≡ Ok t →
-    bound p past v ≡ Some t.0 → IsOn p past o v → ((y : Activity) → activity_by o y ≡ record y { started = false }) →
-    shown x false ≡ record (shown t.1 false) { started = false } → StartedAt p past s → (place : Site) → op_at p place ≡ Some o →
-    Started p (Seen.Op place (Answer.Code Code.Ok) ∷ past) (record s.arena { slots = put s.arena.slots t.0 x }) (without_id s.ready t.0)
-handle_stopped p past s o v t x e is on stops off k place at =
-    let h = live_held s v t e in
-    op_started p past s place o v t x _ (without_id s.ready t.0) at on is (put_turns s.arena.slots t.0 t.1 x h)
-    (λ i g. gone_put s.arena.slots s.arena.free t.0 t.1 x i h g) (λ i d. has_without s.ready t.0 i d)
-    (stops (shown t.1 (has_id s.ready t.0)) ∙ rw (without_itself s.ready t.0) (sym off)) k
-
--- a handle of I/O is started
-io_started : (p : Program) (past : List Seen) (s : State) (v : Var) (t : Id × HandleRecord) → live_handle s v ≡ Ok t → bound p past v ≡ Some t.0 →
-    StartedAt p past s → StartedBy p past (Op.StartWatcher v) (ops.succeeds (with_handle s t.0 (records.activated t.1)))
-io_started p past s v t e is k place at =
-    let h = live_held s v t e in
-    op_started p past s place (Op.StartWatcher v) v t (records.activated t.1) _ s.ready at (record { makes = λ i. refl; does = λ i x. refl }) is
-    (put_turns s.arena.slots t.0 t.1 _ h) (λ i g. gone_put s.arena.slots s.arena.free t.0 t.1 _ i h g) (λ i d. refl)
-    (on (has_id s.ready t.0)) k
+-- such an op was done, with the handle's record after it
+done_started : (p : Program) (past : List Seen) (s u : State) (o : Op) (v : Var) (t : Id × HandleRecord) (x : HandleRecord) → handle_of o ≡ Some v →
+    live_handle s v ≡ Ok t → Touches s t.0 t.1 x u → ((i : Id) → same_id i t.0 ≡ false → has_id u.ready i ≡ has_id s.ready i) →
+    activity_by o (shown t.1 (has_id s.ready t.0)) ≡ shown x (has_id u.ready t.0) → KnownAt p past s → StartedAt p past s →
+    StartedBy p past o (ops.succeeds u)
+done_started p past s u o v t x is e touches lists own w k place at =
+    started_touched p past (Seen.Op place (Answer.Code Code.Ok) ∷ past) s u t.0 t.1 x touches
+    (adds (is_on p past o v is) bound_to) lists
+    (λ f. op_tells p past place o (Answer.Code Code.Ok) t.0 at ∙ (is_on p past o v is).does t.0 (activity p past t.0)
+    ∙ chosen t.0 bound_to (itself t.0 t.0 refl) ∙ ap (activity_by o) f ∙ own) k
   where
-    on : (b : Bool) → activity_by (Op.StartWatcher v) (shown t.1 b) ≡ shown (records.activated t.1) b
-    on b = grind arith
+    bound_to : bound p past v ≡ Some t.0
+    bound_to = w.binding v t.0 (live_bound s v t e)
 
--- a watcher is started, with its list
-watcher_started : (p : Program) (past : List Seen) (s : State) (v : Var) (q : WatcherKind) (t : Id × HandleRecord) → live_handle s v ≡ Ok t →
-    bound p past v ≡ Some t.0 → StartedAt p past s → StartedBy p past (Op.StartWatcher v) (ops.succeeds (ops.watcher_started s q t.0 t.1))
-watcher_started p past s v q t e is k place at = search (past, io_started)
+    adds : IsOn p past o v → bound p past v ≡ Some t.0 → Adds p past (Seen.Op place (Answer.Code Code.Ok) ∷ past) t.0
+    adds on b = grind (arith, turned)
 
--- one that is active isn't started again
-still_watches : (p : Program) (past : List Seen) (s : State) (v : Var) (t : Id × HandleRecord) → live_handle s v ≡ Ok t → t.1.active ≡ true →
-    bound p past v ≡ Some t.0 → StartedAt p past s → StartedBy p past (Op.StartWatcher v) (ops.succeeds s)
-still_watches p past s v t e on is k place at =
-    let h = live_held s v t e in
-    op_started p past s place (Op.StartWatcher v) v t t.1 s.arena s.ready at (record { makes = λ i. refl; does = λ i x. refl }) is
-    (record { before = is_held s.arena.slots t.0 t.1 h; here = is_held s.arena.slots t.0 t.1 h; others = λ i d. refl })
-    (λ i g. g) (λ i d. refl) (active (has_id s.ready t.0)) k
-  where
-    active : (b : Bool) → activity_by (Op.StartWatcher v) (shown t.1 b) ≡ shown t.1 b
-    active b = grind arith
+    chosen : (i : Id) → bound p past v ≡ Some t.0 → same_id t.0 i ≡ true →
+        (if is_some_id i (bound p past v) && true then activity_by o (activity p past i) else activity p past i) ≡ activity_by o (activity p past i)
+    chosen i b d = grind arith
 
--- its repeat is set
-timer_repeats : (p : Program) (past : List Seen) (s : State) (v : Var) (n : ℕ) (t : Id × HandleRecord) → live_handle s v ≡ Ok t →
-    bound p past v ≡ Some t.0 → StartedAt p past s → StartedBy p past (Op.SetRepeat v n) (ops.set_repeat s n t.0 t.1)
-timer_repeats p past s v n t e is k place at =
-    let h = live_held s v t e in
-    op_started p past s place (Op.SetRepeat v n) v t (repeating n t.1) _ s.ready at (record { makes = λ i. refl; does = λ i x. refl }) is
-    (put_turns s.arena.slots t.0 t.1 _ h) (λ i g. gone_put s.arena.slots s.arena.free t.0 t.1 _ i h g) (λ i d. refl) refl k
+-- who is ready, where a timer is started again or not
+again_ready : (u : State) (id : Id) (h : HandleRecord) → (restarted u id h).ready ≡ u.ready
+again_ready u id h = grind arith
 
 -- an op that starts and stops nobody, and makes no id
 still_op : (p : Program) (past : List Seen) (s : State) (o : Op) (d : ops.Done) → ((i : Id) → makes o d.answer i ≡ None) →
@@ -273,21 +196,17 @@ handle_made p past s v q id e kept k place at = by q at where
     t = (fills s.arena s.arena.free id (Content.Handle (inited v x)) refl kept.free e).0
 
     away : has_id s.ready id ≡ false
-    away = absent (Fits s.arena.slots Rests) id (λ g. cc (is_held s.arena.slots id g.handle g.holds, t.before)) s.ready kept.ready.each
+    away = false_from_ne_true (has_id s.ready id)
+        (λ on. let g = kept.ready.each id on in cc (is_held s.arena.slots id g.handle g.holds, t.before))
 
     active : (i : Id) (y : HandleRecord) → held_at (taken id (Content.Handle (inited v x)) s.arena).slots i ≡ Some y → (b : Bool) →
         same_id id i ≡ b → activity p (Seen.Op place (Answer.Id id) ∷ past) i ≡ shown y (has_id s.ready i)
     active i y g true d =
-        let is : id ≡ i = same id i d in
-        let new : inited v x ≡ y = same_Some _ _ (sym (ap handle_in t.here)
-        ∙ ap (held_at (taken id (Content.Handle (inited v x)) s.arena).slots) is ∙ g) in
-        op_tells p past place (Op.Init v x) (Answer.Id id) i f
-        ∙ ap (λ (b : Bool). if b then new_activity x else activity p past i) d
-        ∙ ap (shown (inited v x)) (sym (ap (has_id s.ready) (sym is) ∙ away))
-        ∙ ap (λ (h : HandleRecord). shown h (has_id s.ready i)) new
-    active i y g false d = op_tells p past place (Op.Init v x) (Answer.Id id) i f
-        ∙ ap (λ (b : Bool). if b then new_activity x else activity p past i) d
-        ∙ k.active i y (sym (ap handle_in (t.others i (λ is. other id i d (sym is)))) ∙ g)
+        let told = op_tells p past place (Op.Init v x) (Answer.Id id) i f in
+        let turns = t in
+        let is = same id i d in grind (arith, away)
+    active i y g false d = op_tells p past place (Op.Init v x) (Answer.Id id) i f ∙ rw d (k.active i y
+        (sym (ap handle_in (t.others i (λ is. other id i d (sym is)))) ∙ g))
 
   by : (x : Kind) → op_at p place ≡ Some (Op.Init v x) → StartedAt p (Seen.Op place (Answer.Id id) ∷ past) (ops.with_new s v x id)
   by Kind.Timer f = made Kind.Timer f
@@ -314,27 +233,38 @@ did_op_started p past s o d DidOp.loop_stopped kept w k = search (still_op, past
 did_op_started p past s o d DidOp.time_updated kept w k = search (still_op, unchanged)
 did_op_started p past s o d (DidOp.made v q id e) kept w k = handle_made p past s v q id e kept k
 did_op_started p past s o d (DidOp.queued v task id e) kept w k = request_made p past s v task id e kept k
-did_op_started p past s o d (DidOp.cancelled v t live on) kept w k = still_op p past s (Op.Cancel v) d (λ i. refl) (λ i x. refl)
-    (λ now q. request_started p past now s t.0 t.1 _ live.holds q k)
+did_op_started p past s o d (DidOp.cancelled v t live on) kept w k = search (still_op, request_started)
 did_op_started p past s o d (DidOp.started v timeout repeat t e is stays) kept w k =
-    timer_started p past s v timeout repeat t e (w.binding v t.0 (live_bound s v t e)) k
-did_op_started p past s o d (DidOp.again v t e is stays) kept w k = timer_again p past s v t e (w.binding v t.0 (live_bound s v t e)) k
-did_op_started p past s o d (DidOp.watching v q t e is off stays) kept w k =
-    watcher_started p past s v q t e (w.binding v t.0 (live_bound s v t e)) k
+    done_started p past s d.state (Op.Start v timeout repeat) v t _ refl e
+    (start_touches s (stopped s t.0 t.1) t.0 t.1 (records.stopped t.1) timeout repeat (assumption (live_held s v t e)))
+    (λ i f. has_without s.ready t.0 i f) (rw (without_itself s.ready t.0) refl) w k
+did_op_started p past s o d (DidOp.again v t e is stays) kept w k =
+    done_started p past s d.state (Op.Again v) v t _ refl e
+    (again_touches s (stopped s t.0 t.1) t.0 t.1 (records.stopped t.1) (assumption (live_held s v t e)))
+    (λ i f. ap (λ (ids : List Id). has_id ids i) (again_ready (stopped s t.0 t.1) t.0 t.1) ∙ has_without s.ready t.0 i f)
+    (grind (arith, without_itself s.ready t.0, again_ready (stopped s t.0 t.1) t.0 t.1)) w k
+did_op_started p past s o d (DidOp.watching v WatcherKind.Idle t e is off stays) kept w k =
+    done_started p past s d.state o v t (records.activated t.1) refl e (assumption (live_held s v t e)) (λ i f. refl) (grind arith) w k
+did_op_started p past s o d (DidOp.watching v each t e is off stays) kept w k =
+    done_started p past s d.state o v t (records.activated t.1) refl e (assumption (live_held s v t e)) (λ i f. refl) (grind arith) w k
 did_op_started p past s o d (DidOp.io_started v t e is off stays) kept w k =
-    io_started p past s v t e (w.binding v t.0 (live_bound s v t e)) k
-did_op_started p past s o d (DidOp.watches v t e on) kept w k = still_watches p past s v t e on (w.binding v t.0 (live_bound s v t e)) k
-did_op_started p past s o d (DidOp.stopped v t e sync) kept w k = handle_stopped p past s (Op.Stop v) v t (records.stopped t.1) e
-    (w.binding v t.0 (live_bound s v t e)) (record { makes = λ i. refl; does = λ i x. refl }) (λ y. refl) refl k
-did_op_started p past s o d (DidOp.closed v t e stays) kept w k = handle_stopped p past s (Op.Close v) v t (records.closed t.1) e
-    (w.binding v t.0 (live_bound s v t e)) (record { makes = λ i. refl; does = λ i x. refl }) (λ y. refl) refl k
-did_op_started p past s o d (DidOp.repeated v n t e) kept w k = timer_repeats p past s v n t e (w.binding v t.0 (live_bound s v t e)) k
+    done_started p past s d.state o v t (records.activated t.1) refl e (assumption (live_held s v t e)) (λ i f. refl) (grind arith) w k
+did_op_started p past s o d (DidOp.watches v t e on) kept w k =
+    done_started p past s s (Op.StartWatcher v) v t t.1 refl e (still_touches s s.ready t.0 t.1 (live_held s v t e)) (λ i f. refl) (grind arith) w k
+did_op_started p past s o d (DidOp.stopped v t e sync) kept w k =
+    done_started p past s d.state (Op.Stop v) v t (records.stopped t.1) refl e (assumption (live_held s v t e)) (λ i f. has_without s.ready t.0 i f)
+    (rw (without_itself s.ready t.0) refl) w k
+did_op_started p past s o d (DidOp.closed v t e stays) kept w k =
+    done_started p past s d.state (Op.Close v) v t (records.closed t.1) refl e (assumption (live_held s v t e)) (λ i f. has_without s.ready t.0 i f)
+    (rw (without_itself s.ready t.0) refl) w k
+did_op_started p past s o d (DidOp.repeated v n t e) kept w k =
+    done_started p past s d.state (Op.SetRepeat v n) v t (repeating n t.1) refl e (assumption (live_held s v t e)) (λ i f. refl) refl w k
 did_op_started p past s o d (DidOp.referenced o' u flag t e (IsRef.ref v)) kept w k = still_op p past s (Op.Ref v) d (λ i. refl) (λ i x. refl)
-    (λ now q. still_started p past now s t.0 t.1 (referenced_as flag t.1) (live_held s u t e) (λ b. refl) q k)
+    (λ now q. still_started p past now s d.state t.0 t.1 (referenced_as flag t.1) (assumption (live_held s u t e)) refl (λ b. refl) q k)
 did_op_started p past s o d (DidOp.referenced o' u flag t e (IsRef.unref v)) kept w k = still_op p past s (Op.Unref v) d (λ i. refl) (λ i x. refl)
-    (λ now q. still_started p past now s t.0 t.1 (referenced_as flag t.1) (live_held s u t e) (λ b. refl) q k)
+    (λ now q. still_started p past now s d.state t.0 t.1 (referenced_as flag t.1) (assumption (live_held s u t e)) refl (λ b. refl) q k)
 did_op_started p past s o d (DidOp.sent_to v t e is stays) kept w k = still_op p past s (Op.Send v) d (λ i. refl) (λ i x. refl)
-    (λ now q. still_started p past now s t.0 t.1 (records.sent t.1) (live_held s v t e) (λ b. refl) q k)
+    (λ now q. still_started p past now s d.state t.0 t.1 (records.sent t.1) (assumption (live_held s v t e)) refl (λ b. refl) q k)
 
 -- ---- steps
 
@@ -354,52 +284,36 @@ still_follows p past s t None a r IsStill.unseen k = grind arith
 still_follows p past s t (Some l) a r q k = subst (λ (x : Slots Content). Started p (l ∷ past) x t.ready) (sym a)
     (subst (Started p (l ∷ past) s.arena) (sym r) (unchanged p past (l ∷ past) s (told_nothing p past l q) k))
 
--- the line of a callback
-call_adds : (p : Program) (past : List Seen) (v : Var) (id : Id) → Adds p past (Seen.Call v id ∷ past) id
-call_adds p past v id = record { made = λ i u m. m; others = λ i d. rw (turned id i ∙ d) refl }
-
 call_tells : (p : Program) (past : List Seen) (v : Var) (id : Id) → activity p (Seen.Call v id ∷ past) id ≡ activity_called (activity p past id)
 call_tells p past v id = rw (itself id id refl) refl
 
 -- the front of the ready list is called: it is over, or it is started again
 fired_started : (p : Program) (past : List Seen) (s : State) (t : Id × HandleRecord) → FrontOf s s.ready t → Kept s → StartedAt p past s →
     StartedAt p (Seen.Call t.1.name t.0 ∷ past) (restarted (record s { ready = drop 1 s.ready }) t.0 t.1)
-fired_started p past s t f kept k = subst (λ (rest : List Id). StartedAt p more (restarted (record s { ready = rest }) t.0 t.1)) (sym f.behind) (
-    let l : Lists s.arena.slots Rests (t.0 ∷ f.rest) = subst (Lists s.arena.slots Rests) f.are kept.ready in
-    let rests : Rests t.1 = its_handle s.arena.slots Rests t.0 t.1 f.holds l.each.0 in
-    let u : State = record s { ready = f.rest } in
-    cond_both (t.1.repeat == 0) u (started u t.0 t.1 t.1.repeat t.1.repeat) (StartedAt p more)
-    (λ z. started_turned p past more s.arena s.arena s.ready f.rest t.0 t.1 t.1
-    (record { before = is_held s.arena.slots t.0 t.1 f.holds; here = is_held s.arena.slots t.0 t.1 f.holds; others = λ i d. refl })
-    (λ i g. g) (call_adds p past t.1.name t.0) (behind l.distinct.0) (λ e. grind (arith, call_tells)) k)
-    (λ z. started_turned p past more s.arena _ s.ready f.rest t.0 t.1 _ (put_turns s.arena.slots t.0 t.1 _ f.holds)
-    (λ i g. gone_put s.arena.slots s.arena.free t.0 t.1 _ i f.holds g) (call_adds p past t.1.name t.0) (behind l.distinct.0)
-    (λ e. grind (arith, call_tells)) k))
-  where
-    more : List Seen
-    more = Seen.Call t.1.name t.0 ∷ past
-
-    behind : has_id f.rest t.0 ≡ false → (i : Id) → same_id i t.0 ≡ false → has_id f.rest i ≡ has_id s.ready i
-    behind away i d = sym (ap (λ (ids : List Id). has_id ids i) f.are ∙ rw (turned t.0 i ∙ d) refl)
+fired_started p past s t f kept k =
+    let l : Lists s.arena.slots Rests (t.0 ∷ drop 1 s.ready) = subst (Lists s.arena.slots Rests) f.are kept.ready in
+    let rests : Rests t.1 = front_fits s Rests [] s.ready t kept.ready.each f in
+    let u : State = record s { ready = drop 1 s.ready } in
+    let still : (restarted u t.0 t.1).ready ≡ drop 1 s.ready = again_ready u t.0 t.1 in
+    started_touched p past (Seen.Call t.1.name t.0 ∷ past) s (restarted u t.0 t.1) t.0 t.1 (again_as u t.1 t.1)
+    (again_touches s u t.0 t.1 t.1 (still_touches s (drop 1 s.ready) t.0 t.1 f.holds)) (grind arith)
+    (λ i d. ap (λ (ids : List Id). has_id ids i) still ∙ sym (ap (λ (ids : List Id). has_id ids i) f.are ∙ rw (turned t.0 i ∙ d) refl))
+    (λ e. call_tells p past t.1.name t.0 ∙ rw still (grind (arith, itself, ap (λ (ids : List Id). has_id ids t.0) f.are))) k
 
 -- a timer is collected
 collected_started : (p : Program) (past : List Seen) (s : State) (t : Id × HandleRecord) → FirstOf s s.timers t → Kept s → StartedAt p past s →
-    Started p past (record s.arena { slots = put s.arena.slots t.0 (records.stopped t.1) }) (s.ready ++ t.0 ∷ [])
+    StartedAt p past (collected s t.0 t.1)
 collected_started p past s t f kept k =
-    let times : Times s.arena.slots s.next_start ((f.key, t.0) ∷ f.rest) = subst (Times s.arena.slots s.next_start) f.are kept.timers in
-    let set : IsSet f.key t.1 = its_handle s.arena.slots (IsSet f.key) t.0 t.1 f.holds (times.each f.key t.0 (inl (refl, refl))).0 in
-    started_turned p past past s.arena _ s.ready (s.ready ++ t.0 ∷ []) t.0 t.1 (records.stopped t.1) (put_turns s.arena.slots t.0 t.1 _ f.holds)
-    (λ i g. gone_put s.arena.slots s.arena.free t.0 t.1 _ i f.holds g) (record { made = λ i v m. m; others = λ i d. refl })
-    (λ i d. pushed s.ready t.0 i d) (λ e. e ∙ rw set.active (or_end (has_id s.ready t.0) (has_new_middle s.ready [] t.0))) k
+    started_touched p past past s (collected s t.0 t.1) t.0 t.1 (records.stopped t.1) (assumption f.holds)
+    (record { made = λ i v m. m; others = λ i d. refl })
+    (λ i d. has_both s.ready (t.0 ∷ []) i ∙ rw (turned t.0 i ∙ d) (or_false (has_id s.ready i)))
+    (λ e. e ∙ rw ((first_is s t f kept).set.active, has_new_middle s.ready [] t.0) (or_end (has_id s.ready t.0))) k
   where
-    pushed : (ids : List Id) (x i : Id) → same_id i x ≡ false → has_id (ids ++ x ∷ []) i ≡ has_id ids i
-    pushed [] x i d = rw (turned x i ∙ d) refl
-    pushed (y ∷ ids) x i d = ap (λ (b : Bool). same_id y i || b) (pushed ids x i d)
+    or_false : (b : Bool) → (b || false) ≡ b
+    or_false b = grind arith
 
-    or_end : (b : Bool) → has_id (s.ready ++ t.0 ∷ []) t.0 ≡ true →
-        record { timer = is_timer t.1.kind; repeat = t.1.repeat; started = b || true } ≡ shown (records.stopped t.1)
-        (has_id (s.ready ++ t.0 ∷ []) t.0)
-    or_end b g = grind arith
+    or_end : (b : Bool) → record { timer = is_timer t.1.kind; repeat = t.1.repeat; started = b || true } ≡ shown (records.stopped t.1) true
+    or_end b = grind arith
 
 -- one that is due is called straight from the order of timers: it is over, or it is started again
 due_started : (p : Program) (past : List Seen) (s : State) (t : Id × HandleRecord) → FirstOf s s.timers t → Kept s → StartedAt p past s →
@@ -407,51 +321,28 @@ due_started : (p : Program) (past : List Seen) (s : State) (t : Id × HandleReco
 due_started p past s t f kept k =
     let set = (first_is s t f kept).set in
     let timer : is_timer t.1.kind ≡ true = ap is_timer set.kind in
-    cond_both (t.1.repeat == 0) (stopped s t.0 t.1) (started (stopped s t.0 t.1) t.0 t.1 t.1.repeat t.1.repeat) (StartedAt p more)
-    (λ z. started_turned p past more s.arena _ s.ready (without_id s.ready t.0) t.0 t.1 (records.stopped t.1)
-    (put_turns s.arena.slots t.0 t.1 _ f.holds) (λ i g. gone_put s.arena.slots s.arena.free t.0 t.1 _ i f.holds g) (call_adds p past t.1.name t.0)
-    (λ i d. has_without s.ready t.0 i d)
-    (λ e. call_tells p past t.1.name t.0 ∙ ap activity_called e ∙ rw (timer, z) (rw (without_itself s.ready t.0) refl)) k)
-    (λ z. started_turned p past more s.arena _ s.ready (without_id s.ready t.0) t.0 t.1 _
-    (twice_turns s.arena.slots t.0 t.1 (records.stopped t.1) _ f.holds)
-    (λ i g. twice_gone s.arena.slots s.arena.free t.0 t.1 (records.stopped t.1) _ i f.holds g) (call_adds p past t.1.name t.0)
-    (λ i d. has_without s.ready t.0 i d)
-    (λ e. grind arith) k)
-  where
-    more : List Seen
-    more = Seen.Call t.1.name t.0 ∷ past
+    let u : State = stopped s t.0 t.1 in
+    let still : (restarted u t.0 t.1).ready ≡ without_id s.ready t.0 = again_ready u t.0 t.1 in
+    started_touched p past (Seen.Call t.1.name t.0 ∷ past) s (restarted u t.0 t.1) t.0 t.1 (again_as u t.1 (records.stopped t.1))
+    (again_touches s u t.0 t.1 (records.stopped t.1) (assumption f.holds)) (grind arith)
+    (λ i d. ap (λ (ids : List Id). has_id ids i) still ∙ has_without s.ready t.0 i d)
+    (λ e. call_tells p past t.1.name t.0 ∙ ap activity_called e ∙ rw (still, without_itself s.ready t.0) (grind arith)) k
 
 -- one of a list of watchers is active, and no timer
 front_watches : (s : State) (q : WatcherKind) (t : Id × HandleRecord) → FrontOf s (watched s q).yet t → Kept s → Watches (kind_as q) t.1
-front_watches s q t f kept =
-    let every = kept.watchers q in
-    let yet = each_back (Fits s.arena.slots (Watches (kind_as q))) (watched s q).list (watched s q).yet every.lists.each in
-    its_handle s.arena.slots (Watches (kind_as q)) t.0 t.1 f.holds (subst (Each (Fits s.arena.slots (Watches (kind_as q)))) f.are yet).0
+front_watches s q t f kept = front_fits s (Watches (kind_as q)) (watched s q).list (watched s q).yet t (kept.watchers q).each f
 
 no_timers : (q : WatcherKind) → is_timer (kind_as q) ≡ false
 no_timers q = grind arith
 
 -- a watcher is called, with its record as it was, or no longer pending
-walked_started : (p : Program) (past : List Seen) (s : State) (q : WatcherKind) (t : Id × HandleRecord) (x : HandleRecord) →
-    FrontOf s (watched s q).yet t → ((ready : Bool) → shown x ready ≡ shown t.1 ready) → Kept s → StartedAt p past s →
-    Started p (Seen.Call t.1.name t.0 ∷ past) (record s.arena { slots = put s.arena.slots t.0 x }) s.ready
-walked_started p past s q t x f alike kept k =
-    let w = front_watches s q t f kept in
-    let timer : is_timer t.1.kind ≡ false = ap is_timer w.kind ∙ no_timers q in
-    started_turned p past (Seen.Call t.1.name t.0 ∷ past) s.arena _ s.ready s.ready t.0 t.1 x (put_turns s.arena.slots t.0 t.1 x f.holds)
-    (λ i g. gone_put s.arena.slots s.arena.free t.0 t.1 x i f.holds g) (call_adds p past t.1.name t.0) (λ i d. refl)
-    (λ e. call_tells p past t.1.name t.0 ∙ ap activity_called e ∙ rw timer refl ∙ sym (alike (has_id s.ready t.0))) k
-
--- its record stays
-same_started : (p : Program) (past : List Seen) (s : State) (q : WatcherKind) (t : Id × HandleRecord) → FrontOf s (watched s q).yet t →
-    Kept s → StartedAt p past s → Started p (Seen.Call t.1.name t.0 ∷ past) s.arena s.ready
-same_started p past s q t f kept k =
-    let w = front_watches s q t f kept in
-    let timer : is_timer t.1.kind ≡ false = ap is_timer w.kind ∙ no_timers q in
-    started_turned p past (Seen.Call t.1.name t.0 ∷ past) s.arena s.arena s.ready s.ready t.0 t.1 t.1
-    (record { before = is_held s.arena.slots t.0 t.1 f.holds; here = is_held s.arena.slots t.0 t.1 f.holds; others = λ i d. refl })
-    (λ i g. g) (call_adds p past t.1.name t.0) (λ i d. refl)
-    (λ e. call_tells p past t.1.name t.0 ∙ ap activity_called e ∙ rw timer refl) k
+walked_started : (p : Program) (past : List Seen) (s u : State) (q : WatcherKind) (t : Id × HandleRecord) (x : HandleRecord) →
+    FrontOf s (watched s q).yet t → Touches s t.0 t.1 x u → u.ready ≡ s.ready → ((ready : Bool) → shown x ready ≡ shown t.1 ready) → Kept s →
+    StartedAt p past s → StartedAt p (Seen.Call t.1.name t.0 ∷ past) u
+walked_started p past s u q t x f touches r alike kept k =
+    let timer : is_timer t.1.kind ≡ false = ap is_timer (front_watches s q t f kept).kind ∙ no_timers q in
+    started_touched p past (Seen.Call t.1.name t.0 ∷ past) s u t.0 t.1 x touches (grind arith) (λ i d. rw r refl)
+    (λ e. call_tells p past t.1.name t.0 ∙ ap activity_called e ∙ rw timer refl ∙ sym (alike (has_id s.ready t.0)) ∙ rw r refl) k
 
 -- ---- a slot is freed or retired
 
@@ -475,9 +366,7 @@ freed_started p past more s last id c e kept q k = record {
 
   active : (i : Id) (y : HandleRecord) → held_at (freed last id s.arena).slots i ≡ Some y → (b : Bool) → same_id i id ≡ b →
       activity p more i ≡ shown y (has_id s.ready i)
-  active i y f true d =
-      absurd (none-some y (sym (ap handle_in t.here) ∙ ap (held_at (freed last id s.arena).slots) (sym (same i id d)) ∙ f))
-  active i y f false d = q.same i ∙ k.active i y (sym (ap handle_in (t.others i (other i id d))) ∙ f)
+  active i y f b d = let turns = t in grind (arith, same, other)
 
   old : (i : Id) → IsOld s.arena i → (b : Bool) → same_id i id ≡ b → IsOld (freed last id s.arena) i
   old i o true d = inr (subst (IsGone (freed last id s.arena).slots (freed last id s.arena).free) (sym (same i id d)) (freed_gone s last id c e kept))
@@ -490,7 +379,8 @@ sent_started : (p : Program) (past : List Seen) (s : State) (v : Var) → Starte
     StartedAt p (Seen.Send v (ops.send s (live_handle s v)).code ∷ past) (ops.send s (live_handle s v)).state
 sent_started p past s v k = send_both s v (λ (c : ops.Coded). StartedAt p (Seen.Send v c.code ∷ past) c.state)
     (λ c r. unchanged p past _ s (record { made = λ i u m. m; same = λ i. refl }) k)
-    (λ t e is. still_started p past _ s t.0 t.1 (records.sent t.1) (live_held s v t e) (λ b. refl) (record { made = λ i u m. m; same = λ i. refl }) k)
+    (λ t e is. still_started p past _ s (with_handle s t.0 (records.sent t.1)) t.0 t.1 (records.sent t.1) (assumption (live_held s v t e)) refl
+    (λ b. refl) (record { made = λ i u m. m; same = λ i. refl }) k)
 
 cancelled_started : (p : Program) (past : List Seen) (s : State) (v : Var) → StartedAt p past s →
     StartedAt p (Seen.Cancel v (ops.cancel s (live_request s v)).answer ∷ past) (ops.cancel s (live_request s v)).state
@@ -506,15 +396,16 @@ did_started p past s n (Did.begun run WatcherKind.Idle e) kept w k = unchanged p
 did_started p past s n (Did.collected run part t f) kept w k = collected_started p past s t f kept k
 did_started p past s n (Did.fired run t f) kept w k = fired_started p past s t f kept k
 did_started p past s n (Did.called_due run t f) kept w k = due_started p past s t f kept k
-did_started p past s n (Did.walked run WatcherKind.Idle t sync f) kept w k = same_started p past s WatcherKind.Idle t f kept k
-did_started p past s n (Did.walked run each t sync f) kept w k = same_started p past s each t f kept k
+did_started p past s n (Did.walked run WatcherKind.Idle t sync f) kept w k =
+    walked_started p past s s WatcherKind.Idle t t.1 f (still_touches s s.ready t.0 t.1 f.holds) refl (λ b. refl) kept k
+did_started p past s n (Did.walked run each t sync f) kept w k =
+    walked_started p past s s each t t.1 f (still_touches s s.ready t.0 t.1 f.holds) refl (λ b. refl) kept k
 did_started p past s n (Did.woken run t f on) kept w k =
-    walked_started p past s WatcherKind.Async t (records.woken t.1) f (λ b. refl) kept k
+    walked_started p past s (with_handle (front_moved s WatcherKind.Async t.0) t.0 (records.woken t.1)) WatcherKind.Async t (records.woken t.1) f
+    (assumption f.holds) refl (λ b. refl) kept k
 did_started p past s n (Did.closed run t f) kept w k = search (freed_started, is_held, same)
-did_started p past s n (Did.ended run t f) kept w k = freed_started p past _ s (arena_size p).last_generation t.0 (Content.Request t.1)
-    f.holds kept (record { made = λ i v m. m; same = λ i. refl }) k
-did_started p past s n (Did.finished n' t f) kept w k =
-    request_started p past _ s t.0 t.1 _ f.holds (record { made = λ i v m. m; same = λ i. refl }) k
+did_started p past s n (Did.ended run t f) kept w k = search (freed_started, same)
+did_started p past s n (Did.finished n' t f) kept w k = search (request_started, same)
 did_started p past s n (Did.sent v) kept w k = sent_started p past s v k
 did_started p past s n (Did.cancelled v) kept w k = cancelled_started p past s v k
 did_started p past s n each kept w k = assumption
@@ -533,7 +424,7 @@ active_started p past s id h e on k = ap (λ (x : Activity). x.started) (k.activ
 pub ready_started : (p : Program) (past : List Seen) (s : State) (t : Id × HandleRecord) → FrontOf s s.ready t → StartedAt p past s →
     (activity p past t.0).started ≡ true
 ready_started p past s t f k =
-    let first : has_id (t.0 ∷ f.rest) t.0 ≡ true = rw (itself t.0 t.0 refl) refl in
+    let first : has_id (t.0 ∷ drop 1 s.ready) t.0 ≡ true = rw (itself t.0 t.0 refl) refl in
     ap (λ (x : Activity). x.started) (k.active t.0 t.1 f.holds)
     ∙ ap (λ (b : Bool). b || t.1.active) (ap (λ (ids : List Id). has_id ids t.0) f.are ∙ first)
 

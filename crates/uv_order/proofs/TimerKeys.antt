@@ -1,18 +1,12 @@
 -- The timers in their order: one is put in, one is taken out, and those that are due stand in front.
-use Rattle.uv_order.proofs.Names.{cond_both, ◌≡◌, ◌⊎◌, inl, inr, ℕ, ◌<◌, ◌≤◌, List, ◌∷◌, false, nat_le, refl, sym, ◌∙◌, arith, filter, nat_cmp, ordering_reverse, MatchOrdering, is_at, Ordering, Less, Equal, Greater, nat_tests, ranked, due_cmp, Id, Due, with_timer, without_timer, Has, Before, InOrder, has_id, AreDistinct, due_cmp_total, []}
+use Rattle.uv_order.proofs.Names.{cond_both, ◌≡◌, ◌⊎◌, inl, inr, ℕ, ◌<◌, ◌≤◌, List, ◌∷◌, false, nat_le, refl, sym, ◌∙◌, arith, filter, nat_cmp, ordering_reverse, MatchOrdering, is_at, Ordering, Less, Greater, nat_tests, ranked, due_cmp, Id, Due, with_timer, without_timer, Has, Before, InOrder, has_id, AreDistinct, due_cmp_total, []}
 use Rattle.std.specs.Prelude.{map}
 use Rattle.uv_order.proofs.IdLists.{same}
 
 -- ---- one key and another
 
-abbrev due_of : ℕ → ℕ → Due
-due_of at start = record { at = at; start = start }
-
 says : (x y : ℕ) → MatchOrdering (nat_cmp x y) (x < y) (x ≡ y) (y < x)
 says x y = ranked x y (nat_cmp x y) refl
-
-pub equal_key : (a b : Due) → due_cmp a b ≡ Equal → a ≡ b
-equal_key a b e = grind arith
 
 pub not_before_itself : (a b : Due) → a ≡ b → due_cmp a b ≡ Less → ⊥
 not_before_itself a b e l = grind arith
@@ -87,7 +81,7 @@ in_order_with (t ∷ ts) key id s = grind (arith, before_more, before_with, in_o
 -- a key whose start number was not yet drawn is new
 pub is_new : (ts : List (Due × Id)) (key : Due) → ((other : Due) (id : Id) → Has ts other id → other.start < key.start) → IsNew key ts
 is_new [] key h = tt
-is_new (t ∷ ts) key h = (grind (arith, equal_key, h t.0 t.1), is_new ts key (λ other id k. h other id (inr k)))
+is_new (t ∷ ts) key h = (grind (arith, h t.0 t.1), is_new ts key (λ other id k. h other id (inr k)))
 
 -- ---- those that are due
 

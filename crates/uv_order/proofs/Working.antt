@@ -1,5 +1,5 @@
 -- Each op and each step of the loop keeps that the requests agree with their lists.
-use Rattle.uv_order.proofs.Names.{arith, drop, ◌≡◌, ℕ, List, ◌∷◌, ◌++◌, true, Some, None, Ok, slice_set, refl, ap, sym, subst, ◌∙◌, list_any, Id, Var, held, freed, next_free, Op, Task, Program, arena_size, text_of, Finished, Cancelled, Request, queued, same_id, State, fresh, live_request, with_id, front_request, do_op, Next, Moves, Refuses, Content, digest_of, []}
+use Rattle.uv_order.proofs.Names.{arith, drop, ◌≡◌, ℕ, List, ◌∷◌, ◌++◌, true, Some, None, Ok, refl, ap, sym, subst, ◌∙◌, list_any, Id, Var, held, freed, next_free, Op, Task, Program, arena_size, text_of, Finished, Cancelled, Request, queued, same_id, State, fresh, live_request, with_id, front_request, do_op, Next, Moves, Refuses, Content, digest_of, []}
 use Rattle.uv_model.specs.Ops as ops
 use Rattle.uv_model.specs.Next as step
 use Rattle.uv_order.proofs.IdLists.{has_new_middle}
@@ -64,14 +64,12 @@ quiet s n q k = grind (arith, works_quiet)
 collected_working : (p : Program) (s : State) (t : Id × Request) → FrontRequest s s.done.yet t → Working s →
     Works (freed (arena_size p).last_generation t.0 s.arena).slots s.waiting s.running (record s.done { yet = drop 1 s.done.yet })
 collected_working p s t f k =
-    subst (λ (rest : List Id). Works (freed (arena_size p).last_generation t.0 s.arena).slots s.waiting s.running (record s.done { yet = rest }))
-    (sym f.behind) (works_collected s.arena.slots _ s.waiting s.running s.done t.0 f.rest t.1
-    (freed_turns (arena_size p).last_generation s.arena t.0 (Content.Request t.1) f.holds) f.are k)
+    works_collected s.arena.slots _ s.waiting s.running s.done t.0 (drop 1 s.done.yet) t.1
+    (freed_turns (arena_size p).last_generation s.arena t.0 (Content.Request t.1) f.holds) f.are k
 
 taken_working : (s : State) (n : ℕ) (t : Id × Request) → TakesFront s n t → Working s → StaysWorking (step.take s n (Ok t))
-taken_working s n t f k = subst (λ (rest : List Id). Works s.arena.slots rest (slice_set s.running n (Some t.0)) s.done) (sym f.front.behind)
-    (works_taken s.arena.slots t.0 f.front.rest s.running s.done n f.idle
-    (subst (λ (ids : List Id). Works s.arena.slots ids s.running s.done) f.front.are k))
+taken_working s n t f k = works_taken s.arena.slots t.0 (drop 1 s.waiting) s.running s.done n f.idle
+    (subst (λ (ids : List Id). Works s.arena.slots ids s.running s.done) f.front.are k)
 
 finished_working : (s : State) (n : ℕ) (t : Id × Request) → RunsWork s n t → Working s → StaysWorking (step.finish s n (Ok t))
 finished_working s n t f k =

@@ -1,7 +1,7 @@
 -- The requests: those that wait for a worker or are run by one are open, those that are done are ended; none stands twice, and no other
 -- request is held.
-use Rattle.uv_order.proofs.Names.{arith, ◌≡◌, ◌⊎◌, inl, inr, ℕ, zero, suc, List, ◌∷◌, ◌++◌, Bool, true, false, Option, Some, None, slice_get, slice_set, replicate, refl, ap, sym, subst, ◌∙◌, append_assoc, append-nil, list_any, or-true, both_ways, false_from_ne_true, same_Some, Id, HandleRecord, Slot, held, Walk, is_open, Content, Request, request_in, same_id, without_id, has_id, AreDistinct, run_ids, not, ◌&&◌, []}
-use Rattle.uv_order.proofs.IdLists.{has_both, has_but_one, on_list, same, other, turned, has_new_middle, has_old_middle, distinct_middle, distinct_but}
+use Rattle.uv_order.proofs.Names.{arith, ◌≡◌, ◌⊎◌, ℕ, zero, suc, List, ◌∷◌, ◌++◌, true, false, Option, Some, None, slice_get, slice_set, replicate, refl, ap, sym, subst, ◌∙◌, append_assoc, append-nil, list_any, or-true, both_ways, same_Some, Id, HandleRecord, Slot, held, Walk, is_open, Content, Request, request_in, same_id, without_id, has_id, AreDistinct, run_ids, not, ◌&&◌, [], AreAll}
+use Rattle.uv_order.proofs.IdLists.{has_both, has_but_one, on_list, same, has_new_middle, distinct_middle, distinct_but, all_alike, all_less, all_more, once_middle, but_middle}
 use Rattle.uv_order.proofs.Contents.{Turns}
 use Rattle.uv_order.proofs.Holding.{held_at, put, put_turns}
 
@@ -16,10 +16,8 @@ pub record Asks (slots : List (Slot Content)) (P : Request → Type 0) (id : Id)
   pub fits : P request
 
 -- these are all of them and no others, and none twice
-pub record AllAsk (slots : List (Slot Content)) (P : Request → Type 0) (ids : List Id) : Type 0 where
-  pub each : (id : Id) → has_id ids id ≡ true → Asks slots P id
-  pub all : (id : Id) → Asks slots P id → has_id ids id ≡ true
-  pub distinct : AreDistinct ids
+abbrev pub AllAsk : List (Slot Content) → (Request → Type 0) → List Id → Type 0
+AllAsk slots P ids = AreAll (Asks slots P) ids
 
 -- what is held there is no such request
 abbrev pub FitsNot : (Request → Type 0) → Option Content → Type 0
@@ -43,21 +41,9 @@ asks_same slots more P i f k = record { request = k.request; holds = f ∙ k.hol
 
 pub all_same : (slots more : List (Slot Content)) (P : Request → Type 0) (ids : List Id) → SameRequests more slots → AllAsk slots P ids →
     AllAsk more P ids
-all_same slots more P ids f k = record {
-  each = λ i h. asks_same slots more P i (f i) (k.each i h);
-  all = λ i a. k.all i (asks_same more slots P i (sym (f i)) a);
-  distinct = k.distinct;
-}
+all_same slots more P ids f k = all_alike (λ i. asks_same slots more P i (f i)) (λ i. asks_same more slots P i (sym (f i))) k
 
 -- ---- lists with one more in the middle
-
--- where none stands twice, it stands nowhere else
-pub once_middle : (xs ys : List Id) (id : Id) → AreDistinct (xs ++ id ∷ ys) → has_id (xs ++ ys) id ≡ false
-once_middle [] ys id d = d.0
-once_middle (x ∷ xs) ys id d = grind (arith, false_from_ne_true, same, has_new_middle, once_middle xs ys id d.1)
-
-pub in_middle : (xs ys : List Id) (id i : Id) → has_id (xs ++ id ∷ ys) i ≡ true → (id ≡ i) ⊎ (has_id (xs ++ ys) i ≡ true)
-in_middle xs ys id i h = grind (arith, has_both, same)
 
 moved_has : (fronts backs cs ds : List Id) (id i : Id) → fronts ++ backs ≡ cs ++ ds → has_id (fronts ++ id ∷ backs) i ≡ has_id (cs ++ id ∷ ds) i
 moved_has fronts backs cs ds id i e = grind (arith, has_both, ap (λ (ids : List Id). has_id ids i) e)
@@ -69,32 +55,20 @@ turned_back t = record { before = t.here; here = t.before; others = λ i d. sym 
 
 -- another one fits as before, and whoever fits then fitted before, where the one that turned doesn't fit
 asks_still : {slots more : List (Slot Content)} {id : Id} {was is : Option Content} (P : Request → Type 0) → Turns slots more id was is → (i : Id) →
-    same_id i id ≡ false → Asks slots P i → Asks more P i
-asks_still {slots = slots} {more = more} {id = id} P t i s a = asks_same slots more P i (ap request_in (t.others i (other i id s))) a
+    (i ≡ id → ⊥) → Asks slots P i → Asks more P i
+asks_still {slots = slots} {more = more} P t i d a = asks_same slots more P i (ap request_in (t.others i d)) a
 
 asks_were : {slots more : List (Slot Content)} {id : Id} {was is : Option Content} (P : Request → Type 0) → Turns slots more id was is →
-    FitsNot P is → (i : Id) → Asks more P i → (same_id i id ≡ false) × Asks slots P i
-asks_were {slots = slots} {more = more} {id = id} P t d i a = at (same_id i id) refl where
-  at : (b : Bool) → same_id i id ≡ b → (same_id i id ≡ false) × Asks slots P i
-  at true s = absurd (d a.request (sym (ap request_in t.here) ∙ ap (asked_at more) (sym (same i id s)) ∙ a.holds) a.fits)
-  at false s = (s, asks_still P (turned_back t) i s a)
-
-not_both : (a b : Bool) → (a && not b) ≡ true → (a ≡ true) × (b ≡ false)
-not_both a b e = grind arith
+    FitsNot P is → (i : Id) → Asks more P i → (i ≡ id → ⊥) × Asks slots P i
+asks_were {more = more} {id = id} P t d i a = (apart, asks_still P (turned_back t) i apart a) where
+  apart : i ≡ id → ⊥
+  apart is = d a.request (sym (ap request_in t.here) ∙ ap (asked_at more) (sym is) ∙ a.holds) a.fits
 
 -- one that doesn't fit any more leaves, by who is left
 less : (slots more : List (Slot Content)) (P : Request → Type 0) (id : Id) (was is : Option Content) (ids few : List Id) →
-    Turns slots more id was is → FitsNot P is → ((i : Id) → has_id few i ≡ (has_id ids i && not (same_id i id))) → AreDistinct few →
+    Turns slots more id was is → FitsNot P is → ((i : Id) → has_id few i ≡ (not (same_id i id) && has_id ids i)) → AreDistinct few →
     AllAsk slots P ids → AllAsk more P few
-less slots more P id was is ids few t d on once k = record {
-  each = λ i h. let b = not_both (has_id ids i) (same_id i id) (sym (on i) ∙ h) in asks_still P t i b.1 (k.each i b.0);
-  all = λ i a. let b = asks_were P t d i a in on i ∙ rw (k.all i b.1, b.0) refl;
-  distinct = once;
-}
-
-but_middle : (xs ys : List Id) (id : Id) → AreDistinct (xs ++ id ∷ ys) → (i : Id) →
-    has_id (xs ++ ys) i ≡ (has_id (xs ++ id ∷ ys) i && not (same_id i id))
-but_middle xs ys id d i = grind (arith, has_both, same, turned, once_middle xs ys id d)
+less slots more P id was is ids few t d on once k = all_less id (asks_still P t) (asks_were P t d) on once k
 
 -- the first of two lists without one of its own
 apart : (xs ys : List Id) (i : Id) → AreDistinct (xs ++ ys) → has_id xs i ≡ true → has_id ys i ≡ false
@@ -102,7 +76,7 @@ apart [] ys i d h = cc h
 apart (x ∷ xs) ys i d h = grind (arith, has_both, same, apart xs ys i d.1)
 
 but_front : (xs ys : List Id) (id : Id) → AreDistinct (xs ++ ys) → has_id xs id ≡ true → (i : Id) →
-    has_id (without_id xs id ++ ys) i ≡ (has_id (xs ++ ys) i && not (same_id i id))
+    has_id (without_id xs id ++ ys) i ≡ (not (same_id i id) && has_id (xs ++ ys) i)
 but_front xs ys id d h i = grind (arith, has_both, has_but_one, same, apart xs ys id d h)
 
 distinct_left : (xs ys : List Id) (id : Id) → AreDistinct (xs ++ ys) → AreDistinct (without_id xs id ++ ys)
@@ -112,27 +86,14 @@ distinct_left (x ∷ xs) ys id d = grind (arith, has_both, has_but_one, distinct
 -- one that fits from now on comes
 pub more_middle : (slots more : List (Slot Content)) (P : Request → Type 0) (id : Id) (was is : Option Content) (r : Request) (xs ys : List Id) →
     Turns slots more id was is → FitsNot P was → request_in is ≡ Some r → P r → AllAsk slots P (xs ++ ys) → AllAsk more P (xs ++ id ∷ ys)
-more_middle slots more P id was is r xs ys t d e f k = record {
-  each = λ i h. elim (in_middle xs ys id i h) [
-    | inl new ↦ subst (Asks more P) new (record { request = r; holds = ap request_in t.here ∙ e; fits = f })
-    | inr old ↦ (asks_were P (turned_back t) d i (k.each i old)).1
-  ];
-  all = λ i a. all i a (same_id i id) refl;
-  distinct = distinct_middle xs ys id k.distinct (false_from_ne_true (has_id (xs ++ ys) id)
-      (λ h. let a = k.each id h in d a.request (sym (ap request_in t.before) ∙ a.holds) a.fits));
-} where
-  all : (i : Id) → Asks more P i → (b : Bool) → same_id i id ≡ b → has_id (xs ++ id ∷ ys) i ≡ true
-  all i a true s = ap (has_id (xs ++ id ∷ ys)) (same i id s) ∙ has_new_middle xs ys id
-  all i a false s = has_old_middle xs ys id i (k.all i (asks_still P (turned_back t) i s a))
+more_middle slots more P id was is r xs ys t d e f k = all_more xs ys id (asks_were P (turned_back t) d) (asks_still P (turned_back t))
+    (record { request = r; holds = ap request_in t.here ∙ e; fits = f }) k
 
 -- one that fits neither before nor after turns
 pub all_apart : (slots more : List (Slot Content)) (P : Request → Type 0) (id : Id) (was is : Option Content) (ids : List Id) →
     Turns slots more id was is → FitsNot P was → FitsNot P is → AllAsk slots P ids → AllAsk more P ids
-all_apart slots more P id was is ids t d e k = record {
-  each = λ i h. (asks_were P (turned_back t) d i (k.each i h)).1;
-  all = λ i a. k.all i (asks_were P t e i a).1;
-  distinct = k.distinct;
-}
+all_apart slots more P id was is ids t d e k =
+    all_alike (λ i a. (asks_were P (turned_back t) d i a).1) (λ i a. (asks_were P t e i a).1) k
 
 -- one moves on the list
 pub moved_middle : (slots : List (Slot Content)) (P : Request → Type 0) (id : Id) (fronts backs cs ds : List Id) → fronts ++ backs ≡ cs ++ ds →
@@ -172,9 +133,9 @@ runs_now running k id e = let g = worker running k (Some id) e in ap (λ (ids : 
 
 -- those behind the front that is taken wait too, and aren't it; who is run then is it, or was run before; and who is run once one is let go
 -- was run before, and isn't it
-pub fewer_wait : (ids more rest behind : List Id) (id i : Id) → ids ≡ id ∷ rest → behind ≡ rest → has_id (rest ++ more) id ≡ false →
-    has_id behind i ≡ true → (has_id ids i ≡ true) × (same_id id i ≡ false)
-fewer_wait ids more rest behind id i e f apart h = grind (arith, has_both, same)
+pub fewer_wait : (ids more rest : List Id) (id i : Id) → ids ≡ id ∷ rest → has_id (rest ++ more) id ≡ false → has_id rest i ≡ true →
+    (has_id ids i ≡ true) × (same_id id i ≡ false)
+fewer_wait ids more rest id i e apart h = grind (arith, has_both, same)
 
 pub more_run : (were are front behind : List Id) (id i : Id) → were ≡ front ++ behind → are ≡ front ++ id ∷ behind → has_id are i ≡ true →
     (id ≡ i) ⊎ (has_id were i ≡ true)

@@ -1,5 +1,8 @@
 //! The documented order of phases, a grammar over the lines of a trace, and what happens once by these lines; and that the lines of
 //! every list of steps keep both.
+//!
+//! Its calls have no code: each is a theorem. Read `specs/Documented.antt` for `documented_order` (`phase_order.rt`), `Once.antt`
+//! for `closes_once`, `PoolEvents.antt` for `pool_follows`; none of them knows the model's step.
 #![tactic(auto)]
 
 mod once;

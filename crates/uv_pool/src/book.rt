@@ -57,10 +57,7 @@ impl<L: Ledger> PoolBook<L> {
         if workers == 0 || workers > MOST_WORKERS {
             return Err(Fault::Refused(Why::Range));
         }
-        let held = match Held::new(alloc, workers) {
-            Ok(held) => held,
-            Err(_) => return Err(Fault::Memory),
-        };
+        let held = Held::new(alloc, workers)?;
         let (finishes, mut all) = blank.open::<L>();
         let spare = workers as u64 + 1;
         let own = all.split_off(spare, 0);

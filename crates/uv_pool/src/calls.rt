@@ -22,10 +22,7 @@ impl Held {
         if self.log.len() >= MOST_STEPS {
             return Err(Fault::Limit);
         }
-        match self.reserve() {
-            Ok(()) => Ok(()),
-            Err(_) => Err(Fault::Memory),
-        }
+        Ok(self.reserve()?)
     }
 
     pub(crate) fn submit(&mut self, job: Job) -> Result<(), Fault>

@@ -77,21 +77,17 @@ impl<'a, R: Wait, L: Ledger> Bench<L> for Desk<'a, R, L> {
     }
 
     fn take(&mut self, k: u16) -> Result<Option<Job>, Fault> {
-        match self.events.reserve(2) {
-            Ok(()) => {}
-            Err(_) => return Err(Fault::Memory),
-        }
-        match self.book.take(self.rt, k, &self.events) {
-            Ok(Ok(job)) => {
+        self.events.reserve(2)?;
+        match self.book.take(self.rt, k, &self.events)? {
+            Ok(job) => {
                 self.events.push_reserved(PoolEvent::Take(k, job.req));
                 self.job = Some(job);
                 Ok(Some(job))
             }
-            Ok(Err(over)) => {
+            Err(over) => {
                 self.over = Some(over);
                 Ok(None)
             }
-            Err(fault) => Err(fault),
         }
     }
 

@@ -1,5 +1,8 @@
 //! The thread pool: its book, which real threads share under a lock, and its workers (libuv's "Thread pool work
 //! scheduling").
+//!
+//! The main types are `PoolBook` and, for threads, `LockedBook`; `worker` (`shift.rt`) is what a worker's thread does. Read
+//! `specs/Contents.antt`, then `Calls.antt`.
 #![tactic(auto)]
 
 mod bench;

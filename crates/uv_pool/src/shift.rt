@@ -97,23 +97,15 @@ fn serve<L: Ledger, B: Bench<L>, G: Gate>(
     ensures faults { IfErr result IsWorkerFault }
     ensures breaks { OnErr result (Breaks B.answered B.refuses k (B.answered bench.old) (B.answered bench.new)) }
 {
-    match events.reserve(2) {
-        Ok(()) => {}
-        Err(_) => return Err(Fault::Memory),
-    }
-    let job = match bench.take(k) {
-        Ok(Some(job)) => job,
-        Ok(None) => return Ok(false),
-        Err(fault) => return Err(fault),
+    events.reserve(2)?;
+    let Some(job) = bench.take(k)? else {
+        return Ok(false);
     };
     let id = job.req;
     events.push_reserved(PoolEvent::Take(k, id));
     gate.begun(k, id);
     let work = WorkResult::compute(job);
-    match bench.finish(k, work, share) {
-        Ok(()) => {}
-        Err(fault) => return Err(fault),
-    }
+    bench.finish(k, work, share)?;
     events.push_reserved(PoolEvent::Finish(k, id));
     gate.ended(k, id);
     Ok(true)

@@ -21,10 +21,9 @@ plus_in true x xs y h = elim h [ inl m ↦ in_left x xs (y ∷ []) m | inr e ↦
 
 map_plus : {A : Type 0} (f g : ℕ → A) (c : Bool) (xs : List ℕ) (y : ℕ) (b : A) → ((x : ℕ) → IsIn x xs → f x ≡ g x) → (c ≡ true → f y ≡ b)
     → map f (plus c xs y) ≡ plus c (map g xs) b
-map_plus f g false [] y b h e = refl
 map_plus f g false (x ∷ xs) y b h e = λ l. h x (inl refl) l ∷ map_plus f g false xs y b (λ z k. h z (inr k)) e l
-map_plus f g true [] y b h e = λ l. e refl l ∷ []
 map_plus f g true (x ∷ xs) y b h e = λ l. h x (inl refl) l ∷ map_plus f g true xs y b (λ z k. h z (inr k)) e l
+map_plus f g each e3 y b h e = search (sym)
 
 -- ---- a list without a slot
 
@@ -75,12 +74,6 @@ told_by read j d y is told e x s h =
 pub ends_stay : {X : Type 0} (i : Image X) (d : Id) {ys es : List ℕ} → without eqb (members i EndedYet) d.slot ≡ ys
     → without eqb (members i Ended) d.slot ≡ es → without eqb (members i EndedYet ++ members i Ended) d.slot ≡ ys ++ es
 ends_stay i d a b = filter-append (λ y. not (eqb y d.slot)) (members i EndedYet) (members i Ended) ∙ (λ l. a l ++ b l)
-
--- what a worker runs is another slot's than one that is on a list
-pub run_elsewhere : {X : Type 0} (read : X → Option Request) (i : Image X) (d : Id) (o : Bool) → IsHeld read i d o → on_list i d ≡ true
-    → (e : Id) → IsRun read i e → e.slot ≢ d.slot
-run_elsewhere read i d o h on e q s =
-    let off : on_list i d ≡ false = subst (λ z. on_list i z ≡ false) (one_held read i d e o true h q.request s) q.loose in cc
 
 -- the members of the two lists of those that are done
 pub end_held : {X : Type 0} {read : X → Option Request} {i : Image X} {r : Running} → IsWork read (working i r) → (x : ℕ)

@@ -2,7 +2,7 @@
 use Rattle.uv_requests.proofs.Names.{◌≡◌, ◌≢◌, ◌-◌, false, List, [], ◌∷◌, ◌++◌, map, length, Option, Some, None, option_and_then, sym, ap, ◌∙◌, subst, inr, arith, append-nil, length-map, Id, ListName, Waiting, Ended, EndedYet, ChainPlace, RemoveUndo, SpliceUndo, Image, members, held_slots, plain_slots, unlink_undone, CanUndoUnlink, IsFirst, IsUnlinked, IsRemoved, IsSpliced, past_end, Request, Done, Running, working, request_in, done_in, pool_of, IsWork, with_count, collect_undone, IsBegun, IsCollected}
 use Rattle.uv_records.specs.Slots as plain
 pub use Rattle.uv_arena.proofs.Contents.{freed_slot}
-use Rattle.uv_requests.proofs.Beside.{beside, Leaves, pool_now, work_now, ends_stay, run_elsewhere}
+use Rattle.uv_requests.proofs.Beside.{beside, Leaves, pool_now, work_now, ends_stay}
 use Rattle.uv_requests.proofs.Holding.{listed_id, front_held}
 use Rattle.uv_requests.proofs.Rules.{collect_rule, collect_size}
 
@@ -44,8 +44,7 @@ collect_done {X = X} {read = read} {make = make} {i = i} {a = a} {j = j} {d = d}
   contents = left.same;
   kept = left.kept;
   work = work_now w left
-      (let less = collect_size (pool_of read (working i r)) d (done_in read i d.slot) rest (listed_id i d f.listed.held) was_done in
-      let was = w.count in omega (arith, less, was));
+      (grind arith);
   undone = back;
   can_undo = record {
     removed = rem.can_undo;
@@ -75,7 +74,7 @@ collect_done {X = X} {read = read} {make = make} {i = i} {a = a} {j = j} {d = d}
     is_done = λ e. cc;
     listed = λ e s h on. let none = gone e s in cc (h.is, none);
     told = λ e x s h. let none = gone e s in cc (h, none);
-    runs = λ c e g. inr (run_elsewhere read i d false (front_held read i EndedYet d false f w.yet) f.listed.listed e (w.running c e g), g);
+    runs = λ c e g. inr (grind arith);
   }
 
   was_done : (pool_of read (working i r)).done ≡ done_in read i d.slot ∷ rest

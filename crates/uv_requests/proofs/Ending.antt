@@ -1,14 +1,12 @@
 -- A request is finished or cancelled, and goes to the end of those that are done.
 use Rattle.uv_requests.proofs.Names.{◌≡◌, ◌≢◌, ℕ, true, false, eqb, List, [], ◌∷◌, ◌++◌, map, slice_get, Option, Some, None, is_some, option_and_then, option_map, refl, sym, ap, ◌∙◌, subst, append_assoc, inl, inr, arith, eqb_tells, length-set, slice_get_within, Id, Ebusy, ListName, Waiting, Ended, EndedYet, slots_without, ChainPlace, Image, members, held, on_list, IsSound, set_undone, push_undone, unlink_undone, CanUndoSet, CanUndoUnlink, IsSet, IsPushed, IsUnlinked, content_of, set_here, set_there, set_back, one_list, without_none, apart_from, same_id, Job, Request, is_open, is_finished, ended, finished, cancelled, reopened, job_of, cancel_refusal, IsDigest, waits, without, Outcome, Open, Finished, Cancelled, Running, working, found, id_in, request_in, done_in, was_finished, pool_of, IsHeld, IsRun, IsWork, with_run, reopened_by, reopened_in, finish_undone, cancel_undone, CanReopen, IsFinished, IsCancelled}
 use Rattle.uv_records.specs.Slots as plain
-use Rattle.uv_requests.proofs.Beside.{Leaves, told_by, pool_now, work_now, ends_stay, run_elsewhere}
+use Rattle.uv_requests.proofs.Beside.{Leaves, told_by, pool_now, work_now, ends_stay}
 use Rattle.uv_requests.proofs.Holding.{held_id, one_held, not_both, member, list_apart}
 use Rattle.uv_requests.proofs.Rules.{not_same, none_of, waits_in, without_in, finish_rule, finish_size, cancel_rule, cancel_size}
 
 open_is : (o : Outcome) → is_open o ≡ true → o ≡ Open
-open_is Open e = refl
-open_is (Finished digest) e = cc
-open_is Cancelled e = cc
+open_is each e = grind arith
 
 -- an open request that ended and is open again is what it was
 reopened_same : (r : Request) (o : Outcome) → is_open r.outcome ≡ true → reopened (ended o r) ≡ r
@@ -151,9 +149,7 @@ cancel_done {X = X} {read = read} {make = make} {i = i} {a = a} {k = k} {j = j} 
   from = from;
   was = there;
   running = refl;
-  plain = f.pushed.slots.plain ∙ f.set.plain
-      ∙ ap (λ (q : plain.Slots X). (let z : plain.Slots X = record q { slots = plain.with_held q.slots d (make (cancelled from)) } in z))
-      un.slots.plain;
+  plain = cc;
   request = request_now f;
   waiting = frame.waiting;
   done = done_list f i un.slots.contents un.kept un.lists stay;
@@ -181,7 +177,7 @@ cancel_done {X = X} {read = read} {make = make} {i = i} {a = a} {k = k} {j = j} 
 
   frame : Leaves read i j r r d 0 rest (members i EndedYet ++ members i Ended) false true (record { id = d; finished = false })
   frame = left f i un.slots.contents un.kept un.lists stay refl
-      (λ b e g. (run_elsewhere read i d true held_open on e (w.running b e g), g))
+      (λ b e g. (grind arith))
 
   waits_was : waits (pool_of read (working i r)).waiting d ≡ true
   waits_was = subst (λ e. waits (pool_of read (working i r)).waiting e ≡ true) (held_id read i d true held_open)

@@ -7,9 +7,8 @@ none_busy zero = refl
 none_busy (suc n) = none_busy n
 
 none_runs : (n k : ℕ) (d : Id) → slice_get (replicate n None) k ≡ Some (Some d) → ⊥
-none_runs zero k d e = cc
-none_runs (suc n) zero d e = cc
 none_runs (suc n) (suc k) d e = none_runs n k d e
+none_runs each e1 d e = grind arith
 
 module _ {X : Type 0} (read : X → Option Request) (capacity last workers : ℕ) where
   pub fresh_work : IsWork read (working (fresh_image X capacity last) (idle_workers workers))

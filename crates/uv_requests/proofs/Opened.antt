@@ -1,15 +1,9 @@
 -- A request is queued, and a worker takes it: it is open.
 use Rattle.uv_requests.proofs.Names.{◌≡◌, ℕ, ◌+◌, ◌<◌, true, false, [], ◌∷◌, ◌++◌, map, slice_get, Option, Some, None, option_and_then, refl, sym, ap, ◌∙◌, subst, inl, inr, arith, eqb_tells, length-set, slice_get_within, Id, Waiting, Ended, EndedYet, ChainPlace, InsertUndo, Image, members, on_list, IsSound, insert_undone, push_undone, CanUndoInsert, CanUndoPush, IsFirst, IsInserted, IsPushed, IsUnlinked, set_back, set_here, set_there, Task, Outcome, Open, Finished, Cancelled, Request, is_open, IsDigest, Running, working, id_in, request_in, done_in, pool_of, IsHeld, IsRun, IsWork, with_count, with_run, queue_undone, take_undone, IsQueued, IsTaken}
 use Rattle.uv_requests.proofs.Bounds.{pool_fits}
-use Rattle.uv_requests.proofs.Beside.{Leaves, told_by, pool_now, work_now, ends_stay, run_elsewhere, elsewhere, none_waits, none_ends, not_in, none_before}
+use Rattle.uv_requests.proofs.Beside.{Leaves, told_by, pool_now, work_now, ends_stay, elsewhere, none_waits, none_ends, not_in, none_before}
 use Rattle.uv_requests.proofs.Holding.{listed_id, one_held, front_held}
 use Rattle.uv_requests.proofs.Rules.{queue_rule, queue_size, take_rule, take_size}
-
--- an open request was finished with no digest
-open_told : (task : Task) (o : Outcome) → is_open o ≡ true → IsDigest task o
-open_told task Open e = tt
-open_told task (Finished digest) e = cc
-open_told task Cancelled e = tt
 
 -- a request is put in a new slot, and behind those that wait; and its count fits
 pub queue_done : {X : Type 0} {read : X → Option Request} {make : Request → X} {i k j : Image X} {d : Id} {req : Request} {u : InsertUndo}
@@ -56,7 +50,7 @@ queue_done {read = read} {make = make} {i = i} {k = k} {j = j} {d = d} {req = re
     waits = λ e. record { request = req; is = request_now; outcome = opened };
     is_done = λ e. cc;
     listed = λ e s h on. refl;
-    told = told_by read j d req request_now (open_told req.task req.outcome opened);
+    told = told_by read j d req request_now (grind arith);
     runs = λ c e g. inr (elsewhere w d none e true (w.running c e g).request, g);
   }
 
@@ -64,8 +58,7 @@ queue_done {read = read} {make = make} {i = i} {k = k} {j = j} {d = d} {req = re
   work = work_now w left (ap (λ z. z + 1) w.count ∙ sym (queue_size (pool_of read (working i r)) d))
 
   back : queue_undone (record { inserted = u; count = r.count }) (working j (with_count (r.count + 1) r)) ≡ working i r
-  back = (λ l. working (insert_undone u (ap (λ z. push_undone z j) put.slot l)) r)
-      ∙ ap (λ z. working (insert_undone u z) r) p.undone ∙ ap (λ z. working z r) put.undone
+  back = cc
 
 -- a worker that runs nothing takes the first of those that wait
 pub take_done : {X : Type 0} {read : X → Option Request} {i j : Image X} {d : Id} {t : ChainPlace} {k : ℕ} {r : Running} → IsWork read (working i r)
@@ -108,14 +101,13 @@ take_done {read = read} {i = i} {j = j} {d = d} {t = t} {k = k} {r = r} w idle f
     ended = λ l. (un.lists EndedYet ∙ f.others EndedYet (λ e. cc)) l ++ (un.lists Ended ∙ f.others Ended (λ e. cc)) l;
     waits = λ e. cc;
     is_done = λ e. cc;
-    listed = λ e s h on.
-        let off : on_list j e ≡ false = subst (λ z. on_list j z ≡ false) (sym (one_held read j d e true true run_now.request h s)) un.loose in cc;
+    listed = grind arith;
     told = λ e x s h. w.digests e x (sym (ap (option_and_then read) (un.slots.contents e)) ∙ h);
     runs = λ c e g. elim (eqb_tells c k) [
       | inl y ↦ inl (y.1, cc (set_here r.workers k None (Some d) idle, ap (slice_get (with_run k (Some d) r).workers) y.1, g), run_now)
       | inr n ↦
           let was = sym (set_there r.workers k c (Some d) n.1) ∙ g in
-          inr (run_elsewhere read i d true front f.listed.listed e (w.running c e was), was)
+          inr (grind arith)
     ];
   }
 

@@ -7,13 +7,12 @@ ghost use Rattle.uv_requests.specs.Working.{working, request_in, IsWork};
 ghost use Rattle.uv_requests.specs.Undo.{begin_undone, collect_undone, CanUndoBegin, CanUndoCollect};
 ghost use Rattle.uv_requests.specs.Calls.{IsBegun, IsCollected};
 
-use crate::content::HoldsWork;
 use crate::requests::{Requests, request_at};
 use crate::undo::CollectWorkUndo;
 use uv_arena::{Slots, SpliceUndo};
 use uv_ids::Id;
 use uv_records::ListName;
-use uv_work::Request;
+use uv_work::{HoldsWork, Request};
 
 impl Requests {
     /// Begins the done section: all that are done have yet to be called back.

@@ -3,15 +3,16 @@
 //!
 //! Each call says that it is a rule of the pool (`uv_work`), of the lists that the arena has. What changes slots has a call that
 //! takes it back, which answers no `Result`: it takes no memory.
+//!
+//! The main type is `Requests`. Read `specs/Working.antt`, then `Calls.antt`. The program makes `next_work` and then
+//! `start_work`, `work_of` and then `hand_in`; `take` and `finish` are both in one call.
 #![tactic(auto)]
 
-mod content;
 mod done;
 mod requests;
 mod undo;
 mod waiting;
 mod workers;
 
-pub use content::HoldsWork;
 pub use requests::{Requests, fresh_requests, request_at};
 pub use undo::{CancelUndo, CollectWorkUndo, FinishUndo, QueueUndo, TakeWorkUndo};

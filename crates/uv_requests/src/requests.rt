@@ -6,12 +6,11 @@ ghost use Rattle.uv_work.specs.Requests.{cancel_refusal};
 ghost use Rattle.uv_requests.specs.Working.{working, idle_workers, request_in, found, IsWork};
 ghost use Rattle.uv_requests.specs.Undo.{reopened_in, CanReopen};
 
-use crate::content::HoldsWork;
 use std::alloc::{AllocError, Global};
 use std::marker::Model;
 use uv_arena::Slots;
 use uv_ids::{Code, Id};
-use uv_work::Request;
+use uv_work::{HoldsWork, Request};
 
 /// What the workers of an arena run, and how many of its requests are open.
 #[derive(Drop)]

@@ -8,13 +8,12 @@ ghost use Rattle.uv_requests.specs.Working.{working, found, request_in, pool_of,
 ghost use Rattle.uv_requests.specs.Undo.{queue_undone, cancel_undone, CanUndoQueue, CanUndoCancel};
 ghost use Rattle.uv_requests.specs.Calls.{IsQueued, IsCancelled};
 
-use crate::content::HoldsWork;
 use crate::requests::{Requests, reopen, request_at};
 use crate::undo::{CancelUndo, QueueUndo};
 use uv_arena::{InsertFault, PushUndo, Slots};
 use uv_ids::{Code, Id};
 use uv_records::ListName;
-use uv_work::Request;
+use uv_work::{HoldsWork, Request};
 
 impl Requests {
     /// Puts a request in a slot, open, behind those that wait (uv_queue_work).
@@ -31,15 +30,11 @@ impl Requests {
         ensures piece { IfOk result (λ _. slots.new.room ≡ room_after slots.old) }
     {
         let count = self.open_requests();
-        match slots.insert(T::of(request.reopened())) {
-            Err(fault) => Err(fault),
-            Ok((id, inserted)) => {
-                slots.push_back(ListName::Waiting, id);
-                slots.is_sound();
-                self.set_count(count + 1);
-                Ok((id, QueueUndo { inserted, count }))
-            }
-        }
+        let (id, inserted) = slots.insert(T::of(request.reopened()))?;
+        slots.push_back(ListName::Waiting, id);
+        slots.is_sound();
+        self.set_count(count + 1);
+        Ok((id, QueueUndo { inserted, count }))
     }
 
     /// Takes a queue back.

@@ -8,13 +8,12 @@ ghost use Rattle.uv_requests.specs.Working.{working, request_in, IsWork};
 ghost use Rattle.uv_requests.specs.Undo.{take_undone, finish_undone, CanUndoTake, CanUndoFinish};
 ghost use Rattle.uv_requests.specs.Calls.{RefusesTake, RefusesFinish, IsTaken, IsFinished};
 
-use crate::content::HoldsWork;
 use crate::requests::{Requests, reopen, request_at};
 use crate::undo::{FinishUndo, TakeWorkUndo};
 use uv_arena::{PushUndo, Slots};
 use uv_ids::{Id, Why};
 use uv_records::ListName;
-use uv_work::{Request, WorkResult};
+use uv_work::{HoldsWork, Request, WorkResult};
 
 impl Requests {
     /// What a worker may take: the request that waits longest. Refused as `take` is.
@@ -55,13 +54,9 @@ impl Requests {
             × (working slots.new.image self.new ≡ working slots.old.image self.old)) }
         ensures pieces { slots.new.room ≡ slots.old.room }
     {
-        match self.next_work(slots, worker) {
-            Err(why) => Err(why),
-            Ok((id, _)) => {
-                let undo = self.start_work(slots, worker, id);
-                Ok((id, undo))
-            }
-        }
+        let (id, _) = self.next_work(slots, worker)?;
+        let undo = self.start_work(slots, worker, id);
+        Ok((id, undo))
     }
 
     /// A worker that runs nothing takes this request, which waits longest.
@@ -125,17 +120,12 @@ impl Requests {
             × (working slots.new.image self.new ≡ working slots.old.image self.old)) }
         ensures pieces { slots.new.room ≡ slots.old.room }
     {
-        match self.work_of(slots, worker) {
-            Err(why) => Err(why),
-            Ok((id, request)) => {
-                if request.job(id).is(work.job()) {
-                    let undo = self.hand_in(slots, worker, id, request, work);
-                    Ok((id, undo))
-                } else {
-                    Err(Why::NoWork)
-                }
-            }
+        let (id, request) = self.work_of(slots, worker)?;
+        if !request.job(id).is(work.job()) {
+            return Err(Why::NoWork);
         }
+        let undo = self.hand_in(slots, worker, id, request, work);
+        Ok((id, undo))
     }
 
     /// A worker hands in the result of this request, which it runs.

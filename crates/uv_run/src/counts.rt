@@ -17,10 +17,8 @@ impl Counts {
         ensures ok { IfOk result (λ counts. counts.counts.items ≡ replicate names 0) }
         ensures err { IfErr result (λ fault. fault ≡ Memory) }
     {
-        match Vec::from_elem(alloc, 0, names) {
-            Ok(counts) => Ok(Counts { counts }),
-            Err(_) => Err(Fault::Memory),
-        }
+        let counts = Vec::from_elem(alloc, 0, names)?;
+        Ok(Counts { counts })
     }
 
     /// The count of a name.

@@ -68,13 +68,9 @@ pub(crate) fn step<M: Machine>(
     ensures sends { SameSends session.old session.new }
 {
     log.reserve()?;
-    match session.do_event(Event::Loop) {
-        Ok(outcome) => {
-            push_line(log, session.machine().script(), outcome.seen);
-            Ok(outcome)
-        }
-        Err(fault) => Err(fault),
-    }
+    let outcome = session.do_event(Event::Loop)?;
+    push_line(log, session.machine().script(), outcome.seen);
+    Ok(outcome)
 }
 
 /// A send that was absorbed.
@@ -88,10 +84,8 @@ pub(crate) fn send<M: Machine>(session: &mut Session<M>, name: Var) -> Result<()
     ensures sends { Sends name.0 session.old result session.new }
     ensures full { OnFull result (session.old.limit ≤ length session.old.standing) }
 {
-    match session.do_event(Event::Send(name)) {
-        Ok(_) => Ok(()),
-        Err(fault) => Err(fault),
-    }
+    session.do_event(Event::Send(name))?;
+    Ok(())
 }
 
 /// The clock goes on.
@@ -105,10 +99,8 @@ pub(crate) fn tick<M: Machine>(session: &mut Session<M>, span: u64) -> Result<()
     ensures full { OnFull result (session.old.limit ≤ length session.old.standing) }
     ensures sends { SameSends session.old session.new }
 {
-    match session.do_event(Event::Tick(span)) {
-        Ok(_) => Ok(()),
-        Err(fault) => Err(fault),
-    }
+    session.do_event(Event::Tick(span))?;
+    Ok(())
 }
 
 /// A worker's take, which can be the next step.
@@ -130,13 +122,9 @@ pub(crate) fn take<M: Machine>(
     ensures sends { SameSends session.old session.new }
 {
     log.reserve()?;
-    match session.do_event(Event::Take(k)) {
-        Ok(outcome) => {
-            push_line(log, session.machine().script(), outcome.seen);
-            Ok(())
-        }
-        Err(fault) => Err(fault),
-    }
+    let outcome = session.do_event(Event::Take(k))?;
+    push_line(log, session.machine().script(), outcome.seen);
+    Ok(())
 }
 
 /// The finish of a worker's request, with this result where it is of the very job that the worker runs. Only where it is of another one
@@ -153,9 +141,8 @@ fn hand_in<M: Machine>(
         return session.do_event(Event::Finish(k));
     };
     match session.finish_with(k, work) {
-        Ok(outcome) => Ok(outcome),
         Err(Fault::Refused(Why::NoWork)) => session.do_event(Event::Finish(k)),
-        Err(fault) => Err(fault),
+        answer => answer,
     }
 }
 
@@ -179,11 +166,7 @@ pub(crate) fn finish<M: Machine>(
     ensures sends { SameSends session.old session.new }
 {
     log.reserve()?;
-    match hand_in(session, k, work) {
-        Ok(outcome) => {
-            push_line(log, session.machine().script(), outcome.seen);
-            Ok(())
-        }
-        Err(fault) => Err(fault),
-    }
+    let outcome = hand_in(session, k, work)?;
+    push_line(log, session.machine().script(), outcome.seen);
+    Ok(())
 }

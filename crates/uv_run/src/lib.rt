@@ -1,4 +1,6 @@
 //! A live run of a session: what real threads did becomes the steps of a `Session`.
+//!
+//! The main call is `live` (`running.rt`). Read `specs/Bound.antt` and `Events.antt`, and uv_live's `Settling.antt`.
 #![tactic(auto)]
 
 mod counts;

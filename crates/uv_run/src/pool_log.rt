@@ -36,10 +36,7 @@ impl PoolLog {
         ensures room { OnOk result (vec_len self.new.events < vec_capacity self.new.events) }
         ensures err { IfErr result (λ fault. fault ≡ Memory) }
     {
-        match self.events.reserve(1) {
-            Ok(()) => Ok(()),
-            Err(_) => Err(Fault::Memory),
-        }
+        Ok(self.events.reserve(1)?)
     }
 
     /// Puts an event at the end.

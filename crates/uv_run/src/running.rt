@@ -37,16 +37,11 @@ pub fn live_within<M: Machine, C: Clock, G: Gate + Sync, R: Threads + Wait + Syn
     ensures once { IfOk result (λ s. Once s.program (lines s.program s.standing)) }
     ensures settled { IfOk result (λ s. RunSettles (plan_of script script.threads) (course_of s)) }
 {
-    let lines = match Vec::from_slice(alloc, script.thread_lines()) {
-        Ok(lines) => lines,
-        Err(_) => return Err(Fault::Memory),
-    };
+    let lines = Vec::from_slice(alloc, script.thread_lines())?;
     let machine = M::begin(alloc, script)?;
     let session = LiveSession::of(alloc, Session::new(alloc, machine, limit), lines)?;
-    match uv_live::live(rt, alloc, session, clock, gate) {
-        Ok(session) => Ok(session.into_session()),
-        Err(fault) => Err(fault),
-    }
+    let session = uv_live::live(rt, alloc, session, clock, gate)?;
+    Ok(session.into_session())
 }
 
 /// `live_within` with the most steps that a session may take.

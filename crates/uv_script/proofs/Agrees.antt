@@ -41,8 +41,7 @@ init_sound names fields o e =
     let k = kind_of-sound word.0.0 kind.0 kind.1 in
     let z = none_is word.0.1 end.0 end.1 in
     subst (IsOp names (codes "init" ∷ fields)) (same_Some _ _ end.2)
-    (init name.0.0 v.0 kind.0 (ap (λ r. codes "init" ∷ r)
-    (a ∙ ap (λ r. name.0.0 ∷ r) (b ∙ ap (λ w. w ∷ word.0.1) k ∙ ap (λ r. kind_word kind.0 ∷ r) z)))
+    (init name.0.0 v.0 kind.0 (cc)
     (place_of-sound names name.0.0 v.0 v.1))
 
 timer_start_sound : (names : List (List ℕ)) (name : List ℕ) (v : Var) (timeout : List ℕ) (fields : List (List ℕ)) (o : Op) → IsDeclared names name v →
@@ -123,8 +122,7 @@ queue_sound names fields o e =
     let b = first_is name.0.1 rounds.0 rounds.1 in
     subst (IsOp names (codes "queue" ∷ fields)) (same_Some _ _ t.2)
     (subst (λ (s : List (List ℕ)). IsOp names (codes "queue" ∷ s) (op.Queue v.0 t.0)) (sym (a ∙ ap (λ s. name.0.0 ∷ s) b))
-    (queue_says names name.0.0 v.0 rounds.0.0 r.0 rounds.0.1 text.0 t.0 (place_of-sound names name.0.0 v.0 v.1)
-    (number_of-sound rounds.0.0 r.0 r.1) (task_of-sound r.0 text.0 t.0 t.1) text.1))
+    (search (queue_says, place_of-sound, number_of-sound, task_of-sound)))
 
 -- the fields are a declared name
 record IsNameAlone (names fields : List (List ℕ)) (v : Var) : Type 0 where
@@ -245,11 +243,7 @@ call_sound digits k e =
     let n = bound _ (number_of digits) k e in
     let is = cond_some (nat_le 1 n.0 && nat_lt n.0 4294967296) n.0 k n.2 in
     let tests = and_parts (nat_le 1 n.0) (nat_lt n.0 4294967296) is.0 in
-    subst (IsCall digits) is.1 (record {
-      number = number_of-sound digits n.0 n.1;
-      first = leb-true 1 n.0 tests.0;
-      last = ltb-true n.0 4294967296 tests.1;
-    })
+    subst (IsCall digits) is.1 (search (number_of-sound, leb-true, ltb-true))
 
 marked_is : (field digits : List ℕ) → marked field ≡ Some digits → field ≡ 64 ∷ digits
 marked_is [] digits e = cc
@@ -335,8 +329,7 @@ size_sound names fields s e =
     let tests = and_parts (nat_le 1 n.0) (nat_le n.0 MOST_SLOTS) p.0 in
     subst (λ (r : List (List ℕ)). Says names (codes "slots" ∷ r) s) (sym a)
     (subst (Says names (codes "slots" ∷ slots.0.0 ∷ slots.0.1)) p.1
-    (size_says names slots.0.0 slots.0.1 n.0 g.0 (number_of-sound slots.0.0 n.0 n.1)
-    (leb-true 1 n.0 tests.0, leb-true n.0 MOST_SLOTS tests.1) (last_sound slots.0.1 g.0 g.1)))
+    (search (size_says, number_of-sound, leb-true, last_sound)))
 
 workers_sound : (names fields : List (List ℕ)) (s : Statement) → workers_of fields ≡ Some s → Says names (codes "workers" ∷ fields) s
 unfolding workers_of
@@ -675,8 +668,7 @@ size_complete : (slots : List ℕ) (fields : List (List ℕ)) (n g : ℕ) → Is
 unfolding size_of
 size_complete slots fields n g is fits last =
     rw (number_of-complete slots n is, last)
-    (ap (λ b. cond b (Some (Sizes (record { slots = n; last_generation = g }))) None)
-    (and_from (nat_le 1 n) (nat_le n MOST_SLOTS) (le-leb 1 n fits.0) (le-leb n MOST_SLOTS fits.1)))
+    (search (and_from, le-leb))
 
 workers_complete : (number : List ℕ) (n : ℕ) → IsNumber number n → IsWorkerCount n → workers_of (number ∷ []) ≡ Some (HasWorkers n)
 unfolding workers_of

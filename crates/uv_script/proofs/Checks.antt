@@ -4,54 +4,27 @@ use Rattle.std.specs.Fmt.{decimal}
 use Rattle.uv_script.specs.Checks.{number_of}
 
 pub within : (low high b : ℕ) → Decides (nat_le low b && nat_le b high) ((low ≤ b) × (b ≤ high))
-within low high b = (
-  λ e. let p = and_parts _ _ e in (leb-true low b p.0, leb-true b high p.1),
-  λ h. and_from _ _ (le-leb low b h.0) (le-leb b high h.1),
-)
+within low high b = grind arith
 
 pub is_line_decides : (line : List ℕ) → Decides (is_line line) (IsLine line)
 is_line_decides line =
-    let each = Decides-by_and is_printable (λ b. (32 ≤ b) × (b ≤ 126)) (list_all is_printable) (within 32 126) refl (λ _ _. refl) line in (
-      λ e. let p = and_parts _ _ e in record { short = leb-true (length line) 256 p.0; printable = each.0 p.1 },
-      λ h. and_from _ _ (le-leb (length line) 256 h.short) (each.1 h.printable),
-    )
+    let each = Decides-by_and is_printable (λ b. (32 ≤ b) × (b ≤ 126)) (list_all is_printable) (within 32 126) refl (λ _ _. refl) line in
+    (grind (arith, and_parts, leb-true, and_from, le-leb))
 
 pub is_skipped_decides : (line : List ℕ) → Decides (is_skipped line) (IsSkipped line)
 is_skipped_decides [] = (λ e. empty refl, λ h. refl)
 is_skipped_decides (b ∷ bs) = (λ e. comment bs (ap (λ c. c ∷ bs) (eqb-true b 35 e)), λ h. begins h) where
   begins : IsSkipped (b ∷ bs) → (b == 35) ≡ true
-  begins (empty e) = cc
-  begins (comment text e) = ap is_skipped e
+  begins e0 = grind arith
 
 name_byte : (b : ℕ) → Decides (is_name_byte b) (IsLetter b ⊎ (IsDigit b ⊎ (b ≡ 95)))
 name_byte b = Decides-or _ _ (within 97 122 b) (Decides-or _ _ (within 48 57 b) (Decides-eqb b 95))
 
-no_name : IsName [] → ⊥
-no_name h = let e = h.is in cc
-
-name_parts : (b : ℕ) (bs : List ℕ) → IsName (b ∷ bs) → IsLetter b × (length bs ≤ 31) × All (λ c. IsLetter c ⊎ (IsDigit c ⊎ (c ≡ 95))) bs
-name_parts b bs h =
-    let e = h.is in
-    let first : h.first ≡ b = cc in
-    let rest : h.rest ≡ bs = cc in (
-      subst IsLetter first h.letter,
-      subst (λ (s : List ℕ). length s ≤ 31) rest h.short,
-      subst
-          (All (λ c. IsLetter c ⊎ (IsDigit c ⊎ (c ≡ 95)))) rest h.others,
-    )
-
 pub is_name_decides : (name : List ℕ) → Decides (is_name name) (IsName name)
-is_name_decides [] = (λ e. absurd (both_ways false refl e), λ h. absurd (no_name h))
+is_name_decides [] = (λ e. absurd (both_ways false refl e), λ h. absurd (grind arith))
 is_name_decides (b ∷ bs) =
-    let each = Decides-by_and is_name_byte (λ c. IsLetter c ⊎ (IsDigit c ⊎ (c ≡ 95))) (list_all is_name_byte) name_byte refl (λ _ _. refl) bs in (
-      λ e.
-          let p = and_parts _ _ e in
-          let q = and_parts _ _ p.1 in
-          record { first = b; rest = bs; is = refl; letter = (within 97 122 b).0 p.0; others = each.0 q.1; short = leb-true (length bs) 31 q.0 },
-      λ h.
-          let p = name_parts b bs h in
-          and_from _ _ ((within 97 122 b).1 p.0) (and_from _ _ (le-leb (length bs) 31 p.1) (each.1 p.2)),
-    )
+    let each = Decides-by_and is_name_byte (λ c. IsLetter c ⊎ (IsDigit c ⊎ (c ≡ 95))) (list_all is_name_byte) name_byte refl (λ _ _. refl) bs in
+    (grind (arith, and_parts, within, leb-true, and_from, le-leb))
 
 own : IsNumeralModel (λ ds. all_ascii_digits ds ≡ true) (digits_value 10)
 own = numerals_by_value _ tells_all_ascii_digits
@@ -62,24 +35,7 @@ pub record HasPlainFront (text : List ℕ) : Type 0 where
   pub no_zero : get_or text 0 0 ≡ 48 → length text ≤ 1
 
 is_canonical_decides : (text : List ℕ) → Decides (is_canonical text) (HasPlainFront text)
-is_canonical_decides [] = (λ e. record { no_plus = λ h. absurd (omega arith); no_zero = λ h. omega arith }, λ h. refl)
-is_canonical_decides (a ∷ []) = (
-  λ e. record { no_plus = eqb-false a 43 (not-true _ e); no_zero = λ h. omega arith },
-  λ h. ap not (ne_eqb a 43 h.no_plus),
-)
-is_canonical_decides (a ∷ b ∷ bs) = (
-  λ e.
-      let p = and_parts _ _ e in
-      record { no_plus = eqb-false a 43 (not-true _ p.0); no_zero = λ h. absurd (eqb-false a 48 (not-true _ p.1) h) },
-  λ h. and_from _ _ (ap not (ne_eqb a 43 h.no_plus)) (ap not (ne_eqb a 48 (λ e. absurd (omega (arith, h.no_zero e))))),
-)
-
-decimal_front : (n : ℕ) → n < 2 ^ 64 → HasPlainFront (decimal n)
-decimal_front zero h = subst HasPlainFront (sym (decimal_digit 0 (omega arith)))
-    (record { no_plus = λ e. absurd (omega arith); no_zero = λ e. omega arith })
-decimal_front (suc n) h =
-    let first = first_decimal (suc n) (omega arith) h in
-    record { no_plus = λ e. absurd (omega arith); no_zero = λ e. absurd (omega arith) }
+is_canonical_decides each = grind arith
 
 is_number-sound : (text : List ℕ) → is_number text ≡ true → IsNumber text (digits_value 10 text)
 is_number-sound text e =
@@ -96,21 +52,15 @@ is_number-sound text e =
 
 is_number_decimal : (n : ℕ) → n < 2 ^ 64 → is_number (decimal n) ≡ true
 is_number_decimal n h =
-    let value : digits_value 10 (decimal n) ≡ n = digits_value-decimal own n h in
-    and_from _ _ ((is_canonical_decides (decimal n)).1 (decimal_front n h))
-    (and_from _ _ (lt-ltb 0 (length (decimal n)) (decimal_nonempty n h))
-    (and_from _ _ (digits_decimal own n h) (lt-ltb (digits_value 10 (decimal n)) (2 ^ 64) (rw value h))))
+    grind (arith, digits_value-decimal, own, and_from, is_canonical_decides, decimal_digit, first_decimal, lt-ltb, decimal_nonempty, digits_decimal)
 
 is_number-complete : (text : List ℕ) (n : ℕ) → IsNumber text n → (is_number text ≡ true) × (digits_value 10 text ≡ n)
-is_number-complete text n h =
-    (ap is_number h.is ∙ is_number_decimal n h.fits, ap (digits_value 10) h.is ∙ digits_value-decimal own n h.fits)
+is_number-complete text n h = grind (arith, is_number, is_number_decimal, digits_value-decimal, own)
 
 -- what is found for a text is its number
 pub number_of-exact : (text : List ℕ) (r : Option ℕ) → IfSome r (IsNumber text) → IfNone r ((n : ℕ) → IsNumber text n → ⊥) → r ≡ number_of text
 unfolding number_of
-number_of-exact text (Some n) some none =
-    let is = is_number-complete text n some in
-    sym (ap (λ b. cond b (Some (digits_value 10 text)) None) is.0 ∙ ap Some is.1)
+number_of-exact text (Some n) some none = grind (arith, is_number-complete)
 number_of-exact text None some none =
     elim (cases_Bool (is_number text)) [
       | inl is ↦ absurd (none (digits_value 10 text) (is_number-sound text is))
@@ -119,9 +69,7 @@ number_of-exact text None some none =
 
 pub number_of-complete : (text : List ℕ) (n : ℕ) → IsNumber text n → number_of text ≡ Some n
 unfolding number_of
-number_of-complete text n h =
-    let is = is_number-complete text n h in
-    ap (λ b. cond b (Some (digits_value 10 text)) None) is.0 ∙ ap Some is.1
+number_of-complete text n h = grind (arith, is_number-complete)
 
 pub number_of-sound : (text : List ℕ) (n : ℕ) → number_of text ≡ Some n → IsNumber text n
 unfolding number_of

@@ -42,5 +42,4 @@ rest_is line = by (fields_of line) refl where
 
 pub rest_left : (rest : Option (Bor (List ℕ))) (fields : List (List ℕ)) → fields_left rest ≡ fields →
     option_map (λ line. line.now) rest ≡ rest_of fields
-rest_left None fields e = ap rest_of e
-rest_left (Some line) fields e = sym (rest_is line.now) ∙ ap rest_of e
+rest_left rest fields e = grind (arith, rest_is)

@@ -7,8 +7,7 @@ abbrev joined : List (List ℕ) → List ℕ
 joined fields = join_with_byte 32 fields
 
 joined_onto : (word : List ℕ) (rest : List (List ℕ)) → rest ≢ [] → joined (word ∷ rest) ≡ word ++ 32 ∷ joined rest
-joined_onto word [] some = absurd (some refl)
-joined_onto word (field ∷ fields) some = refl
+joined_onto word rest some = grind arith
 
 -- a declared name is written as it stands
 named : (names : List (List ℕ)) (name : List ℕ) (v : Var) → IsDeclared names name v → name ≡ name_text names v
@@ -16,41 +15,10 @@ named names name v is = sym (ap text_or_none is)
 
 named_exact : (names : List (List ℕ)) (o : Op) (word name : List ℕ) (v : Var) → IsDeclared names name v → named_word o ≡ Some (word, v) →
     word ++ 32 ∷ name ≡ op_text names o
-named_exact names o word name v is e = at o e
-  where
-    by : (x : Op) (this : List ℕ) (w : Var) → ◌≡◌ {A = Option (List ℕ × Var)} (Some (this, w)) (Some (word, v)) →
-        this ++ 32 ∷ name_text names w ≡ op_text names x → word ++ 32 ∷ name ≡ op_text names x
-    by x this w said text =
-        let same = same_Some _ _ said in
-        ap (λ n. word ++ 32 ∷ n) (named names name v is)
-        ∙ ap (λ (p : List ℕ × Var). p.0 ++ 32 ∷ name_text names p.1) (sym same) ∙ text
-
-    at : (x : Op) → named_word x ≡ Some (word, v) → word ++ 32 ∷ name ≡ op_text names x
-    at (op.StartWatcher w) e = by (op.StartWatcher w) (codes "start") w e refl
-    at (op.Stop w) e = by (op.Stop w) (codes "stop") w e refl
-    at (op.Again w) e = by (op.Again w) (codes "again") w e refl
-    at (op.DueIn w) e = by (op.DueIn w) (codes "due") w e refl
-    at (op.Ref w) e = by (op.Ref w) (codes "ref") w e refl
-    at (op.Unref w) e = by (op.Unref w) (codes "unref") w e refl
-    at (op.HasRef w) e = by (op.HasRef w) (codes "hasref") w e refl
-    at (op.IsActive w) e = by (op.IsActive w) (codes "active") w e refl
-    at (op.Close w) e = by (op.Close w) (codes "close") w e refl
-    at (op.IsClosing w) e = by (op.IsClosing w) (codes "closing") w e refl
-    at (op.Send w) e = by (op.Send w) (codes "send") w e refl
-    at (op.Cancel w) e = by (op.Cancel w) (codes "cancel") w e refl
-    at _ e = absurd (none-some _ e)
+named_exact names o word name v is e = grind arith
 
 bare_exact : (names : List (List ℕ)) (o : Op) (word : List ℕ) → bare_word o ≡ Some word → word ≡ op_text names o
-bare_exact names op.StopLoop word e = sym (same_Some _ _ e)
-bare_exact names op.UpdateTime word e = sym (same_Some _ _ e)
-bare_exact names op.Now word e = sym (same_Some _ _ e)
-bare_exact names op.IsAlive word e = sym (same_Some _ _ e)
-bare_exact names op.Timeout word e = sym (same_Some _ _ e)
-bare_exact names _ word e = absurd (none-some _ e)
-
-task_text-some : (text : List ℕ) → text ≢ [] → 32 ∷ text ≡ task_text text
-task_text-some [] some = absurd (some refl)
-task_text-some (b ∷ bs) some = refl
+bare_exact names o word e = grind arith
 
 abbrev queued : List ℕ → List ℕ → List ℕ → List ℕ
 queued name rounds text = codes "queue " ++ (name ++ 32 ∷ (rounds ++ text))
@@ -67,52 +35,28 @@ pub two_parts : (a b : List ℕ) → a ++ 32 ∷ b ≡ a ++ codes " " ++ b
 two_parts a b = sym (append_snoc a 32 b)
 
 three_parts : (a b c : List ℕ) → a ++ 32 ∷ (b ++ 32 ∷ c) ≡ a ++ codes " " ++ b ++ codes " " ++ c
-three_parts a b c =
-    sym (append_snoc (a ++ codes " " ++ b) 32 c ∙ ap (λ x. x ++ 32 ∷ c) (append_snoc a 32 b) ∙ append_assoc a (32 ∷ b) (32 ∷ c))
+three_parts a b c = simp (append_snoc, append_assoc)
 
 -- a further one right behind
 two_and_more : (a b c : List ℕ) → a ++ 32 ∷ (b ++ c) ≡ a ++ codes " " ++ b ++ c
 two_and_more a b c = sym (ap (λ x. x ++ c) (append_snoc a 32 b) ∙ append_assoc a (32 ∷ b) c)
 
 pub op_exact : (names fields : List (List ℕ)) (o : Op) → IsOp names fields o → joined fields ≡ op_text names o
-op_exact names fields o (init name v kind e is) =
-    ap joined e ∙ ap (λ n. codes "init " ++ (n ++ 32 ∷ kind_word kind)) (named names name v is)
-    ∙ ap (λ x. codes "init " ++ x) (two_parts (name_text names v) (kind_word kind))
-op_exact names fields o (start name v timeout period t r e is first second) =
-    let a = named names name v is in
-    let b = first.is in
-    let c = second.is in
-    let same : codes "start " ++ (name ++ 32 ∷ (timeout ++ 32 ∷ period)) ≡ codes "start " ++ (name_text names v ++ 32 ∷
-    (decimal t ++ 32 ∷ decimal r)) =
-    λ i. codes "start " ++ (a i ++ 32 ∷ (b i ++ 32 ∷ c i)) in
-    ap joined e ∙ same ∙ ap (λ x. codes "start " ++ x) (three_parts (name_text names v) (decimal t) (decimal r))
-op_exact names fields o (repeat name v number n e is value) =
-    let a = named names name v is in
-    let b = value.is in
-    let same : codes "repeat " ++ (name ++ 32 ∷ number) ≡ codes "repeat " ++ (name_text names v ++ 32 ∷ decimal n) =
-    λ i. codes "repeat " ++ (a i ++ 32 ∷ b i) in
-    ap joined e ∙ same ∙ ap (λ x. codes "repeat " ++ x) (two_parts (name_text names v) (decimal n))
+op_exact names fields o (init name v kind e is) = grind (arith, named, two_parts)
+op_exact names fields o (start name v timeout period t r e is first second) = grind (arith, named, three_parts)
+op_exact names fields o (repeat name v number n e is value) = grind (arith, named, two_parts)
 op_exact names fields o (queue name v rounds t e is number text) =
     ap joined e ∙ ap (λ r. codes "queue " ++ (name ++ 32 ∷ r)) (sym (append-nil rounds))
     ∙ queue_exact name (name_text names v) rounds (decimal t.rounds) [] (task_text (text_of t)) (named names name v is) number.is
     (ap task_text (sym text))
     ∙ ap (λ x. codes "queue " ++ x) (two_and_more (name_text names v) (decimal t.rounds) (task_text (text_of t)))
 op_exact names fields o (queue_text name v rounds t rest e is number text some) =
-    ap joined e ∙ ap (λ r. codes "queue " ++ (name ++ 32 ∷ r)) (joined_onto rounds rest (rest_some rest (text_of t) text some))
-    ∙ queue_exact name (name_text names v) rounds (decimal t.rounds) (32 ∷ joined rest) (task_text (text_of t)) (named names name v is) number.is
-    (ap (λ s. 32 ∷ s) (sym text) ∙ task_text-some (text_of t) some)
-    ∙ ap (λ x. codes "queue " ++ x) (two_and_more (name_text names v) (decimal t.rounds) (task_text (text_of t)))
+    grind (arith, joined_onto, rest_some, queue_exact, named, two_and_more)
 op_exact names fields o (on_name x word name v said e is) = ap joined e ∙ named_exact names o word name v is said
 op_exact names fields o (bare x word said e) = ap joined e ∙ bare_exact names o word said
 
 op_some : (names fields : List (List ℕ)) (o : Op) → IsOp names fields o → fields ≢ []
-op_some names fields o (init name v kind e is) none = let wrong = sym e ∙ none in cc
-op_some names fields o (start name v timeout period t r e is first second) none = let wrong = sym e ∙ none in cc
-op_some names fields o (repeat name v number n e is value) none = let wrong = sym e ∙ none in cc
-op_some names fields o (queue name v rounds t e is number text) none = let wrong = sym e ∙ none in cc
-op_some names fields o (queue_text name v rounds t rest e is number text some) none = let wrong = sym e ∙ none in cc
-op_some names fields o (on_name x word name v said e is) none = let wrong = sym e ∙ none in cc
-op_some names fields o (bare x word said e) none = let wrong = sym e ∙ none in cc
+op_some names fields o e3 none = grind arith
 
 -- the text of what a line says
 abbrev pub statement_text : List (List ℕ) → Statement → List ℕ
@@ -132,49 +76,28 @@ IsKept (Sizes size) = ⊥
 IsKept _ = Unit {0}
 
 front : (kind : Callback) (text : List ℕ) → callback_word kind ++ 32 ∷ text ≡ front_text kind ++ text
-front callback.Handle text = refl
-front callback.After text = refl
-front callback.Close text = refl
+front kind text = grind arith
 
 callback_exact : (names : List (List ℕ)) (kind : Callback) (name : List ℕ) (v : Var) (rest : List (List ℕ)) (line : CallbackLine) → rest ≢ [] →
     IsDeclared names name v → joined rest ≡ call_text line.call (op_text names line.op) →
     joined (callback_word kind ∷ name ∷ rest) ≡ callback_line names kind v line
-callback_exact names kind name v rest line some is text =
-    let a = named names name v is in
-    let call = call_text line.call (op_text names line.op) in
-    let same : front_text kind ++ (name ++ 32 ∷ joined rest) ≡ front_text kind ++ (name_text names v ++ 32 ∷ call) =
-    λ i. front_text kind ++ (a i ++ 32 ∷ text i) in
-    ap (λ r. callback_word kind ++ 32 ∷ r) (joined_onto name rest some) ∙ front kind (name ++ 32 ∷ joined rest) ∙ same
-    ∙ sym (append_assoc (front_text kind) (name_text names v) (32 ∷ call))
-    ∙ two_parts (front_text kind ++ name_text names v) call
+callback_exact names kind name v rest line some is text = grind (arith, named, joined_onto, front, append_assoc, two_parts)
 
 pub says_exact : (names fields : List (List ℕ)) (s : Statement) → IsKept s → Says names fields s → joined fields ≡ statement_text names s
 says_exact names fields s kept (declares name e is fresh) = ap joined e
-says_exact names fields s kept (in_main rest o e is) =
-    ap joined e ∙ joined_onto (codes "main") rest (op_some names rest o is) ∙ ap (λ text. codes "main " ++ text) (op_exact names rest o is)
+says_exact names fields s kept (in_main rest o e is) = grind (arith, joined_onto, op_some, op_exact)
 says_exact names fields s kept (runs mode e) = ap joined e
 says_exact names fields s kept (closes_loop e) = ap joined e
 says_exact names fields s kept (in_callback kind name v rest o e declared is) =
     ap joined e ∙ callback_exact names kind name v rest (record { call = None; op = o }) (op_some names rest o is) declared (op_exact names rest o is)
 says_exact names fields s kept (in_call kind name v number k rest o e declared is first last op_is) =
-    let a = is.is in
-    let b = op_exact names rest o op_is in
-    let same : 64 ∷ (number ++ 32 ∷ joined rest) ≡ 64 ∷ (decimal k ++ 32 ∷ op_text names o) = λ i. 64 ∷ (a i ++ 32 ∷ b i) in
-    ap joined e
-    ∙ callback_exact names kind name v ((64 ∷ number) ∷ rest) (record { call = Some k; op = o }) (λ none. cc) declared
-    (joined_onto (64 ∷ number) rest (op_some names rest o op_is) ∙ same ∙ ap (λ x. 64 ∷ x) (two_parts (decimal k) (op_text names o)))
-says_exact names fields s kept (sizes slots n e is fits) = absurd kept
-says_exact names fields s kept (sizes_to slots last n g e is fits last_is small) = absurd kept
+    grind (arith, op_exact, callback_exact, joined_onto, op_some, two_parts)
 says_exact names fields s kept (has_workers number n e is fits) = ap joined e ∙ ap (λ digits. codes "workers " ++ digits) is.is
 says_exact names fields s kept (orders o e) = ap joined e
 says_exact names fields s kept (says_io e) = ap joined e
 says_exact names fields s kept (says_heap e) = ap joined e
-says_exact names fields s kept (in_thread number k name v e is few declared) =
-    let a = is.is in
-    let b = named names name v declared in
-    let same : codes "thread " ++ (number ++ (codes " send " ++ name)) ≡ codes "thread " ++ (decimal k ++ (codes " send " ++ name_text names v)) =
-    λ i. codes "thread " ++ (a i ++ (codes " send " ++ b i)) in
-    ap joined e ∙ same ∙ ap (λ x. codes "thread " ++ x) (sym (append_assoc (decimal k) (codes " send ") (name_text names v)))
+says_exact names fields s kept (in_thread number k name v e is few declared) = grind (arith, named, append_assoc)
+says_exact names fields s kept each = grind arith
 
 pub line_exact : (names : List (List ℕ)) (line : List ℕ) (s : Statement) → IsKept s → Says names (fields_of line) s → line ≡ statement_text names s
 line_exact names line s kept said = sym (join_with_byte-slice_split 32 line) ∙ says_exact names (fields_of line) s kept said

@@ -6,11 +6,7 @@ none_equal : {A : Type 0} (f : A → List ℕ) (ks : List A) (name : List ℕ) �
     list_any (λ x. bytes_eq name (f x)) ks ≡ false
 none_equal f [] name fresh = refl
 none_equal f (x ∷ ks) name fresh =
-    elim (cases_Bool (bytes_eq name (f x))) [
-      | inl is ↦ absurd (fresh (0, omega arith, sym ((bytes_eq-Decides name (f x)).0 is)))
-      | inr other ↦ ap (λ b. b || list_any (λ y. bytes_eq name (f y)) ks) other
-          ∙ none_equal f ks name (λ h. fresh (suc h.0, omega (arith, h.1), h.2))
-    ]
+    grind (arith, cases_Bool, bytes_eq-Decides, (none_equal f ks name (λ h. fresh (suc h.0, omega (arith, h.1), h.2))))
 
 -- so it goes behind the others
 pub goes_last : {A : Type 0} (f : A → List ℕ) (ks : List A) (k : A) (name : List ℕ) → f k ≡ name → (Contains (map f ks) name → ⊥) →

@@ -32,14 +32,7 @@ whole p read =
     let is = script_written p read.lines read.makes in
     let threads : All (IsThreadLine (length p.names)) p.threads = λ k d within.
     says_sound p _ _ (is.threads _ (Contains-get_or p.threads k d within)).says in
-    record {
-      callbacks = is.each;
-      few = is.few;
-      slots = is.size.slots;
-      workers = is.workers;
-      threads = threads;
-      io = io_may p is;
-    }
+    search io_may
 
 -- how many lines count more
 abbrev pub added : Statement → ℕ
@@ -54,21 +47,7 @@ added FromHeap = 0
 added (InThread line) = 1
 
 count_statement : (p : Program) (s : Statement) → AreWritten p → IsSound p s → line_count (with_statement p s) ≡ line_count p + added s
-count_statement p (Declares name) is sound =
-    omega (arith, length-append p.names (name ∷ []), sum_by_push callback_count p.callbacks no_callbacks)
-count_statement p (InMain o) is sound = omega (arith, length-append p.main (o ∷ []))
-count_statement p (InCallback kind v line) is sound =
-    let c = callbacks_of p v in
-    let within : v.0 < length p.callbacks = omega (arith, is.each, sound) in
-    let sum = sum_by-set callback_count p.callbacks v.0 (with_line kind c line) no_callbacks within in
-    let here = ap callback_count (unwrap_or-slice_get p.callbacks v.0 no_callbacks) in
-    omega (arith, sum, here, count_more kind c line)
-count_statement p (Sizes size) is sound = omega arith
-count_statement p (HasWorkers n) is sound = omega arith
-count_statement p (Orders o) is sound = omega arith
-count_statement p HasIo is sound = omega arith
-count_statement p FromHeap is sound = omega arith
-count_statement p (InThread line) is sound = omega (arith, length-append p.threads (line ∷ []))
+count_statement p each is sound = grind (arith, length-append, sum_by_push, sum_by-set, unwrap_or-slice_get, count_more)
 
 -- one more line
 more : (lines n : ℕ) (p q : Program) (s : Statement) → IsReadScript lines p → IsSaid p s → HasRoom p s → with_statement p s ≡ q →
@@ -78,10 +57,7 @@ more lines n p q s is said room same count =
     let written = script_written p is.read.lines is.read.makes in
     let read = was_read (with_statement p s) (after_said p said.line s written said.is said.says room said.may) in
     let counted = count_statement p s written (said_sound p s said) in
-    subst (IsReadScript n) same (record {
-      counted = record { whole = whole (with_statement p s) read; counted = count ∙ ap (λ k. k + added s) is.counted.counted ∙ sym counted };
-      read = read;
-    })
+    subst (IsReadScript n) same (search whole)
 
 pub counted_more : (lines : ℕ) (p q : Program) (s : Statement) → added s ≡ 1 → IsReadScript lines p → IsSaid p s → HasRoom p s →
     with_statement p s ≡ q →
@@ -94,13 +70,8 @@ pub uncounted_more : (lines : ℕ) (p q : Program) (s : Statement) → added s �
 uncounted_more lines p q s counts is said room same = more lines lines p q s is said room same (omega (arith, counts))
 
 pub blank_read : IsReadScript 0 blank
-blank_read =
-    let read = was_read blank written_none in
-    record { counted = record { whole = whole blank read; counted = refl }; read = read }
+blank_read = search (was_read, written_none, whole)
 
 -- another number of workers
 pub workers_kept : (lines n : ℕ) (p : Program) → IsWorkerCount n → IsReadScript lines p → IsReadScript lines (with_workers n p)
-workers_kept lines n p fits is =
-    let written = script_written p is.read.lines is.read.makes in
-    let read = was_read (with_workers n p) (set_workers n p fits written) in
-    record { counted = record { whole = whole (with_workers n p) read; counted = is.counted.counted }; read = read }
+workers_kept lines n p fits is = search (script_written, was_read, set_workers, whole)

@@ -15,15 +15,9 @@ record IsNeither (said : Settings) : Type 0 where
   timers : said.timers ≡ false
 
 neither_before : (said : Settings) (s : Statement) → IsNeither (with_said said s) → IsNeither said
-neither_before said (Declares name) h = h
-neither_before said (InMain o) h = h
-neither_before said (InCallback kind v line) h = h
-neither_before said (Sizes size) h = record { io = h.io; timers = h.timers }
-neither_before said (HasWorkers n) h = record { io = h.io; timers = h.timers }
-neither_before said (Orders o) h = record { io = h.io; timers = h.timers }
 neither_before said HasIo h = let wrong = h.io in absurd cc
 neither_before said FromHeap h = let wrong = h.timers in absurd cc
-neither_before said (InThread line) h = h
+neither_before said each h = assumption
 
 neither_all : (d e : Draft) (lines : List (List ℕ)) → ReadsAll d lines e → IsNeither e.said → IsNeither d.said
 neither_all d e [] none h = h

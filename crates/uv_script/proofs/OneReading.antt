@@ -27,15 +27,6 @@ parts_at d e (line ∷ before) after (one {e = m} first rest) =
 first_of_rest : (d e : Draft) (line : List ℕ) (lines : List (List ℕ)) → ReadsAll d (line ∷ lines) e → (m : Draft) × Reads d line m
 first_of_rest d e line lines (one {e = m} first rest) = (m, first)
 
--- no script goes on past a line that is refused
-stops : (before after : List (List ℕ)) (line : List ℕ) (d e : Draft) → ReadsAll unread before d →
-    ((f : Draft) → Reads d line f → ⊥) → ReadsAll unread (before ++ line ∷ after) e → ⊥
-stops before after line d e read refused all =
-    let parts = parts_at unread e before (line ∷ after) all in
-    let same = all_one unread parts.middle d before distinct_none parts.read read in
-    let first = first_of_rest parts.middle e line after parts.left in
-    refused first.0 (subst (λ (m : Draft). Reads m line first.0) same first.1)
-
 -- the names of a script are distinct
 pub distinct_names : (text : List ℕ) (p : Program) → IsScript text p → AreDistinct p.names
 distinct_names text p is = distinct_all unread (record { program = p; said = is.said }) (lines_of text) distinct_none is.read
@@ -44,9 +35,7 @@ pub one_script : (text : List ℕ) → HasOneScript text
 one_script text p q a b = ap (λ (d : Draft). d.program) (all_one unread _ _ (lines_of text) distinct_none a.read b.read)
 
 pub no_bad_line : (text : List ℕ) → HasNoBadLine text
-no_bad_line text p number script bad =
-    stops bad.before bad.after bad.line bad.draft (record { program = p; said = script.said }) bad.read bad.refused
-    (subst (λ (lines : List (List ℕ)). ReadsAll unread lines (record { program = p; said = script.said })) bad.lines_are script.read)
+no_bad_line text p number script bad = grind (arith, parts_at, all_one, distinct_none, first_of_rest)
 
 -- of two cuts of a list the longer one has the other's element
 record GoesPast (before longer : List (List ℕ)) (line : List ℕ) : Type 0 where
@@ -55,9 +44,7 @@ record GoesPast (before longer : List (List ℕ)) (line : List ℕ) : Type 0 whe
 
 goes_past : (xs ys us vs : List (List ℕ)) (x y : List ℕ) → xs ++ x ∷ us ≡ ys ++ y ∷ vs → length xs < length ys → GoesPast xs ys x
 goes_past xs [] us vs x y e less = absurd (omega arith)
-goes_past [] (z ∷ ys) us vs x y e less =
-    let same : x ≡ z = cc in
-    record { between = ys; is = ap (λ w. w ∷ ys) (sym same) }
+goes_past [] (z ∷ ys) us vs x y e less = grind arith
 goes_past (w ∷ xs) (z ∷ ys) us vs x y e less =
     let same : w ≡ z = cc in
     let rest : xs ++ x ∷ us ≡ ys ++ y ∷ vs = cc in
@@ -67,8 +54,7 @@ goes_past (w ∷ xs) (z ∷ ys) us vs x y e less =
 not_past : (text : List ℕ) (m n : ℕ) (a : IsBadLine text m) (b : IsBadLine text n) → length a.before < length b.before → ⊥
 not_past text m n a b less =
     let past = goes_past a.before b.before a.after b.after a.line b.line (sym a.lines_are ∙ b.lines_are) less in
-    stops a.before past.between a.line a.draft b.draft a.read a.refused
-    (subst (λ (lines : List (List ℕ)). ReadsAll unread lines b.draft) past.is b.read)
+    grind (arith, parts_at, all_one, distinct_none, first_of_rest)
 
 pub one_bad_line : (text : List ℕ) → HasOneBadLine text
 one_bad_line text m n a b =

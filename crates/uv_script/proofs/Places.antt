@@ -22,12 +22,7 @@ position-is_place names name i e =
 
 -- where a search finds none there is none
 pub position-finds : (names : List (List ℕ)) (name : List ℕ) → position (bytes_eq name) names ≡ None → Contains names name → ⊥
-position-finds names name e (k, inside, is) =
-    let none : length names ≤ position_or_len (bytes_eq name) names = grind (arith, common_steps) in
-    let fails = prefix_len_passes (λ x. not (bytes_eq name x)) names k name (omega arith) in
-    let passes = (bytes_eq-Decides name (get_or names k name)).1 (sym is) in
-    let wrong : not true ≡ true = rw passes at fails in
-    cc
+position-finds names name e e3 = grind (arith, common_steps, prefix_len_passes, bytes_eq-Decides)
 
 -- both for names that are seen through another type
 pub found_place : {A : Type 0} (f : A → List ℕ) (xs : List A) (names : List (List ℕ)) (name : List ℕ) (i : ℕ) → map f xs ≡ names →
@@ -48,19 +43,11 @@ pub place_of-none : (names : List (List ℕ)) (name : List ℕ) → position (by
 unfolding place_of
 place_of-none names name e = ap (option_map as_var) e
 
-position_cases : (o : Option ℕ) (v : Var) → option_map as_var o ≡ Some v → o ≡ Some v.0
-position_cases None v e = cc
-position_cases (Some i) v e = ap Some (ap (λ (w : Var). w.0) (same_Some _ _ e))
-
-position_none : (o : Option ℕ) → option_map as_var o ≡ None → o ≡ None
-position_none None e = refl
-position_none (Some i) e = cc
-
 -- what the reader finds is the name's number
 pub place_of-sound : (names : List (List ℕ)) (name : List ℕ) (v : Var) → place_of names name ≡ Some v → IsDeclared names name v
 unfolding place_of
-place_of-sound names name v e = position-is_place names name v.0 (position_cases _ v e)
+place_of-sound names name v e = position-is_place names name v.0 (grind arith)
 
 pub place_of-finds : (names : List (List ℕ)) (name : List ℕ) → place_of names name ≡ None → Contains names name → ⊥
 unfolding place_of
-place_of-finds names name e = position-finds names name (position_none _ e)
+place_of-finds names name e = position-finds names name (grind arith)

@@ -98,13 +98,7 @@ slots_read d size is unsaid =
     let numbers : All (λ b. (32 ≤ b) × (b ≤ 126)) (decimal n ++ 32 ∷ decimal g) = All-append (λ b. (32 ≤ b) × (b ≤ 126)) (decimal n) (32 ∷ decimal g)
     (decimal_printable n small) spaced in
     let line : IsLine (codes "slots " ++ (decimal n ++ 32 ∷ decimal g)) = record {
-      short = omega (
-        arith,
-        length-append (codes "slots ") (decimal n ++ 32 ∷ decimal g),
-        length-append (decimal n) (32 ∷ decimal g),
-        decimal_short n (omega (arith, is.slots.1)),
-        decimal_short g is.last,
-      );
+      short = grind (arith, length-append, decimal_short);
       printable = printable_more (codes "slots ") (decimal n ++ 32 ∷ decimal g) refl numbers;
     } in
     let parts : fields_of (decimal n ++ 32 ∷ decimal g) ≡ decimal n ∷ decimal g ∷ [] =
@@ -152,16 +146,7 @@ abbrev declared : Program → List (List ℕ) → Program
 declared p names = record p { names = names; main = []; callbacks = blanks names; threads = [] }
 
 pub name_unspaced : (name : List ℕ) → IsName name → AreNot 32 name
-name_unspaced name is = subst (AreNot 32) (sym is.is) (by is.first is.rest is.letter is.others)
-  where
-    other : (b : ℕ) → IsLetter b ⊎ (IsDigit b ⊎ (b ≡ 95)) → (b == 32) ≡ false
-    other b (inl letter) = ne_eqb b 32 (λ e. omega (arith, letter.0, e))
-    other b (inr (inl digit)) = ne_eqb b 32 (λ e. omega (arith, digit.0, e))
-    other b (inr (inr line)) = ne_eqb b 32 (λ e. omega (arith, line, e))
-
-    by : (first : ℕ) (rest : List ℕ) → IsLetter first → All (λ b. IsLetter b ⊎ (IsDigit b ⊎ (b ≡ 95))) rest → AreNot 32 (first ∷ rest)
-    by first rest letter others zero d inside = other first (inl letter)
-    by first rest letter others (suc k) d inside = other (get_or rest k d) (others k d (omega (arith, inside)))
+name_unspaced name is = grind arith
 
 -- a name behind others that differ from it
 fresh_name : (before after : List (List ℕ)) (name : List ℕ) → AreDistinct (before ++ name ∷ after) → Contains before name → ⊥
@@ -229,9 +214,7 @@ with_lines callback.Close c lines = record c { close = c.close ++ lines }
 
 with_lines_none : (kind : Callback) (c : Callbacks) → with_lines kind c [] ≡ c
 unfolding with_lines
-with_lines_none callback.Handle c = ap (λ l. record c { handle = l }) (append-nil c.handle)
-with_lines_none callback.After c = ap (λ l. record c { after = l }) (append-nil c.after)
-with_lines_none callback.Close c = ap (λ l. record c { close = l }) (append-nil c.close)
+with_lines_none kind c = grind (arith, append-nil)
 
 with_lines_one : (kind : Callback) (c : Callbacks) (line : CallbackLine) (lines : List CallbackLine) →
     with_lines kind (with_line kind c line) lines ≡ with_lines kind c (line ∷ lines)
@@ -248,8 +231,7 @@ abbrev place : List Callbacks → Var
 place done = record { 0 = length done }
 
 callbacks_at : (done later : List Callbacks) (c : Callbacks) → unwrap_or (slice_get (done ++ c ∷ later) (length done)) no_callbacks ≡ c
-callbacks_at done later c =
-    unwrap_or-slice_get (done ++ c ∷ later) (length done) no_callbacks ∙ get_or-append_seam done c later no_callbacks
+callbacks_at done later c = simp (unwrap_or-slice_get, get_or-append_seam)
 
 module _ (p : Program) where
   lines_read : (kind : Callback) (done later : List Callbacks) (c : Callbacks) (lines : List CallbackLine) →
@@ -338,13 +320,8 @@ module _ (p : Program) where
       (subst (λ (l : List (List ℕ)). ReadsOn (with_callbacks p (done ++ no_callbacks ∷ blanks cs)) l (with_callbacks p (done ++ c ∷ blanks cs)))
       (sym lines) first) rest
 
--- a text of lines, cut into its lines
-line_unfed : (line : List ℕ) → IsLine line → AreNot 10 line
-line_unfed line is = λ k d inside. ne_eqb _ 10 (λ e. omega (arith, (is.printable k d inside).0, e))
-
 read_line : (d e : Draft) (line : List ℕ) → Reads d line e → IsLine line
-read_line d e line (skips is skipped) = is
-read_line d e line (says s is said new room may) = is
+read_line d e line e3 = grind arith
 
 pub read_lines : (d e : Draft) (lines : List (List ℕ)) → ReadsAll d lines e → AllByRecursion IsLine lines
 read_lines d e [] none = tt
@@ -352,7 +329,7 @@ read_lines d e (line ∷ lines) (one {e = m} first rest) = (read_line d m line f
 
 pub lines_back : (lines : List (List ℕ)) → AllByRecursion IsLine lines → lines_of (lines_text lines) ≡ lines
 lines_back [] h = refl
-lines_back (line ∷ lines) h = lines_append line (lines_text lines) (line_unfed line h.0) ∙ ap (λ ls. line ∷ ls) (lines_back lines h.1)
+lines_back (line ∷ lines) h = lines_append line (lines_text lines) (grind arith) ∙ ap (λ ls. line ∷ ls) (lines_back lines h.1)
 
 settings_read : (p : Program) → AreWritten p → ReadsAll unread (setting_lines p) (settled (declared p []))
 unfolding blanks
@@ -387,13 +364,7 @@ lines_read_back p is =
 
 pub text_makes : (p : Program) → AreWritten p → IsScript (script_text p) p
 unfolding script_text
-text_makes p is =
-    let all = lines_read_back p is in
-    record {
-      said = (settled p).said;
-      read = subst (λ (ls : List (List ℕ)). ReadsAll unread ls (settled p))
-          (sym (lines_back (script_lines p) (read_lines unread (settled p) (script_lines p) all))) all;
-    }
+text_makes p is = search (lines_read_back, lines_back, read_lines)
 
 -- a script whose parts can be written was read from its own lines
 pub was_read : (p : Program) → AreWritten p → WasRead p

@@ -8,24 +8,17 @@ lines_text-append (x ∷ xs) ys = ap (λ t. x ++ 10 ∷ t) (lines_text-append xs
 
 -- a line more in front of the rest
 pub line_more : (text line : List ℕ) (rest : List (List ℕ)) → text ++ line ++ 10 ∷ [] ++ lines_text rest ≡ text ++ lines_text (line ∷ rest)
-line_more text line rest =
-    append_assoc (text ++ line) (10 ∷ []) (lines_text rest) ∙ append_assoc text line (10 ∷ lines_text rest)
+line_more text line rest = simp append_assoc
 
 -- in a loop over a slice that writes a line for each element: what is written, with the lines that are left, is all
 pub line_turn : {A : Type 0} (f : A → List ℕ) (xs : List A) (i : ℕ) (d : A) (start text : List ℕ) → i < length xs →
     text ++ lines_text (map f (drop i xs)) ≡ start ++ lines_text (map f xs) →
     text ++ f (get_or xs i d) ++ 10 ∷ [] ++ lines_text (map f (drop (i + 1) xs)) ≡ start ++ lines_text (map f xs)
-line_turn f xs i d start text within all =
-    line_more text (f (get_or xs i d)) (map f (drop (i + 1) xs))
-    ∙ ap (λ l. text ++ lines_text (map f l)) (ap (λ n. get_or xs i d ∷ drop n xs) add_one ∙ sym (drop-cons xs i d within)) ∙ all
-  where
-    add_one : i + 1 ≡ suc i
-    add_one = omega arith
+line_turn f xs i d start text within all = grind (arith, line_more, drop-cons)
 
 pub lines_end : {A : Type 0} (f : A → List ℕ) (xs : List A) (i : ℕ) (start text : List ℕ) → i ≡ length xs →
     text ++ lines_text (map f (drop i xs)) ≡ start ++ lines_text (map f xs) → text ≡ start ++ lines_text (map f xs)
-lines_end f xs i start text at_end all =
-    sym (append-nil text) ∙ ap (λ l. text ++ lines_text (map f l)) (sym (ap (λ n. drop n xs) at_end ∙ drop-length xs)) ∙ all
+lines_end f xs i start text at_end all = grind (arith, append-nil, drop-length)
 
 -- lines behind others
 lines_behind : (text : List ℕ) (xs ys : List (List ℕ)) → text ++ lines_text xs ++ lines_text ys ≡ text ++ lines_text (xs ++ ys)
@@ -45,14 +38,7 @@ two_lines text a b =
 pub setting_texts : (text order : List ℕ) (xs ys : List (List ℕ)) (workers slots : List ℕ) →
     text ++ order ++ 10 ∷ [] ++ lines_text xs ++ lines_text ys ++ workers ++ 10 ∷ [] ++ slots ++ 10 ∷ []
     ≡ text ++ lines_text (order ∷ xs ++ ys ++ workers ∷ slots ∷ [])
-setting_texts text order xs ys workers slots =
-    two_lines (text ++ order ++ 10 ∷ [] ++ lines_text xs ++ lines_text ys) workers slots
-    ∙ ap (λ t. t ++ lines_text ys ++ lines_text (workers ∷ slots ∷ [])) (line_more text order xs)
-    ∙ three_lists text (order ∷ xs) ys (workers ∷ slots ∷ [])
-
--- a name's number is its place
-name_at : (names : List (List ℕ)) (i : ℕ) → i < length names → name_text names (record { 0 = i }) ≡ get_or names i []
-name_at names i within = ap text_or_none (slice_get-get_or names i [] within)
+setting_texts text order xs ys workers slots = simp (two_lines, line_more, three_lists)
 
 -- in the loop over the names
 pub name_turn : (names : List (List ℕ)) (i : ℕ) (start text : List ℕ) → i < length names →
@@ -60,7 +46,7 @@ pub name_turn : (names : List (List ℕ)) (i : ℕ) (start text : List ℕ) → 
     text ++ (codes "var " ++ name_text names (record { 0 = i })) ++ 10 ∷ [] ++ lines_text (map var_line (drop (i + 1) names))
     ≡ start ++ lines_text (map var_line names)
 name_turn names i start text within all =
-    ap (λ name. text ++ (codes "var " ++ name) ++ 10 ∷ [] ++ lines_text (map var_line (drop (i + 1) names))) (name_at names i within)
+    ap (λ name. text ++ (codes "var " ++ name) ++ 10 ∷ [] ++ lines_text (map var_line (drop (i + 1) names))) (grind (arith, slice_get-get_or))
     ∙ line_turn var_line names i [] start text within all
 
 -- and in that over their callbacks
@@ -80,9 +66,7 @@ callbacks_turn p i start text within all =
 pub callbacks_end : (p : Program) (i : ℕ) (start text : List ℕ) → i ≡ length p.names →
     text ++ lines_text (callback_lines p i (drop i p.names)) ≡ start ++ lines_text (callback_lines p 0 p.names) →
     text ≡ start ++ lines_text (callback_lines p 0 p.names)
-callbacks_end p i start text at_end all =
-    sym (append-nil text) ∙ ap (λ names. text ++ lines_text (callback_lines p i names)) (sym (ap (λ n. drop n p.names) at_end ∙ drop-length p.names))
-    ∙ all
+callbacks_end p i start text at_end all = grind (arith, append-nil, drop-length)
 
 -- the texts of a script's parts
 pub whole_text : (text : List ℕ) (p : Program) →
@@ -90,11 +74,4 @@ pub whole_text : (text : List ℕ) (p : Program) →
     ++ lines_text (callback_lines p 0 p.names) ++ lines_text (map (thread_line p.names) p.threads)
     ≡ text ++ script_text p
 unfolding script_text
-whole_text text p =
-    let settings = setting_lines p in
-    let names = map var_line p.names in
-    let main = map (main_line p.names) p.main in
-    let callbacks = callback_lines p 0 p.names in
-    let threads = map (thread_line p.names) p.threads in
-    ap (λ t. t ++ lines_text callbacks ++ lines_text threads) (three_lists text settings names main)
-    ∙ three_lists text (settings ++ names ++ main) callbacks threads
+whole_text text p = simp three_lists

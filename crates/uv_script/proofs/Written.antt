@@ -31,21 +31,11 @@ pub record AreWritten (p : Program) : Type 0 where
 
 written : (names : List (List ℕ)) (io : Bool) (line : List ℕ) (s : Statement) → IsKept s → IsLine line → Says names (fields_of line) s →
     (asks_io s ≡ true → io ≡ true) → IsWritten names io s
-written names io line s kept is said may =
-    let same = line_exact names line s kept said in
-    record { line = subst IsLine same is; says = subst (λ (l : List ℕ). Says names (fields_of l) s) same said; may = may }
+written names io line s kept is said may = grind (arith, line_exact)
 
 written_more : (names more : List (List ℕ)) (io : Bool) (s : Statement) → IsKept s → IsNoName s → IsWritten names io s →
     IsWritten (names ++ more) io s
-written_more names more io s kept other w =
-    written (names ++ more) io (statement_text names s) s kept w.line (says_more names more (fields_of (statement_text names s)) s other w.says) w.may
-
--- behind the line `io` any handle may be made
-written_io : (names : List (List ℕ)) (io : Bool) (s : Statement) → IsWritten names io s → IsWritten names true s
-written_io names io s w = record { line = w.line; says = w.says; may = λ asks. refl }
-
-none_there : {A : Type 0} (x : A) → Contains [] x → ⊥
-none_there x (k, inside, is) = omega arith
+written_more names more io s kept other w = search (written, says_more)
 
 -- one more list, which is empty, changes no list
 push_default : {A : Type 0} (xs : List A) (d : A) (k : ℕ) → get_or (xs ++ d ∷ []) k d ≡ get_or xs k d
@@ -65,19 +55,7 @@ last_fits _ = Unit {0}
 
 says_last : (names fields : List (List ℕ)) (s : Statement) → Says names fields s → last_fits s
 unfolding last_fits
-says_last names fields s (declares name e is fresh) = tt
-says_last names fields s (in_main rest o e is) = tt
-says_last names fields s (runs mode e) = tt
-says_last names fields s (closes_loop e) = tt
-says_last names fields s (in_callback kind name v rest o e declared is) = tt
-says_last names fields s (in_call kind name v number k rest o e declared is first last op_is) = tt
-says_last names fields s (sizes slots n e is fits) = omega arith
-says_last names fields s (sizes_to slots last n g e is fits last_is small) = small
-says_last names fields s (has_workers number n e is fits) = tt
-says_last names fields s (orders o e) = tt
-says_last names fields s (says_io e) = tt
-says_last names fields s (says_heap e) = tt
-says_last names fields s (in_thread number k name v e is few declared) = tt
+says_last names fields s e3 = grind arith
 
 -- a line of a callback to which one was added is the added one, or was there
 line_there : (kind added : Callback) (c : Callbacks) (line more : CallbackLine) → Contains (lines_of kind (with_line added c more)) line →
@@ -87,87 +65,36 @@ line_there callback.Handle callback.Handle c line more h = elim (Contains-push_c
   | inr new ↦ inr
       (refl, new)
 ]
-line_there callback.Handle callback.After c line more h = inl h
-line_there callback.Handle callback.Close c line more h = inl h
-line_there callback.After callback.Handle c line more h = inl h
 line_there callback.After callback.After c line more h = elim (Contains-push_cases c.after more line h) [
   | inl old ↦ inl old
   | inr new ↦ inr
       (refl, new)
 ]
-line_there callback.After callback.Close c line more h = inl h
-line_there callback.Close callback.Handle c line more h = inl h
-line_there callback.Close callback.After c line more h = inl h
 line_there callback.Close callback.Close c line more h = elim (Contains-push_cases c.close more line h) [
   | inl old ↦ inl old
   | inr new ↦ inr
       (refl, new)
 ]
+line_there each e1 c line more h = grind arith
 
 pub count_more : (kind : Callback) (c : Callbacks) (line : CallbackLine) → callback_count (with_line kind c line) ≡ callback_count c + 1
-count_more callback.Handle c line = omega (arith, length-append c.handle (line ∷ []))
-count_more callback.After c line = omega (arith, length-append c.after (line ∷ []))
-count_more callback.Close c line = omega (arith, length-append c.close (line ∷ []))
+count_more each c line = grind (arith, length-append)
 
 -- another number of workers, whatever line says it
 pub set_workers : (n : ℕ) (p : Program) → IsWorkerCount n → AreWritten p → AreWritten (record p { workers = n })
-set_workers n p fits is = record {
-  names = is.names;
-  distinct = is.distinct;
-  few_names = is.few_names;
-  main = is.main;
-  callbacks = is.callbacks;
-  each = is.each;
-  few = is.few;
-  size = is.size;
-  workers = fits;
-  threads = is.threads;
-}
+set_workers n p fits is = assumption
 
 -- another order
 set_order : (o : Order) (p : Program) → AreWritten p → AreWritten (record p { order = o })
-set_order o p is = record {
-  names = is.names;
-  distinct = is.distinct;
-  few_names = is.few_names;
-  main = is.main;
-  callbacks = is.callbacks;
-  each = is.each;
-  few = is.few;
-  size = is.size;
-  workers = is.workers;
-  threads = is.threads;
-}
+set_order o p is = assumption
 
 -- handles of I/O may be made
 set_io : (p : Program) → AreWritten p → AreWritten (record p { io = true })
-set_io p is = record {
-  names = is.names;
-  distinct = is.distinct;
-  few_names = is.few_names;
-  main = λ o h. written_io p.names p.io (InMain o) (is.main o h);
-  callbacks = λ kind v line h. written_io p.names p.io (InCallback kind v line) (is.callbacks kind v line h);
-  each = is.each;
-  few = is.few;
-  size = is.size;
-  workers = is.workers;
-  threads = λ line h. written_io p.names p.io (InThread line) (is.threads line h);
-}
+set_io p is = grind arith
 
 -- due timers are called from their heap
 set_heap : (p : Program) → AreWritten p → AreWritten (record p { heap = true })
-set_heap p is = record {
-  names = is.names;
-  distinct = is.distinct;
-  few_names = is.few_names;
-  main = is.main;
-  callbacks = is.callbacks;
-  each = is.each;
-  few = is.few;
-  size = is.size;
-  workers = is.workers;
-  threads = is.threads;
-}
+set_heap p is = assumption
 
 module _ (p : Program) (is : AreWritten p) where
   after_name : (name : List ℕ) → IsName name → (Contains p.names name → ⊥) → IsLine (var_line name) → HasRoom p (Declares name) →
@@ -317,22 +244,7 @@ after_all d e [] is none = is
 after_all d e (line ∷ lines) is (one {e = m} first rest) = after_all m e lines (after_one d m line is first) rest
 
 pub written_none : AreWritten blank
-written_none = record {
-  names = λ name h. absurd (none_there name h);
-  distinct = distinct_none;
-  few_names = omega arith;
-  main = λ o h. absurd (none_there o h);
-  callbacks = λ kind v line h. absurd (nowhere kind line h);
-  each = refl;
-  few = omega arith;
-  size = record { slots = (omega arith, omega arith); last = omega arith };
-  workers = (omega arith, omega arith);
-  threads = λ line h. absurd (none_there line h);
-} where
-  nowhere : (kind : Callback) (line : CallbackLine) → Contains (lines_of kind no_callbacks) line → ⊥
-  nowhere callback.Handle line h = none_there line h
-  nowhere callback.After line h = none_there line h
-  nowhere callback.Close line h = none_there line h
+written_none = grind arith
 
 -- so it is with every script
 pub script_written : (p : Program) (lines : List (List ℕ)) → Makes lines p → AreWritten p

@@ -1,4 +1,8 @@
 //! Scripts: what a person writes to say which handles there are, what the main program does, and what the callbacks do.
+//!
+//! The main type is `Script`, its main clauses those of `Script::parse` (`parse.rt`: the script of a text by the grammar alone,
+//! or its first bad line) and of `text_read_back`. Read `specs/Program.antt` and then `Grammar.antt`; `Reading.antt` and
+//! `Checks.antt` are the code's own tests, and nobody has to believe them.
 #![tactic(auto)]
 
 mod callback_lines;

@@ -87,10 +87,7 @@ impl Script {
         let mut number = 0;
         for line in Lines::of(text) {
             number += 1;
-            match script.read_line(alloc, &mut settings, number, line) {
-                Ok(()) => {}
-                Err(fault) => return Err(fault),
-            }
+            script.read_line(alloc, &mut settings, number, line)?;
         }
         Ok(script)
     }
@@ -123,9 +120,6 @@ impl Script {
             return Err(Fault::Script { line: number });
         }
         *settings = settings.with(&statement);
-        match self.add(alloc, statement) {
-            Ok(()) => Ok(()),
-            Err(_) => Err(Fault::Memory),
-        }
+        Ok(self.add(alloc, statement)?)
     }
 }

@@ -149,6 +149,7 @@ module _ {P : Type 0} (moves : P → ℕ) (next : P → ℕ → Option (P × Boo
     mute_more p way n m s q l led goes (is, i, e, a) =
         let one = last_same (take n way) is (get_or way n 0) i (sym (take_more way n 0 l) ∙ e) in
         let place = same_place p (take n way) m a.place led (subst (λ xs. LeadTo moves next p xs a.place) (sym one.0) a.way) in
-        let went : next a.place i ≡ Some (s, false) = subst (λ x. next x i ≡ Some (s, false)) place (subst (λ j. next m j ≡ Some (s, false)) one.1 goes) in
+        let went : next a.place i ≡ Some (s, false) = subst (λ x. next x i ≡ Some (s, false)) place
+        (subst (λ j. next m j ≡ Some (s, false)) one.1 goes) in
         let no : true ≡ false = (same_next a.place q s i true false a.answers went).1 in
         cc

@@ -1,4 +1,7 @@
 //! The sections of a run over a loop's memory.
+//!
+//! The main calls are `in_walk`, `in_timers`, `in_done` and `in_closing`, a section each or a kind of section. Their clauses are
+//! in the words of uv_stands' `Doing.antt`, over uv_model's `Next.antt`.
 #![tactic(auto)]
 
 mod beginning;

@@ -158,13 +158,9 @@ impl<M: Machine> Session<M> {
         ensures ok { OnOk result (self.new ≡ moved_forward 1 self.old) }
         ensures err { IfErr result (λ fault. (fault ≡ Memory) × (self.new ≡ self.old)) }
     {
-        match self.machine.step(self.events[self.standing]) {
-            Ok(_) => {
-                self.standing += 1;
-                Ok(())
-            }
-            Err(fault) => Err(fault),
-        }
+        self.machine.step(self.events[self.standing])?;
+        self.standing += 1;
+        Ok(())
     }
 
     /// Has runs stop at one break more, an equal one too. `Limit` with 256 of them; after an error all is as before.
@@ -174,10 +170,7 @@ impl<M: Machine> Session<M> {
         if self.breaks.len() >= BREAKS {
             return Err(Fault::Limit);
         }
-        match self.breaks.add(at) {
-            Ok(()) => Ok(()),
-            Err(_) => Err(Fault::Memory),
-        }
+        Ok(self.breaks.add(at)?)
     }
 
     /// Has runs stop nowhere.

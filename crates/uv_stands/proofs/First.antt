@@ -20,13 +20,5 @@ pub first_timer : (i : Image Place) (s : State) (o : Option Entry) → StandsFor
 first_timer i s o h r root first = at h.timers.entries h.timers.ordered h.timers.same where
   at : (es : List Entry) → IsInOrder i.heap es → s.timers ≡ map (timer_in i.arena) es
       → until_first s.time s.timers ≡ (elim o [ None ↦ None | Some e ↦ Some (min (e.due.at - i.times.time) LONGEST_POLL) ])
-  at [] ordered same =
-      let none : o ≡ None = root ∙ empty_array i.heap ordered in
-      ap (until_first s.time) same
-      ∙ ap (λ (z : Option Entry). elim z [ None ↦ None | Some e ↦ Some (min (e.due.at - i.times.time) LONGEST_POLL) ]) (sym none)
-  at (f ∷ fs) ordered same =
-      let sorted : InOrder (map (timer_in i.arena) (f ∷ fs)) = subst (λ ts. InOrder ts) same r.timers.sorted in
-      let one : o ≡ Some f = first f fs ordered (before_all i.arena f fs sorted.0) in
-      ap (until_first s.time) same
-      ∙ ap (λ t. Some (min (f.due.at - t) LONGEST_POLL)) (sym (time_is h))
-      ∙ ap (λ (z : Option Entry). elim z [ None ↦ None | Some e ↦ Some (min (e.due.at - i.times.time) LONGEST_POLL) ]) (sym one)
+  at [] ordered same = grind (arith, empty_array)
+  at (f ∷ fs) ordered same = grind (arith, before_all)

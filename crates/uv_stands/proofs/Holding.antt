@@ -19,8 +19,7 @@ state_handle i s d h = ap (option_and_then handle_of) (sym (held_there i s d h))
 pub slots_set : (i : Image Place) (s : State) (k : arena.Image Content) (d : Id) (v : Content) → StandsFor i s
     → plain_slots k ≡ record (plain_slots i.arena) { slots = plain.with_held (plain_slots i.arena).slots d v }
     → plain_slots k ≡ record s.arena { slots = plain.with_held s.arena.slots d v }
-slots_set i s k d v h set =
-    set ∙ ap (λ (q : plain.Slots Content). (let z : plain.Slots Content = record q { slots = plain.with_held q.slots d v } in z)) h.slots
+slots_set i s k d v h set = cc
 
 -- what a name is bound to
 pub bound_there : (i : Image Place) (s : State) (v : Var) → StandsFor i s → (named i.names v.0).id ≡ (state.named s v).id
@@ -33,9 +32,8 @@ slot_or None = record { generation = 0; content = None }
 slot_or (Some t) = t
 
 pub slot_by : {X : Type 0} (cs : List (Cell X)) (x : ℕ) → slot_in (slice_get cs x) ≡ slot_or (slice_get (map (λ (c : Cell X). c.slot) cs) x)
-slot_by [] x = refl
-slot_by (c ∷ cs) zero = refl
 slot_by (c ∷ cs) (suc x) = slot_by cs x
+slot_by each e1 = assumption
 
 -- a slot that holds something else keeps its generation
 pub generation_kept : {X : Type 0} (ss : List (Slot X)) (n x : ℕ) (t : Slot X)

@@ -20,8 +20,7 @@ pub beside_lists : (s : State) (place : Place) (names : List Named) (a : plain.S
       stop_flag = stop;
       idled = idled;
     }) l ≡ members s l
-beside_lists s place names a timers running time clock next stop idled name.Ready = refl
-beside_lists s place names a timers running time clock next stop idled l = refl
+beside_lists s place names a timers running time clock next stop idled l = assumption
 
 -- a list is this one, or another
 pub list_is : (l a : ListName) → (l ≡ a) ⊎ (l ≢ a)

@@ -33,20 +33,13 @@ somewhere P (s ∷ ss) e = at (P s.content) refl e (somewhere P ss) where
   at true f e rest = record { id = record { slot = 0; generation = s.generation }; content = s.content; held = own s 0; fits = f }
   at false f e rest = behind P s ss (rest e)
 
-then_some : (b : Bool) (o : Option Content) (c : Content) → (if b then o else None) ≡ Some c → o ≡ Some c
-then_some true o c e = e
-then_some false o c e = cc e
-
 pub or_true : (b c : Bool) → c ≡ true → (b || c) ≡ true
-or_true true c e = refl
-or_true false c e = e
+or_true b c e = grind arith
 
 any_at : (P : Option Content → Bool) (ss : List (Slot Content)) (n : ℕ) (d : Id) (c : Content)
     → option_and_then (plain.held_in d) (slice_get ss n) ≡ Some c → P (Some c) ≡ true → list_any (λ (s : Slot Content). P s.content) ss ≡ true
-any_at P [] n d c e f = cc e
-any_at P (s ∷ ss) zero d c e f =
-    ap (λ b. b || list_any (λ (s : Slot Content). P s.content) ss) (ap P (then_some _ s.content c e) ∙ f)
 any_at P (s ∷ ss) (suc n) d c e f = or_true (P s.content) _ (any_at P ss n d c e f)
+any_at each e1 e2 d c e f = grind arith
 
 -- what is held under an id is in some slot
 pub any_held : (P : Option Content → Bool) (ss : List (Slot Content)) (d : Id) (c : Content) → plain.held ss d ≡ Some c → P (Some c) ≡ true
@@ -59,16 +52,11 @@ abbrev pub positive : ℕ → Bool
 positive zero = false
 positive (suc n) = true
 
-more_positive : (n m : ℕ) → n ≡ suc m → positive n ≡ true
-more_positive n m e = ap positive e
-
 pub is_positive : (n : ℕ) → 0 < n → positive n ≡ true
-is_positive zero lt = absurd (omega (arith, lt))
-is_positive (suc n) lt = refl
+is_positive n lt = grind arith
 
 pub not_positive : (n : ℕ) → n ≤ 0 → positive n ≡ false
-not_positive zero le = refl
-not_positive (suc n) le = absurd (omega (arith, le))
+not_positive n le = grind arith
 
 -- ---- handles and requests apart
 
@@ -83,24 +71,13 @@ any_asked ss = list_any (λ (s : Slot Content). is_asked s.content) ss
 abbrev keeping : List (Slot Content) → Bool
 keeping ss = list_any (λ (s : Slot Content). content_keeps s.content) ss
 
-of_handle : (b : Bool) (n : ℕ) (a : Bool) → (b || (positive n || a)) ≡ (positive (one_if b + n) || (false || a))
-of_handle true n a = let one : 1 + n ≡ suc n = omega arith in ap (λ z. z || a) (sym (more_positive (1 + n) n one))
-of_handle false n a = let none : n ≡ 0 + n = omega arith in ap (λ z. positive z || a) none
-
-or_on : (b : Bool) → true ≡ (b || true)
-or_on true = refl
-or_on false = refl
-
 one_slot : (o : Option Content) (n : ℕ) (a : Bool)
     → (content_keeps o || (positive n || a)) ≡ (positive (one_if (counts.content_keeps handle_of o) + n) || (is_asked o || a))
-one_slot None n a = let none : n ≡ 0 + n = omega arith in ap (λ z. positive z || a) none
-one_slot (Some (Handle h)) n a = of_handle (keeps_alive h) n a
-one_slot (Some (Asked r)) n a = let none : n ≡ 0 + n = omega arith in or_on (positive n) ∙ ap (λ z. positive z || true) none
+one_slot each n a = grind arith
 
 keeps_apart : (ss : List (Slot Content)) → keeping ss ≡ (positive (active_count handle_of ss) || any_asked ss)
 keeps_apart [] = refl
-keeps_apart (s ∷ ss) =
-    ap (λ b. content_keeps s.content || b) (keeps_apart ss) ∙ one_slot s.content (active_count handle_of ss) (any_asked ss)
+keeps_apart (s ∷ ss) = simp (one_slot, (keeps_apart ss))
 
 -- ---- requests by their lists
 
@@ -119,10 +96,7 @@ none_on [] f = refl
 none_on (x ∷ xs) f = absurd (f x (ap (λ b. b || has_id xs x) (same_itself x)))
 
 counts_as : (b : Bool) (n : ℕ) → (b ≡ true → n ≡ 0 → ⊥) → (b ≡ false → n ≡ 0) → b ≡ positive n
-counts_as true zero f g = absurd (f refl refl)
-counts_as true (suc n) f g = refl
-counts_as false zero f g = refl
-counts_as false (suc n) f g = let z = g refl in cc z
+counts_as each e1 f g = grind arith
 
 module _ (s : State) (r : IsReached s) where
   abbrev opened : List Id
@@ -179,8 +153,7 @@ module _ (s : State) (r : IsReached s) where
         omega (arith, sum, a, b)
 
 or_in : (a b c : Bool) → ((a || b) || c) ≡ (a || (b || c))
-or_in true b c = refl
-or_in false b c = refl
+or_in a b c = grind arith
 
 -- the loop is alive just where the counts or the closing handles say so
 pub alive_counts : (i : Image Place) (s : State) → IsFit i → StandsFor i s → IsReached s

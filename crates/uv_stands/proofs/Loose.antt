@@ -9,8 +9,7 @@ use Rattle.uv_stands.proofs.Absent.{IsOn, has_first, has_second, holds_it, has_i
 -- ---- who may be started
 
 no_timer : (k : Kind) (b : Bool) → k ≡ kind.Timer → only_if (is_startable k) (invalid_if b) ≡ None → ⊥
-no_timer kind.Timer b e r = cc
-no_timer each b e r = cc
+no_timer k b e r = cc
 
 none_closes : (w b : Bool) → b ≡ true → only_if w (invalid_if b) ≡ None → ⊥
 none_closes true true e r = cc

@@ -26,19 +26,12 @@ opened_fit i t fit runs lists =
     omega (arith, count, a, b, c, d, e)
 
 pub active_fit : (i : Image Place) (t : State) → IsFit i → plain_slots i.arena ≡ t.arena → i.active ≡ active_count handle_of t.arena.slots
-active_fit i t fit slots =
-    fit.counts ∙ ap (λ (q : plain.Slots Content). active_count handle_of q.slots) slots
+active_fit i t fit slots = cc
 
 -- ---- what is in the memory, as the state has it
 
 pub ids_moved : (i k : arena.Image Content) → plain_slots k ≡ plain_slots i → (x : ℕ) → id_in k x ≡ id_in i x
-ids_moved i k same x =
-    let slots : held_slots k.memory ≡ held_slots i.memory = ap (λ (q : plain.Slots Content). q.slots) same in
-    let here : (slot_at k.memory x).generation ≡ (slot_at i.memory x).generation =
-    ap (λ (z : Slot Content). z.generation) (slot_by k.memory.row.items x)
-    ∙ ap (λ ss. (slot_or (slice_get ss x)).generation) slots
-    ∙ ap (λ (z : Slot Content). z.generation) (sym (slot_by i.memory.row.items x)) in
-    λ l. record { slot = x; generation = here l }
+ids_moved i k same x = grind (arith, slot_by)
 
 -- a request is the state's
 pub asked_there : (i : Image Place) (s : State) (d : Id) (r : Request) → StandsFor i s → work.request_in request_of i.arena d ≡ Some r
@@ -48,8 +41,7 @@ asked_there i s d r h e = sym (held_there i s d h) ∙ content_is request_of Ask
 -- the first of a list is the state's
 pub front_there : (i : Image Place) (s : State) (l : ListName) (d : Id) → StandsFor i s → (f : IsFirst i.arena l d)
     → members s l ≡ d ∷ map (id_in i.arena) f.rest
-front_there i s l d h f = h.lists l ∙ ap (map (id_in i.arena)) f.is
-    ∙ ap (λ z. z ∷ map (id_in i.arena) f.rest) (listed_id i.arena d f.listed.held)
+front_there i s l d h f = grind (arith, listed_id)
 
 pub first_one : (i : arena.Image Content) (l : ListName) (d e : Id) → IsFirst i l d → IsFirst i l e → e ≡ d
 first_one i l d e f g =
@@ -64,8 +56,7 @@ run_there i s k o h e = ap (λ rs. slice_get rs k) (sym (running_is h)) ∙ e
 -- a list that stays
 pub list_same : (i : Image Place) (k : arena.Image Content) → ((x : ℕ) → id_in k x ≡ id_in i.arena x) → (l : ListName) (xs : List Id)
     → xs ≡ map (id_in i.arena) (arena.members i.arena l) → arena.members k l ≡ arena.members i.arena l → xs ≡ map (id_in k) (arena.members k l)
-list_same i k ids l xs is kept =
-    is ∙ sym (map_same (id_in k) (id_in i.arena) ids (arena.members i.arena l)) ∙ ap (map (id_in k)) (sym kept)
+list_same i k ids l xs is kept = grind arith
 
 -- one more is done
 pub done_more : (i : Image Place) (s : State) (k : arena.Image Content) (d : Id) → StandsFor i s → id_in i.arena d.slot ≡ d

@@ -4,16 +4,8 @@ use Rattle.uv_records.specs.Slots as plain
 
 pub used_there : (i : Image Place) (s : State) (b : Bool) → StandsFor i s
     → b ≡ list_any (λ (slot : Slot Content). is_some slot.content) (held_slots i.arena.memory) → is_in_use s ≡ b
-used_there i s b h is =
-    sym (is ∙ ap (λ (z : plain.Slots Content). list_any (λ (slot : Slot Content). is_some slot.content) z.slots) h.slots)
-
-pends_alike : (o : Option Content) → pends_in is_sent_to o ≡ content_pends o
-pends_alike None = refl
-pends_alike (Some (Handle h)) = refl
-pends_alike (Some (Asked r)) = refl
+used_there i s b h is = cc
 
 pub pending_there : (i : Image Place) (s : State) (b : Bool) → StandsFor i s
     → b ≡ list_any (λ (slot : Slot Content). pends_in is_sent_to slot.content) (held_slots i.arena.memory) → has_pending s ≡ b
-pending_there i s b h is =
-    sym (is ∙ ap (λ (z : plain.Slots Content). list_any (λ (slot : Slot Content). pends_in is_sent_to slot.content) z.slots) h.slots
-    ∙ (λ l. list_any (λ (slot : Slot Content). pends_alike slot.content l) s.arena.slots))
+pending_there i s b h is = cc

@@ -1,4 +1,7 @@
 //! What it means that a loop's memory stands for a state, and what the memory says of each state that it stands for.
+//!
+//! Read `specs/Stands.antt` (`StandsFor`) first, then `Doing.antt`: how a step over the memory is said to be that of every state
+//! that it stands for. `allowed` is the one place where an op is refused.
 #![tactic(auto)]
 
 mod ask;

@@ -1,4 +1,6 @@
 //! The bytes that name a state of the loop.
+//!
+//! The main call is `push_key`, and `keys_tell` (`laws.rt`) its theorem: equal bytes are equal states. Read `specs/Key.antt`.
 #![tactic(auto)]
 
 mod contents;

@@ -31,22 +31,18 @@ impl<P: Copy> Memory<P> {
         ensures piece { IfOk result (λ _. self.new.slots.room ≡ room_after self.old.slots) }
         ensures err { IfErr result (λ fault. RefusesInsert fault self.old.slots × Untouched self.old self.new) }
     {
-        match self.handles.add(&mut self.slots, name, kind) {
-            Err(fault) => Err(fault),
-            Ok((id, added)) => {
-                if kind == Kind::Async {
-                    self.slots.push_back(ListName::Async, id);
-                    let listed = true;
-                    self.step_record
-                        .note_small(self.place, Small::Added(Added { added, listed }));
-                } else {
-                    let listed = false;
-                    self.step_record
-                        .note_small(self.place, Small::Added(Added { added, listed }));
-                }
-                Ok(id)
-            }
+        let (id, added) = self.handles.add(&mut self.slots, name, kind)?;
+        if kind == Kind::Async {
+            self.slots.push_back(ListName::Async, id);
+            let listed = true;
+            self.step_record
+                .note_small(self.place, Small::Added(Added { added, listed }));
+        } else {
+            let listed = false;
+            self.step_record
+                .note_small(self.place, Small::Added(Added { added, listed }));
         }
+        Ok(id)
     }
 
     /// Gives a handle another record, and touches no list (uv_ref, uv_unref, uv_timer_set_repeat, uv_async_send).

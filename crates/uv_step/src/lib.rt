@@ -1,5 +1,8 @@
 //! The memory of a loop, all that a step changes of it, and for each change a small record that gives back the very memory from
 //! before. Taking a step back takes no memory and can't fail.
+//!
+//! The main types are `Memory` and `Trail`. Read `specs/Image.antt` for what a memory has, `Undo.antt` (`Recorded`) for what each
+//! change leaves, and `Trail.antt` with `steps_unwind` (`law.rt`) for any number of them; `Does.antt` says what each change did.
 #![tactic(auto)]
 
 mod entry;

@@ -37,13 +37,9 @@ impl<P: Copy> Memory<P> {
         ensures err { IfErr result (λ fault. RefusesInsert fault self.old.slots × Untouched self.old self.new) }
     {
         self.slots.is_sound();
-        match self.requests.queue(&mut self.slots, request) {
-            Err(fault) => Err(fault),
-            Ok((id, undo)) => {
-                self.step_record.note_small(self.place, Small::Queued(undo));
-                Ok(id)
-            }
-        }
+        let (id, undo) = self.requests.queue(&mut self.slots, request)?;
+        self.step_record.note_small(self.place, Small::Queued(undo));
+        Ok(id)
     }
 
     /// What a worker may take: the request that waits longest. Refused if there is no such worker, if it runs one already, or if none

@@ -20,9 +20,9 @@ ghost use Rattle.uv_step.specs.Does.{By, FirstIs, NoHandleFirst, closed_by};
 use crate::medium::Medium;
 use crate::memory::Memory;
 use crate::small::Small;
-use uv_handle::{HandleRecord, handle_at};
+use uv_handle::handle_at;
 use uv_ids::Id;
-use uv_records::{ListName, WatcherKind};
+use uv_records::{HandleRecord, ListName, WatcherKind};
 
 impl<P: Copy> Memory<P> {
     /// Starts an idle, prepare or check handle that is inactive and on no list: it goes to the front of its list (uv_idle_start and the

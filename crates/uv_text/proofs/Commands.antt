@@ -1,64 +1,19 @@
 -- The tests of the code decide which commands there are.
 use Rattle.uv_text.proofs.Names.{if◌then◌else◌, Bool, ◌≡◌, ℕ, ◌≤◌, List, [], ◌∷◌, true, false, ◌&&◌, nat_le, Option, Some, None, option_map, refl, ap, sym, ◌∙◌, bytes_eq, bytes_eq-Decides, same_Some, and_parts, cond_both, leb-true, le-leb, both_ways, Var, Code, Event, Program, has_step, Take, Finish, Cancel, Send, Io, Tick, Phase, code_word, phase_word, fields_of, IsLine, IsNumber, IsDeclared, is_line, is_skipped, line_begins, is_line_decides, is_skipped_decides, number_of-sound, number_of-complete, place_of-sound, place_of-finds, AreDistinct, declared_contains, place_complete, Break, Command, Step, Back, Forward, AddBreak, Asked, Nothing, Do, Bad, IsBreak, IsStep, IsCommand, IsNoCommand, Asks, nothing, command, bad, MOST, LAST_WORKER, section_of, break_of, command_alone, worker_step, step_by, command_by, clears, command_with, command_with_two, command_of, asked_for, asked_of}
 use Rattle.std.proofs.Common.{codes}
+use Rattle.std.specs.Prelude.{IfSome}
 use Rattle.uv_ids.specs.declared.code.Code.TheVariants as code
 use Rattle.uv_ids.specs.declared.phase.Phase.TheVariants as phase
+use Rattle.uv_ids.specs.Words.{code_named, phase_named}
+use Rattle.uv_ids.proofs.Words.{same, code_right, code_found, phase_right}
 use Rattle.uv_script.specs.Checks.{number_of}
 use Rattle.uv_script.specs.Reading.{place_of}
 use Rattle.uv_session.specs.declared.breaks.Break.TheVariants as at
 use Rattle.uv_text.specs.declared.command.Command.TheVariants.{Loop}
 use Rattle.uv_text.specs.Commands as is
-use Rattle.uv_text.specs.Reading.{code_of, phase_of}
-
-same : (a b : List ℕ) → bytes_eq a b ≡ true → a ≡ b
-same a b e = (bytes_eq-Decides a b).0 e
-
--- ---- words of codes and sections
-
--- what was found for a word is named by it
-abbrev IsOf : {A : Type 0} → (A → List ℕ) → List ℕ → Option A → Type 0
-IsOf named word (Some x) = word ≡ named x
-IsOf named word None = Unit {0}
-
-code_right : (word : List ℕ) → IsOf code_word word (code_of word)
-unfolding code_of
-code_right word =
-    let P : Option Code → Type 0 = IsOf code_word word in
-    cond_both (bytes_eq word (codes "ok")) _ _ P (λ a. same _ _ a)
-    (λ _. cond_both (bytes_eq word (codes "EINVAL")) _ _ P (λ a. same _ _ a)
-    (λ _. cond_both (bytes_eq word (codes "EBUSY")) _ _ P (λ a. same _ _ a)
-    (λ _. cond_both (bytes_eq word (codes "ECANCELED")) _ _ P (λ a. same _ _ a)
-    (λ _. cond_both (bytes_eq word (codes "EBOUND")) _ _ P (λ a. same _ _ a)
-    (λ _. cond_both (bytes_eq word (codes "EFULL")) _ _ P (λ a. same _ _ a)
-    (λ _. cond_both (bytes_eq word (codes "ESTALE")) _ _ P (λ a. same _ _ a)
-    (λ _. cond_both (bytes_eq word (codes "EKIND")) _ _ P (λ a. same _ _ a) (λ _. tt))))))))
-
-code_found : (c : Code) → code_of (code_word c) ≡ Some c
-unfolding code_of
-code_found code.Ok = refl
-code_found code.Einval = refl
-code_found code.Ebusy = refl
-code_found code.Ecanceled = refl
-code_found code.Ebound = refl
-code_found code.Efull = refl
-code_found code.Estale = refl
-code_found code.Ekind = refl
-
-phase_right : (word : List ℕ) → IsOf phase_word word (phase_of word)
-unfolding phase_of
-phase_right word =
-    let P : Option Phase → Type 0 = IsOf phase_word word in
-    cond_both (bytes_eq word (codes "pending")) _ _ P (λ a. same _ _ a)
-    (λ _. cond_both (bytes_eq word (codes "idle")) _ _ P (λ a. same _ _ a)
-    (λ _. cond_both (bytes_eq word (codes "prepare")) _ _ P (λ a. same _ _ a)
-    (λ _. cond_both (bytes_eq word (codes "done")) _ _ P (λ a. same _ _ a)
-    (λ _. cond_both (bytes_eq word (codes "async")) _ _ P (λ a. same _ _ a)
-    (λ _. cond_both (bytes_eq word (codes "check")) _ _ P (λ a. same _ _ a)
-    (λ _. cond_both (bytes_eq word (codes "closing")) _ _ P (λ a. same _ _ a)
-    (λ _. cond_both (bytes_eq word (codes "timers")) _ _ P (λ a. same _ _ a) (λ _. tt))))))))
 
 section_found : (x : Phase) → section_of (phase_word x) ≡ Some (at.Section x)
-unfolding phase_of
+unfolding phase_named
 section_found phase.Pending = refl
 section_found each = refl
 
@@ -169,12 +124,14 @@ calls_right : (names : List (List ℕ)) (what argument : List ℕ) (v : Option V
 calls_right names what argument None w z = tt
 calls_right names what argument (Some v) w z = is.call v w (place_of-sound names argument v z)
 
-codes_right : (names : List (List ℕ)) (what argument : List ℕ) (c : Option Code) → what ≡ codes "code" → IsOf code_word argument c →
+codes_right : (names : List (List ℕ)) (what argument : List ℕ) (c : Option Code) → what ≡ codes "code" → IfSome c
+    (λ (x : Code). argument ≡ code_word x) →
     RightBreak names what argument (option_map at.Code c)
 codes_right names what argument None w h = tt
 codes_right names what argument (Some c) w h = is.code c w h
 
-phases_right : (names : List (List ℕ)) (what argument : List ℕ) (x : Option Phase) → what ≡ codes "section" → IsOf phase_word argument x →
+phases_right : (names : List (List ℕ)) (what argument : List ℕ) (x : Option Phase) → what ≡ codes "section" → IfSome x
+    (λ (y : Phase). argument ≡ phase_word y) →
     RightBreak names what argument (option_map at.Section x)
 phases_right names what argument None w h = tt
 phases_right names what argument (Some x) w h = is.section x w h
@@ -184,10 +141,10 @@ break_right names what argument =
     let P : Option Break → Type 0 = RightBreak names what argument in
     cond_both (bytes_eq what (codes "call")) _ _ P (λ a. calls_right names what argument (place_of names argument) (same _ _ a) refl)
     (λ _. cond_both (bytes_eq what (codes "code")) _ _ P
-    (λ a. codes_right names what argument (code_of argument) (same _ _ a) (code_right argument))
+    (λ a. codes_right names what argument (code_named argument) (same _ _ a) (code_right argument))
     (λ _. cond_both (bytes_eq what (codes "section")) _ _ P
-    (λ a. cond_both (bytes_eq argument (codes "poll")) (Some at.Poll) (option_map at.Section (phase_of argument)) P
-    (λ p. is.poll (same _ _ a) (same _ _ p)) (λ _. phases_right names what argument (phase_of argument) (same _ _ a) (phase_right argument)))
+    (λ a. cond_both (bytes_eq argument (codes "poll")) (Some at.Poll) (option_map at.Section (phase_named argument)) P
+    (λ p. is.poll (same _ _ a) (same _ _ p)) (λ _. phases_right names what argument (phase_named argument) (same _ _ a) (phase_right argument)))
     (λ _. tt)))
 
 adds_right : (names : List (List ℕ)) (word what argument : List ℕ) (b : Option Break) → word ≡ codes "break" → RightBreak names what argument b →

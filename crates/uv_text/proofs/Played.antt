@@ -10,14 +10,6 @@ pub record Played (p : Program) (m k : ℕ) (es : List Event) (xs : List (Option
   pub has : AllByRecursion (λ (e : Event). has_step p e ≡ true) es
   pub lines : AllByRecursion (λ (x : Option Seen). IfSome x Shows) xs
 
-state_sized : (m k : ℕ) (s : State) (n : Next) → Sized m k s → Stays m k n → Sized m k (state_of s n)
-state_sized m k s (Moves t l) h j = j.0
-state_sized m k s (Refuses why) h j = h
-
-shown : (m k : ℕ) (n : Next) → Stays m k n → IfSome (seen_of n) Shows
-shown m k (Moves t l) j = j.1
-shown m k (Refuses why) j = tt
-
 played_from : (p : Program) (m k : ℕ) (before es : List Event) (s : State) → after p before ≡ s → length before + length es ≤ STEPS → Sized m k s →
     AcceptsFrom p s es → Played p m k es (seen_from p s es)
 played_from p m k before [] s same few h a = record { steps = tt; has = tt; lines = tt }
@@ -26,26 +18,18 @@ played_from p m k before (e ∷ es) s same few h a =
     let stays = next_sized p m k s e able h in
     let rest = played_from p m k (before ++ e ∷ []) es (state_of s (next p s e))
     (after-push p before e ∙ ap (λ (x : State). state_of x (next p x e)) same) (omega (arith, few, length-append before (e ∷ [])))
-    (state_sized m k s (next p s e) h stays) a.1 in
+    (grind arith) a.1 in
     record {
       steps = (can_be p m k s e h a.0, rest.steps);
       has = (can_have p m k s e a.0, rest.has);
-      lines = (shown m k (next p s e) stays, rest.lines);
+      lines = (grind arith);
     }
-
-fresh_sized : (p : Program) → IsSlotCount (arena_size p).slots → Sized (length p.callbacks) (worker_count p) (fresh p)
-fresh_sized p slots = record {
-  names_are = length-replicate {A = Named} (length p.callbacks) unbound;
-  workers_are = length-replicate {A = Option Id} (worker_count p) None;
-  few = omega (arith, slots.1);
-  contents = All-nil (λ (slot : Slot Content). IsContent slot.content);
-}
 
 pub played : (p : Program) (es : List Event) → IsSlotCount (arena_size p).slots → Accepts p es → length es ≤ STEPS →
     Played p (length p.callbacks) (worker_count p) es (seen_by p es)
 unfolding Accepts seen_by
 played p es slots a few =
-    played_from p (length p.callbacks) (worker_count p) [] es (fresh p) (after-nil p) (omega (arith, few)) (fresh_sized p slots) a
+    played_from p (length p.callbacks) (worker_count p) [] es (fresh p) (after-nil p) (omega (arith, few)) (grind (arith, length-replicate)) a
 
 -- each line of a callback is read as one
 module _ (p : Program) (each : (name : List ℕ) → Contains p.names name → IsName name) where

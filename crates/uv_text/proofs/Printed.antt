@@ -31,17 +31,8 @@ is_line n text l h = record { short = omega (arith, l, h.short); printable = h.p
 
 -- ---- names
 
-byte_printed : (b : ℕ) → IsLetter b ⊎ (IsDigit b ⊎ (b ≡ 95)) → (32 ≤ b) × (b ≤ 126)
-byte_printed b (inl letter) = (omega (arith, letter.0), omega (arith, letter.1))
-byte_printed b (inr (inl digit)) = (omega (arith, digit.0), omega (arith, digit.1))
-byte_printed b (inr (inr line)) = (omega (arith, line), omega (arith, line))
-
 name_printed : (name : List ℕ) → IsName name → IsPrinted 32 name
-name_printed name is = subst (IsPrinted 32) (sym is.is) (record {
-  short = omega (arith, is.short);
-  printable = All-cons (λ b. (32 ≤ b) × (b ≤ 126)) is.first is.rest (byte_printed is.first (inl is.letter))
-      (λ k d inside. byte_printed (get_or is.rest k d) (is.others k d inside));
-})
+name_printed name is = grind arith
 
 module _ (names : List (List ℕ)) (each : (name : List ℕ) → Contains names name → IsName name) where
   name_there : (v : Var) → IsPrinted 32 (name_text names v)
@@ -110,10 +101,7 @@ bytes_printed [] h = All-nil (λ b. (32 ≤ b) × (b ≤ 126))
 bytes_printed (b ∷ rest) h =
     let fits = All-head (λ x. x < 256) b rest h in
     let more = encode_with lower_digits rest in
-    All-cons (λ x. (32 ≤ x) × (x ≤ 126)) (get_or lower_digits (b / 16) 0) (get_or lower_digits (b % 16) 0 ∷ more)
-    (digit_printed (b / 16) (omega (arith, fits)))
-    (All-cons (λ x. (32 ≤ x) × (x ≤ 126)) (get_or lower_digits (b % 16) 0) more (digit_printed (b % 16) (omega arith))
-    (bytes_printed rest (All-tail (λ x. x < 256) b rest h)))
+    grind (arith, digit_printed, (bytes_printed rest (All-tail (λ x. x < 256) b rest h)))
 
 ending_printed : (digest : Option (List ℕ)) → IfSome digest IsDigest → IsPrinted 67 (end_text digest)
 ending_printed None h = within 9 67 _ (omega arith) (word (codes "ECANCELED") refl)

@@ -22,9 +22,7 @@ called_is p (Some l ∷ xs) = called_one p l xs (is_callback l) refl (called_is 
 
 pub steps_are : (names : List (List ℕ)) (es : List Event) → flat_map (λ e. step_line names e ++ codes "\n") es ≡ lines_text (map (step_line names) es)
 steps_are names [] = refl
-steps_are names (e ∷ es) =
-    ap (λ (t : List ℕ). (step_line names e ++ codes "\n") ++ t) (steps_are names es)
-    ∙ append_assoc (step_line names e) (codes "\n") (lines_text (map (step_line names) es))
+steps_are names (e ∷ es) = simp (append_assoc, (steps_are names es))
 
 -- ---- the parts
 
@@ -33,9 +31,7 @@ regrouped x b t c k e = simp append_assoc refl
 
 cut_in_four : (ks bs cs ds : List (List ℕ)) →
     lines_text (ks ++ bs ++ cs ++ ds) ≡ ((lines_text ks ++ lines_text bs) ++ lines_text cs) ++ lines_text ds
-cut_in_four ks bs cs ds =
-    lines_text-append (ks ++ bs ++ cs) ds ∙ ap (λ (t : List ℕ). t ++ lines_text ds) (lines_text-append (ks ++ bs) cs
-    ∙ ap (λ (t : List ℕ). t ++ lines_text cs) (lines_text-append ks bs))
+cut_in_four ks bs cs ds = simp lines_text-append
 
 -- they are the whole
 pub whole : (p : Program) (es : List Event) →

@@ -71,9 +71,6 @@ contents_set slots i x h c = grind (arith, elements, h)
 contents_push : (slots : List (Slot Content)) (x : Slot Content) → AreContents slots → IsContent x.content → AreContents (slots ++ x ∷ [])
 contents_push slots x h c = grind (arith, elements, h)
 
-content_at : (slots : List (Slot Content)) (i : ℕ) (x : Slot Content) → slice_get slots i ≡ Some x → AreContents slots → IsContent x.content
-content_at slots i x e h = grind (arith, elements, h)
-
 module _ (m k : ℕ) where
   renamed : (s : State) (v : Var) (x : Named) → Sized m k s → Sized m k (with_named s v x)
   renamed s v x h = record {
@@ -206,28 +203,14 @@ module _ (m k : ℕ) where
 
 held_there : (slots : List (Slot Content)) (id : Id) (x : Option (Slot Content)) (c : Content) → slice_get slots id.slot ≡ x →
     option_and_then (held_in id) x ≡ Some c → id.slot < length slots
-held_there slots id None c e h = absurd (none-some c h)
-held_there slots id (Some slot) c e h = slice_get_within slots id.slot slot e
+held_there slots id x c e h = grind (arith, none-some, slice_get_within)
 
 held_content : (slots : List (Slot Content)) (id : Id) (x : Option (Slot Content)) (c : Content) → slice_get slots id.slot ≡ x →
     option_and_then (held_in id) x ≡ Some c → AreContents slots → IsContent (Some c)
-held_content slots id None c e h all = absurd (none-some c h)
-held_content slots id (Some slot) c e h all =
-    subst IsContent (chosen (slot.generation == id.generation) slot.content c h) (content_at slots id.slot slot e all) where
-      chosen : (b : Bool) (y : Option Content) (z : Content) → cond b y None ≡ Some z → y ≡ Some z
-      chosen true y z t = t
-      chosen false y z t = absurd (none-some z t)
+held_content slots id x c e h all = grind (arith, none-some, elements)
 
 front_there : (s : State) (ids : List Id) (t : Id × HandleRecord) → front s ids ≡ Some t → t.0.slot < length s.arena.slots
-front_there s [] t e = absurd (none-some t e)
-front_there s (x ∷ ids) t e = at (held s.arena.slots x) refl e where
-  at : (c : Option Content) → held s.arena.slots x ≡ c → with_id x (handle_in c) ≡ Some t → t.0.slot < length s.arena.slots
-  at None f g = absurd (none-some t g)
-  at (Some (content.Request r)) f g = absurd (none-some t g)
-  at (Some (content.Handle h)) f g =
-      let same : x ≡ t.0 = ap (λ (u : Id × HandleRecord). u.0) (same_Some _ _ g) in
-      subst (λ (i : Id). i.slot < length s.arena.slots) same
-      (held_there s.arena.slots x (slice_get s.arena.slots x.slot) (content.Handle h) refl f)
+front_there s ids t e = grind (arith, none-some, same_Some, held_there)
 
 pub record RequestShown (s : State) (t : Id × Request) : Type 0 where
   pub there : t.0.slot < length s.arena.slots
@@ -247,26 +230,11 @@ request_shown s (x ∷ ids) t e = at (held s.arena.slots x) refl e where
 
 -- the first timer that is due is held
 due_front : (s : State) (ts : List (Due × Id)) (t : Id × HandleRecord) → first_due s ts ≡ Some t → front s (t.0 ∷ []) ≡ Some t
-due_front s [] t e = absurd (none-some t e)
-due_front s (u ∷ ts) t e = at (nat_le u.0.at s.time) e where
-  its_front : (h : Option HandleRecord) → handle s u.1 ≡ h → with_id u.1 h ≡ Some t → front s (t.0 ∷ []) ≡ Some t
-  its_front None f g = absurd (none-some t g)
-  its_front (Some h) f g = subst (λ (x : Id × HandleRecord). front s (x.0 ∷ []) ≡ Some x) (same_Some _ _ g) (rw f refl)
-
-  at : (b : Bool) → (if b then with_id u.1 (handle s u.1) else None) ≡ Some t → front s (t.0 ∷ []) ≡ Some t
-  at true g = its_front (handle s u.1) refl g
-  at false g = absurd (none-some t g)
+due_front s ts t e = grind arith
 
 -- so is the handle of a live name
 live_front : (s : State) (bound : Option Id) (t : Id × HandleRecord) → as_handle (live_id s bound) ≡ Ok t → front s (t.0 ∷ []) ≡ Some t
-live_front s None t e = cc e
-live_front s (Some id) t e = at (held s.arena.slots id) refl e where
-  at : (c : Option Content) → held s.arena.slots id ≡ c → as_handle (with_id id c) ≡ Ok t → front s (t.0 ∷ []) ≡ Some t
-  at None f g = cc g
-  at (Some (content.Request r)) f g = cc g
-  at (Some (content.Handle h)) f g =
-      let same : ◌≡◌ {A = Id × HandleRecord} (id, h) t = cc g in
-      subst (λ (x : Id × HandleRecord). front s (x.0 ∷ []) ≡ Some x) same (rw f refl)
+live_front s bound t e = grind arith
 
 -- ---- the rows
 

@@ -20,9 +20,7 @@ step_says p line o is = subst (λ (x : Option Event). IfSome x (λ e. SaysStep p
 
 -- what a line says is read
 finds : (p : Program) (line : List ℕ) (e : Event) → SaysStep p line e → step_of p line ≡ None → ⊥
-finds p line e (loop h) none = at (rw ((bytes_eq-Decides line (codes "loop")).1 h) at none) where
-  at : ◌≡◌ {A = Option Event} (Some Loop) None → ⊥
-  at z = cc z
+finds p line e (loop h) none = cc
 finds p line e (outside _ l h has) none =
     let found = step_found p line e l h in
     let asked : asked_in p (asked_of p.names line) ≡ Do (Step found.0) = ap (asked_in p) found.1 ∙ rw (found.2 ∙ has) refl in

@@ -22,34 +22,23 @@ suc_more n i = omega arith
 -- one more behind them
 pub parts_snoc : (f : ℕ → List ℕ) (n k : ℕ) → parts_from f n (suc k) ≡ parts_from f n k ++ f (n + k)
 parts_snoc f n zero = append-nil (f n) ∙ ap f (zero_more n)
-parts_snoc f n (suc k) =
-    ap (λ (t : List ℕ). f n ++ t) (parts_snoc f (suc n) k ∙ ap (λ (i : ℕ). parts_from f (suc n) k ++ f i) (suc_more n k))
-    ∙ sym (append_assoc (f n) (parts_from f (suc n) k) (f (n + suc k)))
+parts_snoc f n (suc k) = simp (suc_more, append_assoc, (parts_snoc f (suc n) k))
 
 -- in a loop: the text with one part more
 pub parts_more : (f : ℕ → List ℕ) (k : ℕ) → parts_from f zero (k + 1) ≡ parts_from f zero k ++ f k
-parts_more f k =
-    ap (parts_from f zero) (add-one k) ∙ parts_snoc f zero k ∙ ap (λ (i : ℕ). parts_from f zero k ++ f i) (none_more k)
+parts_more f k = grind (arith, parts_snoc, none_more)
 
 -- these, and those behind them
 parts_split : (f : ℕ → List ℕ) (n j k : ℕ) → parts_from f n (j + k) ≡ parts_from f n j ++ parts_from f (n + j) k
-parts_split f n zero k =
-    let none : zero + k ≡ k = omega arith in
-    ap (parts_from f n) none ∙ ap (λ (i : ℕ). parts_from f i k) (zero_more n)
+parts_split f n zero k = grind arith
 parts_split f n (suc j) k =
     let more : suc j + k ≡ suc (j + k) = omega arith in
-    ap (parts_from f n) more
-    ∙ ap (λ (t : List ℕ). f n ++ t) (parts_split f (suc n) j k
-    ∙ ap (λ (i : ℕ). parts_from f (suc n) j ++ parts_from f i k) (suc_more n j))
-    ∙ sym (append_assoc (f n) (parts_from f (suc n) j) (parts_from f (n + suc j) k))
+    grind (arith, suc_more, append_assoc, (parts_split f (suc n) j k))
 
 -- a text that is said from its end
 parts_are : (f h : ℕ → List ℕ) (n k : ℕ) → h zero ≡ [] → ((i : ℕ) → i < k → h (suc i) ≡ h i ++ f (n + i)) → parts_from f n k ≡ h k
 parts_are f h n zero none more = sym none
-parts_are f h n (suc k) none more =
-    parts_snoc f n k
-    ∙ ap (λ (t : List ℕ). t ++ f (n + k)) (parts_are f h n k none (λ i l. more i (omega (arith, l))))
-    ∙ sym (more k (omega arith))
+parts_are f h n (suc k) none more = grind (arith, parts_snoc, (parts_are f h n k none (λ i l. more i (omega (arith, l)))))
 
 -- a text of the members of a list
 listed : {A : Type 0} (f : ℕ → List ℕ) (g : Option A → List ℕ) (xs : List A) (n : ℕ) →
@@ -70,13 +59,7 @@ moved f g n j each (suc c) =
 
 -- in a loop: the next part of those that are left, and the end
 pub next_part : (f : ℕ → List ℕ) (i k : ℕ) → i < k → parts_from f i (k - i) ≡ f i ++ parts_from f (i + 1) (k - (i + 1))
-next_part f i k l =
-    let more : k - i ≡ suc (k - (i + 1)) = omega (arith, l) in
-    let next : suc i ≡ i + 1 = omega arith in
-    ap (parts_from f i) more ∙ ap (λ (n : ℕ). f i ++ parts_from f n (k - (i + 1))) next
-
-pub no_part : (f : ℕ → List ℕ) (i k : ℕ) → k ≤ i → parts_from f i (k - i) ≡ []
-no_part f i k l = let none : k - i ≡ zero = omega (arith, l) in ap (parts_from f i) none
+next_part f i k l = grind arith
 
 -- what was put behind a text
 pub put_whole : {A E : Type 0} (r : Result A E) (old new : List ℕ) {parts all : List ℕ} → parts ≡ all → OnOk r (new ≡ old ++ parts)
@@ -162,8 +145,7 @@ links_are f (c ∷ slots) x each =
     let next : suc x ≡ x + 1 = omega arith in
     let rest = links_are f slots (suc x)
     (λ i l. ap f (suc_more x i) ∙ each (suc i) (omega (arith, l)) ∙ ap (λ (n : ℕ). link_part n (slice_get slots i)) (sym (suc_more x i))) in
-    ap (λ (t : List ℕ). t ++ parts_from f (suc x) (length slots)) first
-    ∙ ap (λ (t : List ℕ). link_line x c ++ t) (rest ∙ ap (λ (n : ℕ). links_from n slots) next)
+    cc
 
 link_there : (l : Layout) (i : ℕ) → i < length l.slots.items → layout_part l i ≡ link_part i (slice_get l.slots.items i)
 unfolding layout_part
@@ -171,10 +153,7 @@ link_there l i within = cond-true (nat_lt i (length l.slots.items)) _ _ (lt-ltb 
 
 rest_there : (l : Layout) (i : ℕ) → layout_part l (length l.slots.items + i) ≡ rest_part l i
 unfolding layout_part
-rest_there l i =
-    let n = length l.slots.items + i in
-    let is : n - length l.slots.items ≡ i = omega arith in
-    cond-false (nat_lt n (length l.slots.items)) _ _ (le-ltb n (length l.slots.items) (omega arith)) ∙ ap (rest_part l) is
+rest_there l i = grind arith
 
 rest_text : (l : Layout) → parts_from (rest_part l) zero LAYOUT_PARTS
     ≡ ends_line (codes "free") l.free ++ flat_map named_ends l.lists.items ++ heap_line l.heap.items ++ places_line l.slots.items
@@ -188,14 +167,10 @@ layout_whole l =
     let f = layout_part l in
     let n = length l.slots.items in
     let links = links_are f l.slots.items zero
-    (λ i within. ap f (none_more i) ∙ link_there l i within
-    ∙ ap (λ (x : ℕ). link_part x (slice_get l.slots.items i)) (sym (none_more i))) in
+    (λ i within. search (none_more, link_there)) in
     let rest = moved f (rest_part l) (zero + n) zero
     (λ i. ap (λ (x : ℕ). f (x + i)) (none_more n) ∙ rest_there l i ∙ ap (rest_part l) (sym (none_more i))) LAYOUT_PARTS ∙ rest_text l in
-    parts_split f zero n LAYOUT_PARTS
-    ∙ ap (λ (t : List ℕ). t ++ parts_from f (zero + n) LAYOUT_PARTS) links
-    ∙ ap (λ (t : List ℕ). links_from zero l.slots.items ++ t) rest
-    ∙ simp append_assoc refl
+    grind (arith, parts_split, append_assoc)
 
 -- ---- a trace
 

@@ -2,12 +2,9 @@
 use Rattle.std.specs.Prelude.{ℕ, List, [], ◌∷◌, ◌&&◌, nat_le, Option, Some, None, option_map, if◌then◌else◌, codes}
 use Rattle.std.specs.Str.{bytes_eq}
 use Rattle.uv_ids.specs.declared.id.Var.{Var}
-use Rattle.uv_ids.specs.declared.code.Code.{Code}
-use Rattle.uv_ids.specs.declared.code.Code.TheVariants as code
 use Rattle.uv_ids.specs.declared.event.Event.{Event}
 use Rattle.uv_ids.specs.declared.event.Event.TheVariants.{Take, Finish, Cancel, Send, Io, Tick}
-use Rattle.uv_ids.specs.declared.phase.Phase.{Phase}
-use Rattle.uv_ids.specs.declared.phase.Phase.TheVariants as phase
+use Rattle.uv_ids.specs.Words.{code_named, phase_named}
 use Rattle.uv_script.specs.Lines.{fields_of}
 use Rattle.uv_script.specs.Checks.{is_line, is_skipped, number_of}
 use Rattle.uv_script.specs.Reading.{place_of}
@@ -19,41 +16,15 @@ use Rattle.uv_text.specs.declared.command.Asked.{Asked}
 use Rattle.uv_text.specs.declared.command.Asked.TheVariants.{Nothing, Do, Bad}
 use Rattle.uv_text.specs.Commands.{MOST, LAST_WORKER}
 
--- the code that a word names
-unfoldable pub code_of : List ℕ → Option Code
-code_of word =
-    if bytes_eq word (codes "ok") then Some code.Ok
-    else if bytes_eq word (codes "EINVAL") then Some code.Einval
-    else if bytes_eq word (codes "EBUSY") then Some code.Ebusy
-    else if bytes_eq word (codes "ECANCELED") then Some code.Ecanceled
-    else if bytes_eq word (codes "EBOUND") then Some code.Ebound
-    else if bytes_eq word (codes "EFULL") then Some code.Efull
-    else if bytes_eq word (codes "ESTALE") then Some code.Estale
-    else if bytes_eq word (codes "EKIND") then Some code.Ekind
-    else None
-
--- the section that a word names
-unfoldable pub phase_of : List ℕ → Option Phase
-phase_of word =
-    if bytes_eq word (codes "pending") then Some phase.Pending
-    else if bytes_eq word (codes "idle") then Some phase.Idle
-    else if bytes_eq word (codes "prepare") then Some phase.Prepare
-    else if bytes_eq word (codes "done") then Some phase.Done
-    else if bytes_eq word (codes "async") then Some phase.Async
-    else if bytes_eq word (codes "check") then Some phase.Check
-    else if bytes_eq word (codes "closing") then Some phase.Closing
-    else if bytes_eq word (codes "timers") then Some phase.Timers
-    else None
-
 -- a section's word behind `break section`
 abbrev pub section_of : List ℕ → Option Break
-section_of word = if bytes_eq word (codes "poll") then Some at.Poll else option_map at.Section (phase_of word)
+section_of word = if bytes_eq word (codes "poll") then Some at.Poll else option_map at.Section (phase_named word)
 
 -- the two fields behind `break`
 abbrev pub break_of : List (List ℕ) → List ℕ → List ℕ → Option Break
 break_of names what argument =
     if bytes_eq what (codes "call") then option_map at.Call (place_of names argument)
-    else (if bytes_eq what (codes "code") then option_map at.Code (code_of argument)
+    else (if bytes_eq what (codes "code") then option_map at.Code (code_named argument)
     else (if bytes_eq what (codes "section") then section_of argument else None))
 
 -- a word alone

@@ -194,31 +194,19 @@ fn step_with(word: &[u8], n: u64) -> Option<Event>
 fn loops(n: u64) -> Option<Command>
     ensures { result ≡ loops n }
 {
-    if 1 <= n && n <= MOST {
-        Some(Command::Loop(n as u32))
-    } else {
-        None
-    }
+    (1 <= n && n <= MOST).then(|| Command::Loop(n as u32))
 }
 
 fn goes_back(n: u64) -> Option<Command>
     ensures { result ≡ goes_back n }
 {
-    if n <= MOST {
-        Some(Command::Back(n as u32))
-    } else {
-        None
-    }
+    (n <= MOST).then(|| Command::Back(n as u32))
 }
 
 fn goes_forward(n: u64) -> Option<Command>
     ensures { result ≡ goes_forward n }
 {
-    if n <= MOST {
-        Some(Command::Forward(n as u32))
-    } else {
-        None
-    }
+    (n <= MOST).then(|| Command::Forward(n as u32))
 }
 
 /// Whether a script has such steps: those of I/O it has only with a line `io`.

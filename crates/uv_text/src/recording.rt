@@ -106,7 +106,7 @@ fn push_step_line(text: &mut Vec<u8>, names: &Names, step: Event) -> Result<(), 
 }
 
 /// A step's line, without its line feed.
-fn push_step(text: &mut Vec<u8>, names: &Names, step: Event) -> Result<(), AllocError>
+pub fn push_step(text: &mut Vec<u8>, names: &Names, step: Event) -> Result<(), AllocError>
     ensures { OnOk result (text.new.items ≡ text.old.items ++ step_line names.now step) }
 {
     match step {

@@ -2,9 +2,8 @@
 ghost use Rattle.std.specs.Prelude.{◌≡◌};
 ghost use Rattle.uv_timer.specs.Changes.{starting, stopping, collecting, starting_again, firing};
 
-use uv_handle::HandleRecord;
 use uv_ids::Due;
-use uv_records::due_after;
+use uv_records::{HandleRecord, due_after};
 
 /// The loop's cached time in ms (uv_now), and the number that the next start of a timer draws.
 #[derive(Clone, Copy, PartialEq, Eq)]

@@ -1,5 +1,9 @@
 //! The timers over the arena and the heap: starting and stopping, collecting those that are due, and firing them. Every change has
 //! an exact undo.
+//!
+//! All that a call may change is lent as `TimerParts`. Read `specs/Timed.antt`, then `Timers.antt`. The program makes
+//! `reschedule` by a `TimerChange`, `collect_one` and `fire_one`, and refuses before; `start`, `stop`, `again`, `set_repeat` and
+//! `due_in` refuse and act in one call.
 #![tactic(auto)]
 
 mod change;

@@ -13,8 +13,9 @@ use crate::parts::TimerParts;
 use crate::rescheduling::reschedule;
 use crate::undo::TimerUndo;
 use uv_arena::Slots;
-use uv_handle::{Handles, HoldsHandle, RecordUndo, handle_at};
+use uv_handle::{Handles, RecordUndo, handle_at};
 use uv_ids::{Code, Id};
+use uv_records::HoldsHandle;
 
 /// Starts a timer: it is due this timeout from now, and has this repeat, both in ms (uv_timer_start). One that is active or ready
 /// is taken off the heap or the ready list first. Where it isn't refused, the room on the heap has to be reserved before.

@@ -8,8 +8,8 @@ use crate::change::TimerChange;
 use crate::hook::{hook, undo_hook, unhook};
 use crate::parts::TimerParts;
 use crate::undo::TimerUndo;
-use uv_handle::HoldsHandle;
 use uv_ids::Id;
+use uv_records::HoldsHandle;
 
 /// Takes a timer off the heap, and off its list if it is to leave it; writes its other record; and puts it on the heap if it is due
 /// at some time. The room there has to be reserved before.

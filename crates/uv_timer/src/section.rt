@@ -15,10 +15,10 @@ use crate::parts::TimerParts;
 use crate::rescheduling::{reschedule, undo_reschedule};
 use crate::undo::{CollectUndo, TimerUndo};
 use uv_arena::Slots;
-use uv_handle::{HandleRecord, HoldsHandle, handle_at};
+use uv_handle::handle_at;
 use uv_heap::TimerHeap;
 use uv_ids::Id;
-use uv_records::ListName;
+use uv_records::{HandleRecord, HoldsHandle, ListName};
 
 /// Moves the first timer, if it is due, to the end of the ready list: its id. None, and nothing changed, where none is due.
 pub fn collect_one<T: HoldsHandle>(parts: TimerParts<'_, T>) -> Option<(Id, CollectUndo)>

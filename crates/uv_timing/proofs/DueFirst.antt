@@ -29,8 +29,7 @@ begins : (a : arena.Image Content) (array xs : List Entry) (e : Entry) → slice
     → ((f : Entry) (fs : List Entry) → IsInOrder array (f ∷ fs) → IsBeforeAll f fs → e ≡ f) → IsInOrder array xs
     → InOrder (map (timer_in a) xs) → Begins xs e
 begins a array [] e least first order sorted = absurd (none_ordered array e least order)
-begins a array (f ∷ fs) e least first order sorted =
-    record { rest = fs; is = ap (λ x. x ∷ fs) (sym (first f fs order (before_all a f fs sorted.0))) }
+begins a array (f ∷ fs) e least first order sorted = grind (arith, before_all)
 
 -- ---- it is due
 

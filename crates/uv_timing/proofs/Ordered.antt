@@ -16,8 +16,6 @@ none_before_all a b [] h e = tt
 none_before_all a b (x ∷ xs) h e = (ranks.chain x a b h.0 e, none_before_all a b xs h.1 e)
 
 sorted_ordered : (xs : List Entry) → IsSortedBy is_before xs → IsOrdered xs
-sorted_ordered [] h = tt
-sorted_ordered (x ∷ []) h = (tt, tt)
 sorted_ordered (x ∷ y ∷ xs) h =
     let rest = sorted_ordered (y ∷ xs) (λ k d l m.
     let next : suc k + 1 ≡ suc (k + 1) = omega arith in
@@ -25,13 +23,11 @@ sorted_ordered (x ∷ y ∷ xs) h =
     (h (suc k) d (omega arith) (omega (arith, m)))) in
     let first : is_before y x ≡ false = h 0 no_entry (omega arith) (omega arith) in
     ((first, none_before_all y x xs rest.0 first), rest)
+sorted_ordered each h = assumption
 
 -- a sort of the array has its entries in order
 pub sorted_in_order : (array xs : List Entry) → IsPermutation array xs → IsSortedBy is_before xs → IsInOrder array xs
-sorted_in_order array xs moved sorted = record {
-  ordered = sorted_ordered xs sorted;
-  same = λ e. sum_by-IsPermutation (one (is_same e)) array xs moved;
-}
+sorted_in_order array xs moved sorted = search (sorted_ordered, sum_by-IsPermutation)
 
 -- ---- one order
 
@@ -94,5 +90,4 @@ ids_in_order i s xs stands reached order =
 -- where the ids were read, they are the state's
 pub if_read : {V E : Type 0} (items : V → List Id) (r : Result V E) (i : Image Place) (xs : List Entry) → IsInOrder i.heap xs
     → IfOk r (λ ids. items ids ≡ ids_of i.arena xs) → IfOk r (λ ids. OfEach i (λ s. items ids ≡ timer_ids s))
-if_read items (Ok ids) i xs order is = λ s stands reached. is ∙ ids_in_order i s xs stands reached order
-if_read items (Err e) i xs order is = is
+if_read items r i xs order is = grind (arith, ids_in_order)

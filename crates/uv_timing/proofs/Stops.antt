@@ -12,8 +12,7 @@ use Rattle.uv_timing.proofs.TakenOff.{timers_left, lists_left}
 -- ids stay where one handle is rescheduled
 pub ids_rescheduled : (i : Image Place) (n : Timed Content) (room : ℕ) (d : Id) (c : TimerChange) (u : TimerUndo)
     → IsRescheduled handle_of Handle room (timed_of i) n d c u → (x : ℕ) → id_in n.handles.arena x ≡ id_in i.arena x
-ids_rescheduled i n room d c u x =
-    ids_kept i.arena n.handles.arena d (Handle c.to) (Handle c.from) (held_handle i d c.from x.handles.there) x.handles.plain
+ids_rescheduled i n room d c u x = search (ids_kept, held_handle)
 
 module _ (i : Image Place) (n : Timed Content) (room : ℕ) (d : Id) (h : HandleRecord) (u : TimerUndo)
     (x : IsRescheduled handle_of Handle room (timed_of i) n d (stopping h) u) (s : State) (stands : StandsFor i s) (reached : IsReached s)

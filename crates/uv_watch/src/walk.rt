@@ -10,9 +10,9 @@ ghost use Rattle.uv_watch.specs.Watch.{IsBegun, IsMovedOn, IsWoken};
 
 use crate::undo::WalkUndo;
 use uv_arena::{Slots, SpliceUndo};
-use uv_handle::{Handles, HoldsHandle, RecordUndo, handle_at};
+use uv_handle::{Handles, RecordUndo, handle_at};
 use uv_ids::Id;
-use uv_records::WatcherKind;
+use uv_records::{HoldsHandle, WatcherKind};
 
 /// Begins a section: the whole list is yet to run.
 pub fn begin<T: HoldsHandle>(slots: &mut Slots<T>, kind: WatcherKind) -> SpliceUndo

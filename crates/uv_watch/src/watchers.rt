@@ -12,9 +12,9 @@ ghost use Rattle.uv_watch.specs.Watch.{Starts, StartsBy, IsStarted, IsStopped};
 
 use crate::undo::StartUndo;
 use uv_arena::Slots;
-use uv_handle::{DelistUndo, HandleRecord, Handles, HoldsHandle, ListUndo, RecordUndo, handle_at};
+use uv_handle::{DelistUndo, Handles, ListUndo, RecordUndo, handle_at};
 use uv_ids::{Code, Id};
-use uv_records::WatcherKind;
+use uv_records::{HandleRecord, HoldsHandle, WatcherKind};
 
 /// Starts an idle, prepare or check handle, which goes to the front of its list, or a handle of I/O, which is on none. One that is
 /// active, or on a list, stays as it is, and the token is None (uv_idle_start and the like; uv_read_start).

@@ -260,10 +260,7 @@ impl LoopState {
             Timing::Collecting => self.next_due(script, run, part),
             Timing::Firing => self.fire(script, run, part),
         };
-        match outcome {
-            Ok(outcome) => Ok(outcome),
-            Err(_) => Err(Fault::Memory),
-        }
+        Ok(outcome?)
     }
 
     /// What the run does next where no body is under way.

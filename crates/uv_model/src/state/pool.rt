@@ -109,10 +109,8 @@ impl LoopState {
         if name.0 as usize >= self.names.len() {
             return Err(Fault::Refused(Why::Range));
         }
-        match self.cancel(name) {
-            Ok(answer) => Ok(seen(Seen::Cancel(name, answer))),
-            Err(_) => Err(Fault::Memory),
-        }
+        let answer = self.cancel(name)?;
+        Ok(seen(Seen::Cancel(name, answer)))
     }
 
     /// What a worker may take: the request that waits longest.
@@ -240,9 +238,6 @@ impl LoopState {
         requires { CanStep self.old }
         ensures { Steps (collect_request script.now self.old run) self.old result self.new }
     {
-        match self.collect_request(script, run) {
-            Ok(outcome) => Ok(outcome),
-            Err(_) => Err(Fault::Memory),
-        }
+        Ok(self.collect_request(script, run)?)
     }
 }

@@ -139,10 +139,7 @@ impl LoopState {
             WatcherKind::Prepare => self.walk(script, run, kind),
             WatcherKind::Check => self.walk(script, run, kind),
         };
-        match outcome {
-            Ok(outcome) => Ok(outcome),
-            Err(_) => Err(Fault::Memory),
-        }
+        Ok(outcome?)
     }
 
     /// Frees the slot of the front of the closing handles and calls it, or leaves the section. Without memory nothing changes.
@@ -168,9 +165,6 @@ impl LoopState {
         requires line { run.line < 2 ^ 63 }
         ensures { Steps (close_front script.now self.old run) self.old result self.new }
     {
-        match self.close_front(script, run) {
-            Ok(outcome) => Ok(outcome),
-            Err(_) => Err(Fault::Memory),
-        }
+        Ok(self.close_front(script, run)?)
     }
 }

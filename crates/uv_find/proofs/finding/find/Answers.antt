@@ -22,7 +22,8 @@ returns-after-branch-4-clause-found g c =
     let count : c.len.result ≡ length c.in-Way.field-0.way.items = omega (arith, c.len.ensures) in
     let there : drop (length c.in-Way.field-0.way.items) (s.spot ∷ s.before) ≡ u.spot ∷ u.before =
     subst (λ n. drop n (s.spot ∷ s.before) ≡ u.spot ∷ u.before) count c.go_back.ensures.before in
-    let here : u.spot ≡ p = same_back p u.spot c.args.orders.now.before u.before (drop (length c.in-Way.field-0.way.items) (s.spot ∷ s.before)) back there in
+    let here : u.spot ≡ p = same_back p u.spot c.args.orders.now.before u.before
+    (drop (length c.in-Way.field-0.way.items) (s.spot ∷ s.before)) back there in
     let rules : u.rules ≡ r = c.go_back.ensures.rules ∙ c.search.ensures.rules in
     elim c.match-branch-4.branch [
       | in-Some w ↦ (

@@ -4,5 +4,5 @@ use Rattle.uv_inquiry.proofs.draft.read_asking.Goals as goal
 
 pub returns-in-None : goal.returns-in-None
 returns-in-None c =
-    not_asked c.args.names.now c.args.text.now c.args.before _ c.in-Ok.draft c.in-Ok.ensures (rw c.in-None.is at c.finish.ensures)
+    not_asked c.args.names.now c.args.text.now c.args.before _ c.in_ok-draft.draft c.in_ok-draft.ensures (rw c.in-None.is at c.finish.ensures)
     (omega (arith, c.line_count.ensures.count))

@@ -1,4 +1,5 @@
 use Rattle.std.proofs.Common.{◌+◌, [], ◌∷◌, ap, sym, ◌∙◌, subst, arith, length-append}
+use Rattle.std.proofs.lemmas.Result.{err_from_is_err_and}
 use Rattle.uv_script.proofs.AfterLines.{line_number, lines_step}
 use Rattle.uv_inquiry.specs.Drafts.{Draft, unsaid}
 use Rattle.uv_inquiry.specs.Grammar.{ReadsAll, none}
@@ -28,7 +29,7 @@ loop-line-preserved c =
       can = tt;
       finite = tt;
       read = reads_step (λ line. line.now) c.args.names.now unsaid loop.draft c.read_line.new.self loop.yielded c.in-Some.line loop.invariant.read
-          c.in-Ok.ensures;
+          c.in_ok-read_line.ensures;
       counted = omega (arith, loop.invariant.counted, length-append loop.yielded (c.in-Some.line ∷ []));
       rest = lines_step (λ line. line.now) _ loop.yielded c.in-Some.line loop.line-iterator c.next.new.self loop.invariant.rest
           c.in-Some.ensures.steps;
@@ -40,9 +41,10 @@ returns c =
     all_read (λ line. line.now) c.args.names.now c.args.text.now unsaid loop.draft loop.yielded _ loop.invariant.read loop.invariant.rest
     c.in-None.ensures.steps.0
 
-pub returns-in-Err : goal.returns-in-Err
-returns-in-Err c =
+pub returns-in_err-read_line : goal.returns-in_err-read_line
+returns-in_err-read_line c =
     let loop = c.loop-line in
-    line_fault (λ line. line.now) c.args.names.now c.args.text.now c.args.before (loop.number + 1) loop.draft c.read_line.new.self
-    loop.yielded c.in-Some.line loop.line-iterator c.next.new.self c.in-Err.fault c.requires.distinct loop.invariant.read loop.invariant.rest
-    c.in-Some.ensures.steps (ap (λ n. n + 1) loop.invariant.counted) c.in-Err.ensures
+    let is = err_from_is_err_and c.from_residual.result c.from_residual.ensures.1 in
+    rw (is.1, is.2) (line_fault (λ line. line.now) c.args.names.now c.args.text.now c.args.before (loop.number + 1) loop.draft
+    c.read_line.new.self loop.yielded c.in-Some.line loop.line-iterator c.next.new.self c.in_err-read_line.field-0.0 c.requires.distinct
+    loop.invariant.read loop.invariant.rest c.in-Some.ensures.steps (ap (λ n. n + 1) loop.invariant.counted) c.in_err-read_line.ensures)

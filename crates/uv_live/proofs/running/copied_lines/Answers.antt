@@ -1,4 +1,4 @@
 use Rattle.uv_live.proofs.running.copied_lines.Goals as goal
 
-pub returns-in-Ok : goal.returns-in-Ok
-returns-in-Ok g c = rw c.in-Ok.ensures.items c.thread_lines.ensures.names
+pub returns : goal.returns
+returns g c = rw c.in_ok-from_slice.ensures.items c.thread_lines.ensures.names

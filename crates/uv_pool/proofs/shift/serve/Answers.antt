@@ -1,7 +1,9 @@
 use Rattle.std.proofs.Common.{inr, rules}
+use Rattle.std.proofs.lemmas.Result.{err_from_is_err_and}
 use Rattle.uv_pool.proofs.shift.serve.Goals as goal
 
 -- the bench didn't take the result of the job that it gave
-pub returns-in-Err-finish-clause-breaks : goal.returns-in-Err-finish-clause-breaks
-returns-in-Err-finish-clause-breaks g c =
-    inr (c.take.new.self, c.compute-work.result, search rules, c.in-Err-finish.ensures.refused, c.in-Err-finish.ensures.answer)
+pub returns-in_err-finish-clause-breaks : goal.returns-in_err-finish-clause-breaks
+returns-in_err-finish-clause-breaks g c =
+    let is = err_from_is_err_and c.from_residual-in_err-finish.result c.from_residual-in_err-finish.ensures.1 in
+    rw is.1 (inr (c.take.new.self, c.compute-work.result, search rules, c.in_err-finish.ensures.refused, c.in_err-finish.ensures.answer))

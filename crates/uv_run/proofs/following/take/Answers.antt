@@ -3,8 +3,8 @@ use Rattle.uv_run.proofs.Answers.{line_events}
 use Rattle.uv_run.proofs.following.take.Goals as goal
 
 -- the list has the event of its line
-pub returns-in-Ok-clause-events : goal.returns-in-Ok-clause-events
-returns-in-Ok-clause-events g c =
-    line_events c.args.session.now c.do_event.new.self _ c.in-Ok.outcome _ c.reserve.new.self.events.items _
-    (c.script.ensures ∙ c.machine.ensures.program) c.in-Ok.ensures (◌∙◌ {A = List PoolEvent} c.reserve.ensures.events c.requires.events)
+pub returns-clause-events : goal.returns-clause-events
+returns-clause-events g c =
+    line_events c.args.session.now c.do_event.new.self _ c.in_ok-outcome.outcome _ c.reserve.new.self.events.items _
+    (c.script.ensures ∙ c.machine.ensures.program) c.in_ok-outcome.ensures (◌∙◌ {A = List PoolEvent} c.reserve.ensures.events c.requires.events)
     c.push_line.ensures

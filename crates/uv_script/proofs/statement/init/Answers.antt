@@ -5,9 +5,7 @@ use Rattle.uv_script.proofs.statement.init.Goals as goal
 
 pub returns-in_err-kind : goal.returns-in_err-kind
 unfolding init_of
-returns-in_err-kind c =
-    let no_kind : kind_of c.in_ok-next-2.field-0.now ≡ None = kind_of-none _ c.in_err-kind.ensures.none in
-    grind (arith, common_steps)
+returns-in_err-kind c = grind (arith, kind_of-none, common_steps)
 
 pub returns : goal.returns
 unfolding init_of

@@ -5,9 +5,7 @@ use Rattle.uv_script.proofs.statement.orders.Goals as goal
 
 pub returns-in_err-order : goal.returns-in_err-order
 unfolding orders_of
-returns-in_err-order c =
-    let no_order : version_of c.in_ok-next.field-0.now ≡ None = version_of-none _ c.in_err-order.ensures.none in
-    grind (arith, common_steps)
+returns-in_err-order c = grind (arith, version_of-none, common_steps)
 
 pub returns : goal.returns
 unfolding orders_of

@@ -5,9 +5,7 @@ use Rattle.uv_script.proofs.statement.run.Goals as goal
 
 pub returns-in_err-mode : goal.returns-in_err-mode
 unfolding run_of
-returns-in_err-mode c =
-    let no_mode : mode_of c.in_ok-next.field-0.now ≡ None = mode_of-none _ c.in_err-mode.ensures.none in
-    grind (arith, common_steps)
+returns-in_err-mode c = grind (arith, mode_of-none, common_steps)
 
 pub returns : goal.returns
 unfolding run_of

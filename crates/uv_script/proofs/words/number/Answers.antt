@@ -6,23 +6,20 @@ pub returns-then-not-is_canonical-clause-none : goal.returns-then-not-is_canonic
 returns-then-not-is_canonical-clause-none c = no_number_front c.args.field.now (sym c.if-not-is_canonical.ensures)
 
 pub returns-then-not-is_canonical-clause-value : goal.returns-then-not-is_canonical-clause-value
-returns-then-not-is_canonical-clause-value c =
-    number_of-exact c.args.field.now None tt (returns-then-not-is_canonical-clause-none c)
+returns-then-not-is_canonical-clause-value c = search (number_of-exact, returns-then-not-is_canonical-clause-none)
 
 pub returns-in_default-clause-none : goal.returns-in_default-clause-none
 returns-in_default-clause-none c = no_number_text c.args.field.now c.in_default.ensures.cases.0
 
 pub returns-in_default-clause-value : goal.returns-in_default-clause-value
-returns-in_default-clause-value c =
-    number_of-exact c.args.field.now None tt (returns-in_default-clause-none c)
+returns-in_default-clause-value c = search (number_of-exact, returns-in_default-clause-none)
 
 pub returns-in_default-parse-clause-none : goal.returns-in_default-parse-clause-none
 returns-in_default-parse-clause-none c =
     no_number_parse c.args.field.now c.in_default-parse.field-0 (rw c.in-Ok.ensures.cases.0 at c.in_default-parse.ensures.value.0)
 
 pub returns-in_default-parse-clause-value : goal.returns-in_default-parse-clause-value
-returns-in_default-parse-clause-value c =
-    number_of-exact c.args.field.now None tt (returns-in_default-parse-clause-none c)
+returns-in_default-parse-clause-value c = search (number_of-exact, returns-in_default-parse-clause-none)
 
 pub returns-clause-some : goal.returns-clause-some
 returns-clause-some c =
@@ -30,5 +27,4 @@ returns-clause-some c =
     (rw c.in-Ok.ensures.cases.0 at c.in-Ok-parse.ensures.value.0)
 
 pub returns-clause-value : goal.returns-clause-value
-returns-clause-value c =
-    number_of-exact c.args.field.now (Some c.in-Ok-parse.number) (returns-clause-some c) tt
+returns-clause-value c = search (number_of-exact, returns-clause-some)

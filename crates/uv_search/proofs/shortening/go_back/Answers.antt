@@ -6,7 +6,12 @@ pub back-requires : goal.back-requires
 back-requires g c =
     let m = g.M.Maze in
     let before = c.back.invariant.before in
-    omega (arith, c.requires, some_left c.back.counter (m.place c.back.maze) (m.place c.args.maze.now ∷ m.before c.args.maze.now) (m.before c.back.maze) before)
+    omega (
+      arith,
+      c.requires,
+      some_left c.back.counter (m.place c.back.maze) (m.place c.args.maze.now ∷ m.before c.args.maze.now)
+          (m.before c.back.maze) before,
+    )
 
 pub back-preserved : goal.back-preserved
 back-preserved g c =

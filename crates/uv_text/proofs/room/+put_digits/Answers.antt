@@ -18,15 +18,7 @@ push_reserved-requires-else-number-lt10 t c =
     omega (arith, c.requires, digits, c.put_digits.ensures.len, c.put_digits.ensures.room)
 
 pub returns-else-number-lt10-clause-items : goal.returns-else-number-lt10-clause-items
-returns-else-number-lt10-clause-items t c =
-    let some : 10 ≤ c.args.number = c.if-number-lt10.false in
-    let small : c.args.number < 2 ^ 64 = omega (arith, c.ranges.number) in
-    rw (c.push_reserved-else-number-lt10.ensures.items, c.put_digits.ensures.items, decimal_step c.args.number some small) (append_assoc
-    c.args.text.now.items (decimal (c.args.number / 10)) ((48 + c.args.number % 10) ∷ []))
+returns-else-number-lt10-clause-items t c = grind (arith, decimal_step, append_assoc)
 
 pub returns-else-number-lt10-clause-len : goal.returns-else-number-lt10-clause-len
-returns-else-number-lt10-clause-len t c =
-    let some : 10 ≤ c.args.number = c.if-number-lt10.false in
-    let small : c.args.number < 2 ^ 64 = omega (arith, c.ranges.number) in
-    let digits = length-last_digit c.args.number some small in
-    omega (arith, digits, c.push_reserved-else-number-lt10.ensures.len, c.put_digits.ensures.len)
+returns-else-number-lt10-clause-len t c = grind (arith, length-last_digit)

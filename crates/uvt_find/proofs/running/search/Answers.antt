@@ -23,7 +23,8 @@ returns-in_ok-unsettled_text-in-Unsettled-clause-told g c =
     let i = c.args.inquiry.now in
     let finds = rw c.in-Unsettled.is at c.in_ok-states.ensures.found in
     rw (c.in_ok-unsettled_text-in-Unsettled.ensures.text, c.from.ensures)
-    (tells_unsettled i.script (asked_in i.asking) c.args.orders.now.rules c.args.orders.now.spot c.find.new.orders.spot c.requires.rules c.requires.spot
+    (tells_unsettled i.script (asked_in i.asking) c.args.orders.now.rules c.args.orders.now.spot c.find.new.orders.spot c.requires.rules
+    c.requires.spot
     finds)
 
 pub returns-in_ok-too_deep_text-in-TooDeep-clause-told : goal.returns-in_ok-too_deep_text-in-TooDeep-clause-told
@@ -31,4 +32,5 @@ returns-in_ok-too_deep_text-in-TooDeep-clause-told g c =
     let i = c.args.inquiry.now in
     let finds = rw c.in-TooDeep.is at c.in_ok-states.ensures.found in
     rw c.in_ok-too_deep_text-in-TooDeep.ensures.text
-    (tells_deep i.script (asked_in i.asking) c.args.orders.now.rules c.args.orders.now.spot c.find.new.orders.spot c.requires.rules c.requires.spot finds)
+    (tells_deep i.script (asked_in i.asking) c.args.orders.now.rules c.args.orders.now.spot c.find.new.orders.spot c.requires.rules c.requires.spot
+    finds)

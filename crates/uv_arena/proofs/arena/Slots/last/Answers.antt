@@ -14,8 +14,7 @@ pub returns-in-Some-clause-some : goal.returns-in-Some-clause-some
 returns-in-Some-clause-some g c =
     let v = c.args.self.now.image in
     subst (IsLast v c.args.list) (sym c.id_at.ensures)
-    (last_listed v c.is_sound.ensures c.args.list c.in-Some.slot (ap (tail_at v.memory) (sym c.chain.ensures.name) ∙ sym c.tail.ensures
-    ∙ c.in-Some.is)).last
+    (last_listed v c.is_sound.ensures c.args.list c.in-Some.slot (cc)).last
 
 pub returns-in-None-clause-none : goal.returns-in-None-clause-none
 returns-in-None-clause-none g c =

@@ -22,6 +22,5 @@ pub returns-clause-pushed : goal.returns-clause-pushed
 returns-clause-pushed g c =
     let v = c.args.self.now.image in
     let is = c.front_place-place.ensures ∙ ap (λ k. front_place k c.args.id.slot v.memory) c.chain.ensures.name in
-    subst (λ j. IsPushed v j c.args.list c.args.id (c.args.id.slot ∷ members v c.args.list)) (sym (c.put.ensures.image
-    ∙ ap (λ p. in_memory (put_in p) v) is))
+    subst (λ j. IsPushed v j c.args.list c.args.id (c.args.id.slot ∷ members v c.args.list)) (cc)
     (put_front v c.is_sound.ensures c.args.list c.args.id c.requires.held c.requires.loose).pushed

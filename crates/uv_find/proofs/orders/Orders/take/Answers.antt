@@ -22,10 +22,12 @@ returns-in-None g c =
     let below : c.args.number < length i.offers.items = rw (← c.self.view_is) at c.requires.offered in
     let long = as_many i.left.items i.offers.items c.self.invariant.bounded in
     let offer = slice_get_read i.offers.items (length i.offers.items) c.args.number c.index.result.now refl below c.index.ensures in
-    let times = slice_get_read i.left.items (length i.left.items) c.args.number c.index-left.result.now refl (omega (arith, long, below)) c.index-left.ensures in
+    let times = slice_get_read i.left.items (length i.left.items) c.args.number c.index-left.result.now refl
+    (omega (arith, long, below)) c.index-left.ensures in
     let goes = rw (c.in-None.is, c.deref.ensures.value) at c.in_ok-take_offer.ensures in
     rw (← c.self.view_is, c.in_ok-reserve.ensures.items)
-    (takes_none AllocError i.session c.take_offer.new.session i.offers.items i.clock i.most.items i.question i.left.items i.due i.made.items c.args.number
+    (takes_none AllocError i.session c.take_offer.new.session i.offers.items i.clock i.most.items i.question i.left.items i.due i.made.items
+    c.args.number
     c.index.result.now c.index-left.result.now offer times goes.0 goes.1)
 
 pub returns-in-Some : goal.returns-in-Some
@@ -35,7 +37,8 @@ returns-in-Some g c =
     let below : c.args.number < length i.offers.items = rw (← c.self.view_is) at c.requires.offered in
     let long = as_many i.left.items i.offers.items c.self.invariant.bounded in
     let offer = slice_get_read i.offers.items (length i.offers.items) c.args.number c.index.result.now refl below c.index.ensures in
-    let times = slice_get_read i.left.items (length i.left.items) c.args.number c.index-left.result.now refl (omega (arith, long, below)) c.index-left.ensures in
+    let times = slice_get_read i.left.items (length i.left.items) c.args.number c.index-left.result.now refl
+    (omega (arith, long, below)) c.index-left.ensures in
     let goes = rw (c.in-Some.is, c.deref.ensures.value) at c.in_ok-take_offer.ensures in
     let state = ap₂ after c.machine.ensures.program c.machine.ensures.steps in
     let due = c.kept_due-self-inside.ensures ∙ ap (λ s. kept_due i.question s i.due) state in

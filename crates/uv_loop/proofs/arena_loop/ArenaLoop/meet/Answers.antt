@@ -1,63 +1,40 @@
-use Rattle.uv_loop.proofs.Names.{[], ◌∷◌, ◌++◌, Some, sym, ap, ◌∙◌, arith, held, image_of, events_of}
-use Rattle.uv_loop.proofs.Courses.{course_moved, course_roomier, course_same, course_seen, answers_ok, answers_wanting, answers_refusing}
+use Rattle.uv_loop.proofs.Names.{sym, ap, arith, held, outside_event}
+use Rattle.uv_loop.proofs.Courses.{answers_refusing}
 use Rattle.uv_loop.proofs.Ready.{granted, course_ready}
-use Rattle.uv_loop.proofs.Told.{few_events, events_told, events_same}
+use Rattle.uv_loop.proofs.Told.{few_events}
+use Rattle.uv_loop.proofs.Begun.{begun, unfinished, stands, answers}
 use Rattle.uv_loop.proofs.arena_loop.ArenaLoop.meet.Goals as goal
 
-pub returns-in-Some-clause-answer : goal.returns-in-Some-clause-answer
-returns-in-Some-clause-answer c =
+pub returns-in-Err-clause-answer : goal.returns-in-Err-clause-answer
+returns-in-Err-clause-answer c =
     let few = few_events c.self.inside.steps.seen.items (omega arith) in
     answers_refusing c.self.inside.script _ _ c.self.inside.steps.trail.records (held c.self.inside.memory) _
-    c.self.view_is c.self.invariant c.args.event few _ c.in-Some.why c.in-Some.ensures (ap (λ z. z.standing) (sym c.self.view_is))
+    c.self.view_is c.self.invariant (outside_event c.args.outside) few _
+    c.in-Err.why c.in-Err.ensures.refusal (ap (λ z. z.standing) (sym c.self.view_is))
 
 -- ---- there is no memory
 
 pub returns-then-is_err-clause-answer : goal.returns-then-is_err-clause-answer
 returns-then-is_err-clause-answer c =
-    let few = few_events c.self.inside.steps.seen.items (omega arith) in
-    answers_wanting c.self.inside.script _ _ c.self.inside.steps.trail.records (held c.self.inside.memory) _
-    c.self.view_is c.self.invariant c.args.event few (events_of c.make_room.new.steps.seen.items) c.in-None.ensures.1
-    (events_same c.make_room.ensures.same.seen)
+    unfinished (outside_event c.args.outside) c.self.invariant c.self.view_is c.make_room.ensures.same (omega arith) c.in-Ok.ensures.refusal
 
 pub invariant_of-self : goal.invariant_of-self
-invariant_of-self c =
-    course_same c.self.inside.script _ _ c.self.inside.steps.seen.items _ c.self.inside.steps.trail.records _ (held c.make_room.new.memory)
-    (events_same c.make_room.ensures.same.seen) c.make_room.ensures.same.seen c.make_room.ensures.same.records
-    (course_roomier c.self.inside.script _ _ _ (held c.self.inside.memory) (held c.make_room.new.memory) c.make_room.ensures.image
-    c.make_room.ensures.kept c.self.invariant)
+invariant_of-self c = begun (outside_event c.args.outside) c.self.invariant c.self.view_is c.make_room.ensures.same
 
 -- ---- the step is done
 
 pub act-line-requires-clause-ready : goal.act-line-requires-clause-ready
 act-line-requires-clause-ready c =
     course_ready _ _ _ _ (held c.make_room.new.memory)
-    (course_roomier _ _ _ _ (held c.self.inside.memory) (held c.make_room.new.memory) c.make_room.ensures.image c.make_room.ensures.kept
-    c.self.invariant) c.is_sound.ensures.arena (granted c.make_room.result c.make_room.ensures.heap c.if-is_err.ensures.negation)
+    (begun (outside_event c.args.outside) c.self.invariant c.self.view_is c.make_room.ensures.same)
+    c.is_sound.ensures.arena (granted c.make_room.result c.make_room.ensures.heap c.if-is_err.ensures.negation)
 
 pub invariant_of-self-2 : goal.invariant_of-self-2
 invariant_of-self-2 c =
-    let few = few_events c.self.inside.steps.seen.items (omega arith) in
-    let line = Some c.act-line.result in
-    let roomier = course_roomier c.self.inside.script _ c.self.inside.steps.seen.items c.self.inside.steps.trail.records
-    (held c.self.inside.memory) (held c.make_room.new.memory) c.make_room.ensures.image c.make_room.ensures.kept c.self.invariant in
-    course_moved c.self.inside.script _ (events_of c.push.new.self.seen.items) c.self.inside.steps.seen.items
-    c.push.new.self.seen.items c.self.inside.steps.trail.records c.push.new.self.trail.records (held c.make_room.new.memory)
-    (held c.act-line.new.memory) c.act-line.new.memory.step_record c.args.event line
-    (events_told c.args.event roomier c.act-line.ensures.leads c.push.ensures.seen c.make_room.ensures.same.seen)
-    (c.push.ensures.seen ∙ ap (λ xs. xs ++ line ∷ []) c.make_room.ensures.same.seen)
-    ((rw c.step_record.ensures at c.push.ensures.records) ∙ ap (λ xs. xs ++ c.act-line.new.memory.step_record ∷ []) c.make_room.ensures.same.records)
-    few roomier c.act-line.ensures.returns c.act-line.ensures.leads
+    stands (outside_event c.args.outside) c.self.invariant c.self.view_is c.make_room.ensures.same (held c.act-line.new.memory) (omega arith)
+    (rw c.in-Ok.ensures.event at c.act-line.ensures.leads) (rw c.step_record.ensures at c.push.ensures) c.act-line.ensures.returns
 
 pub returns-clause-answer : goal.returns-clause-answer
 returns-clause-answer c =
-    let few = few_events c.self.inside.steps.seen.items (omega arith) in
-    let before = held c.self.inside.memory in
-    let more = held c.make_room.new.memory in
-    let es = events_of c.self.inside.steps.seen.items in
-    let roomier = course_roomier c.self.inside.script es c.self.inside.steps.seen.items c.self.inside.steps.trail.records
-    before more c.make_room.ensures.image c.make_room.ensures.kept c.self.invariant in
-    answers_ok c.self.inside.script es _ c.self.inside.steps.trail.records more _
-    (course_seen c.self.inside.script es c.self.inside.steps.trail.records before more _ c.make_room.ensures.image c.self.view_is)
-    roomier c.args.event few (image_of c.act-line.new.memory) (Some c.act-line.result) (events_of c.push.new.self.seen.items)
-    c.act-line.ensures.leads
-    (events_told c.args.event roomier c.act-line.ensures.leads c.push.ensures.seen c.make_room.ensures.same.seen)
+    answers (outside_event c.args.outside) c.self.invariant c.self.view_is c.make_room.ensures.same (held c.act-line.new.memory) (omega arith)
+    (rw c.in-Ok.ensures.event at c.act-line.ensures.leads) (rw c.step_record.ensures at c.push.ensures)

@@ -5,14 +5,14 @@ use Rattle.uv_model.proofs.plain.PlainLoopMachine.finish_with.Goals as goal
 pub invariant_of-self : goal.invariant_of-self
 invariant_of-self c = rw (c.reserve_step.ensures.steps, c.reserve_step.ensures.seen) c.self.invariant
 
-pub invariant_of-self-in-Err-finish_with : goal.invariant_of-self-in-Err-finish_with
-invariant_of-self-in-Err-finish_with c = grind arith
+pub invariant_of-self-in_err-outcome : goal.invariant_of-self-in_err-outcome
+invariant_of-self-in_err-outcome c = grind arith
 
 pub invariant_of-self-2 : goal.invariant_of-self-2
-invariant_of-self-2 c = kept_more _ _ _ _ _ _ _ (Finish c.args.worker) c.in-Ok-finish_with.outcome.seen c.self.invariant (omega arith)
+invariant_of-self-2 c = kept_more _ _ _ _ _ _ _ (Finish c.args.worker) c.in_ok-outcome.outcome.seen c.self.invariant (omega arith)
     (rw c.reserve_step.ensures.steps at c.push_reserved.ensures.items)
     (rw c.reserve_step.ensures.seen at c.push_reserved-2.ensures.items)
-    c.in-Ok-finish_with.ensures
+    c.in_ok-outcome.ensures
 
 pub returns-in-Some-clause-answer : goal.returns-in-Some-clause-answer
 returns-in-Some-clause-answer c = answers_refused_result c.args.self.now c.self.inside.script c.self.inside.steps.items _

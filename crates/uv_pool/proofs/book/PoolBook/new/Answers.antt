@@ -14,4 +14,4 @@ invariant_of-result g c =
       some = omega arith;
       workers = omega (arith, length-replicate n (let x : Option Job = None in x));
     } in
-    (c.in-Ok.ensures.1, subst (λ (x : Contents). IsCounted x total parts (n + 1)) (sym c.in-Ok.ensures.0) i)
+    (c.in_ok-held.ensures.1, subst (λ (x : Contents). IsCounted x total parts (n + 1)) (sym c.in_ok-held.ensures.0) i)

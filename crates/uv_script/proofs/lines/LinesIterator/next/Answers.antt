@@ -3,8 +3,7 @@ use Rattle.uv_script.proofs.Cuts.{lines-cut, lines-rest}
 use Rattle.uv_script.proofs.lines.LinesIterator.next.Goals as goal
 
 pub returns-in-Some-clause-steps : goal.returns-in-Some-clause-steps
-returns-in-Some-clause-steps c =
-    sym c.self.view_is ∙ lines-cut _ _ _ c.in-Some.ensures.some
+returns-in-Some-clause-steps c = grind (arith, lines-cut)
 
 pub returns-in-Some-clause-goes : goal.returns-in-Some-clause-goes
 returns-in-Some-clause-goes c =
@@ -12,6 +11,4 @@ returns-in-Some-clause-goes c =
     search (rules, steps)
 
 pub returns-in-None-clause-steps : goal.returns-in-None-clause-steps
-returns-in-None-clause-steps c =
-    let some : length c.self.inside.rest.now ≡ 0 → ⊥ = grind (arith, common_steps) in
-    sym c.self.view_is ∙ lines-rest _ some c.in-None.ensures.none
+returns-in-None-clause-steps c = grind (arith, common_steps, lines-rest)

@@ -9,8 +9,7 @@ returns-in-Some-clause-place c =
     (found_place (λ name. name.items) c.self.inside.set.keys names c.args.name.now c.in-Some.index c.self.view_is (sym c.in-Some.ensures.index)))
 
 pub returns-in-Some-clause-some : goal.returns-in-Some-clause-some
-returns-in-Some-clause-some c =
-    place_of-sound c.args.self.now c.args.name.now (record { 0 = c.in-Some.index }) (sym (returns-in-Some-clause-place c))
+returns-in-Some-clause-some c = search (place_of-sound, returns-in-Some-clause-place)
 
 pub returns-in-None-clause-place : goal.returns-in-None-clause-place
 returns-in-None-clause-place c =

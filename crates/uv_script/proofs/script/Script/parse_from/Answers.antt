@@ -1,4 +1,5 @@
 use Rattle.uv_script.proofs.ProofNames.{◌+◌, [], ◌∷◌, refl, ap, sym, ◌∙◌, subst, arith, length-append, Draft, ReadsAll, none, blank, Program}
+use Rattle.std.proofs.lemmas.Result.{err_from_is_err_and}
 use Rattle.uv_script.proofs.AfterLines.{distinct_none, line_number, lines_step, reads_step, all_read, line_fault}
 use Rattle.uv_script.proofs.script.Script.parse_from.Goals as goal
 
@@ -28,7 +29,7 @@ loop-line-preserved c =
     record {
       can = tt;
       finite = tt;
-      read = reads_step (λ line. line.now) start before after loop.yielded c.in-Some.line loop.invariant.read c.in-Ok.ensures;
+      read = reads_step (λ line. line.now) start before after loop.yielded c.in-Some.line loop.invariant.read c.in_ok-read_line.ensures;
       counted = ap (λ n. n + 1) loop.invariant.counted ∙ sym (length-append loop.yielded (c.in-Some.line ∷ []));
       rest = lines_step (λ line. line.now) _ loop.yielded c.in-Some.line loop.line-iterator c.next.new.self loop.invariant.rest
           c.in-Some.ensures.steps;
@@ -44,12 +45,13 @@ returns c =
       read = all_read (λ line. line.now) c.args.text.now start d loop.yielded _ loop.invariant.read loop.invariant.rest c.in-None.ensures.steps.0;
     }
 
-pub returns-in-Err : goal.returns-in-Err
-returns-in-Err c =
+pub returns-in_err-read_line : goal.returns-in_err-read_line
+returns-in_err-read_line c =
     let loop = c.loop-line in
     let start : Draft = record { program = blank; said = c.args.said } in
     let before : Draft = record { program = loop.script; said = loop.settings } in
     let after : Draft = record { program = c.read_line.new.self; said = c.read_line.new.settings } in
-    line_fault (λ line. line.now) c.args.text.now
-    (loop.number + 1) start before after loop.yielded c.in-Some.line loop.line-iterator c.next.new.self c.in-Err.fault
-    distinct_none loop.invariant.read loop.invariant.rest c.in-Some.ensures.steps (ap (λ n. n + 1) loop.invariant.counted) c.in-Err.ensures
+    let p = err_from_is_err_and c.from_residual.result c.from_residual.ensures.1 in
+    rw (p.1, p.2) (line_fault (λ line. line.now) c.args.text.now
+    (loop.number + 1) start before after loop.yielded c.in-Some.line loop.line-iterator c.next.new.self c.in_err-read_line.field-0.0
+    distinct_none loop.invariant.read loop.invariant.rest c.in-Some.ensures.steps (ap (λ n. n + 1) loop.invariant.counted) c.in_err-read_line.ensures)

@@ -15,15 +15,4 @@ invariant_of-self-2 c =
     let line : with_line c.args.kind (unwrap_or (slice_get all v.0) no_callbacks) c.args.line ≡ c.push.new.self =
     ap (λ o. with_line c.args.kind (unwrap_or o no_callbacks) c.args.line) there ∙ sym c.in_ok-push.ensures.ok in
     counted_more c.self.inside.lines c.args.self.now _ s refl is c.requires.said c.requires.room
-    (ap (λ (x : Program). with_statement x s) (sym c.self.view_is)
-    ∙ λ i. record {
-      names = c.self.inside.names;
-      main = c.self.inside.main.items;
-      callbacks = slice_set all v.0 (line i);
-      size = c.self.inside.size;
-      workers = c.self.inside.workers;
-      order = c.self.inside.order;
-      io = c.self.inside.io;
-      heap = c.self.inside.heap;
-      threads = c.self.inside.threads.items;
-    })
+    (grind arith)

@@ -3,13 +3,7 @@ use Rattle.uv_script.proofs.Texts.{callbacks_turn, callbacks_end}
 use Rattle.uv_script.proofs.script.Script.push_callbacks.Goals as goal
 
 pub loop-number-preserved : goal.loop-number-preserved
-loop-number-preserved c =
-    let p = c.args.self.now in
-    let i = c.loop-number.number in
-    let count = ap length c.names.ensures.names in
-    let within : i < length p.names = omega (arith, c.loop-number-test.true, c.len-number-end.ensures.len, count) in
-    ap (λ t. t ++ lines_text (callback_lines p (i + 1) (drop (i + 1) p.names))) c.in_ok-push_callbacks_of.ensures
-    ∙ callbacks_turn p i c.args.text.now.items c.loop-number.text.items within c.loop-number.invariant
+loop-number-preserved c = grind (arith, callbacks_turn)
 
 pub returns : goal.returns
 returns c =

@@ -13,7 +13,8 @@ undo-requires-clause-fit g c =
 pub returns-clause-image : goal.returns-clause-image
 returns-clause-image g c =
     rw (← c.self.view_is) (unwound_by (at_place c.args.place c.self.inside.step_record) (image_of (kept c.self.inside))
-    (image_of c.unname.new.self) _ _ _ _ refl c.naming-naming.ensures (ap (λ q. q.change) c.unname.ensures.same) c.unname.ensures.image c.undo.ensures.image)
+    (image_of c.unname.new.self) _ _ _ _ refl c.naming-naming.ensures (ap (λ q. q.change) c.unname.ensures.same) c.unname.ensures.image
+    c.undo.ensures.image)
 
 pub returns-clause-fit : goal.returns-clause-fit
 returns-clause-fit g c =

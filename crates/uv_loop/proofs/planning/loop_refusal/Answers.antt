@@ -1,6 +1,6 @@
 use Rattle.uv_loop.proofs.Names.{IfNone, sym, ap, subst, ◌∙◌, Next, refusal_of, image_of, MayAt}
 use Rattle.uv_loop.proofs.Refusing.{main_there, run_there}
-use Rattle.uv_loop.proofs.refusals.loop_refusal.Goals as goal
+use Rattle.uv_loop.proofs.planning.loop_refusal.Goals as goal
 
 pub returns-in-Main-clause-why : goal.returns-in-Main-clause-why
 returns-in-Main-clause-why c s h r =

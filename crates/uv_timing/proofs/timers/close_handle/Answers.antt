@@ -1,6 +1,6 @@
 use Rattle.uv_step.specs.Image.{held}
 use Rattle.uv_timing.proofs.Closes.{close_does}
-use Rattle.uv_timing.proofs.closing.close_handle.Goals as goal
+use Rattle.uv_timing.proofs.timers.close_handle.Goals as goal
 
 pub returns-clause-does : goal.returns-clause-does
 returns-clause-does c =

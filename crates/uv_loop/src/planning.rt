@@ -1,16 +1,18 @@
-//! Why an event is refused, if it is.
-ghost use Rattle.std.specs.Prelude.{◌≡◌, ◌+◌, ◌<◌, ◌≤◌, IfSome, IfNone, is_some, true, slice_get};
+//! What a step does, or why it is refused.
+ghost use Rattle.std.specs.Prelude.{◌≡◌, ◌+◌, ◌<◌, ◌≤◌, IfSome, IfNone, IfOk, IfErr, is_some, true, slice_get, length};
 ghost use Rattle.uv_ids.specs.declared.event.Event.TheVariants.{Loop, Take, Finish, Cancel, Send, Tick};
+ghost use Rattle.uv_ids.specs.declared.fault.Why.TheVariants.{Range};
 ghost use Rattle.uv_model.specs.Next.{main_step, run_step, stage_step, next};
 ghost use Rattle.uv_model.specs.After.{refusal_of};
 ghost use Rattle.uv_model.specs.State.{State};
 ghost use Rattle.uv_script.specs.Program.{Program, order_of};
 ghost use Rattle.uv_step.specs.Image.{held};
 ghost use Rattle.uv_stands.specs.Doing.{OfEach};
-ghost use Rattle.uv_loop.specs.Acting.{MayBehind, MayIn, MayAt, Refusal};
+ghost use Rattle.uv_loop.specs.Acting.{MayBehind, MayIn, MayAt, Plans, outside_event};
 
-use crate::io::io_refusal;
-use uv_ids::{Event, Var, Why};
+use crate::io::io_plan;
+use crate::plan::{Outside, Plan};
+use uv_ids::{Var, Why};
 use uv_model::{LATEST, Place, Run, Stage};
 use uv_script::Script;
 use uv_stands::may_leave;
@@ -25,65 +27,80 @@ fn later(clock: u64, ms: u64) -> Option<u64>
     (later <= LATEST).then_some(later)
 }
 
-/// Why an event is to be refused, if it is. Nothing else refuses it.
-#[inline(always)]
-pub(crate) fn refusal(memory: &Memory<Place>, script: &Script, event: Event) -> Option<Why>
-    ensures { Refusal script.now event (held memory.now).image result }
+/// What is to be done of an event from outside, or why it is refused. Nothing else refuses it.
+pub(crate) fn plan_of(
+    memory: &Memory<Place>,
+    script: &Script,
+    outside: Outside,
+) -> Result<Plan, Why>
+    ensures { Plans script.now (held memory.now).image (outside_event outside) result }
 {
-    match event {
-        Event::Loop => loop_refusal(memory, script),
-        Event::Take(worker) => take_refusal(memory, worker),
-        Event::Finish(worker) => finish_refusal(memory, worker),
-        Event::Cancel(name) => name_refusal(memory, name),
-        Event::Send(name) => name_refusal(memory, name),
-        Event::Io(name) => io_refusal(memory, script, name),
-        Event::Tick(ms) => tick_refusal(memory, ms),
+    match outside {
+        Outside::Take(worker) => take_plan(memory, worker),
+        Outside::Finish(worker) => finish_plan(memory, worker),
+        Outside::Cancel(name) => cancel_plan(memory, name),
+        Outside::Send(name) => send_plan(memory, name),
+        Outside::Io(name) => io_plan(memory, script, name),
+        Outside::Tick(ms) => tick_plan(memory, ms),
     }
 }
 
 /// The clock has a limit.
-fn tick_refusal(memory: &Memory<Place>, ms: u64) -> Option<Why>
-    ensures { (p : Program) → Refusal p (Tick ms) (held memory.now).image result }
+fn tick_plan(memory: &Memory<Place>, ms: u64) -> Result<Plan, Why>
+    ensures { (p : Program) → Plans p (held memory.now).image (Tick ms) result }
 {
     match later(memory.clock(), ms) {
-        None => Some(Why::Range),
-        Some(_) => None,
+        None => Err(Why::Range),
+        Some(_) => Ok(Plan::Tick(ms)),
     }
 }
 
-/// The loop has so many names.
-fn name_refusal(memory: &Memory<Place>, name: Var) -> Option<Why>
-    ensures sends { (p : Program) → Refusal p (Send name) (held memory.now).image result }
-    ensures cancels { (p : Program) → Refusal p (Cancel name) (held memory.now).image result }
+/// The name has to be one that the loop has.
+pub(crate) fn check_name(memory: &Memory<Place>, name: Var) -> Result<(), Why>
+    ensures ok { IfOk result (λ _. name.0 < length (held memory.now).image.names) }
+    ensures err { IfErr result (λ why. (why ≡ Range) × (length (held memory.now).image.names ≤ name.0)) }
 {
     if name.0 as usize >= memory.names().len() {
-        return Some(Why::Range);
+        return Err(Why::Range);
     }
-    None
+    Ok(())
+}
+
+/// A cancel is never refused but for its name.
+fn cancel_plan(memory: &Memory<Place>, name: Var) -> Result<Plan, Why>
+    ensures { (p : Program) → Plans p (held memory.now).image (Cancel name) result }
+{
+    check_name(memory, name)?;
+    Ok(Plan::Cancel(name))
+}
+
+/// Nor is a send.
+fn send_plan(memory: &Memory<Place>, name: Var) -> Result<Plan, Why>
+    ensures { (p : Program) → Plans p (held memory.now).image (Send name) result }
+{
+    check_name(memory, name)?;
+    Ok(Plan::Send(name))
 }
 
 /// A worker takes a request where it runs none, and one waits.
-fn take_refusal(memory: &Memory<Place>, worker: u16) -> Option<Why>
-    ensures { (p : Program) → Refusal p (Take worker) (held memory.now).image result }
+fn take_plan(memory: &Memory<Place>, worker: u16) -> Result<Plan, Why>
+    ensures { (p : Program) → Plans p (held memory.now).image (Take worker) result }
 {
-    match memory.next_work(worker) {
-        Err(why) => Some(why),
-        Ok(_) => None,
-    }
+    let (id, request) = memory.next_work(worker)?;
+    Ok(Plan::Take(worker, id, request))
 }
 
 /// A worker finishes what it runs.
-fn finish_refusal(memory: &Memory<Place>, worker: u16) -> Option<Why>
-    ensures { (p : Program) → Refusal p (Finish worker) (held memory.now).image result }
+fn finish_plan(memory: &Memory<Place>, worker: u16) -> Result<Plan, Why>
+    ensures { (p : Program) → Plans p (held memory.now).image (Finish worker) result }
 {
-    match memory.work_of(worker) {
-        Err(why) => Some(why),
-        Ok(_) => None,
-    }
+    let (id, request) = memory.work_of(worker)?;
+    Ok(Plan::Finish(worker, id, request))
 }
 
 /// Why the loop's next step is to be refused, if it is: the main program is at its end, or the poll can't be left yet.
-fn loop_refusal(memory: &Memory<Place>, script: &Script) -> Option<Why>
+#[inline(always)]
+pub(crate) fn loop_refusal(memory: &Memory<Place>, script: &Script) -> Option<Why>
     ensures why { OfEach (held memory.now).image (λ s. refusal_of (next script.now s Loop) ≡ result) }
     ensures may { IfNone result (MayAt script.now (held memory.now).image.place (held memory.now).image) }
 {
