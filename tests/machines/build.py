@@ -7,9 +7,9 @@ import tempfile
 
 HERE = os.path.dirname(os.path.realpath(__file__))
 ROOT = os.path.dirname(os.path.dirname(HERE))
-PROGRAM = 'crates/uv_cli/src/program.rt'
-# the crates that are proved anew in the copy
-CHANGED = ['uv_cli', 'uvt']
+PROGRAM = 'crates/uvt/src/main.rt'
+# the crate that is proved anew in the copy
+CHANGED = ['uvt']
 
 
 def edit(path, *pairs):
@@ -53,12 +53,17 @@ def build_arena(folder):
     return shutil.copy2(launch(ROOT), os.path.join(folder, 'arena'))
 
 
+def name_plain(root):
+    """Has the program of this copy name the plain loop."""
+    edit(os.path.join(root, PROGRAM), ('use uv_loop::ArenaLoop;', 'use uv_model::PlainLoop;'), (r'\bArenaLoop\b', 'PlainLoop'))
+    edit(os.path.join(root, 'crates.txt'), (r'(?m)^(uvt\b[^\n]*) uv_loop\b', r'\1 uv_model'))
+
+
 def build_plain(folder):
     """Leaves the program over the plain loop there as `plain`, and gives its path."""
     with tempfile.TemporaryDirectory(prefix='uvt-plain-') as copy:
         copy_to(copy)
-        edit(os.path.join(copy, PROGRAM), ('use uv_loop::ArenaLoop;', 'use uv_model::PlainLoop;'), (r'\bArenaLoop\b', 'PlainLoop'))
-        edit(os.path.join(copy, 'crates.txt'), (r'(?m)^(uv_cli\b[^\n]*) uv_loop\b', r'\1'))
+        name_plain(copy)
         return shutil.copy2(launch(copy), os.path.join(folder, 'plain'))
 
 
