@@ -65,6 +65,10 @@ class Notes:
     what: dict[str, dict[int, str]] = field(default_factory=dict)
     # how many polls there are, and how many in the program, and whether they wait as long, in a sentence
     polls: str = ""
+    # the signal that ended the program, and what the loop was at, in a sentence
+    ended: str = ""
+    # the sends that another loop of the program did: which loop, and in which function of its callback
+    by: dict[int, str] = field(default_factory=dict)
 
     def function(self, list: str, name: str, call: int) -> str:
         """Which function that call is, `` where nobody knows."""
@@ -90,6 +94,7 @@ class Notes:
     def loud(self) -> list[str]:
         """What each tool says before all else: that it isn't all of it, and what another thread did."""
         lines = [f"THE RECORDING IS A PART: {self.part}"] if self.part else []
+        lines += [f"THE PROGRAM WAS ENDED BY {self.ended}"] if self.ended else []
         return lines + [
             f"WRONG THREAD: {function} was called by another thread while the loop ran, which libuv allows of uv_async_send alone: line {line}"
             for line, function in sorted(self.foreign.items())
@@ -99,12 +104,14 @@ class Notes:
         lines = [f"{HEAD} {hashlib.sha256(recording).hexdigest()}"]
         lines += [f"part {self.part}"] if self.part else []
         lines += [f"polls {self.polls}"] if self.polls else []
+        lines += [f"ended {self.ended}"] if self.ended else []
         for name, (kind, origin) in self.names.items():
             lines.append(f"name {name} {kind} {origin}")
             for list in ("work", "on", "after", "closed"):
                 lines += [f"calls {list} {name} {call} {text}" for call, text in self.functions.get((list, name), [])]
             lines += came_lines(name, self.what.get(name, {}))
         lines += [f"thread {line} {function}" for line, function in sorted(self.foreign.items())]
+        lines += [f"by {step} {text}" for step, text in sorted(self.by.items())]
         lines += [f"clock {step} {clock}" for step, clock in sorted(self.times.items())]
         for word, found in (("unseen", self.guessed), ("outside", self.outside)):
             steps = sorted(found)
@@ -179,6 +186,10 @@ def take(notes: Notes, line: str) -> None:
                 notes.part = line.removeprefix("part ")
             case "polls":
                 notes.polls = line.removeprefix("polls ")
+            case "by":
+                notes.by[int(words[1])] = " ".join(words[2:])
+            case "ended":
+                notes.ended = line.removeprefix("ended ")
             case "came":
                 notes.what.setdefault(words[1], {}).update(enumerate(words[3:], int(words[2])))
             case "name":

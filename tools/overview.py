@@ -193,6 +193,16 @@ class Overview:
                 found.append(f"{name} ({self.kind(name, kind)})")
         return [few(found)] if found else []
 
+    def busy(self) -> list[str]:
+        """Who was in the way where the loop was to be closed."""
+        found = []
+        for step in self.walk.words.get("closeloop", []):
+            if self.walk.lines[step] == "closeloop = EBUSY":
+                left = [(it.name, it.values.get("closing") == "1", self.kind(it.name, it.kind)) for it in self.walk.state(step).slots if it.name]
+                said = [f"{name} ({kind}{', closed, and its close callback is to come' if closing else ''})" for name, closing, kind in left]
+                found.append(f"step {step}: uv_loop_close answers EBUSY, for {few(said)} {'is' if len(said) == 1 else 'are'} there still")
+        return found[:LINES]
+
     def answer(self, ask: str) -> list[str]:
         lines = head(self.walk)
         for title, rows in (
@@ -200,6 +210,7 @@ class Overview:
             ("I/O", self.io()), ("who waited for the next poll", self.unwoken()), ("the longest requests", self.requests()),
             ("the pool was full", self.full()),
             ("what kept the loop alive", self.alive()), ("who spun", self.spins()), ("never called", self.never()),
+            ("the loop was not closed", self.busy()),
         ):
             lines += [title, *(f"    {it}" for it in rows)] if rows else []
         late = max(self.next, default=(0, ""))[1]

@@ -199,7 +199,8 @@ class Walk:
         """Who did this step, in words."""
         at = self.line_done(step)
         if at is None:
-            return "by the loop" if self.steps[step - 1] == "loop" else "from outside"
+            other = self.notes.by.get(step)
+            return "by the loop" if self.steps[step - 1] == "loop" else f"by {other}" if other else "from outside"
         line = f"line {at + self.script.first}: {self.script.lines[at]}"
         function = self.notes.foreign.get(at + self.script.first)
         if function:

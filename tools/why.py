@@ -362,7 +362,7 @@ class Why:
         state = self.walk.state(wait.asked)
         before = self.before(state.lists["waiting"])
         away = self.walk.happened(step) - self.walk.clock(wait.asked)
-        had = self.walk.pool.names_between(wait.asked, step) if away else []
+        had = self.walk.pool.names_between(wait.asked, step) if away and self.walk.pool.full_between(wait.asked, step) else []
         behind = (f": the workers had {few(had)}" if had else "") + (f", behind {few(before)}" if before else "")
         took = f"worker {worker} took it at step {step}"
         if step in self.notes.guessed:

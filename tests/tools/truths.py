@@ -93,6 +93,13 @@ QUESTIONS = [
     Question("crowd", "ended", ["pipe: the end of the stream, and it was called",
                                 r"30 ms behind the end of the poll, .*: the callback of slow, on_slow \(crowd\.c:8\), took 30 ms"], ["nobody knows"]),
     Question("crowd", ALL, [r"the longest callbacks\n    30 ms: the callback of slow, on_slow \(crowd\.c:8\)", r"I/O\n    quick, .*30 ms behind"]),
+    Question("fifo", "line", [r"waited for a worker from step \d+ to \d+, 2\d\d ms: the workers had opening_0, opening_1, opening_2 and opening_3",
+                              r"worker \d ran it from step \d+ to \d+, 0 ms"], ["nobody knows"]),
+    Question("fifo", ALL, [r"the pool was full\n    2\d\d ms: .*opening_0, opening_1, opening_2, opening_3"]),
+    Question("fault", ALL, [r"THE PROGRAM WAS ENDED BY SIGSEGV: this loop was in the callback of reply_3, on_reply \(fault\.c:5\)"]),
+    Question("busy", ALL, [r"the loop was not closed\n    step \d+: uv_loop_close answers EBUSY, for once \(timer\), leak \(async\) and look \(check\) are there"]),
+    Question("winner", "news", [r"call 1: for the send at step \d+, in the same millisecond\n .* after quick send news, in done"], [r"\d sends", "nobody saw"]),
+    Question("watched", "ping", [r"sent to at step \d+ by loop 1, in on_beat \(watched\.c:13\)"], ["from outside"]),
     Question("child", "kill_it", [r"call 1: (on time|late by \d ms: the poll, .* the system ended it)"], ["callback of output"]),
 ]
 SAID = re.compile(r"(.+) took (\d+) ms")
@@ -129,7 +136,8 @@ def recorded(check, program: str, folder: Path) -> Walk:
     check(f"truths, {program}: its recording", whole, lines)
     loud = "WRONG THREAD: uv_timer_start of wrong by another thread" in "\n".join(lines)
     check(f"truths, {program}: a wrong thread is said loudly, and nowhere else", loud == (program == "wrongthread"), lines)
-    script, steps = read_input(folder / f"{program}.rec")
+    # (of several loops the first one)
+    script, steps = read_input(next(it for it in (folder / f"{program}.rec", folder / f"{program}.0.rec") if it.is_file()))
     return Walk(script, steps)
 
 

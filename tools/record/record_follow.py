@@ -73,6 +73,8 @@ class Outcome:
     known: set[int] = field(default_factory=set)
     # of these the clock, where it was another one than at their step
     times: dict[int, int] = field(default_factory=dict)
+    # of these the sends of other loops of the program: who sends
+    by: dict[int, str] = field(default_factory=dict)
     # the ticks of time that went by when no callback of the program was under way
     outside: set[int] = field(default_factory=set)
     # the line of each step
@@ -125,7 +127,7 @@ class Follower:
         # sends and finishes before which all was kept; those that are to come only where what they call does, and the clock of such sends
         self.checks: collections.deque[tuple[str, int, int, dict[str, object]]] = collections.deque(maxlen=CHECKS)
         self.lazy: set[int] = set()
-        self.sent_late: dict[str, int] = {}
+        self.sent_late: dict[str, tuple[int, str]] = {}
 
     # ---- the conversation
 
@@ -172,6 +174,7 @@ class Follower:
                 self.outcome.known.discard(step)
                 self.outcome.outside.discard(step)
                 self.outcome.times.pop(step, None)
+                self.outcome.by.pop(step, None)
             self.talk.ask(f"back {self.talk.length - length}")
             del self.did[length:], self.said[length:]
 
@@ -186,9 +189,11 @@ class Follower:
         """What was done behind those is taken back."""
         self.move(len(self.did))
 
-    def know(self, step: int, clock: int) -> None:
-        """This step is one that the log has, by this clock."""
+    def know(self, step: int, clock: int, by: str = "") -> None:
+        """This step is one that the log has, by this clock, and of a send by that loop."""
         self.outcome.known.add(step)
+        if by:
+            self.outcome.by[step] = by
         if clock != self.clock or step != self.talk.length:
             self.outcome.times[step] = clock
 
@@ -293,13 +298,22 @@ class Follower:
     # ---- what comes from outside
 
     def make_ready(self, at: int) -> None:
+        ready = False
         for item in self.group(at):
             if item.callback == "after":
                 self.finish(item.name)
+            elif ready and self.sends_before(item, at):
+                continue
             elif item.name not in self.senders or self.talk.state().slot_of(item.name).values.get("pending") == "0":
                 self.later(f"send {item.name}", f"out send {item.name} = ok")
                 if item.name in self.sent_late:
-                    self.know(self.talk.length + len(self.queue), self.sent_late.pop(item.name))
+                    self.know(self.talk.length + len(self.queue), *self.sent_late.pop(item.name))
+            ready = True
+
+    def sends_before(self, item: Call, at: int) -> bool:
+        """Does a callback from this item on send to that one before it is called? Where somebody woke the poll, nobody else has to."""
+        before = itertools.takewhile(lambda it: it is not item, itertools.islice(self.items, at, None))
+        return any(isinstance(it, Op) and it.text == f"send {item.name}" for it in before)
 
     def group(self, at: int) -> list[Call]:
         """The callbacks of this poll, from this item on, that the loop calls in this order in one iteration; but for those of I/O."""
@@ -526,12 +540,12 @@ class Follower:
     def do_send(self, item: Send, at: int) -> None:
         self.senders.add(item.name)
         if at in self.lazy or self.is_for_later(item.name, at):
-            self.sent_late.setdefault(item.name, item.clock)
+            self.sent_late.setdefault(item.name, (item.clock, item.by))
             return
         self.check(item.name, at)
         self.tick_within(item, at)
         self.ask([f"send {item.name}"])
-        self.know(self.talk.length, item.clock)
+        self.know(self.talk.length, item.clock, item.by)
 
     def do_finish(self, item: Finish, at: int) -> None:
         """Work is through. Its step comes behind those of the requests that call back before it."""

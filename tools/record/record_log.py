@@ -19,6 +19,7 @@ WATCHERS = {"tcp", "udp", "pipe", "tty", "poll", "signal", "fs_event", "fs_poll"
 HEAD = re.compile(r"uvt-log ([12]) (1\.\d{1,4}\.\d{1,4}\S*) (\d{1,9}) (\d{1,9}) (.*)")
 ADDRESS = re.compile(r"- A (\d{1,9}) ([0-9a-f]{1,16}) (\S+) (.*)")
 WORKERS = re.compile(r"- N (\d{1,9})")
+ENDED = re.compile(r"- X (SIG[A-Z0-9]{1,12})")
 NO_CLOCK = -1
 TIMED = "BEFST"
 NO_ROOM = "- ! no room"
@@ -38,7 +39,7 @@ WORDS = {
     "p": re.compile(r"-?\d{1,10}"),
     "T": re.compile(NUMBER),
     "F": re.compile(NUMBER),
-    "S": re.compile(rf"{NUMBER} \d{{1,20}}"),
+    "S": re.compile(rf"{NUMBER} \d{{1,20}}(?: {NUMBER})?"),
     "C": re.compile(rf"{NUMBER} \d{{1,9}}(?: [a-z_]+)?"),
     "V": re.compile(rf"{NUMBER} \d{{1,9}}(?: \d{{1,9}})?"),
     "K": re.compile(rf"all|end|{NUMBER} [a-z_]+ [01] [01] [01] {NUMBER} {NUMBER} {NUMBER}"),
@@ -96,6 +97,8 @@ class Log:
     lines: int = 0
     # why it ends before its program did, in a sentence
     note: str = ""
+    # the signal that ended the program, `` where none did
+    ended: str = ""
 
 
 def is_number(text: str) -> bool:
@@ -146,6 +149,8 @@ def read_log(data: bytes) -> Log:
             log.addresses[int(address[1])] = Address(int(address[2], 16), address[3], address[4])
         elif workers := WORKERS.fullmatch(text):
             log.workers = within(int(workers[1]))
+        elif ended := ENDED.fullmatch(text):
+            log.ended = ended[1]
         elif text == NO_ROOM:
             log.note = f"the disk had no room for more: the log ends at line {number}"
             return log

@@ -104,6 +104,8 @@ def named_log(data: bytes, log: Log) -> bytes:
 def element(address: Address, size: int) -> str:
     """Which part of its variable an object of that size is: `[2]` of an array, `+64` of something else, `` if it is all of it."""
     offset, whole = address.within()
+    if size and size == whole:
+        return ""
     if size and whole > size and whole % size == 0 and offset % size == 0:
         return f"[{offset // size}]"
     return f"+{offset}" if offset or whole > 1024 else ""

@@ -21,7 +21,7 @@ from record_follow import CALLS, MANY_WORKERS, Follower, NeedsWake, Outcome
 from record_log import Event, Log, read_log
 from record_names import name_addresses, named_log
 from record_polls import Polls, compare
-from record_script import Call, Program, program_of
+from record_script import Call, Done, End, Program, program_of
 from record_window import NoPart, window
 from tell import Teller
 
@@ -172,13 +172,28 @@ def foreign_lines(made: Made) -> dict[int, str]:
     return found
 
 
-def notes_of(made: Made, note: str) -> Notes:
+def where_it_ended(made: Made, by: str) -> str:
+    """What the loop was at as a signal ended the program, in a sentence; `` where none did, or the recording doesn't go so far."""
+    if not by or not made.is_whole() or not made.program.callbacks():
+        return ""
+    last = next(it for it in reversed(made.program.items) if isinstance(it, (Call, Done, End)))
+    if isinstance(last, End):
+        return f"{by}: this loop was in no run"
+    call = last.call if isinstance(last, Done) else last
+    function = Notes(functions=made.program.functions).function(call.callback, call.name, call.number)
+    kind = {"on": "callback", "after": "after callback", "closed": "close callback"}[call.callback]
+    where = f"in no callback, behind the {kind}" if isinstance(last, Done) else f"in the {kind}"
+    return f"{by}: this loop was {where} of {call.name}{f', {function}' if function else ''}"
+
+
+def notes_of(made: Made, note: str, ended: str = "") -> Notes:
     """What is known of a recording beside its steps."""
     steps = made.outcome.recording[made.outcome.recording.index("begin") + 1 : made.outcome.recording.index("calls")]
     outside = {at for at, it in enumerate(steps, 1) if it.split(" ")[0] in ("send", "take", "finish")}
     return Notes(
         part_of(made, note), {it.name: (it.kind, it.text) for it in made.program.origins}, made.program.functions,
         outside - made.outcome.known, foreign_lines(made), made.outcome.outside, made.outcome.times, made.program.came, made.polls.said(),
+        where_it_ended(made, ended), made.outcome.by,
     )
 
 
@@ -238,7 +253,7 @@ def from_data(data: bytes, log: Log, name: str, part: Part = Part()) -> tuple[li
         path = Path(f"{name}.rec" if len(made) == 1 else f"{name}.{loop}.rec")
         recording = ("\n".join(it.outcome.recording) + "\n").encode()
         write(path, recording)
-        write(path.with_suffix(".notes"), notes_of(it, log.note).text(recording).encode())
+        write(path.with_suffix(".notes"), notes_of(it, log.note, log.ended).text(recording).encode())
         lines += told(it, loop, path, log.note)
         whole &= it.is_whole()
     if not made:
@@ -348,8 +363,8 @@ def ended(status: int) -> str:
     return f"the program ended with status {status}" if status else ""
 
 
-def run_program(words: list[str], folder: Path) -> int:
-    """Runs it with the recorder. The log's place is the folder's."""
+def run_program(words: list[str], folder: Path) -> tuple[int, int]:
+    """Runs it with the recorder. The log's place is the folder's. Answers its process and its status."""
     environment = dict(os.environ, UVT_LOG=str(folder / "log"))
     environment["LD_PRELOAD"] = " ".join(filter(None, [*sanitizers(words[0]), str(recorder()), os.environ.get("LD_PRELOAD", "")]))
     try:
@@ -362,7 +377,7 @@ def run_program(words: list[str], folder: Path) -> int:
         **{it: signal.signal(it, lambda *_: program.terminate()) for it in (signal.SIGTERM, signal.SIGHUP)},
     }
     try:
-        return program.wait()
+        return program.pid, program.wait()
     finally:
         for number, handler in before.items():
             signal.signal(number, handler)
@@ -374,7 +389,7 @@ def from_program(words: list[str], name: str | None, part: Part) -> int:
     built_program()
     folder = room_for(name)
     try:
-        status = run_program(words, folder)
+        pid, status = run_program(words, folder)
         said = ended(status)
         if said:
             print(said, flush=True)
@@ -384,13 +399,18 @@ def from_program(words: list[str], name: str | None, part: Part) -> int:
         whole = True
         for path in logs:
             process = name if len(logs) == 1 else f"{name}.{path.name.split('.')[1]}"
-            whole &= from_fresh(path, process, len(logs) > 1, part)
+            whole &= from_fresh(path, process, len(logs) > 1, part, signal.Signals(-status).name if status < 0 and path in last_of(logs, pid) else "")
         return 0 if whole else 1
     finally:
         shutil.rmtree(folder, ignore_errors=True)
 
 
-def from_fresh(path: Path, name: str, several: bool, part: Part) -> bool:
+def last_of(logs: list[Path], process: int) -> list[Path]:
+    """The log of this process that was written last: where it replaced itself by exec there are several."""
+    return [it for it in logs if it.name.split(".")[1].split("-")[0] == str(process)][-1:]
+
+
+def from_fresh(path: Path, name: str, several: bool, part: Part, ended_by: str = "") -> bool:
     """A log that has just been written. It is kept first, and then gets its symbols: so it isn't lost where the disk is full."""
     kept = Path(f"{name}.log")
     try:
@@ -400,6 +420,9 @@ def from_fresh(path: Path, name: str, several: bool, part: Part) -> bool:
         raise Fault(f"{kept}: {fault.strerror}") from None
     if not data.strip(b"\0"):
         raise Fault("the disk had no room for the log")
+    data = data.rstrip(b"\0")
+    if ended_by and data.endswith(b"\n"):
+        data += f"- X {ended_by}\n".encode()
     log = read_log(data)
     name_addresses(log)
     try:

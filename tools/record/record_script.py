@@ -5,6 +5,7 @@ What the script says is what the program asked of libuv. Nothing here knows what
 
 from __future__ import annotations
 
+import bisect
 import collections
 import re
 from dataclasses import dataclass, field
@@ -105,6 +106,8 @@ class Finish(Did):
 @dataclass(slots=True)
 class Send(Did):
     name: str
+    # which other loop's thread sends, and in which function of its callback; `` where nobody knows
+    by: str = ""
 
 
 Item = Op | Run | End | Poll | Call | Done | Take | Finish | Send
@@ -222,6 +225,8 @@ class Maker:
         # by object and what its line says as it begins: the callback that it has now
         self.callback: dict[tuple[int, str], int] = {}
         self.functions: list[str] = []
+        # of other loops that send here: where callbacks begin and end, and where their functions lie
+        self.others: dict[int, tuple[list[Event], dict[tuple[int, str], int]]] = {}
         self.free: dict[str, list[str]] = collections.defaultdict(list)
         self.numbers: collections.Counter[str] = collections.Counter()
         self.taken: set[str] = {"wake"}
@@ -428,6 +433,28 @@ class Maker:
         if told != (known[-1][1] if known else ""):
             known.append((call, told))
 
+    def sender(self, event: Event) -> str:
+        """Who sends, where another loop of the program does so: its number, and the function of its callback that is under way."""
+        words = event.words.split(" ")
+        if len(words) < 3 or not (events := self.log.loops.get(int(words[2]))):
+            return ""
+        loop = int(words[2])
+        if loop not in self.others:
+            self.others[loop] = [it for it in events if it.type in "BE"], {}
+            for it in events:
+                if it.type == "C":
+                    id, place, *what = it.words.split(" ")
+                    self.others[loop][1].update({(int(id), kind): int(place) for kind in what})
+        bounds, places = self.others[loop]
+        before = bisect.bisect_left(bounds, event.line, key=lambda it: it.line)
+        last = bounds[before - 1] if before else None
+        if last is None or last.type == "E":
+            return f"loop {loop}"
+        callback, id, *what = last.words.split(" ")
+        address = self.log.addresses.get(places.get((int(id), what[0] if callback == "on" else callback), -1))
+        told = self.told(address) if address and address.symbol != "-" else ""
+        return f"loop {loop}, in {told}" if told else f"loop {loop}, in a callback"
+
     def joined(self, bound: Bound) -> Call | None:
         """What libuv calls of a watcher that its own callback has closed, in a row with that one, is a part of it."""
         match self.items[-1:]:
@@ -468,6 +495,11 @@ class Maker:
             self.call = None
         return True
 
+    def name_last(self) -> None:
+        """The functions of a callback that never ended."""
+        if self.depth and self.call:
+            self.functions_of(self.call.callback, self.call.name, self.call.number, " and ".join(self.functions))
+
     # ---- the rest
 
     def read(self, event: Event) -> bool:
@@ -498,7 +530,7 @@ class Maker:
                     self.items.append(Finish(*event.when(), bound.name))
             case "S":
                 if event.clock != NO_CLOCK and (bound := self.bound.get(int(event.words.split(" ")[0]))) and not bound.closing:
-                    self.items.append(Send(*event.when(), bound.name))
+                    self.items.append(Send(*event.when(), bound.name, self.sender(event)))
             case "W":
                 self.read_foreign(event)
             case "K":
@@ -561,6 +593,7 @@ def make_program(log: Log, events: list[Event]) -> Program:
         if len(maker.program.names) > NAMES:
             maker.program.stopped = f"at line {event.line} of the log the program has more than {NAMES} handles and requests at a time{FULL}"
             break
+    maker.name_last()
     return maker.program
 
 

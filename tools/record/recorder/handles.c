@@ -398,7 +398,9 @@ int uv_async_send(uv_async_t *handle) {
     struct object *object = find(handle);
     pthread_t here = pthread_self();
     bool own = object && pthread_equal(object->loop->thread, here);
-    if (object && !own) write_line(object->loop, 'S', "%d %u", object->id, (uint64_t)here);
+    struct loop *by = running_here();
+    if (object && !own && by) write_line(object->loop, 'S', "%d %u %d", object->id, (uint64_t)here, by->number);
+    else if (object && !own) write_line(object->loop, 'S', "%d %u", object->id, (uint64_t)here);
     int answer = REALLY(CALL(uv_async_send)(handle));
     if (own) write_op(object, "send", "", answer);
     unlock();

@@ -106,12 +106,13 @@ static void write_head(void) {
     write_text(text, (size_t)size);
 }
 
-/* The file is made with the first line of the first loop. */
+/* The file is made with the first line of the first loop. (A program that replaced itself by exec has the same process: its file stays.) */
 static bool open_log(void) {
     char name[4096];
     if (window) return true;
     snprintf(name, sizeof name, "%s.%d.log", prefix, (int)getpid());
-    file = open(name, O_RDWR | O_CREAT | O_TRUNC | O_CLOEXEC, 0644);
+    for (int more = 2; (file = open(name, O_RDWR | O_CREAT | O_EXCL | O_CLOEXEC, 0644)) < 0 && errno == EEXIST; more++)
+        snprintf(name, sizeof name, "%s.%d-%d.log", prefix, (int)getpid(), more);
     if (file < 0 || !next_window()) {
         off = true;
         return false;

@@ -2,8 +2,11 @@
 #define _GNU_SOURCE
 #include "recorder.h"
 
+#include <stddef.h>
+
 REAL(uv_cancel)
 REAL(uv_fs_get_result)
+REAL(uv_mutex_unlock)
 REAL(uv_queue_work)
 
 /* A request that is queued while the lock is held: a worker that is quicker writes its line behind. */
@@ -70,6 +73,60 @@ static void do_work(uv_work_t *request) {
     unlock();
 }
 
+/* ---- when a worker takes a request for files, names or random bytes, and when it is through
+ *
+ * What a worker does for it is a function of libuv's own, which stands in the request (uv/threadpool.h) from when it is queued. libuv queues it
+ * under its pool's mutex, and gives that back by its public uv_mutex_unlock: before that another function is put in its place, so that no
+ * worker is quicker. Where a libuv gives it back in another way, or asks the kernel in place of a worker, nothing is put there, and nothing
+ * is known of the worker. */
+
+static __thread struct {
+    struct object *object;
+    struct uv__work *request;
+    void (*instead)(struct uv__work *);
+} queueing;
+
+void uv_mutex_unlock(uv_mutex_t *mutex) {
+    struct uv__work *request = queueing.request;
+    if (request && request->work != queueing.instead) {
+        queueing.object->own = request->work;
+        request->work = queueing.instead;
+    }
+    CALL(uv_mutex_unlock)(mutex);
+}
+
+static void begin_queueing(struct object *object, struct uv__work *request, void (*instead)(struct uv__work *)) {
+    if (!object) return;
+    queueing.object = object;
+    queueing.instead = instead;
+    queueing.request = request;
+}
+
+static void do_own(void *request, struct uv__work *own) {
+    lock();
+    struct object *object = find(request);
+    void (*work)(struct uv__work *) = object->own;
+    write_line(object->loop, 'T', "%d", object->id);
+    unlock();
+    inside++;
+    work(own);
+    inside--;
+    lock();
+    object = find(request);
+    if (object) write_line(object->loop, 'F', "%d", object->id);
+    unlock();
+}
+
+#define OWN_WORK(NAME, TYPE)                                        \
+    static void NAME(struct uv__work *own) {                        \
+        do_own((char *)own - offsetof(TYPE, work_req), own);        \
+    }
+
+OWN_WORK(own_fs, uv_fs_t)
+OWN_WORK(own_addrinfo, uv_getaddrinfo_t)
+OWN_WORK(own_nameinfo, uv_getnameinfo_t)
+OWN_WORK(own_random, uv_random_t)
+
 /* The callbacks that libuv gets in place of the program's. */
 #define AFTER(NAME, TYPE, PARAMETERS, WORDS, CANCELLED)                     \
     static void NAME PARAMETERS {                                           \
@@ -104,33 +161,36 @@ int uv_cancel(uv_req_t *request) {
 }
 
 /* A function that takes a callback. WITH(x) are its words with x as the callback; without one it is done at once. */
-#define POOLED(NAME, KIND, INSTEAD, CALLBACK, PARAMETERS, WITH)                          \
+#define POOLED(NAME, KIND, INSTEAD, OWN_WORK, CALLBACK, PARAMETERS, WITH)                \
     REAL(NAME)                                                                           \
     int NAME PARAMETERS {                                                                \
         if (INSIDE() || !callback || !uv) return CALL(NAME) WITH(callback);              \
         lock();                                                                          \
         struct object *object = queue(uv, request, (void *)callback, NULL);              \
-        return queued(object, KIND, sizeof *request, REALLY(CALL(NAME) WITH((object ? INSTEAD : callback)))); \
+        begin_queueing(object, &request->work_req, OWN_WORK);                            \
+        int answer = REALLY(CALL(NAME) WITH((object ? INSTEAD : callback)));             \
+        queueing.request = NULL;                                                         \
+        return queued(object, KIND, sizeof *request, answer);                            \
     }
 
 #define WITH(x) (uv, request, x, node, service, hints)
-POOLED(uv_getaddrinfo, "addrinfo", after_addrinfo, uv_getaddrinfo_cb,
+POOLED(uv_getaddrinfo, "addrinfo", after_addrinfo, own_addrinfo, uv_getaddrinfo_cb,
        (uv_loop_t * uv, uv_getaddrinfo_t *request, uv_getaddrinfo_cb callback, const char *node, const char *service,
         const struct addrinfo *hints), WITH)
 #undef WITH
 #define WITH(x) (uv, request, x, address, flags)
-POOLED(uv_getnameinfo, "nameinfo", after_nameinfo, uv_getnameinfo_cb,
+POOLED(uv_getnameinfo, "nameinfo", after_nameinfo, own_nameinfo, uv_getnameinfo_cb,
        (uv_loop_t * uv, uv_getnameinfo_t *request, uv_getnameinfo_cb callback, const struct sockaddr *address, int flags), WITH)
 #undef WITH
 #define WITH(x) (uv, request, bytes, length, flags, x)
-POOLED(uv_random, "random", after_random, uv_random_cb,
+POOLED(uv_random, "random", after_random, own_random, uv_random_cb,
        (uv_loop_t * uv, uv_random_t *request, void *bytes, size_t length, unsigned flags, uv_random_cb callback), WITH)
 #undef WITH
 
 /* ---- files: uv_fs_NAME(loop, request, words of its own, callback) */
 
 #define FS(NAME, PARAMETERS, WORDS) \
-    POOLED(uv_fs_##NAME, "fs_" #NAME, after_fs, uv_fs_cb, PARAMETERS, WORDS)
+    POOLED(uv_fs_##NAME, "fs_" #NAME, after_fs, own_fs, uv_fs_cb, PARAMETERS, WORDS)
 #define P(...) (uv_loop_t * uv, uv_fs_t *request, __VA_ARGS__, uv_fs_cb callback)
 #define W_PATH(x) (uv, request, path, x)
 #define W_PATH_FLAGS(x) (uv, request, path, flags, x)

@@ -51,6 +51,7 @@ struct object {
     int requests; /* of a watcher: writes, connects, .. that are under way */
     void *callback;
     void *second; /* of a request: its work; of a stream: its connection callback */
+    void (*own)(struct uv__work *); /* of a request for files, names or random bytes: what libuv has a worker do */
     uv_close_cb closed;
     struct object *owner; /* of a stream's request: the stream */
     struct object *next_unsettled;
