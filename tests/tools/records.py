@@ -6,6 +6,7 @@ What a log has to give stands in WANTED, by hand: what the program does in it is
 from __future__ import annotations
 
 import os
+import platform
 import random
 import re
 import shutil
@@ -41,6 +42,7 @@ NESTED, CLOSING = "A run in a callback", "Some handles close later"
 #   zero     a timer is started with 0 in its own callback, and a prepare handle is called behind the timers
 #   dig      the callback of a datagram that was sent at once comes before the poll, and the async handle has sent to itself
 #   node     the check handle of node's immediates stands between two callbacks of I/O of one poll
+# node20-http is of a node with libuv 1.46.0 within it.
 WANTED: dict[str, dict[int, tuple[str, str] | None]] = {
     "late": {0: None},
     "threads": {0: None},
@@ -65,6 +67,7 @@ WANTED: dict[str, dict[int, tuple[str, str] | None]] = {
     "node-late": {0: None, 1: None, 2: None},
     "node-http": {0: None, 1: None, 2: None},
     "node-server": {0: None, 1: None, 2: None},
+    "node20-http": {0: None, 1: None, 2: None},
     "uvloop-echo": {0: None},
     "nvim-job": {1: None},
 }
@@ -151,7 +154,8 @@ def try_log(check, name: str, folder: str) -> None:
                 check("RECORD.md shows where a recording stops", "\n".join(text.splitlines()[:2]) + "\n" in page, text)
             check(f"{what}: the heading", f"### {stops[1]}\n" in (ROOT / "docs" / "LIBUV.md").read_text())
         try_polls(check, what, (log, loop), text, notes, stops is None)
-        settings = ["order 1.44", *(["io"] if any(map(notes.is_io, notes.names)) else []), "timers heap"]
+        minor = int(read_log(log.read_bytes()).version.split(".")[1])
+        settings = ["order 1.44" if minor < 45 else "order 1.45", *(["io"] if any(map(notes.is_io, notes.names)) else []), "timers heap"]
         lines = path.read_text().splitlines()
         check(f"{what}: its version and its settings", lines[: len(settings) + 1] == ["uvt 3", *settings], lines[:6])
 
@@ -260,6 +264,52 @@ def try_programs(check, folder: str) -> None:
     full = subprocess.run(["sh", "-c", f"ulimit -f 1; exec {RECORD} ./late"], cwd=folder, capture_output=True, text=True, timeout=SECONDS)
     check("record, no room for the log", full.returncode == 2 and "no room" in full.stderr and "Traceback" not in full.stderr, full)
     check("record, the program isn't disturbed by that", "beat 2 is late" in full.stdout, full)
+
+
+# ---- a libuv within the program
+
+
+def archive() -> str:
+    """libuv's static library; `` where there is none, or nothing that hooks it."""
+    if not has_libuv() or platform.machine() != "x86_64":
+        return ""
+    hooks = subprocess.run(["cc", "-E", "-x", "c", "-"], input="#include <capstone/capstone.h>\n", capture_output=True, text=True)
+    paths = [subprocess.run(["cc", f"-print-file-name={it}"], capture_output=True, text=True).stdout.strip() for it in ("libuv_a.a", "libuv.a")]
+    return next((it for it in paths if os.path.isabs(it)), "") if hooks.returncode == 0 else ""
+
+
+def try_within(check, folder: str, libuv: str) -> None:
+    """Programs with libuv within them: they are recorded as others are, and it is said why where they can't be."""
+    programs = ROOT / "tools" / "record" / "programs"
+    for name, callbacks, flags in (("late", 11, []), ("late", 11, ["-no-pie"]), ("zero", 4, []), ("watchers", 0, []), ("mixed", 0, [])):
+        words = ["cc", "-O1", "-g", *flags, str(programs / f"{name}.c"), "-o", f"{folder}/{name}-within", libuv, "-ldl", "-lpthread"]
+        subprocess.run(words, check=True)
+        ran = recorded([f"./{name}-within"], folder)
+        what = " ".join(["record, libuv within", name, *flags])
+        check(what, ran.returncode == 0 and ": same" in ran.stdout and ", as in the program" in ran.stdout, ran)
+        check(f"{what}: its callbacks", f"{callbacks or ''} callbacks" in ran.stdout, ran.stdout)
+        check(f"{what}: all of it is seen", "\n- U " not in (Path(folder) / f"{name}-within.log").read_text())
+    path = Path(folder) / "late-within.rec"
+    check("record, libuv within: names", "\ncall heartbeat " in path.read_text() and "on_report" in path.with_suffix(".notes").read_text())
+    subprocess.run(["strip", f"{folder}/late-within"], check=True)
+    words = ["cc", "-w", "-static", str(programs / "late.c"), "-o", f"{folder}/late-whole", libuv, "-ldl", "-lpthread"]
+    subprocess.run(words, check=True, capture_output=True)
+    for name, wanted in (("late-within", "no symbols (strip)"), ("late-whole", "with its C library too")):
+        ran = recorded([f"./{name}"], folder)
+        check(f"record, {name} without what it takes", ran.returncode == 2 and wanted in ran.stderr and " is late: " in ran.stdout, ran)
+    words = ["cc", "-w", "-O1", "-rdynamic", "-I", str(ROOT / "tools" / "record" / "recorder"), str(LOGS.parent / "bridges.c"), "-o", f"{folder}/bridges"]
+    subprocess.run([*words, "-ldl", "-lpthread"], check=True)
+    ran = subprocess.run([f"{folder}/bridges"], capture_output=True, text=True, timeout=SECONDS)
+    check("record, the bridges", ran.returncode == 0 and ran.stdout == "ok\n", ran)
+
+
+def try_unseen(check, folder: str) -> None:
+    """A log that says what can't be seen."""
+    lines = (LOGS / "late.log").read_text().split("\n")
+    for unseen, wanted in (("uv_signal_start it is too short", "uv_signal_start can't be seen (it is too short)"), ("- no capstone", "nothing can be seen")):
+        (Path(folder) / "unseen.log").write_text("\n".join([lines[0], f"- U {unseen}", *lines[1:]]))
+        ran = recorded(["--log", "unseen.log"], folder)
+        check(f"record, a log with `{unseen}`", ran.returncode == 1 and wanted in ran.stdout, ran)
 
 
 # ---- long logs, and parts of them
@@ -416,6 +466,7 @@ def try_records(tries) -> None:
         try_io(check, folder)
         try_changed(check, folder)
         try_faults(check, folder)
+        try_unseen(check, folder)
         try_long(check, folder)
         try_talk(check, folder)
         try_whys_of_parts(check, folder)
@@ -423,5 +474,9 @@ def try_records(tries) -> None:
             try_programs(check, folder)
         else:
             print("tools: recording of programs: not tried, since there is no C compiler `cc` with libuv's header", flush=True)
+        if libuv := archive():
+            try_within(check, folder, libuv)
+        else:
+            print("tools: a libuv within the program: not tried: no x86-64, no capstone (libcapstone-dev), or no static library of libuv", flush=True)
     try_sharpness(check)
     try_pages(check)

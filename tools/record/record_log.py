@@ -20,6 +20,7 @@ HEAD = re.compile(r"uvt-log ([12]) (1\.\d{1,4}\.\d{1,4}\S*) (\d{1,9}) (\d{1,9}) 
 ADDRESS = re.compile(r"- A (\d{1,9}) ([0-9a-f]{1,16}) (\S+) (.*)")
 WORKERS = re.compile(r"- N (\d{1,9})")
 ENDED = re.compile(r"- X (SIG[A-Z0-9]{1,12})")
+UNSEEN = re.compile(r"- U (-|uv_[a-z_0-9]+) (.+)")
 NO_CLOCK = -1
 TIMED = "BEFST"
 NO_ROOM = "- ! no room"
@@ -95,10 +96,12 @@ class Log:
     loops: dict[int, list[Event]] = field(default_factory=dict)
     addresses: dict[int, Address] = field(default_factory=dict)
     lines: int = 0
-    # why it ends before its program did, in a sentence
+    # why it ends before its program did, or hasn't all of it, in a sentence
     note: str = ""
     # the signal that ended the program, `` where none did
     ended: str = ""
+    # why nothing of the program's libuv can be seen, in a sentence
+    blind: str = ""
 
 
 def is_number(text: str) -> bool:
@@ -151,6 +154,11 @@ def read_log(data: bytes) -> Log:
             log.workers = within(int(workers[1]))
         elif ended := ENDED.fullmatch(text):
             log.ended = ended[1]
+        elif unseen := UNSEEN.fullmatch(text):
+            if unseen[1] == "-":
+                log.blind = log.note = f"nothing can be seen of the libuv within the program: {unseen[2]}"
+            else:
+                log.note = f"{unseen[1]} can't be seen ({unseen[2]}): what the program asks by it is missing"
         elif text == NO_ROOM:
             log.note = f"the disk had no room for more: the log ends at line {number}"
             return log

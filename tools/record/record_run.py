@@ -8,6 +8,7 @@ import os
 import re
 import shutil
 import signal
+import struct
 import subprocess
 import sys
 import tempfile
@@ -27,6 +28,8 @@ from tell import Teller
 
 RECORDER = Path(__file__).resolve().parent / "recorder"
 BUILT = OUT / "recorder" / "recorder.so"
+# What every libuv has in it, as a name of the environment.
+WITHIN = b"UV_THREADPOOL_SIZE"
 # So many callbacks of a log are followed, where no other number is asked for: some ten seconds, and as much memory as 100,000 callbacks take.
 MOST = 100_000
 
@@ -349,11 +352,28 @@ def why_not(program: str, fault: OSError) -> str:
     return f"{program} could not be started: {fault.strerror}"
 
 
+def is_whole_by_itself(data: bytes) -> bool:
+    """Is it a program that no dynamic linker starts?"""
+    if data[:5] != b"\x7fELF\x02":
+        return False
+    (at,), (size, count) = struct.unpack_from("<Q", data, 32), struct.unpack_from("<HH", data, 54)
+    INTERPRETER = 3
+    return all(struct.unpack_from("<I", data, at + it * size)[0] != INTERPRETER for it in range(count))
+
+
 def nothing_recorded(program: str, status: int) -> str:
     """Why there is no log, as far as that can be seen."""
     if sanitizers(program) and status != 0:
         return f"{program} ended with status {status} before it called libuv: it is built with a sanitizer, whose runtime may want to be alone"
-    return f"{program} called nothing of a libuv that is a shared library: it has none, or its own within it"
+    try:
+        data = Path(shutil.which(program) or program).read_bytes()
+        if is_whole_by_itself(data):
+            return f"{program} is linked statically, with its C library too: no recorder can be loaded into it"
+    except (OSError, struct.error):
+        data = b""
+    if WITHIN in data:
+        return f"{program} called nothing of a libuv that can be found: it has one within it, but its functions have no symbols (strip), or are no functions any more (LTO)"
+    return f"{program} called nothing of a libuv: none that is a shared library, and none within it"
 
 
 def ended(status: int) -> str:
@@ -424,6 +444,11 @@ def from_fresh(path: Path, name: str, several: bool, part: Part, ended_by: str =
     if ended_by and data.endswith(b"\n"):
         data += f"- X {ended_by}\n".encode()
     log = read_log(data)
+    if log.blind:
+        # (what it lacks may be there the next time: then it is compiled again)
+        BUILT.unlink(missing_ok=True)
+    if log.blind and not several:
+        raise Fault(f"{log.program}: {log.blind}")
     name_addresses(log)
     try:
         write(kept, named_log(data, log))

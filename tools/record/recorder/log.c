@@ -28,7 +28,10 @@ static char prefix[3072];
 static int file = -1;
 static char *window;
 static size_t used, windows;
-static uintptr_t text_from, text_to; /* of libuv */
+static struct text {
+    uintptr_t from, to;
+} texts[8]; /* of libuv */
+static int text_count;
 REAL(uv_now)
 REAL(uv_err_name)
 REAL(uv_version_string)
@@ -95,6 +98,12 @@ void write_workers(void) {
     said = true;
 }
 
+/* What can't be seen of a libuv within the program: until the log is made it waits here. */
+static struct unseen {
+    const char *function, *why;
+} unseen[16];
+static int unseen_count;
+
 /* The first line: which libuv, which process, how many workers, which program. */
 static void write_head(void) {
     char text[LINE], program[2048];
@@ -104,6 +113,10 @@ static void write_head(void) {
     int size = snprintf(text, sizeof text, "uvt-log 2 %s %d %d %s\n", CALL(uv_version_string)(), (int)getpid(),
                         first_workers, program);
     write_text(text, (size_t)size);
+    for (int at = 0; at < unseen_count; at++) {
+        size = snprintf(text, sizeof text, "- U %s %s\n", unseen[at].function, unseen[at].why);
+        write_text(text, (size_t)size);
+    }
 }
 
 /* The file is made with the first line of the first loop. (A program that replaced itself by exec has the same process: its file stays.) */
@@ -119,6 +132,12 @@ static bool open_log(void) {
     }
     write_head();
     return true;
+}
+
+void note_unseen(const char *function, const char *why) {
+    if (window || unseen_count == sizeof unseen / sizeof *unseen) return;
+    unseen[unseen_count++] = (struct unseen){function ? function : "-", why};
+    if (!function && open_log()) off = true;
 }
 
 /* ---- lines */
@@ -217,14 +236,22 @@ static int missing(void) {
     return UV_ENOSYS;
 }
 
+void add_text_of_libuv(uintptr_t from, uintptr_t to) {
+    if (text_count < (int)(sizeof texts / sizeof *texts)) texts[text_count++] = (struct text){from, to};
+}
+
+bool knows_libuv(void) {
+    return text_count > 0;
+}
+
 static int find_text(struct dl_phdr_info *info, size_t size, void *none) {
     (void)size, (void)none;
     if (!strstr(info->dlpi_name, "libuv.so")) return 0;
     for (int at = 0; at < info->dlpi_phnum; at++) {
         const ElfW(Phdr) *part = &info->dlpi_phdr[at];
         if (part->p_type != PT_LOAD || !(part->p_flags & PF_X)) continue;
-        text_from = info->dlpi_addr + part->p_vaddr;
-        text_to = text_from + part->p_memsz;
+        uintptr_t from = info->dlpi_addr + part->p_vaddr;
+        add_text_of_libuv(from, from + part->p_memsz);
     }
     return 1;
 }
@@ -234,6 +261,10 @@ static int find_text(struct dl_phdr_info *info, size_t size, void *none) {
 static void *look_up(const char *name) {
     static void *libuv;
     if (strncmp(name, "uv_", 3) != 0) return dlsym(RTLD_NEXT, name);
+    if (has_own_libuv()) {
+        void *own = own_function(name);
+        return own ? own : (void *)missing;
+    }
     if (!libuv) {
         libuv = dlopen("libuv.so.1", RTLD_LAZY | RTLD_NOLOAD);
         if (!libuv) libuv = dlopen("libuv.so.1", RTLD_LAZY);
@@ -253,7 +284,10 @@ void *real(const char *name, void **kept) {
 
 bool is_from_libuv(const void *caller) {
     uintptr_t at = (uintptr_t)caller;
-    return off || inside > 0 || (at >= text_from && at < text_to);
+    if (off || inside > 0) return true;
+    for (int it = 0; it < text_count; it++)
+        if (at >= texts[it].from && at < texts[it].to) return true;
+    return false;
 }
 
 bool is_inside(const void *caller, const char *function) {
@@ -285,6 +319,7 @@ static void __attribute__((constructor)) begin(void) {
     strcpy(prefix, named);
     pthread_atfork(before_fork, after_fork, in_child);
     off = false;
+    hook_program();
 }
 
 static void __attribute__((destructor)) end(void) {

@@ -3,6 +3,9 @@
 #include "recorder.h"
 
 #include <dlfcn.h>
+#include <limits.h>
+#include <link.h>
+#include <stdio.h>
 #include <stdlib.h>
 #include <string.h>
 #include <unistd.h>
@@ -141,20 +144,23 @@ int object_total(void) {
 
 enum { PLACES = 1024 };
 
-/* The number of an address in a program's file: the first time a line says where it is. -1 for memory that is in none. */
+/* The number of an address in a program's file: the first time a line says where it is, as the file's own symbols count. -1 for memory that
+ * is in none. */
 static int place_of(const void *address) {
     static struct { const void *address; int number; } places[PLACES];
     static int count;
     size_t at = ((uintptr_t)address * 0x9E3779B97F4A7C15u >> 40) % PLACES;
     if (places[at].address == address) return places[at].number;
     Dl_info info;
-    if (!dladdr(address, &info) || !info.dli_fname) return -1;
-    char program[2048];
-    ssize_t length = *info.dli_fname == '/' ? -1 : readlink("/proc/self/exe", program, sizeof program - 1);
-    if (length >= 0) program[length] = 0;
+    struct link_map *map;
+    if (!dladdr1(address, &info, (void **)&map, RTLD_DL_LINKMAP) || !info.dli_fname || !map) return -1;
+    /* (the program itself has no name there, and another file may have a relative one) */
+    char file[PATH_MAX];
+    ssize_t length = *map->l_name ? -1 : readlink("/proc/self/exe", file, sizeof file - 1);
+    if (length >= 0) file[length] = 0;
+    else if (!realpath(*map->l_name ? map->l_name : info.dli_fname, file)) snprintf(file, sizeof file, "%s", info.dli_fname);
     const char *symbol = info.dli_saddr == address && info.dli_sname ? info.dli_sname : "-";
-    write_line(NULL, 'A', "%d %x %s %s", count, (uint64_t)((const char *)address - (const char *)info.dli_fbase), symbol,
-               length >= 0 ? program : info.dli_fname);
+    write_line(NULL, 'A', "%d %x %s %s", count, (uint64_t)((uintptr_t)address - map->l_addr), symbol, file);
     places[at].address = address;
     places[at].number = count;
     return count++;

@@ -49,6 +49,13 @@ REAL(uv_backend_fd)
 REAL(uv_backend_timeout)
 REAL(epoll_wait)
 REAL(epoll_pwait)
+REAL(epoll_create1)
+
+/* (a loop is made) */
+int epoll_create1(int flags) {
+    hook_caller(__builtin_return_address(0));
+    return CALL(epoll_create1)(flags);
+}
 
 static struct loop *polls(int descriptor, const void *caller) {
     struct loop *loop = running_here();

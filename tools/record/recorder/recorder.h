@@ -102,6 +102,10 @@ bool is_inside(const void *caller, const char *function);
 extern __thread int inside;
 extern __thread const char *called;
 
+/* More of libuv's text; and is any known? */
+void add_text_of_libuv(uintptr_t from, uintptr_t to);
+bool knows_libuv(void);
+
 #define REAL(name) static void *kept_##name;
 #define CALL(name) ((__typeof__(name) *)real(#name, &kept_##name))
 #define INSIDE() is_inside(__builtin_return_address(0), __func__)
@@ -112,6 +116,18 @@ extern __thread const char *called;
         inside--;                    \
         got;                         \
     })
+
+/* ---- a libuv that isn't a library of its own (hooks.c) */
+
+/* Looks for one within the program; within the file whose code calls here. Where there is one, calls of its functions are calls of the
+ * recorder's from then on. */
+void hook_program(void);
+void hook_caller(const void *caller);
+bool has_own_libuv(void);
+/* Its function of this name as it was; NULL if it has none. */
+void *own_function(const char *name);
+/* Calls of a function of it can't be seen, or (NULL) of none, and then nothing is recorded: a line behind the first one says why. */
+void note_unseen(const char *function, const char *why);
 
 /* ---- callbacks and watchers (handles.c) */
 
