@@ -17,6 +17,8 @@ import signal
 from dataclasses import dataclass, field
 from pathlib import Path
 
+from javascript import JavaScript
+
 HEAD = "uvt-notes 1"
 IN_A_LINE = 20
 # Handles of I/O by their kinds, in a person's words.
@@ -69,6 +71,8 @@ class Notes:
     ended: str = ""
     # the sends that another loop of the program did: which loop, and in which function of its callback
     by: dict[int, str] = field(default_factory=dict)
+    # of a program in node: what its JavaScript did
+    javascript: JavaScript = field(default_factory=JavaScript)
 
     def function(self, list: str, name: str, call: int) -> str:
         """Which function that call is, `` where nobody knows."""
@@ -110,6 +114,7 @@ class Notes:
             for list in ("work", "on", "after", "closed"):
                 lines += [f"calls {list} {name} {call} {text}" for call, text in self.functions.get((list, name), [])]
             lines += came_lines(name, self.what.get(name, {}))
+        lines += self.javascript.lines()
         lines += [f"thread {line} {function}" for line, function in sorted(self.foreign.items())]
         lines += [f"by {step} {text}" for step, text in sorted(self.by.items())]
         lines += [f"clock {step} {clock}" for step, clock in sorted(self.times.items())]
@@ -192,6 +197,8 @@ def take(notes: Notes, line: str) -> None:
                 notes.ended = line.removeprefix("ended ")
             case "came":
                 notes.what.setdefault(words[1], {}).update(enumerate(words[3:], int(words[2])))
+            case "js":
+                notes.javascript.take(words[1:])
             case "name":
                 notes.names[words[1]] = words[2], " ".join(words[3:])
             case "calls":
@@ -204,7 +211,7 @@ def take(notes: Notes, line: str) -> None:
                 notes.guessed.update(int(it) for it in words[1:])
             case "outside":
                 notes.outside.update(int(it) for it in words[1:])
-    except (IndexError, ValueError):
+    except (IndexError, KeyError, ValueError):
         pass
 
 

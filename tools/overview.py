@@ -11,7 +11,8 @@ from came import LEFT, behind, came, waited
 from places import read_place
 from waits import Wait
 from walk import Took, Walk
-from why import KINDS, MANY, Why, few, named, times
+from why import KINDS, MANY, Why, few, in_javascript, named, times
+from why_javascript import WhyJavaScript
 
 # How many lines each part has at the most.
 LINES = 5
@@ -37,7 +38,14 @@ def head(walk: Walk) -> list[str]:
 
 def long_callbacks(walk: Walk) -> list[str]:
     found = sorted((it for it in walk.tooks if it.is_callback()), key=Took.took, reverse=True)[:LINES]
-    return [f"{it.took()} ms: {named(it).rstrip(',')}, from step {it.first} to {it.last}, at {it.pieces[0][0]} ms" for it in found]
+    return [f"{it.took()} ms: {named(it).rstrip(',')}, from step {it.first} to {it.last}, at {it.pieces[0][0]} ms"
+            + in_javascript(walk, it, it.pieces[0][0], it.pieces[-1][1]) for it in found]
+
+
+def main_program(walk: Walk) -> list[str]:
+    """What JavaScript did before the first run of the loop."""
+    found = [it for it in walk.tooks if it.what == "the main program" and walk.notes.javascript]
+    return [f"{it.took()} ms, from step {it.first} to {it.last}" + in_javascript(walk, it, it.pieces[0][0], it.pieces[-1][1]) for it in found]
 
 
 def listed(names: list[str]) -> str:
@@ -53,6 +61,8 @@ class Overview:
         self.whys = {name: Why(walk, name) for name in walk.script.names() if name in walk.of_name}
         self.least = 2 if walk.notes.names else 1
         self.next: list[tuple[int, str]] = []
+        # the latest timer of JavaScript: who has that asks about it first
+        self.first = ""
 
     # ---- who was late
 
@@ -74,6 +84,13 @@ class Overview:
     def timers(self) -> list[str]:
         late = [Late(name, self.walk.clock(it.ended) - it.due, it) for name, it in self.called("timer")]
         return [self.told(it, "") for it in self.worst(late)]
+
+    def javascript(self) -> list[str]:
+        """Those that JavaScript started, of which node has many on one timer of the loop."""
+        asked = WhyJavaScript(self.walk)
+        rows = asked.latest(self.least, LINES)
+        self.first = rows[0][1] if rows else ""
+        return [text for _, _, text in rows] + asked.never()
 
     def sends(self) -> list[str]:
         seen = [Late(name, self.away(it), it) for name, it in self.called("async") if it.asked not in self.walk.notes.guessed]
@@ -206,7 +223,8 @@ class Overview:
     def answer(self, ask: str) -> list[str]:
         lines = head(self.walk)
         for title, rows in (
-            ("the longest callbacks", long_callbacks(self.walk)), ("the latest timers", self.timers()), ("the latest sends", self.sends()),
+            ("the longest callbacks", long_callbacks(self.walk)), ("the main program", main_program(self.walk)),
+            ("the latest timers of JavaScript", self.javascript()), ("the latest timers", self.timers()), ("the latest sends", self.sends()),
             ("I/O", self.io()), ("who waited for the next poll", self.unwoken()), ("the longest requests", self.requests()),
             ("the pool was full", self.full()),
             ("what kept the loop alive", self.alive()), ("who spun", self.spins()), ("never called", self.never()),
@@ -214,7 +232,9 @@ class Overview:
         ):
             lines += [title, *(f"    {it}" for it in rows)] if rows else []
         late = max(self.next, default=(0, ""))[1]
-        name = late or next(iter(self.whys), "")
+        name = self.first or late or next(iter(self.whys), "")
         names = self.walk.script.names()
         lines += [f"names: {listed(names)}"] if names else []
+        functions = self.walk.notes.javascript.names()
+        lines += [f"functions of JavaScript: {listed(functions)}"] if functions else []
         return lines + ([f"ask next: {ask.replace('NAME', name)}"] if name else [])

@@ -24,6 +24,8 @@ SHORT = {
 STEPS = ("loop", *OUTSIDE)
 # How many steps `continue` asks for at a time: it can be stopped between two of them.
 STRIDE = 1000
+# How the line of a step begins that begins a callback.
+CALLED = ("call ", "after ", "closed ")
 
 Write = Callable[[str], None]
 
@@ -196,6 +198,8 @@ class Shell:
         lines = self.own(step)
         if step.startswith("io ") and self.steps is self.recorded and (told := what_came(self.talk.script.notes, step, self.talk.state())):
             self.write(f"    {told}")
+        if len(lines) == 1 and self.steps is self.recorded and (javascript := self.talk.script.notes.javascript):
+            self.show([f"    {it}" for it in javascript.called(lines[0], self.talk.state().counts if lines[0].startswith(CALLED) else {})])
         return lines
 
     def is_over(self, lines: list[str]) -> bool:

@@ -13,8 +13,9 @@ from came import behind, came
 from conversation import Conversation, Script
 from places import MEANT, Place, next_line, read_place
 from waits import Wait
-from walk import Walk
+from walk import Took, Walk
 from why import Why
+from why_javascript import WhyJavaScript
 
 TEMPLATE = Path(__file__).resolve().parent / "view.html"
 SEND = re.compile(r"(out )?send \S+ = \S+")
@@ -26,6 +27,8 @@ HEAPS = 20_000
 RED, RED_RECORDED = 1, 5
 # From how many ms on a callback has its name in the loop's lane.
 LONG = 2
+# So many functions of JavaScript have a lane.
+FUNCTIONS = 12
 
 
 def all_states(script: Script, steps: list[str], heaps: bool, tell: Callable[[int, int], None]) -> Iterator[tuple[list[str], str]]:
@@ -194,6 +197,10 @@ class Page:
         """All that the page is given."""
         whys, late = self.whys()
         lanes = self.all_lanes()
+        functions = self.functions()
+        lanes[1:1] = functions
+        asked = WhyJavaScript(self.walk) if functions else None
+        whys.update({it.name: asked.answer(it.name) for it in functions})
         if any(SEND.fullmatch(it) for it in self.walk.lines):
             lanes.append(Lane("sends", "sends"))
         if any(it.startswith("io ") for it in self.walk.steps):
@@ -215,7 +222,30 @@ class Page:
 
     def long(self) -> list[list[object]]:
         """The callbacks that took long: their first and last step, whose, and how many ms."""
-        return [[it.first, it.last, it.what.rpartition(" of ")[2], it.took()] for it in self.walk.tooks if it.is_callback() and it.took() >= LONG]
+        found = [it for it in self.walk.tooks if it.is_callback() and it.took() >= LONG]
+        return [[it.first, it.last, self.in_javascript(it) or it.what.rpartition(" of ")[2], it.took()] for it in found]
+
+    def in_javascript(self, took: Took) -> str:
+        """The function of JavaScript that took most of it."""
+        told = self.walk.notes.javascript.longest(took.pieces[0][0], took.pieces[-1][1])
+        return told.text() if told else ""
+
+    def functions(self) -> list[Lane]:
+        """Lanes of the functions of JavaScript that timers and the like call: at the steps of the loop's callbacks in which they ran."""
+        javascript = self.walk.notes.javascript
+        steps = {call: step for step, call in self.walk.calls.items()}
+        lanes: dict[str, Lane] = {}
+        for span in javascript.spans:
+            who, step = javascript.who(span), steps.get(span.call)
+            if step is None or who.where == "-" or who.where.startswith("node:"):
+                continue
+            name = who.where if who.function == "(anonymous)" else who.function
+            if name in self.lanes or name not in lanes and len(lanes) == FUNCTIONS:
+                continue
+            lane = lanes.setdefault(name, Lane(name, "name", [(0, "nothing")]))
+            lane.now(step, "callback")
+            lane.now(self.walk.last_op.get(step, step) + 1, "nothing")
+        return list(lanes.values())
 
 
 def html(walk: Walk, tell: Callable[[int, int], None] = lambda *_: None) -> str:
@@ -239,6 +269,13 @@ def trace_events(walk: Walk) -> dict[str, object]:
                 continue
             begin, until = time_of(walk, length), time_of(walk, end)
             events.append({"ph": "X", "pid": 1, "tid": thread, "name": what, "ts": begin, "dur": until - begin, "args": {"step": length}})
+    javascript = walk.notes.javascript
+    for span in javascript.spans:
+        resource = javascript.resources[span.id]
+        events.append({"ph": "X", "pid": 2, "tid": 1, "name": javascript.who(span).text(), "ts": span.begin * 1000, "dur": max(1, span.end - span.begin) * 1000,
+                       "args": {"what": f"{resource.what()} {resource.asked()}"}})
+    for look in javascript.looks:
+        events.append({"ph": "X", "pid": 2, "tid": 2, "name": look.under.inner.text(), "ts": look.begin, "dur": look.end - look.begin})
     for step in range(1, walk.length + 1):
         what = walk.lines[step] if SEND.fullmatch(walk.lines[step]) else walk.steps[step - 1] if walk.steps[step - 1].startswith("io ") else ""
         if what:

@@ -8,6 +8,7 @@ from __future__ import annotations
 
 from came import BEHIND, LEFT, Came, behind, called_between, came, left_by, unwoken_between, waited
 from conversation import State
+from javascript import at
 from places import read_place
 from waits import WATCHERS, History, Refusal, Wait, follow, kind_of_call
 from walk import LeftByIo, Took, Walk
@@ -47,6 +48,12 @@ def told(took: Took) -> str:
     if took.is_callback():
         return f"{named(took)} took {took.took()} ms, {steps}"
     return f"{took.took()} ms went by in {took.what}, {steps}"
+
+
+def in_javascript(walk: Walk, took: Took, begin: int, end: int) -> str:
+    """What JavaScript did in it, between two times of the clock; `` where that isn't known."""
+    found = walk.notes.javascript.told(max(begin, took.pieces[0][0]), min(end, took.pieces[-1][1])) if begin < end else []
+    return f": {'; '.join(found)}" if found else ""
 
 
 class Why:
@@ -153,7 +160,7 @@ class Why:
         kind = kind_of_call(wait.what)
         answers = {"timer": self.timer, "async": self.sent, "io": self.io, "work": self.request, "close": self.close}
         causes, details = answers.get(wait.what, self.watcher)(wait)
-        details += [*self.ends_between(wait), self.asked(wait)]
+        details += [*self.ends_between(wait), self.asked(wait), *self.by_javascript(wait)]
         return [f"step {wait.ended}, {CALLS[kind]} {wait.call}: {causes}", *(f"    {it}" for it in details)]
 
     def asked(self, wait: Wait) -> str:
@@ -170,6 +177,16 @@ class Why:
         at = f", when the loop's time was {now} ms{behind}," if wait.what == "timer" else ""
         return f"{ASKED.get(wait.what, 'started')} at step {wait.asked}{at} {self.walk.by(wait.asked)}"
 
+    def by_javascript(self, wait: Wait) -> list[str]:
+        """Which line of JavaScript asked for a request."""
+        place = self.notes.javascript.asked.get((self.name, wait.call)) if wait.what == "work" else None
+        return [f"asked for {at(place)}"] if place else []
+
+    def asked_for(self, names: list[str]) -> str:
+        """Which lines of JavaScript asked for these requests."""
+        places = dict.fromkeys(place for (name, _), place in self.notes.javascript.asked.items() if name in names)
+        return f", asked for {few([at(it) for it in places])}" if places else ""
+
     def longest(self, run: list[Wait]) -> str:
         """How long these waited at the most."""
         return f"each called {max(self.walk.clock(it.ended) - self.walk.clock(it.asked) for it in run)} ms later at the most"
@@ -180,7 +197,10 @@ class Why:
         """Where the clock went on between two times of it."""
         found, causes = [], self.walk.causes(begin, end)
         for took in causes:
-            found.append(self.in_poll(took, begin, end, causes) if took.is_poll() and begin < end else told(took))
+            if took.is_poll() and begin < end:
+                found.append(self.in_poll(took, begin, end, causes))
+            else:
+                found.append(told(took) + in_javascript(self.walk, took, begin, end))
         return "; ".join(found)
 
     def in_poll(self, took: Took, begin: int, end: int, told_already: list[Took]) -> str:
@@ -201,7 +221,7 @@ class Why:
             return f"{told(took)}, where it was to end at {until} ms"
         rest = left - until - (clock - now)
         more = f", and {rest} ms more" if rest > 1 else ""
-        causes = [f"{told(it)}; " for it in before if it not in told_already]
+        causes = [f"{told(it)}{in_javascript(self.walk, it, now, clock)}; " for it in before if it not in told_already]
         return (f"{''.join(causes)}so the loop's time was {now} ms still as its poll began at {clock} ms,"
                 f" at step {took.first}, and it ended at {left} ms in place of {until} ms{more}")
 
@@ -350,7 +370,8 @@ class Why:
         details = [] if wait.taken[0] in self.notes.guessed else [self.waited(wait)]
         for it in self.walk.pool.full_between(wait.asked, wait.ended):
             ends = self.walk.happened(it.last) - max(self.walk.happened(it.first), self.walk.clock(wait.asked))
-            details.append(f"for {ends} ms of them each worker had other work, from step {it.first} to {it.last}: {few(it.names)}")
+            details.append(f"for {ends} ms of them each worker had other work, from step {it.first} to {it.last}: {few(it.names)}"
+                           f"{self.asked_for(it.names)}")
         blocked = [it for it in self.walk.causes(self.walk.clock(wait.asked), self.walk.clock(wait.ended)) if not it.is_poll()]
         if blocked:
             details.append(f"meanwhile {'; '.join(told(it) for it in blocked[:MANY])}")
@@ -363,7 +384,7 @@ class Why:
         before = self.before(state.lists["waiting"])
         away = self.walk.happened(step) - self.walk.clock(wait.asked)
         had = self.walk.pool.names_between(wait.asked, step) if away and self.walk.pool.full_between(wait.asked, step) else []
-        behind = (f": the workers had {few(had)}" if had else "") + (f", behind {few(before)}" if before else "")
+        behind = (f": the workers had {few(had)}{self.asked_for(had)}" if had else "") + (f", behind {few(before)}" if before else "")
         took = f"worker {worker} took it at step {step}"
         if step in self.notes.guessed:
             return f"waited for a worker from step {wait.asked} on{behind}; when one took it nobody knows"

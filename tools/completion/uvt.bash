@@ -10,7 +10,7 @@ _uvt() {
         view) words='--trace-event' ;;
         libuv) words='--node' ;;
         find) words='-o' ;;
-        record) words='-o --log' ;;
+        record) words='-o --log --bare' ;;
         esac
     fi
     COMPREPLY=($(compgen -W "$words" -- "$word"))

@@ -21,8 +21,11 @@ ADDRESS = re.compile(r"- A (\d{1,9}) ([0-9a-f]{1,16}) (\S+) (.*)")
 WORKERS = re.compile(r"- N (\d{1,9})")
 ENDED = re.compile(r"- X (SIG[A-Z0-9]{1,12})")
 UNSEEN = re.compile(r"- U (-|uv_[a-z_0-9]+) (.+)")
+PLACE = re.compile(r"- J place (\d{1,9}) (.*)")
+HOME = re.compile(r"- J home (.*)")
+STACK = re.compile(r"- J stack (\d{1,9}) (-1|\d{1,9}) (\d{1,9}) (\d{1,9})")
 NO_CLOCK = -1
-TIMED = "BEFST"
+TIMED = "BEFJST"
 NO_ROOM = "- ! no room"
 CODE = r"(?:ok|E[A-Z0-9_]+)"
 WORDS = {
@@ -44,6 +47,10 @@ WORDS = {
     "C": re.compile(rf"{NUMBER} \d{{1,9}}(?: [a-z_]+)?"),
     "V": re.compile(rf"{NUMBER} \d{{1,9}}(?: \d{{1,9}})?"),
     "K": re.compile(rf"all|end|{NUMBER} [a-z_]+ [01] [01] [01] {NUMBER} {NUMBER} {NUMBER}"),
+    "J": re.compile(
+        rf"new {NUMBER} (?:timer|interval|immediate|soon|callback) (?:-1|{NUMBER}) (?:-1|{NUMBER}) {NUMBER}|run {NUMBER}(?: {NUMBER} {NUMBER}(?: 1)?)?|ran {NUMBER}"
+        rf"|gone {NUMBER} (?:-1|{NUMBER})|ref {NUMBER} [01] (?:-1|{NUMBER})|by {NUMBER} {NUMBER}|busy {NUMBER} {NUMBER} {NUMBER}"
+    ),
     "W": re.compile(rf"(?:-1|{NUMBER}) \d{{1,20}} uv_[a-z_0-9]+"),
 }
 
@@ -95,6 +102,10 @@ class Log:
     program: str
     loops: dict[int, list[Event]] = field(default_factory=dict)
     addresses: dict[int, Address] = field(default_factory=dict)
+    # of JavaScript: a function, or where it was, and its file and line; and of a stack the one below it, the place and its line
+    home: str = ""
+    places: dict[int, str] = field(default_factory=dict)
+    stacks: dict[int, tuple[int, int, int]] = field(default_factory=dict)
     lines: int = 0
     # why it ends before its program did, or hasn't all of it, in a sentence
     note: str = ""
@@ -146,10 +157,16 @@ def read_log(data: bytes) -> Log:
     log = Log(int(head[1]), head[2], int(head[3]), within(int(head[4])), head[5])
     for number, text in enumerate(lines[1:], 2):
         log.lines = number
-        if event := read_event(text, number):
+        if home := HOME.fullmatch(text):
+            log.home = home[1]
+        elif event := read_event(text, number):
             log.loops.setdefault(event[0], []).append(event[1])
         elif address := ADDRESS.fullmatch(text):
             log.addresses[int(address[1])] = Address(int(address[2], 16), address[3], address[4])
+        elif place := PLACE.fullmatch(text):
+            log.places[int(place[1])] = place[2]
+        elif stack := STACK.fullmatch(text):
+            log.stacks[int(stack[1])] = int(stack[2]), int(stack[3]), int(stack[4])
         elif workers := WORKERS.fullmatch(text):
             log.workers = within(int(workers[1]))
         elif ended := ENDED.fullmatch(text):

@@ -27,6 +27,7 @@ from record_window import NoPart, window
 from tell import Teller
 
 RECORDER = Path(__file__).resolve().parent / "recorder"
+HOOKS = Path(__file__).resolve().parent
 BUILT = OUT / "recorder" / "recorder.so"
 # What every libuv has in it, as a name of the environment.
 WITHIN = b"UV_THREADPOOL_SIZE"
@@ -196,7 +197,7 @@ def notes_of(made: Made, note: str, ended: str = "") -> Notes:
     return Notes(
         part_of(made, note), {it.name: (it.kind, it.text) for it in made.program.origins}, made.program.functions,
         outside - made.outcome.known, foreign_lines(made), made.outcome.outside, made.outcome.times, made.program.came, made.polls.said(),
-        where_it_ended(made, ended), made.outcome.by,
+        where_it_ended(made, ended), made.outcome.by, made.program.javascript,
     )
 
 
@@ -252,8 +253,10 @@ def from_data(data: bytes, log: Log, name: str, part: Part = Part()) -> tuple[li
     """Makes the recordings of a log, and writes them. Answers what is to be said, and whether all go all the way."""
     made, lines = all_made(log, part)
     whole = True
+    # (a program in node has loops beside that of its JavaScript, of which it knows nothing)
+    javascript = [loop for loop, it in made if it.program.javascript]
     for loop, it in made:
-        path = Path(f"{name}.rec" if len(made) == 1 else f"{name}.{loop}.rec")
+        path = Path(f"{name}.rec" if len(made) == 1 or javascript == [loop] else f"{name}.{loop}.rec")
         recording = ("\n".join(it.outcome.recording) + "\n").encode()
         write(path, recording)
         write(path.with_suffix(".notes"), notes_of(it, log.note, log.ended).text(recording).encode())
@@ -383,12 +386,23 @@ def ended(status: int) -> str:
     return f"the program ended with status {status}" if status else ""
 
 
-def run_program(words: list[str], folder: Path) -> tuple[int, int]:
+def with_hooks(environment: dict[str, str]) -> dict[str, str]:
+    """What node, Python and Lua load before the program. Any other program passes these words by."""
+    hook = str(HOOKS / "node" / "hook.js").replace("\\", "\\\\").replace('"', '\\"')
+    return environment | {
+        "UVT_RECORDER": str(recorder()),
+        "NODE_OPTIONS": " ".join(filter(None, [f'--require "{hook}"', environment.get("NODE_OPTIONS", "")])),
+        "PYTHONPATH": ":".join(filter(None, [str(HOOKS / "python"), environment.get("PYTHONPATH", "")])),
+        "LUA_INIT": environment.get("LUA_INIT", f"@{HOOKS / 'lua' / 'hook.lua'}"),
+    }
+
+
+def run_program(words: list[str], folder: Path, bare: bool) -> tuple[int, int]:
     """Runs it with the recorder. The log's place is the folder's. Answers its process and its status."""
     environment = dict(os.environ, UVT_LOG=str(folder / "log"))
     environment["LD_PRELOAD"] = " ".join(filter(None, [*sanitizers(words[0]), str(recorder()), os.environ.get("LD_PRELOAD", "")]))
     try:
-        program = subprocess.Popen(words, env=environment)
+        program = subprocess.Popen(words, env=environment if bare else with_hooks(environment))
     except OSError as fault:
         raise Fault(why_not(words[0], fault)) from None
     # (an interrupt at the terminal is for the program; what ends this tool ends the program, and its log is taken)
@@ -403,13 +417,13 @@ def run_program(words: list[str], folder: Path) -> tuple[int, int]:
             signal.signal(number, handler)
 
 
-def from_program(words: list[str], name: str | None, part: Part) -> int:
+def from_program(words: list[str], name: str | None, part: Part, bare: bool = False) -> int:
     """Runs a program, and makes recordings of each of its processes that has a loop."""
     name = name or Path(words[0]).name
     built_program()
     folder = room_for(name)
     try:
-        pid, status = run_program(words, folder)
+        pid, status = run_program(words, folder, bare)
         said = ended(status)
         if said:
             print(said, flush=True)

@@ -10,6 +10,8 @@ import collections
 import re
 from dataclasses import dataclass, field
 
+from javascript import JavaScript
+from record_javascript import Reader
 from record_log import NO_CLOCK, TIMER_OWN, WATCHERS, Address, Event, Log
 from record_names import base_name, element
 from record_where import LOOKED, NEW, Where
@@ -167,6 +169,7 @@ class Program:
     notes: collections.Counter[str] = field(default_factory=collections.Counter)
     # of a name of I/O by its call: what came, in the log's words
     came: dict[str, dict[int, str]] = field(default_factory=dict)
+    javascript: JavaScript = field(default_factory=JavaScript)
     has_io: bool = False
     slots: int = 0
     # of libuv, and of the log's form
@@ -239,6 +242,7 @@ class Maker:
         self.stray: list[tuple[Op, str]] = []
         self.runs = 0
         self.where = Where(has_polls, log.form > 1)
+        self.javascript = Reader(log)
 
     # ---- names
 
@@ -466,6 +470,8 @@ class Maker:
     def begin_call(self, event: Event, bound: Bound, callback: str, what: str) -> Call:
         self.functions = []
         bodies = self.program.bodies[callback, bound.name]
+        if self.javascript.begun is None and event.clock != NO_CLOCK:
+            self.javascript.begun = event.clock
         call = Call(*event.when(), bound.name, callback, len(bodies) + 1, bound.kind, bound.made, what)
         bodies.append(call.body)
         if call.is_io():
@@ -533,6 +539,8 @@ class Maker:
                     self.items.append(Send(*event.when(), bound.name, self.sender(event)))
             case "W":
                 self.read_foreign(event)
+            case "J":
+                self.read_javascript(event)
             case "K":
                 pass
             case "C":
@@ -540,6 +548,13 @@ class Maker:
                 for it in what:
                     self.callback[int(id), it] = int(place)
         return True
+
+    def read_javascript(self, event: Event) -> None:
+        call = self.call
+        if not event.words.startswith("by "):
+            self.javascript.read(event, (call.callback, call.name, call.number) if call else ("main", "-", 0))
+        elif bound := self.bound.get(int(event.words.split(" ")[1])):
+            self.javascript.read_by(event, bound.name, len(self.program.bodies["after", bound.name]) + 1)
 
     def read_run(self, event: Event) -> None:
         mode, _, put_off = event.words.partition(" ")
@@ -594,6 +609,7 @@ def make_program(log: Log, events: list[Event]) -> Program:
             maker.program.stopped = f"at line {event.line} of the log the program has more than {NAMES} handles and requests at a time{FULL}"
             break
     maker.name_last()
+    maker.program.javascript = maker.javascript.done()
     return maker.program
 
 

@@ -61,6 +61,9 @@ def made_again(events: list[Event], at: int, form: int) -> list[Event]:
 
 def moved(event: Event, now: int) -> Event:
     """Its times count from there."""
+    if event.type == "J" and event.words.startswith("busy "):
+        word, stack, begin, took = event.words.split(" ")
+        event = replace(event, words=f"{word} {stack} {max(0, int(begin) - 1000 * now)} {took}")
     return replace(event, now=max(0, event.now - now), clock=event.clock if event.clock == NO_CLOCK else max(0, event.clock - now))
 
 

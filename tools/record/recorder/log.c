@@ -131,6 +131,7 @@ static bool open_log(void) {
         return false;
     }
     write_head();
+    if (getcwd(name, sizeof name)) write_line(NULL, 'J', "home %s", name);
     return true;
 }
 
@@ -206,7 +207,7 @@ void write_line(struct loop *loop, char type, const char *format, ...) {
         add_number(&line, CALL(uv_now)(loop->uv) - loop->base, 10);
         add_sign(&line, ' ');
     }
-    if (strchr("BEFST", type)) {
+    if (loop && strchr("BEFJST", type)) {
         add_number(&line, clock_now() - loop->base, 10);
         add_sign(&line, ' ');
     }

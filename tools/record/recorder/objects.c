@@ -15,6 +15,7 @@ static int loop_count, loop_room;
 static struct object **buckets, *unused;
 static size_t bucket_count, object_count;
 static int ids;
+static __thread struct loop *last; /* that this thread asked for */
 REAL(uv_now)
 
 /* ---- loops */
@@ -38,11 +39,14 @@ static struct loop *add_loop(uv_loop_t *uv) {
 struct loop *new_loop(uv_loop_t *uv) {
     for (int at = loop_count - 1; at >= 0; at--)
         if (loops[at]->uv == uv) loops[at]->uv = NULL;
-    return add_loop(uv);
+    return last = add_loop(uv);
+}
+
+struct loop *last_loop(void) {
+    return last && last->uv ? last : NULL;
 }
 
 struct loop *loop_of(uv_loop_t *uv) {
-    static __thread struct loop *last;
     if (last && last->uv == uv) return last;
     for (int at = loop_count - 1; at >= 0; at--)
         if (loops[at]->uv == uv) return last = loops[at];

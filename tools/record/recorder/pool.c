@@ -26,6 +26,7 @@ static int queued(struct object *object, const char *kind, size_t size, int answ
         object->size = (int)size;
         object->kind = kind;
         name_place(object);
+        note_javascript(object->loop, object->id);
         name_callback(object, object->second, OWN, "work");
         name_callback(object, object->callback, AFTER, "after");
     } else if (object) {

@@ -60,6 +60,8 @@ struct object {
 
 struct loop *loop_of(uv_loop_t *uv);
 struct loop *new_loop(uv_loop_t *uv);
+/* The last one that was made or asked for in this thread, NULL if there is none. */
+struct loop *last_loop(void);
 struct object *find(const void *address);
 /* The same, of what the program has asked something of: where another thread than the loop's does that, a line says so. */
 struct object *asked(const void *address);
@@ -145,6 +147,13 @@ struct object *made(uv_loop_t *loop, void *handle, const char *kind, bool watche
 void settle(struct object *watcher);
 /* The same of all whose callback has just ended, but for the one whose next callback begins (NULL: for none). */
 void settle_all(struct loop *loop, const struct object *but);
+
+/* ---- interpreters (node.c, script.c) */
+
+int new_place_number(void);
+
+/* A line that says where JavaScript asked for this object of the loop, if it is under way in this thread. */
+void note_javascript(struct loop *loop, int id);
 
 /* Calls a callback of the program: what it asks of libuv are ops again. */
 #define PROGRAM(call)           \

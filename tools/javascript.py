@@ -1,0 +1,277 @@
+"""What is known of the JavaScript of a program in node, beside a recording of its loop: lines `js` of NAME.notes. (And of Python and Lua.)
+
+What the hook in node saw (tools/record/node/hook.js). A resource is what JavaScript asked for: a timer, an immediate, a request. A span is a
+callback of one, in a callback of the loop. A look is what V8 found under way, each millisecond: so there are ticks and promises, too, and
+functions that others called. All times are those of the recording, in ms; of looks in thousandths of that.
+"""
+
+from __future__ import annotations
+
+import bisect
+import itertools
+import re
+from dataclasses import dataclass, field
+
+# How a function came to be called, by node's own functions below it, in a person's words.
+HOW = {
+    "timer": "a timer", "immediate": "an immediate", "tick": "process.nextTick", "promise": "a promise", "main": "the main program",
+    "event": "an event", "hook": "a look of its own",
+}
+KINDS = {"timer": "a timer", "interval": "an interval", "immediate": "an immediate", "soon": "a call_soon", "callback": "a callback"}
+# So little isn't told, in ms; and so many parts at the most.
+LEAST = 2
+PARTS = 3
+# Of the word of a step's line the list of its callbacks, and which of a name's counts is that.
+LISTS = {"call": ("on", 0), "after": ("after", 1), "closed": ("closed", 2)}
+PLACE = re.compile(r"\S+:\d+")
+
+
+@dataclass(frozen=True)
+class Place:
+    """A function, and where it begins; or where something was asked for, and in which function."""
+
+    function: str
+    where: str
+
+    def text(self) -> str:
+        name = self.function.replace("_", " ") if self.function.startswith("bound_") else self.function
+        return f"{name} ({self.where})" if self.where != "-" else name
+
+    def words(self) -> str:
+        """As it stands in a line of the notes."""
+        return f"{self.function} {self.where}"
+
+    def is_(self, name: str) -> bool:
+        """Is it what a person typed: a function's name, or FILE:LINE?"""
+        return name == self.function or self.where == name or self.where.endswith("/" + name)
+
+
+NOWHERE = Place("-", "-")
+
+
+def at(place: Place) -> str:
+    """`at app.js:12, in save`."""
+    return f"at {place.where}" + (f", in {place.function}" if place.function not in ("(anonymous)", "-") else "")
+
+
+@dataclass
+class Resource:
+    id: int
+    kind: str
+    function: Place
+    # where it was asked for, when, and of a timer its ms
+    at: Place
+    when: int
+    delay: int
+    # when and where it was cleared, where it was; whether it keeps node alive, and where that was said
+    gone: int | None = None
+    gone_at: Place = NOWHERE
+    referenced: bool = True
+    referenced_at: Place = NOWHERE
+
+    def what(self) -> str:
+        delay = f" of {self.delay} ms" if self.kind in ("timer", "interval") else ""
+        return KINDS.get(self.kind, self.kind) + delay
+
+    def asked(self) -> str:
+        """Where it was asked for, in words."""
+        return f"started {at(self.at)}" if self.at.where != "-" else "of node's own"
+
+
+@dataclass
+class Span:
+    """A callback of a resource, in a callback of the loop: its list, its name and which call it is, `main` of the main program."""
+
+    id: int
+    call: tuple[str, str, int]
+    begin: int
+    end: int
+    # of a timer
+    due: int | None
+
+
+@dataclass(frozen=True)
+class Under:
+    """What was under way: how the program's function came to be called, that function, the innermost one of the program with its line, and
+    what of node or V8 that one had called."""
+
+    how: str
+    outer: Place
+    inner: Place
+    line: str
+    top: str
+
+
+@dataclass
+class Look:
+    begin: int
+    end: int
+    under: Under
+
+
+@dataclass
+class JavaScript:
+    resources: dict[int, Resource] = field(default_factory=dict)
+    spans: list[Span] = field(default_factory=list)
+    looks: list[Look] = field(default_factory=list)
+    # of a request of the pool, by its name and which after callback of it: which line asked for it
+    asked: dict[tuple[str, int], Place] = field(default_factory=dict)
+    # the text of a line of the program
+    source: dict[str, str] = field(default_factory=dict)
+    # by call of the loop
+    by_call: dict[tuple[str, str, int], list[Span]] = field(default_factory=dict)
+
+    def __bool__(self) -> bool:
+        return bool(self.resources or self.spans or self.looks)
+
+    # ---- lines
+
+    def lines(self) -> list[str]:
+        found = [f"js line {where} {text}" for where, text in self.source.items()]
+        for it in self.resources.values():
+            found.append(f"js new {it.id} {it.kind} {it.when} {it.delay} {it.function.words()} {it.at.words()}")
+            found += [f"js gone {it.id} {it.gone} {it.gone_at.words()}"] if it.gone is not None else []
+            found += [f"js ref {it.id} {int(it.referenced)} {it.referenced_at.words()}"] if it.referenced_at != NOWHERE else []
+        found += [f"js by {name} {call} {place.words()}" for (name, call), place in self.asked.items()]
+        for it in self.spans:
+            due = f" {it.due}" if it.due is not None else ""
+            found.append(f"js ran {it.id} {' '.join(map(str, it.call))} {it.begin} {it.end}{due}")
+        for it in self.looks:
+            u = it.under
+            found.append(f"js look {it.begin} {it.end} {u.how} {u.outer.words()} {u.inner.words()} {u.line} {u.top}")
+        return found
+
+    def take(self, words: list[str]) -> None:
+        """Takes a line, without its `js`."""
+        match words:
+            case ["line", where, *text]:
+                self.source[where] = " ".join(text)
+            case ["new", id, kind, when, delay, function, where, inside, at]:
+                self.resources[int(id)] = Resource(int(id), kind, Place(function, where), Place(inside, at), int(when), int(delay))
+            case ["ran", id, list, name, call, begin, end, *due] if int(id) in self.resources:
+                self.add(Span(int(id), (list, name, int(call)), int(begin), int(end), int(due[0]) if due else None))
+            case ["look", begin, end, how, outer, where, inner, place, line, top]:
+                self.looks.append(Look(int(begin), int(end), Under(how, Place(outer, where), Place(inner, place), line, top)))
+            case ["gone", id, when, function, where]:
+                self.resources[int(id)].gone, self.resources[int(id)].gone_at = int(when), Place(function, where)
+            case ["ref", id, ref, function, where]:
+                self.resources[int(id)].referenced, self.resources[int(id)].referenced_at = ref == "1", Place(function, where)
+            case ["by", name, call, function, where]:
+                self.asked[name, int(call)] = Place(function, where)
+
+    def add(self, span: Span) -> None:
+        self.spans.append(span)
+        self.by_call.setdefault(span.call, []).append(span)
+
+    # ---- what was under way
+
+    def under(self, begin: int, end: int) -> list[tuple[Under, int]]:
+        """What was under way between two times (in ms), and how long (in thousandths), the longest first."""
+        found: dict[Under, int] = {}
+        first = bisect.bisect_right(self.looks, begin * 1000, key=lambda it: it.end)
+        for look in itertools.islice(self.looks, first, None):
+            if look.begin >= end * 1000:
+                break
+            found[look.under] = found.get(look.under, 0) + min(look.end, end * 1000) - max(look.begin, begin * 1000)
+        return sorted(found.items(), key=lambda it: -it[1])
+
+    def spans_in(self, begin: int, end: int) -> list[Span]:
+        return [it for it in self.spans if it.end > begin and it.begin < end]
+
+    def who(self, span: Span) -> Place:
+        """The program's function of a span: what was asked for, or else what was found under way most."""
+        found = self.resources[span.id].function
+        if found.where != "-" and not found.where.startswith("node:"):
+            return found
+        by: dict[Place, int] = {}
+        for under, took in self.under(span.begin, span.end):
+            by[under.outer] = by.get(under.outer, 0) + took
+        return max(by, key=by.get, default=found)
+
+    def told(self, begin: int, end: int) -> list[str]:
+        """What JavaScript did between two times, the longest first, in a sentence each."""
+        parts: list[tuple[int, str]] = []
+        spans = [it for it in self.spans_in(begin, end) if min(it.end, end) - max(it.begin, begin) >= LEAST]
+        gaps, behind = [], begin
+        for it in sorted(spans, key=lambda it: it.begin):
+            if it.begin < behind and parts:
+                continue
+            resource, who = self.resources[it.id], self.who(it)
+            first, last = max(it.begin, begin), min(it.end, end)
+            asked = f", {resource.what()}" + (f" {resource.asked()}" if resource.asked() else "")
+            parts.append((last - first, f"{who.text()}{asked}, took {it.end - it.begin} ms{self.inside(first, last, who)}"))
+            gaps.append((behind, it.begin))
+            behind = max(behind, it.end)
+        gaps.append((behind, end))
+        by: dict[tuple[str, Place], list[tuple[int, int, int]]] = {}
+        for first, last in gaps:
+            if last - first < LEAST:
+                continue
+            for under, took in self.under(first, last):
+                if under.how in ("timer", "immediate"):
+                    continue
+                by.setdefault((under.how, under.outer), []).append((took, first, last))
+        for (how, outer), rows in by.items():
+            took = round(sum(it[0] for it in rows) / 1000)
+            if took >= LEAST:
+                from_how = f", from {HOW[how]}," if how in HOW else ""
+                first, last = min(it[1] for it in rows), max(it[2] for it in rows)
+                name = outer.where.rpartition(":")[0] if how == "main" and outer.function == "(anonymous)" else outer.text()
+                parts.append((took, f"{name}{from_how} took {took} ms{self.inside(first, last, outer)}"))
+        parts.sort(key=lambda it: -it[0])
+        return [it for _, it in parts[:PARTS]]
+
+    def longest(self, begin: int, end: int) -> Place | None:
+        """The program's function that took most of the time between two."""
+        by: dict[Place, int] = {}
+        for under, took in self.under(begin, end):
+            by[under.outer] = by.get(under.outer, 0) + took
+        for span in self.spans_in(begin, end):
+            who, took = self.who(span), 1000 * (min(span.end, end) - max(span.begin, begin))
+            by[who] = max(by.get(who, 0), took)
+        best = max(by, key=by.get, default=None)
+        return best if best and by[best] >= 500 * (end - begin) else None
+
+    def inside(self, begin: int, end: int, who: Place) -> str:
+        """Which line, and what it called, took most of it, where that tells more."""
+        by: dict[tuple[Place, str, str], int] = {}
+        whole = 0
+        for under, took in self.under(begin, end):
+            if under.outer == who or under.inner == who:
+                by[under.inner, under.line, under.top] = by.get((under.inner, under.line, under.top), 0) + took
+                whole += took
+        if not by:
+            return ""
+        (inner, line, top), took = max(by.items(), key=lambda it: it[1])
+        if took < LEAST * 1000 or 3 * took < whole:
+            return ""
+        said = [f"in {inner.text()}"] if inner != who else []
+        said += [f"in {top}, which it calls"] if top != "-" and inner == who else [f"in its call of {top}"] if top != "-" else []
+        said += [f"at line {line}" + (f": `{self.source[self.line_of(inner, line)]}`" if self.line_of(inner, line) in self.source else "")] if line != "0" else []
+        return f" ({round(took / 1000)} ms of it {', '.join(said)})" if said else ""
+
+    @staticmethod
+    def line_of(place: Place, line: str) -> str:
+        return f"{place.where.rpartition(':')[0]}:{line}"
+
+    def called(self, line: str, counts: dict[str, list[int]]) -> list[str]:
+        """What JavaScript ran in the callback that the line of a step begins, in a sentence each. `counts`: how often each name was called."""
+        words = line.split(" ")
+        if not self or words[0] not in LISTS or words[1] not in counts:
+            return []
+        kind, which = LISTS[words[0]]
+        found = []
+        for span in self.by_call.get((kind, words[1], counts[words[1]][which]), [])[:PARTS]:
+            resource, took = self.resources[span.id], span.end - span.begin
+            found.append(f"{self.who(span).text()}, {resource.what()} {resource.asked()}" + (f", took {took} ms" if took else ""))
+        return found
+
+    # ---- names that a person may ask for
+
+    def named(self, name: str) -> list[Resource]:
+        return [it for it in self.resources.values() if it.function.is_(name) or it.at.where == name or it.at.where.endswith("/" + name)]
+
+    def names(self) -> list[str]:
+        """The functions of its timers and immediates."""
+        found = dict.fromkeys(it.function.function for it in self.resources.values() if it.kind in KINDS and not it.function.where.startswith("node:"))
+        return [it for it in found if it not in ("-", "(anonymous)")]
