@@ -282,31 +282,32 @@ def from_log(path: Path, name: str | None, part: Part) -> int:
 # ---- a program
 
 
-def recorder() -> Path:
-    """The recorder, compiled where that isn't done yet or its sources are newer."""
-    sources = sorted(RECORDER.glob("*.c"))
+def recorder(forcing: bool = False) -> Path:
+    """The recorder, or that which forces an order as well, compiled where that isn't done yet or its sources are newer."""
+    sources = [it for it in sorted(RECORDER.glob("*.c")) if forcing or it.name != "force.c"]
     newest = max(it.stat().st_mtime for it in [*sources, RECORDER / "recorder.h"])
-    if BUILT.is_file() and BUILT.stat().st_mtime >= newest:
-        return BUILT
+    built = BUILT.with_name("force.so") if forcing else BUILT
+    if built.is_file() and built.stat().st_mtime >= newest:
+        return built
     compiler = shutil.which("cc") or shutil.which("gcc") or shutil.which("clang")
     if not compiler:
         raise Fault("there is no C compiler, and the recorder has to be compiled once")
-    if re.search("[ :]", str(BUILT)):
-        raise Fault(f"{BUILT.parent}: a library that is preloaded can't lie in a folder with a space or a colon in its name")
+    if re.search("[ :]", str(built)):
+        raise Fault(f"{built.parent}: a library that is preloaded can't lie in a folder with a space or a colon in its name")
     try:
-        BUILT.parent.mkdir(parents=True, exist_ok=True)
+        built.parent.mkdir(parents=True, exist_ok=True)
     except OSError as fault:
-        raise Fault(f"{BUILT.parent}: {fault.strerror}") from None
-    part = BUILT.with_name(f"recorder.{os.getpid()}.so")
-    words = ["-O2", "-fPIC", "-shared", "-fno-optimize-sibling-calls", "-Wl,-z,defs", "-o", str(part), *map(str, sources), "-ldl", "-lpthread"]
-    ran = subprocess.run([compiler, *words], capture_output=True, text=True)
+        raise Fault(f"{built.parent}: {fault.strerror}") from None
+    part = built.with_name(f"{built.stem}.{os.getpid()}.so")
+    words = ["-O2", "-fPIC", "-shared", "-fno-optimize-sibling-calls", "-Wl,-z,defs", *(["-DFORCE"] if forcing else []), "-o", str(part)]
+    ran = subprocess.run([compiler, *words, *map(str, sources), "-ldl", "-lpthread"], capture_output=True, text=True)
     if ran.returncode != 0:
         part.unlink(missing_ok=True)
         missing = "uv.h" in ran.stderr
         why = "libuv's header uv.h isn't there (Debian: libuv1-dev)" if missing else ran.stderr.strip().split("\n")[0]
         raise Fault(f"the recorder can't be compiled: {why}")
-    part.replace(BUILT)
-    return BUILT
+    part.replace(built)
+    return built
 
 
 def is_alive(process: int) -> bool:

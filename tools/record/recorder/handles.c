@@ -181,7 +181,9 @@ void uv_stop(uv_loop_t *uv) {
 
 void uv_update_time(uv_loop_t *uv) {
     bool from_libuv = INSIDE();
+    inside++;
     CALL(uv_update_time)(uv);
+    inside--;
     if (from_libuv) return;
     lock();
     struct loop *loop = loop_of(uv);
@@ -398,11 +400,20 @@ int uv_async_send(uv_async_t *handle) {
     struct object *object = find(handle);
     pthread_t here = pthread_self();
     bool own = object && pthread_equal(object->loop->thread, here);
+    struct sender *sender = NULL;
+    if (!own && forces()) {
+        unlock();
+        force_send(handle, &sender);
+        lock();
+        object = find(handle);
+    }
+    force_touch(handle);
     struct loop *by = running_here();
     if (object && !own && by) write_line(object->loop, 'S', "%d %u %d", object->id, (uint64_t)here, by->number);
     else if (object && !own) write_line(object->loop, 'S', "%d %u", object->id, (uint64_t)here);
     int answer = REALLY(CALL(uv_async_send)(handle));
     if (own) write_op(object, "send", "", answer);
     unlock();
+    if (sender) force_sent(sender);
     return answer;
 }

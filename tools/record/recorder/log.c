@@ -46,6 +46,16 @@ void unlock(void) {
     pthread_mutex_unlock(&mutex);
 }
 
+int unlock_all(void) {
+    int held = locked;
+    for (int at = 0; at < held; at++) unlock();
+    return held;
+}
+
+void lock_again(int held) {
+    while (held-- > 0) lock();
+}
+
 bool is_locked_here(void) {
     return locked > 0;
 }
@@ -190,6 +200,7 @@ static void add_format(struct line *line, const char *format, va_list words) {
 
 static uint64_t clock_now(void) {
     struct timespec time;
+    if (forces()) return force_clock(0);
     clock_gettime(CLOCK_MONOTONIC, &time);
     return (uint64_t)time.tv_sec * 1000 + (uint64_t)time.tv_nsec / 1000000;
 }
@@ -197,6 +208,17 @@ static uint64_t clock_now(void) {
 void write_line(struct loop *loop, char type, const char *format, ...) {
     struct line line;
     if (off || (loop && !loop->uv) || !open_log()) return;
+    va_list words;
+    if (loop && forces() && !strchr("CVTFSWKJ", type)) {
+        /* (what is forced there has lines of its own, in front of this one, and moves the clock) */
+        line.length = 0;
+        va_start(words, format);
+        add_format(&line, format, words);
+        va_end(words);
+        line.text[line.length] = 0;
+        force_event(loop, type, line.text);
+        if (off || !loop->uv) return;
+    }
     line.length = 0;
     if (loop) add_number(&line, (uint64_t)loop->number, 10);
     else add_sign(&line, '-');
@@ -211,7 +233,6 @@ void write_line(struct loop *loop, char type, const char *format, ...) {
         add_number(&line, clock_now() - loop->base, 10);
         add_sign(&line, ' ');
     }
-    va_list words;
     va_start(words, format);
     add_format(&line, format, words);
     va_end(words);
@@ -294,6 +315,7 @@ bool is_from_libuv(const void *caller) {
 bool is_inside(const void *caller, const char *function) {
     if (is_from_libuv(caller)) return true;
     called = function;
+    if (forces()) force_before(function);
     return false;
 }
 

@@ -32,6 +32,7 @@ static struct loop *add_loop(uv_loop_t *uv) {
     if (!loop) return NULL;
     *loop = (struct loop){.uv = uv, .number = loop_count, .base = CALL(uv_now)(uv), .thread = pthread_self()};
     loops[loop_count++] = loop;
+    force_loop(loop);
     return loop;
 }
 
@@ -84,7 +85,15 @@ struct object *find(const void *address) {
     return it;
 }
 
+struct object *object_by_id(int id) {
+    for (size_t at = 0; at < bucket_count; at++)
+        for (struct object *it = buckets[at]; it; it = it->next)
+            if (it->id == id) return it;
+    return NULL;
+}
+
 struct object *asked(const void *address) {
+    force_touch(address);
     struct object *object = find(address);
     if (object) note_thread(object->loop, object->id);
     return object;

@@ -103,12 +103,16 @@ static int note_events(struct loop *loop, const struct epoll_event *events, int 
 
 int epoll_wait(int descriptor, struct epoll_event *events, int room, int timeout) {
     struct loop *loop = polls(descriptor, __builtin_return_address(0));
+    int got;
     note_poll(loop, timeout);
+    if (loop && force_poll(loop, descriptor, events, room, timeout, &got)) return note_events(loop, events, got);
     return note_events(loop, events, CALL(epoll_wait)(descriptor, events, room, timeout));
 }
 
 int epoll_pwait(int descriptor, struct epoll_event *events, int room, int timeout, const sigset_t *signals) {
     struct loop *loop = polls(descriptor, __builtin_return_address(0));
+    int got;
     note_poll(loop, timeout);
+    if (loop && force_poll(loop, descriptor, events, room, timeout, &got)) return note_events(loop, events, got);
     return note_events(loop, events, CALL(epoll_pwait)(descriptor, events, room, timeout, signals));
 }

@@ -3,6 +3,7 @@
 #include "recorder.h"
 
 #include <stddef.h>
+#include <string.h>
 
 REAL(uv_cancel)
 REAL(uv_fs_get_result)
@@ -65,7 +66,7 @@ static void do_work(uv_work_t *request) {
     lock();
     struct object *object = find(request);
     uv_work_cb work = (uv_work_cb)object->second;
-    write_line(object->loop, 'T', "%d", object->id);
+    if (!forces()) write_line(object->loop, 'T', "%d", object->id);
     unlock();
     PROGRAM(work(request));
     lock();
@@ -94,6 +95,11 @@ void uv_mutex_unlock(uv_mutex_t *mutex) {
         request->work = queueing.instead;
     }
     CALL(uv_mutex_unlock)(mutex);
+    force_unlocked(mutex);
+}
+
+bool is_seen_work(const struct object *request) {
+    return request->own || (request->kind && strcmp(request->kind, "work") == 0);
 }
 
 static void begin_queueing(struct object *object, struct uv__work *request, void (*instead)(struct uv__work *)) {
@@ -107,7 +113,7 @@ static void do_own(void *request, struct uv__work *own) {
     lock();
     struct object *object = find(request);
     void (*work)(struct uv__work *) = object->own;
-    write_line(object->loop, 'T', "%d", object->id);
+    if (!forces()) write_line(object->loop, 'T', "%d", object->id);
     unlock();
     inside++;
     work(own);

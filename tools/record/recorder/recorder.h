@@ -131,6 +131,42 @@ void *own_function(const char *name);
 /* Calls of a function of it can't be seen, or (NULL) of none, and then nothing is recorded: a line behind the first one says why. */
 void note_unseen(const char *function, const char *why);
 
+/* ---- an order that is forced (force.c): a library of its own, compiled with FORCE. The recorder by itself has nothing of it */
+
+struct sender;
+struct epoll_event;
+#ifdef FORCE
+void force_loop(struct loop *loop);
+bool forces(void);
+void force_before(const char *function);
+void force_event(struct loop *loop, char type, const char *words);
+void force_touch(const void *address);
+bool force_send(void *handle, struct sender **handed);
+void force_sent(struct sender *sender);
+uint64_t force_clock(uint64_t real_ms);
+bool force_poll(struct loop *loop, int descriptor, struct epoll_event *events, int room, int timeout, int *got);
+void force_unlocked(uv_mutex_t *mutex);
+#else
+static inline void force_loop(struct loop *loop) { (void)loop; }
+static inline bool forces(void) { return false; }
+static inline void force_before(const char *function) { (void)function; }
+static inline void force_event(struct loop *loop, char type, const char *words) { (void)loop, (void)type, (void)words; }
+static inline void force_touch(const void *address) { (void)address; }
+static inline bool force_send(void *handle, struct sender **handed) { return (void)handle, (void)handed, false; }
+static inline void force_sent(struct sender *sender) { (void)sender; }
+static inline uint64_t force_clock(uint64_t real_ms) { return real_ms; }
+static inline bool force_poll(struct loop *loop, int descriptor, struct epoll_event *events, int room, int timeout, int *got) {
+    return (void)loop, (void)descriptor, (void)events, (void)room, (void)timeout, (void)got, false;
+}
+static inline void force_unlocked(uv_mutex_t *mutex) { (void)mutex; }
+#endif
+/* The lock is given away for a while, however often this thread has it. */
+int unlock_all(void);
+void lock_again(int held);
+struct object *object_by_id(int id);
+/* Do lines say when a worker takes this request, and when it is through? */
+bool is_seen_work(const struct object *request);
+
 /* ---- callbacks and watchers (handles.c) */
 
 /* Around a handle's callback. `enter` answers its object, NULL if there is none. WHAT came, and what is known of it: how many bytes, an
