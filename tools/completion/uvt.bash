@@ -2,16 +2,17 @@
 _uvt() {
     local word=${COMP_WORDS[COMP_CWORD]} command=${COMP_WORDS[1]} words=''
     if [ "$COMP_CWORD" = 1 ]; then
-        words='debug replay live why find shell view record force libuv dap help'
+        words='debug replay live why find shell view record force hunt libuv dap help'
     else
         case $command in
-        help) [ "$COMP_CWORD" != 2 ] || words='why find shell view record force libuv dap' ;;
+        help) [ "$COMP_CWORD" != 2 ] || words='why find shell view record force hunt libuv dap' ;;
         live) words='--workers' ;;
         view) words='--trace-event' ;;
         libuv) words='--node' ;;
         find) words='-o' ;;
         record) words='-o --log --bare' ;;
         force) words='-o --stop --early --random --stall --loop' ;;
+        hunt) words='-o --most' ;;
         esac
     fi
     COMPREPLY=($(compgen -W "$words" -- "$word"))
