@@ -73,6 +73,8 @@ class Notes:
     by: dict[int, str] = field(default_factory=dict)
     # of a program in node: what its JavaScript did
     javascript: JavaScript = field(default_factory=JavaScript)
+    # the requests that were queued again while they were under way
+    again: list[str] = field(default_factory=list)
 
     def function(self, list: str, name: str, call: int) -> str:
         """Which function that call is, `` where nobody knows."""
@@ -102,7 +104,7 @@ class Notes:
         return lines + [
             f"WRONG THREAD: {function} was called by another thread while the loop ran, which libuv allows of uv_async_send alone: line {line}"
             for line, function in sorted(self.foreign.items())
-        ]
+        ] + [f"QUEUED AGAIN: {name} was queued while it was under way, which libuv doesn't allow" for name in self.again]
 
     def text(self, recording: bytes) -> str:
         lines = [f"{HEAD} {hashlib.sha256(recording).hexdigest()}"]
@@ -116,6 +118,7 @@ class Notes:
             lines += came_lines(name, self.what.get(name, {}))
         lines += self.javascript.lines()
         lines += [f"thread {line} {function}" for line, function in sorted(self.foreign.items())]
+        lines += [f"again {name}" for name in self.again]
         lines += [f"by {step} {text}" for step, text in sorted(self.by.items())]
         lines += [f"clock {step} {clock}" for step, clock in sorted(self.times.items())]
         for word, found in (("unseen", self.guessed), ("outside", self.outside)):
@@ -193,6 +196,8 @@ def take(notes: Notes, line: str) -> None:
                 notes.polls = line.removeprefix("polls ")
             case "by":
                 notes.by[int(words[1])] = " ".join(words[2:])
+            case "again":
+                notes.again.append(words[1])
             case "ended":
                 notes.ended = line.removeprefix("ended ")
             case "came":

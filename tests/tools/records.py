@@ -263,7 +263,20 @@ def try_programs(check, folder: str) -> None:
     # (a file may have 1,024 bytes: the log's first window has no room)
     full = subprocess.run(["sh", "-c", f"ulimit -f 1; exec {RECORD} ./late"], cwd=folder, capture_output=True, text=True, timeout=SECONDS)
     check("record, no room for the log", full.returncode == 2 and "no room" in full.stderr and "Traceback" not in full.stderr, full)
-    check("record, the program isn't disturbed by that", "beat 2 is late" in full.stdout, full)
+    check("record, the program isn't disturbed by that", " is late: " in full.stdout, full)
+
+
+def try_queued_again(check, folder: str) -> None:
+    """A request that is queued while it is under way: libuv forbids it, the program goes on as without the recorder, and it is said."""
+    program = f"{folder}/queued-again"
+    subprocess.run(["cc", "-O1", "-g", str(LOGS.parent / "queued_again.c"), "-o", program, "-luv", "-lpthread"], check=True)
+    plain = subprocess.run([program], capture_output=True, text=True, timeout=SECONDS)
+    check("record, queued again, without", plain.returncode == 0 and plain.stdout == "one two \n", plain)
+    ran = recorded(["./queued-again"], folder)
+    check("record, queued again", ran.returncode == 0 and plain.stdout in ran.stdout and ": same" in ran.stdout, ran)
+    check("record, queued again is said", "    QUEUED AGAIN: job, while it was under way (line " in ran.stdout, ran)
+    asked = subprocess.run([str(ROOT / "tools" / "uvt-why"), "queued-again.rec"], capture_output=True, text=True, cwd=folder, timeout=SECONDS)
+    check("why, queued again is said", "QUEUED AGAIN: job was queued while it was under way" in asked.stdout, asked)
 
 
 # ---- a libuv within the program
@@ -472,6 +485,7 @@ def try_records(tries) -> None:
         try_whys_of_parts(check, folder)
         if has_libuv():
             try_programs(check, folder)
+            try_queued_again(check, folder)
         else:
             print("tools: recording of programs: not tried, since there is no C compiler `cc` with libuv's header", flush=True)
         if libuv := archive():

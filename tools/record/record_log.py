@@ -51,6 +51,7 @@ WORDS = {
         rf"new {NUMBER} (?:timer|interval|immediate|soon|callback) (?:-1|{NUMBER}) (?:-1|{NUMBER}) {NUMBER}|run {NUMBER}(?: {NUMBER} {NUMBER}(?: 1)?)?|ran {NUMBER}"
         rf"|gone {NUMBER} (?:-1|{NUMBER})|ref {NUMBER} [01] (?:-1|{NUMBER})|by {NUMBER} {NUMBER}|busy {NUMBER} {NUMBER} {NUMBER}"
     ),
+    "Q": re.compile(rf"{NUMBER} {NUMBER}"),
     "W": re.compile(rf"(?:-1|{NUMBER}) \d{{1,20}} uv_[a-z_0-9]+"),
 }
 

@@ -198,6 +198,7 @@ def notes_of(made: Made, note: str, ended: str = "") -> Notes:
         part_of(made, note), {it.name: (it.kind, it.text) for it in made.program.origins}, made.program.functions,
         outside - made.outcome.known, foreign_lines(made), made.outcome.outside, made.outcome.times, made.program.came, made.polls.said(),
         where_it_ended(made, ended), made.outcome.by, made.program.javascript,
+        [name for _, name in made.program.again],
     )
 
 
@@ -214,6 +215,14 @@ def by_other_threads(program: Program) -> list[str]:
     ]
 
 
+def queued_again(program: Program) -> list[str]:
+    """The same of requests."""
+    return [
+        f"QUEUED AGAIN: {name}, while it was under way (line {line} of the log), which libuv doesn't allow: one request has two after callbacks then"
+        for line, name in program.again
+    ]
+
+
 def told(made: Made, loop: int, path: Path, note: str) -> list[str]:
     """What is said of a loop: how far its recording goes, and the command that opens it."""
     outcome, program = made.outcome, made.program
@@ -224,7 +233,7 @@ def told(made: Made, loop: int, path: Path, note: str) -> list[str]:
         lines = [head + f"same up to line {outcome.item.line} of the log", f"    there {where_it_stops(made)}"]
     else:
         lines = [head + "same"]
-    lines += [f"    {it}" for it in (program.began, program.stopped, note, *by_other_threads(program), made.polls.said()) if it]
+    lines += [f"    {it}" for it in (program.began, program.stopped, note, *by_other_threads(program), *queued_again(program), made.polls.said()) if it]
     if outcome.answers:
         lines.append(f"    {len(outcome.answers)} answers differ, first: {outcome.answers[0]}")
     if outcome.ends:

@@ -166,6 +166,8 @@ class Program:
     foreign: list[Foreign] = field(default_factory=list)
     # the ops of these, by callback, name, call and place in the body, each with its function
     foreign_ops: dict[tuple[str, str, int, int], str] = field(default_factory=dict)
+    # the requests that were queued again while they were under way, with the line of the log
+    again: list[tuple[int, str]] = field(default_factory=list)
     notes: collections.Counter[str] = field(default_factory=collections.Counter)
     # of a name of I/O by its call: what came, in the log's words
     came: dict[str, dict[int, str]] = field(default_factory=dict)
@@ -539,6 +541,9 @@ class Maker:
                     self.items.append(Send(*event.when(), bound.name, self.sender(event)))
             case "W":
                 self.read_foreign(event)
+            case "Q":
+                if bound := self.bound.get(int(event.words.split(" ")[1])):
+                    self.program.again.append((event.line, bound.name))
             case "J":
                 self.read_javascript(event)
             case "K":

@@ -1,10 +1,11 @@
-/* Twelve jobs on four workers; three of them are cancelled, one of these in time, and one job queues the next. */
+/* Twelve jobs on four workers; three of them are cancelled, one of these in time, and one is queued again in its after callback. */
 #include <stdio.h>
 #include <unistd.h>
 #include <uv.h>
 
 static uv_work_t jobs[12];
 static uv_timer_t cancel;
+static int more;
 
 static void hash(uv_work_t *request) {
     usleep(3000 + 1000 * ((request - jobs) * 7 % 5));
@@ -12,7 +13,7 @@ static void hash(uv_work_t *request) {
 
 static void hashed(uv_work_t *request, int status) {
     printf("%d:%s ", (int)(request - jobs), status ? uv_err_name(status) : "ok");
-    if (request == &jobs[2]) uv_queue_work(request->loop, &jobs[0], hash, hashed);
+    if (request == &jobs[2] && !more++) uv_queue_work(request->loop, request, hash, hashed);
 }
 
 static void on_cancel(uv_timer_t *timer) {

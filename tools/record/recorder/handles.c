@@ -214,6 +214,11 @@ void uv_walk(uv_loop_t *uv, uv_walk_cb callback, void *word) {
 static void on_closed(uv_handle_t *handle) {
     lock();
     struct object *object = find(handle);
+    /* (its memory is something else already) */
+    if (!object || !object->handle) {
+        unlock();
+        return;
+    }
     struct loop *loop = object->loop;
     uv_close_cb callback = object->closed;
     int id = object->id;

@@ -184,6 +184,11 @@ struct request {
 static struct request begin_request(void *address, const char *what, int status) {
     lock();
     struct object *object = find(address);
+    /* (a request that was used again before it was done has one callback) */
+    if (!object || !object->owner) {
+        unlock();
+        return (struct request){0};
+    }
     struct request request = {object->owner, object->loop, object->callback, object->owner->id};
     drop(object);
     request.stream->requests--;
@@ -195,6 +200,7 @@ static struct request begin_request(void *address, const char *what, int status)
 #define REQUEST(NAME, WHAT, REQUEST_TYPE, TYPE)                                     \
     static void NAME(REQUEST_TYPE *address, int status) {                           \
         struct request request = begin_request(address, WHAT, status);              \
+        if (!request.stream) return;                                                \
         void *stream = request.stream->address;                                     \
         if (request.callback) PROGRAM(((TYPE)request.callback)(address, status));   \
         leave(request.loop, stream, request.id);                                    \

@@ -209,7 +209,7 @@ void write_line(struct loop *loop, char type, const char *format, ...) {
     struct line line;
     if (off || (loop && !loop->uv) || !open_log()) return;
     va_list words;
-    if (loop && forces() && !strchr("CVTFSWKJ", type)) {
+    if (loop && forces() && !strchr("CVTFSWKJQ", type)) {
         /* (what is forced there has lines of its own, in front of this one, and moves the clock) */
         line.length = 0;
         va_start(words, format);

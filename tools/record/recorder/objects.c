@@ -70,9 +70,11 @@ static void grow(void) {
     bucket_count = count ? 2 * count : 1024;
     for (size_t at = 0; at < count; at++)
         for (struct object *it = old[at], *next; it; it = next) {
+            /* (of those at one address the last one that was put there stays the first) */
             struct object **to = bucket(it->address);
+            while (*to) to = &(*to)->next;
             next = it->next;
-            it->next = *to;
+            it->next = NULL;
             *to = it;
         }
     free(old);
@@ -82,6 +84,12 @@ struct object *find(const void *address) {
     if (!buckets) return NULL;
     struct object *it = *bucket(address);
     while (it && it->address != address) it = it->next;
+    return it;
+}
+
+struct object *earlier(const struct object *object) {
+    struct object *it = object->next;
+    while (it && it->address != object->address) it = it->next;
     return it;
 }
 
@@ -108,10 +116,14 @@ void note_thread(struct loop *loop, int id) {
     unlock();
 }
 
-/* A handle or a request that begins at this address; what was there is gone. */
+/* A handle or a request that begins at this address; what was there is gone. But a request that the pool has stays: its worker and its
+ * after callback are to come, also where the program has made something else of its memory, or queued it again. */
 struct object *put(struct loop *loop, void *address) {
-    struct object *it = find(address);
-    if (it) drop(it);
+    struct object *it, *before;
+    for (it = find(address); it; it = before) {
+        before = earlier(it);
+        if (!it->pooled || !it->loop->uv) drop(it);
+    }
     if (object_count >= bucket_count) grow();
     it = unused;
     if (it) unused = it->next;

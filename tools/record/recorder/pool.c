@@ -10,12 +10,39 @@ REAL(uv_fs_get_result)
 REAL(uv_mutex_unlock)
 REAL(uv_queue_work)
 
+/* ---- a request that is queued again while it is under way
+ *
+ * libuv forbids that, and mostly survives it. Then it has several objects: a worker takes the first one that none has, and an after callback
+ * is that of the first one that is through. */
+
+static bool is_pooled(const struct object *object) {
+    return object->pooled;
+}
+
+static bool is_free(const struct object *object) {
+    return object->pooled && !object->taken;
+}
+
+static bool is_through(const struct object *object) {
+    return object->pooled && object->through;
+}
+
+static struct object *first(const void *request, bool (*is)(const struct object *)) {
+    struct object *found = NULL;
+    for (struct object *it = find(request); it; it = earlier(it))
+        if (is(it)) found = it;
+    return found;
+}
+
 /* A request that is queued while the lock is held: a worker that is quicker writes its line behind. */
 static struct object *queue(uv_loop_t *uv, void *request, void *callback, void *work) {
     struct object *object = put(loop_of(uv), request);
     if (!object) return NULL;
     write_workers();
     note_thread(object->loop, object->id);
+    struct object *before = first(request, is_pooled);
+    if (before) write_line(object->loop, 'Q', "%d %d", object->id, before->id);
+    object->pooled = true;
     object->callback = callback;
     object->second = work;
     return object;
@@ -46,7 +73,12 @@ struct after {
 
 static struct after begin_after(void *request, bool cancelled) {
     lock();
-    struct object *object = find(request);
+    struct object *object = first(request, is_through);
+    if (!object) object = first(request, is_pooled);
+    if (!object) {
+        unlock();
+        return (struct after){0};
+    }
     struct after after = {object->loop, object->callback, object->id};
     settle_all(after.loop, NULL);
     after.loop->begun++;
@@ -57,22 +89,49 @@ static struct after begin_after(void *request, bool cancelled) {
 }
 
 static void end_after(struct after after) {
+    if (!after.loop) return;
     lock();
     write_end(after.loop, after.id);
     unlock();
 }
 
-static void do_work(uv_work_t *request) {
+/* A worker takes it: what is to be done, by the program's function or by libuv's own. */
+struct work {
+    uv_work_cb program;
+    void (*own)(struct uv__work *);
+    int id;
+};
+
+static struct work begin_work(void *request) {
+    struct work work = {0};
+    lock();
+    struct object *object = first(request, is_free);
+    if (!object) object = first(request, is_pooled);
+    if (object) {
+        work = (struct work){(uv_work_cb)object->second, object->own, object->id};
+        object->taken = true;
+        if (!forces()) write_line(object->loop, 'T', "%d", object->id);
+    }
+    unlock();
+    return work;
+}
+
+static void end_work(void *request, int id) {
     lock();
     struct object *object = find(request);
-    uv_work_cb work = (uv_work_cb)object->second;
-    if (!forces()) write_line(object->loop, 'T', "%d", object->id);
+    while (object && object->id != id) object = earlier(object);
+    if (object) {
+        object->through = true;
+        write_line(object->loop, 'F', "%d", id);
+    }
     unlock();
-    PROGRAM(work(request));
-    lock();
-    object = find(request);
-    if (object) write_line(object->loop, 'F', "%d", object->id);
-    unlock();
+}
+
+static void do_work(uv_work_t *request) {
+    struct work work = begin_work(request);
+    if (!work.program) return;
+    PROGRAM(work.program(request));
+    end_work(request, work.id);
 }
 
 /* ---- when a worker takes a request for files, names or random bytes, and when it is through
@@ -110,18 +169,12 @@ static void begin_queueing(struct object *object, struct uv__work *request, void
 }
 
 static void do_own(void *request, struct uv__work *own) {
-    lock();
-    struct object *object = find(request);
-    void (*work)(struct uv__work *) = object->own;
-    if (!forces()) write_line(object->loop, 'T', "%d", object->id);
-    unlock();
+    struct work work = begin_work(request);
+    if (!work.own) return;
     inside++;
-    work(own);
+    work.own(own);
     inside--;
-    lock();
-    object = find(request);
-    if (object) write_line(object->loop, 'F', "%d", object->id);
-    unlock();
+    end_work(request, work.id);
 }
 
 #define OWN_WORK(NAME, TYPE)                                        \

@@ -51,6 +51,7 @@ struct object {
     int requests; /* of a watcher: writes, connects, .. that are under way */
     void *callback;
     void *second; /* of a request: its work; of a stream: its connection callback */
+    bool pooled, taken, through; /* a request that the pool has; a worker has taken it; and its work is done */
     void (*own)(struct uv__work *); /* of a request for files, names or random bytes: what libuv has a worker do */
     uv_close_cb closed;
     struct object *owner; /* of a stream's request: the stream */
@@ -62,7 +63,9 @@ struct loop *loop_of(uv_loop_t *uv);
 struct loop *new_loop(uv_loop_t *uv);
 /* The last one that was made or asked for in this thread, NULL if there is none. */
 struct loop *last_loop(void);
+/* The last one that was put at this address, NULL if there is none; and the one before it. */
 struct object *find(const void *address);
+struct object *earlier(const struct object *object);
 /* The same, of what the program has asked something of: where another thread than the loop's does that, a line says so. */
 struct object *asked(const void *address);
 /* A line where another thread than the loop's asks something of a loop that runs, `id` -1 for the loop itself. */
