@@ -42,10 +42,12 @@ NESTED, CLOSING = "A run in a callback", "Some handles close later"
 #   zero     a timer is started with 0 in its own callback, and a prepare handle is called behind the timers
 #   dig      the callback of a datagram that was sent at once comes before the poll, and the async handle has sent to itself
 #   node     the check handle of node's immediates stands between two callbacks of I/O of one poll
+#   accepted a thread sends to `stop` while the callback of `accept` is under way, and both are called in one poll: there are two sends
 # node20-http is of a node with libuv 1.46.0 within it.
 WANTED: dict[str, dict[int, tuple[str, str] | None]] = {
     "late": {0: None},
     "threads": {0: None},
+    "accepted": {0: None},
     "work": {0: None},
     "starved": {0: None},
     "watchers": {0: None},
@@ -157,6 +159,8 @@ def try_log(check, name: str, folder: str) -> None:
         minor = int(read_log(log.read_bytes()).version.split(".")[1])
         settings = ["order 1.44" if minor < 45 else "order 1.45", *(["io"] if any(map(notes.is_io, notes.names)) else []), "timers heap"]
         lines = path.read_text().splitlines()
+        if name == "accepted":
+            check(f"{what}: no send is made up", sum(it.startswith("send ") for it in lines) == 2, lines)
         check(f"{what}: its version and its settings", lines[: len(settings) + 1] == ["uvt 3", *settings], lines[:6])
 
 

@@ -311,9 +311,10 @@ class Follower:
             ready = True
 
     def sends_before(self, item: Call, at: int) -> bool:
-        """Does a callback from this item on send to that one before it is called? Where somebody woke the poll, nobody else has to."""
+        """Does a callback, or another thread, send to that one from this item on before it is called? Where somebody woke the poll, nobody else
+        has to."""
         before = itertools.takewhile(lambda it: it is not item, itertools.islice(self.items, at, None))
-        return any(isinstance(it, Op) and it.text == f"send {item.name}" for it in before)
+        return any((isinstance(it, Op) and it.text == f"send {item.name}") or (isinstance(it, Send) and it.name == item.name) for it in before)
 
     def group(self, at: int) -> list[Call]:
         """The callbacks of this poll, from this item on, that the loop calls in this order in one iteration; but for those of I/O."""
