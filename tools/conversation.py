@@ -6,16 +6,18 @@ What is here speaks the program's own words (docs/FORMAT.md) and has no loop of 
 from __future__ import annotations
 
 import functools
+import io
 import os
 import re
 import signal
 import subprocess
+import sys
 import threading
 from dataclasses import dataclass, field
 from pathlib import Path
 from typing import BinaryIO, Iterator
 
-from notes import Notes, path_of, read_notes
+from notes import Notes, harmless, path_of, read_notes
 
 ROOT = Path(__file__).resolve().parent.parent
 # Whether these are the tools of tools/package, without a repository.
@@ -26,8 +28,17 @@ def out_folder() -> Path:
     """Where the tools compile what they need: below the repository, or for installed tools in a folder of the user's and their version's."""
     if not INSTALLED:
         return ROOT / "out"
-    cache = Path(os.environ.get("XDG_CACHE_HOME") or Path.home() / ".cache")
+    # (who has no home gets a folder that can't be made, and hears so where something has to be compiled)
+    cache = Path(os.environ.get("XDG_CACHE_HOME") or home() / ".cache")
     return cache / "uvt" / (ROOT / "version").read_text(encoding="ascii").strip()
+
+
+def home() -> Path:
+    """The user's folder; one that isn't there where HOME isn't set, and nobody knows the user."""
+    try:
+        return Path.home()
+    except RuntimeError:
+        return Path("/nonexistent")
 
 
 OUT = out_folder()
@@ -42,7 +53,16 @@ PIPE = 4096
 
 
 class Fault(Exception):
-    """What a person is to be told, in a sentence."""
+    """What a person is to be told, in a sentence. It may name a file, or show a line, that holds anything: a terminal gets none of its signs."""
+
+    def __str__(self) -> str:
+        return harmless(super().__str__())
+
+
+for _stream in (sys.stdout, sys.stderr):
+    # (a name of a file may have bytes that the terminal's encoding has no sign for)
+    if isinstance(_stream, io.TextIOWrapper):
+        _stream.reconfigure(errors="backslashreplace")
 
 
 @dataclass
@@ -138,6 +158,8 @@ def read_input(path: Path) -> tuple[Script, list[str]]:
         data = path.read_bytes()
     except OSError as fault:
         raise Fault(f"{path}: {fault.strerror}") from None
+    except ValueError:
+        raise Fault("this is no path: it has a zero byte, or a sign that no name of a file may have") from None
     return read_bytes(data, path)
 
 

@@ -140,7 +140,7 @@ class Adapter:
         head = {"type": "response", "request_seq": message["seq"], "command": str(command)}
         self.later: list[Callable[[], None]] = []
         try:
-            if command not in self.requests:
+            if not isinstance(command, str) or command not in self.requests:
                 raise Refused(f"`{command}` is no request that is known here")
             if self.talk is None and command not in ("initialize", "launch", "disconnect", "terminate"):
                 raise Refused("nothing was launched")
@@ -384,7 +384,7 @@ class Adapter:
 
     def goto(self, length: int) -> None:
         away = length - self.talk.length
-        if length < 0 or self.talk.ask(f"forward {away}" if away > 0 else f"back {-away}") == ["refused range"]:
+        if not 0 <= length <= MOST or self.talk.ask(f"forward {away}" if away > 0 else f"back {-away}") == ["refused range"]:
             raise Refused(f"only {self.talk.length} steps stand, and what was taken back doesn't reach to {length}")
 
     def on_gotoTargets(self, arguments: dict) -> dict:

@@ -20,6 +20,8 @@ from pathlib import Path
 from javascript import JavaScript
 
 HEAD = "uvt-notes 1"
+# What would steer a terminal: the control signs of ASCII and those of 0x80 to 0x9f, but for the line feed and the tab.
+CONTROL = {it: "?" for it in (*range(32), *range(127, 160)) if it not in (9, 10)}
 IN_A_LINE = 20
 # Handles of I/O by their kinds, in a person's words.
 THINGS = {
@@ -127,6 +129,11 @@ class Notes:
         return "\n".join(lines) + "\n"
 
 
+def harmless(text: str) -> str:
+    """A text from somewhere else, as it may be shown at a terminal."""
+    return text.translate(CONTROL)
+
+
 def signal_name(number: str) -> str:
     """`SIGTERM`, or `signal 77` where it has no name."""
     try:
@@ -224,7 +231,7 @@ def read_notes(path: Path, recording: bytes) -> Notes:
     """The notes beside this recording; empty ones where there are none of it."""
     notes = Notes()
     try:
-        lines = path.with_suffix(".notes").read_text(encoding="utf-8", errors="replace").splitlines()
+        lines = harmless(path.with_suffix(".notes").read_text(encoding="utf-8", errors="replace")).split("\n")
     except (OSError, ValueError):
         return notes
     if lines and lines[0] == f"{HEAD} {hashlib.sha256(recording).hexdigest()}":

@@ -349,6 +349,9 @@ class Shell:
         length = self.checkpoints[int(digits) - 1] if word[0] == "#" else int(digits)
         away = length - self.talk.length
         lines = self.talk.ask(f"forward {away}" if away > 0 else f"back {-away}")
+        if lines == [BAD]:
+            # (more steps than a session may have)
+            lines = ["refused range"]
         if lines == ["refused range"] and length <= len(self.steps):
             # (what was taken back is gone by another step: along what was recorded)
             for _ in self.talk.ask_each(self.steps[self.talk.length : length]):

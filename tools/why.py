@@ -87,7 +87,9 @@ class Why:
         if self.notes.part:
             lines.append(f"    THE RECORDING IS A PART: {self.notes.part}")
         for number, function in sorted(self.notes.foreign.items()):
-            line = self.walk.script.lines[number - self.walk.script.first]
+            at = number - self.walk.script.first
+            # (notes may name a line that isn't there)
+            line = self.walk.script.lines[at] if 0 <= at < len(self.walk.script.lines) else ""
             if self.name in line.split(" ")[2:]:
                 lines.append(f"    WRONG THREAD: {function} was called by another thread while the loop ran, which libuv allows of uv_async_send"
                              f" alone; line {number} stands for it: {line}")

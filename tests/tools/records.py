@@ -220,12 +220,12 @@ def try_changed(check, folder: str) -> None:
 
 
 def try_faults(check, folder: str) -> None:
-    (Path(folder) / "full.rec.part").symlink_to("/dev/full")
+    (Path(folder) / "full.rec").mkdir()
     cases = [
         ("no such log", ["--log", "nowhere.log"], "nowhere.log: No such file or directory"),
         ("a folder as a log", ["--log", "."], "Is a directory"),
         ("no log", ["--log", str(ROOT / "README.md")], "this is no log of a program"),
-        ("a full disk", ["-o", "full", "--log", str(LOGS / "late.log")], "full.rec: No space left on device"),
+        ("a folder in a recording's place", ["-o", "full", "--log", str(LOGS / "late.log")], "full.rec: Is a directory"),
         ("a recording as a log", ["--log", str(EXAMPLES / "sent-session.rec")], "this is a recording, and no log"),
         ("a recording as a program", [str(EXAMPLES / "sent-session.rec")], "is a recording already, and no program"),
         ("a log as a program", [str(LOGS / "late.log")], "is a log, and no program"),

@@ -10,6 +10,7 @@ import re
 from dataclasses import dataclass, field
 
 from conversation import Fault
+from notes import harmless
 
 NUMBER = r"(?:0|[1-9]\d{0,18})"
 TIMER_OWN = {"timer", "idle", "prepare", "check", "async"}
@@ -147,7 +148,7 @@ def within(workers: int) -> int:
 def read_log(data: bytes) -> Log:
     """What stands in a log, up to its first line that is none."""
     # (a window of the file that wasn't filled has zeros at its end)
-    lines = data.replace(b"\0", b"").decode("utf-8", "replace").split("\n")
+    lines = harmless(data.replace(b"\0", b"").decode("utf-8", "replace")).split("\n")
     cut = lines.pop() != ""
     head = HEAD.fullmatch(lines[0]) if lines else None
     if not head and re.match(r"uvt \d", lines[0] if lines else ""):

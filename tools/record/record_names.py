@@ -18,7 +18,7 @@ def listed(file: str, words: list[str]) -> list[list[str]]:
     """What nm lists of a file; nothing without nm, or of a file that it can't read."""
     try:
         ran = subprocess.run(["nm", "--defined-only", *words, "--", file], capture_output=True, text=True, errors="replace", timeout=60)
-    except (OSError, subprocess.TimeoutExpired):
+    except (OSError, ValueError, subprocess.TimeoutExpired):
         return []
     return [line.split(" ", 3) for line in ran.stdout.splitlines()]
 
@@ -65,7 +65,7 @@ def sources(file: str, offsets: list[int]) -> list[str]:
     words = ["addr2line", "-e", file, *(f"{it:x}" for it in offsets)]
     try:
         ran = subprocess.run(words, capture_output=True, text=True, errors="replace", timeout=60)
-    except (OSError, subprocess.TimeoutExpired):
+    except (OSError, ValueError, subprocess.TimeoutExpired):
         return [""] * len(offsets)
     lines = [it.split(" ")[0].rsplit("/", 1)[-1] for it in ran.stdout.splitlines()]
     known = [it if re.fullmatch(r"[^\s?+@]+:[1-9]\d*", it) else "" for it in lines]

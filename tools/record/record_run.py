@@ -39,7 +39,10 @@ def write(path: Path, data: bytes) -> None:
     """Writes a file whole, or leaves what was there."""
     part = path.with_name(path.name + ".part")
     try:
-        part.write_bytes(data)
+        # (no link that somebody else has put there is followed)
+        part.unlink(missing_ok=True)
+        with part.open("xb") as file:
+            file.write(data)
         part.replace(path)
     except OSError as fault:
         part.unlink(missing_ok=True)
