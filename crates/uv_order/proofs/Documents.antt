@@ -1,16 +1,18 @@
 -- The lines of every list of steps are in the documented order: what names are bound to by the lines is what the accepted ops of a step
 -- find them bound to.
-use Rattle.uv_order.proofs.Names.{arith, map, ◌≡◌, List, ◌∷◌, ◌++◌, Option, Some, None, refl, ap, sym, subst, ◌∙◌, Event, Seen, Program, worker_count, State, fresh, Next, Moves, Refuses, state_of, lines, Line, line_of_step, history_from, MayFollow, OnceFrom, pool_events, pool_of, Pool, empty_pool, then_event, after_events, PoolEvent, names_by, Told, nothing_told, told_by, Lasting, lasting, at_first, Position, Between, Goes, GoesOn, cut, line, Documented, next, history, replay, []}
+use Rattle.uv_order.proofs.Names.{arith, Bool, true, false, Id, HandleRecord, handle, map, ◌≡◌, List, ◌∷◌, ◌++◌, Option, Some, None, refl, ap, sym, subst, ◌∙◌, Event, Seen, Program, worker_count, State, fresh, Next, Moves, Refuses, state_of, lines, Line, line_of_step, history_from, MayFollow, OnceFrom, pool_events, pool_of, Pool, empty_pool, then_event, after_events, PoolEvent, names_by, Told, nothing_told, told_by, Lasting, lasting, at_first, Position, Between, Goes, GoesOn, cut, line, Documented, next, history, replay, []}
 use Rattle.uv_model.specs.After as after
-use Rattle.uv_order.specs.Once.{Once}
+use Rattle.uv_order.specs.Once.{Once, was_closed}
+use Rattle.uv_order.specs.Told.{AreTold, IsTold, onto}
 use Rattle.uv_order.proofs.Histories.{lines-history}
 use Rattle.uv_order.proofs.Pooling.{Pools, did_pools}
-use Rattle.uv_order.proofs.Lemmas.{Kept, did, Working, StaysWorking, did_working, fresh_working}
+use Rattle.uv_order.proofs.Lemmas.{Kept, held_at, did, Working, StaysWorking, did_working, fresh_working}
 use Rattle.uv_order.proofs.KeptSteps.{StaysKept, did_kept, fresh_kept}
 use Rattle.uv_order.proofs.Sends.{SentAt, SentFollows, did_sent, sent_fresh}
 use Rattle.uv_order.proofs.Standing.{Stands, Follows, Has}
 use Rattle.uv_order.proofs.Follows.{follows, begins_at, stands_fresh}
 use Rattle.uv_order.proofs.OpsOnce.{KnownAt}
+use Rattle.uv_order.proofs.Known.{not_closed}
 use Rattle.uv_order.proofs.Started.{StartedAt, StartedFollows, did_started, started_fresh}
 use Rattle.uv_order.proofs.ClosesOnce as known
 use Rattle.uv_order.proofs.ClosesOnce.{did_known, known_fresh}
@@ -147,3 +149,26 @@ holds_by (quiet f c) = holds_by c
 
 pub holds_after : (p : Program) (es : List Event) → HoldsAt p (after.after p es)
 holds_after p es = holds_by (course p es)
+
+-- each handle is what the lines tell of it
+its_close : (p : Program) (past : List Seen) (s : State) (id : Id) (h : HandleRecord) → held_at s.arena.slots id ≡ Some h → KnownAt p past s →
+    (b : Bool) → h.closing ≡ b → was_closed p past id ≡ b
+its_close p past s id h e k true c = k.closing id (record { handle = h; holds = e; fits = c })
+its_close p past s id h e k false c = not_closed p past s.arena s.names id h e c k
+
+is_told : (p : Program) (past : List Seen) (s : State) → KnownAt p past s → StartedAt p past s → (id : Id) (h : HandleRecord) → handle s id ≡ Some h →
+    IsTold p past s id h
+is_told p past s k started id h e = record {
+  made = k.made id h.name (grind arith);
+  closed = its_close p past s id h e k h.closing refl;
+  active = started.active id h e;
+}
+
+told_by_lines : {p : Program} {told : Told} {past : List Seen} {s u : State} {at : Position} {ls : List Line} → Course p told past s at ls u →
+    (id : Id) (h : HandleRecord) → handle u id ≡ Some h → IsTold p (onto past (seens ls)) u id h
+told_by_lines (stop k) id h e = is_told _ _ _ k.known k.started id h e
+told_by_lines (move f c) id h e = told_by_lines c id h e
+told_by_lines (quiet f c) id h e = told_by_lines c id h e
+
+pub told : (p : Program) (es : List Event) → AreTold p (lines p es) (after.after p es)
+told p es = subst (λ (ls : List Seen). AreTold p ls (after.after p es)) (sym (lines-history p es)) (told_by_lines (course p es))

@@ -31,6 +31,7 @@ mod Started
 pub mod Taking
 mod TimerKeys
 mod TimersFollow
+pub mod Waiting
 mod WatchersFollow
 mod Woken
 mod Worked

@@ -1,7 +1,8 @@
 -- Which handles are active, as the handles say: the timers in their order, those of them that are due, and the watchers of a kind.
 use Rattle.std.specs.Prelude.{◌≡◌, ◌⊎◌, ◌||◌, Bool, true, false, List, [], ◌∷◌, Option, Some, None, filter, map, nat_le}
 use Rattle.std.specs.declared.cmp.Ordering.TheVariants.{Less}
-use Rattle.uv_ids.specs.Due.{due_cmp}
+use Rattle.std.specs.Ordering.{ordering_then, nat_cmp}
+use Rattle.std.specs.declared.cmp.Ordering.{Ordering}
 use Rattle.uv_ids.specs.declared.id.Id.{Id}
 use Rattle.uv_ids.specs.declared.due.Due.{Due}
 use Rattle.uv_ids.specs.declared.phase.Kind.{Kind}
@@ -94,10 +95,14 @@ abbrev pub Has : List (Due × Id) → Due → Id → Type 0
 Has [] due id = ⊥
 Has (t ∷ ts) due id = ((t.0 ≡ due) × (t.1 ≡ id)) ⊎ Has ts due id
 
+-- the order of timers: by due time, and then by the number that the start drew
+abbrev pub due_order : Due → Due → Ordering
+due_order a b = ordering_then (nat_cmp a.at b.at) (nat_cmp a.start b.start)
+
 -- it comes before each of these
 abbrev pub Before : Due → List (Due × Id) → Type 0
 Before due [] = Unit {0}
-Before due (t ∷ ts) = (due_cmp due t.0 ≡ Less) × Before due ts
+Before due (t ∷ ts) = (due_order due t.0 ≡ Less) × Before due ts
 
 -- each comes before those behind it
 abbrev pub InOrder : List (Due × Id) → Type 0

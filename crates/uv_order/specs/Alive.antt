@@ -1,12 +1,11 @@
 -- Whether the loop is alive, by its handles and by the lists of requests and of handles that close (uv_loop_alive), and how long its
 -- poll may wait (uv_backend_timeout).
-use Rattle.std.specs.Prelude.{ℕ, ◌-◌, List, [], ◌∷◌, Bool, true, false, ◌||◌, not, Option, Some, None, min, if◌then◌else◌}
+use Rattle.std.specs.Prelude.{ℕ, ◌-◌, List, [], ◌∷◌, Bool, true, false, ◌||◌, ◌&&◌, not, Option, Some, None, min, if◌then◌else◌}
 use Rattle.std.specs.List.{list_any}
 use Rattle.uv_ids.specs.declared.id.Id.{Id}
 use Rattle.uv_ids.specs.declared.due.Due.{Due}
 use Rattle.uv_ids.specs.declared.phase.Mode.{Mode}
 use Rattle.uv_ids.specs.declared.phase.Mode.TheVariants.{Default, Once, Nowait}
-use Rattle.uv_records.specs.Handles.{keeps_alive}
 use Rattle.uv_records.specs.declared.slot.Slot.{Slot}
 use Rattle.uv_model.specs.Limits.{LONGEST_POLL}
 use Rattle.uv_work.specs.declared.content.Content.{Content}
@@ -17,7 +16,7 @@ use Rattle.uv_model.specs.State.{State}
 -- a slot holds a handle that is active and referenced
 abbrev pub is_kept_by : Option Content → Bool
 is_kept_by None = false
-is_kept_by (Some (content.Handle h)) = keeps_alive h
+is_kept_by (Some (content.Handle h)) = h.active && h.referenced
 is_kept_by (Some (content.Request r)) = false
 
 -- some handle is active and referenced

@@ -3,7 +3,7 @@
 -- is the timers of its entry, iterations, and its end; an iteration is its sections in their order; a section calls the members
 -- of its list, and each callback does the ops of its body. Callbacks of I/O come in the poll and about it, as the environment says: their
 -- order and number are free (own). It says nothing of how a step is done.
-use Rattle.std.specs.Prelude.{◌≡◌, ◌≤◌, ◌==◌, ◌&&◌, ◌||◌, ℕ, zero, suc, ◌+◌, List, [], ◌∷◌, ◌++◌, Bool, true, false, not, Option, Some, None, slice_get, option_map, if◌then◌else◌}
+use Rattle.std.specs.Prelude.{◌≡◌, ◌≤◌, ◌==◌, ◌&&◌, ◌||◌, ℕ, zero, suc, ◌+◌, List, [], ◌∷◌, ◌++◌, Bool, true, false, not, Option, Some, None, slice_get, option_map, nat_le, if◌then◌else◌}
 use Rattle.uv_ids.specs.declared.order.Order.{Order}
 use Rattle.uv_ids.specs.declared.order.Order.TheVariants.{V144, V145}
 use Rattle.uv_ids.specs.declared.id.Id.{Id}
@@ -33,7 +33,7 @@ use Rattle.uv_work.specs.declared.request.Request.{Request}
 use Rattle.uv_work.specs.Requests.{digest_in}
 use Rattle.uv_model.specs.Ids.{has_some, without_id}
 use Rattle.uv_model.specs.State.{State, request}
-use Rattle.uv_model.specs.Timeout.{deadline_of, has_passed, has_pending}
+use Rattle.uv_model.specs.Timeout.{has_pending}
 use Rattle.uv_order.specs.Line.{Line}
 use Rattle.uv_order.specs.Once.{bound, made_as}
 use Rattle.uv_order.specs.Alive.{lives, may_wait}
@@ -372,6 +372,16 @@ NoneDue word heap s = Unit {0}
 
 -- ---- runs
 
+-- when a poll is over, at the latest: so long behind the loop's time
+abbrev pub poll_end : State → Option ℕ → Option ℕ
+poll_end s None = None
+poll_end s (Some timeout) = Some (s.time + timeout)
+
+-- the clock has come so far
+abbrev pub is_reached : ℕ → Option ℕ → Bool
+is_reached clock None = false
+is_reached clock (Some deadline) = nat_le deadline clock
+
 -- where a run stands
 pub data Standing : Type 0 where
   -- behind its line
@@ -401,7 +411,7 @@ woken_at (Answering woken body) = woken
 abbrev pub MayLeave : Program → State → Told → Standing → Type 0
 MayLeave p s told Begun = Unit {0}
 MayLeave p s told (Within part w) = IsOver (word_of part) w × NoneDue (word_of part) (from_heap p) s
-MayLeave p s told (Polling deadline) = (has_passed s.clock deadline || (has_some s.done.list || (has_some told.sent && has_pending s))) ≡ true
+MayLeave p s told (Polling deadline) = (is_reached s.clock deadline || (has_some s.done.list || (has_some told.sent && has_pending s))) ≡ true
 MayLeave p s told (Answering woken body) = body ≡ []
 
 -- what the line of the next section sets: behind a callback of I/O that left the poll, and set the time to the clock, nothing
@@ -489,7 +499,7 @@ pub data Goes (p : Program) (told : Told) (names : Names) : Position → Line �
       → PollsFor l.before m timeout
       → l.seen ≡ seen.Poll timeout
       → lasting l.after ≡ lasting l.before
-      → Goes p told names (Running m i at) l (Running m i (Polling (deadline_of l.before timeout)))
+      → Goes p told names (Running m i at) l (Running m i (Polling (poll_end l.before timeout)))
   -- the run ends, and says whether the loop is alive
   ends : {l : Line} {m : Mode} {i : ℕ} {at : Standing}
       → MayLeave p l.before told at

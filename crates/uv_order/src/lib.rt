@@ -10,9 +10,13 @@ mod phase_order;
 mod pool;
 mod reached;
 mod refused;
+mod told;
+mod waits;
 
 pub use once::closes_once;
 pub use phase_order::documented_order;
 pub use pool::pool_follows;
 pub use reached::lists_agree;
 pub use refused::orders_refuse;
+pub use told::handles_told;
+pub use waits::loop_goes_on;
