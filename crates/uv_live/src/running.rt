@@ -6,7 +6,8 @@ ghost use Rattle.uv_live.specs.Course.{AreNamed};
 ghost use Rattle.uv_live.specs.Running.{HaltsAt, RunSettles, PassesTo};
 ghost use Rattle.uv_live.specs.Turning.{Refuses};
 ghost use Rattle.uv_live.specs.Working.{is_at_work};
-ghost use Rattle.std.specs.Prelude.{IfSome, IfErr, is_some, length, vec_len};
+ghost use Rattle.std.specs.Prelude.{IfSome, IfErr, OnOk, is_some, length, vec_len};
+ghost use Rattle.uv_ids.specs.declared.fault.Fault.TheVariants as fault;
 
 use crate::clock::Clock;
 use crate::crew::{Crew, join_workers, lowest_fault, shifts_of, start_workers};
@@ -133,6 +134,8 @@ fn run<S: Follower, L: Ledger, C: Clock, R: Threads + Wait>(
 fn fault_of(halt: Result<bool, Fault>, workers: Option<Fault>) -> Option<Fault>
     ensures none { IfNone result (halt ≡ Ok true) }
     ensures own { IfErr halt (λ f. result ≡ Some f) }
+    ensures theirs { OnOk halt (IfSome workers (λ f. result ≡ Some f)) }
+    ensures stalled { OnOk halt (IfNone workers (IfSome result (λ f. f ≡ fault.Stalled))) }
 {
     match halt {
         Err(own) => Some(own),
