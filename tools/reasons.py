@@ -54,6 +54,7 @@ ASKED_REASONS = {
     'question': 'a second question: line {0} has the first, and one is asked at a time',
     'offers': 'at most 256 lines begin with `may`',
     'find': 'the line is missing that says what to look for: `find ..`',
+    'two': '`{0}` stands on both sides of `before`, which asks for two names',
 }
 
 # What stands behind each op. NAME is declared, KIND and MODE are words, and the others are numbers.
@@ -295,7 +296,7 @@ def of_recording(lines: List[bytes], number: int) -> None:
 
 # What stands behind `may`, `most` and `find`, and the word behind them; of two forms the longer one last.
 ASKED = {
-    'may': {'send': ['NAME N'], 'cancel': ['NAME N'], 'tick': ['MS N'], 'wait': ['']},
+    'may': {'send': ['NAME N'], 'cancel': ['NAME N'], 'io': ['NAME N'], 'tick': ['MS N'], 'wait': ['']},
     'most': {'clock': ['MS'], 'states': ['N'], 'NAME': ['CALLS']},
     'find': {'call': ['NAME', 'NAME N'], 'code': ['CODE', 'CODE of NAME'], 'section': ['WORD'], 'never': ['NAME'], 'stuck': [''], 'late': ['NAME MS'],
              'NAME': ['before NAME']},
@@ -330,6 +331,8 @@ def of_asked_line(line: bytes, found: Context) -> None:
         if len(fields) == len(words) and all(word == what for word, what in zip(words, fields) if what.islower()):
             for word, what in zip(words, fields):
                 of_field(word, what, head, found)
+            if fields[1:] == ['NAME', 'before', 'NAME'] and words[1] == words[3]:
+                raise Why('two', words[1])
             return
     raise Why('form', line.decode('ascii'), ' or '.join('`%s`' % it for it in shapes))
 

@@ -6,7 +6,7 @@ DEFAULT_WORKERS = 4
 
 
 class Offer(NamedTuple):
-    """A step from outside: `send` and `cancel` with a name, `tick` with a number, or `wait`."""
+    """A step from outside: `send`, `cancel` and `io` with a name, `tick` with a number, or `wait`."""
     word: str
     argument: str
     # how often it may be taken; none is as often as one likes
@@ -49,7 +49,7 @@ def read(text: str) -> Asked:
 def names_in(asked: Asked) -> List[str]:
     """The names that the lines behind `begin` name."""
     question = asked.question
-    named = list(asked.most) + [offer.argument for offer in asked.offers if offer.word in ('send', 'cancel')]
+    named = list(asked.most) + [offer.argument for offer in asked.offers if offer.word in ('send', 'cancel', 'io')]
     if len(question) == 3 and question[1] == 'before':
         return named + [question[0], question[2]]
     if question[:1] == ('code',):
@@ -69,7 +69,7 @@ def read_line(asked: Asked, line: str) -> Asked:
         return asked
     if words == ['may', 'wait']:
         return asked._replace(offers=asked.offers + [Offer('wait', '', None)])
-    if words[0] == 'may' and len(words) == 4 and words[1] in ('send', 'cancel', 'tick'):
+    if words[0] == 'may' and len(words) == 4 and words[1] in ('send', 'cancel', 'io', 'tick'):
         return asked._replace(offers=asked.offers + [Offer(words[1], words[2], int(words[3]))])
     if words[0] == 'most' and len(words) == 3 and re.fullmatch('[0-9]+', words[2]):
         if words[1] == 'clock':

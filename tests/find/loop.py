@@ -23,6 +23,8 @@ class State(NamedTuple):
     due: Dict[str, int]
     # the names under which a timer is held
     timers: List[str]
+    # the names that were bound to a handle or a request
+    made: List[str]
 
 
 class Reply(NamedTuple):
@@ -39,11 +41,13 @@ def read_state(lines: List[str]) -> State:
     place = lines[1].split()
     main = int(place[2]) if place[1] == 'main' else None
     deadline = int(place[4]) if place[3:4] == ['poll'] and place[4] != 'infinite' and '+' not in place else None
-    state = State('\n'.join([numbers[1]] + lines[1:]), int(numbers[2]), main, deadline, {}, [], {}, [])
+    state = State('\n'.join([numbers[1]] + lines[1:]), int(numbers[2]), main, deadline, {}, [], {}, [], [])
     for line in lines[2:]:
         words = line.split()
         if words[0] == 'name':
             state.calls[words[1]] = (int(words[3]), int(words[4]), int(words[5]))
+            if words[2] != 'none':
+                state.made.append(words[1])
         if words[0] == 'slot' and words[2] == 'timer':
             state.timers.append(words[3])
             if words[words.index('active') + 1] == '1':

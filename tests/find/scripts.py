@@ -2,7 +2,7 @@
 from random import Random
 from typing import Dict, List
 
-KINDS = ['timer', 'timer', 'timer', 'async', 'async', 'request', 'request', 'request', 'prepare', 'check', 'idle']
+KINDS = ['timer', 'timer', 'timer', 'async', 'async', 'request', 'request', 'request', 'prepare', 'check', 'idle', 'io', 'io']
 CODES = ['ok', 'EINVAL', 'EBUSY', 'ECANCELED', 'EBOUND', 'EFULL', 'ESTALE', 'EKIND']
 SECTIONS = ['pending', 'idle', 'prepare', 'poll', 'done', 'async', 'check', 'closing', 'timers']
 QUESTIONS = ['call', 'nth call', 'code', 'code of', 'section', 'never', 'stuck', 'late', 'before']
@@ -34,7 +34,7 @@ def main_of(draw: Random, kinds: Dict[str, str]) -> List[str]:
     lines = []
     for name, kind in kinds.items():
         lines.append(init(name, kind))
-        if kind in ('timer', 'prepare', 'check', 'idle') and draw.random() < 0.9:
+        if kind in ('timer', 'prepare', 'check', 'idle', 'io') and draw.random() < 0.9:
             lines.append(start(draw, name, kind))
     lines += ['run ' + draw.choice(['default', 'default', 'default', 'once', 'nowait'])] * (draw.random() < 0.93)
     if draw.random() < 0.2:
@@ -48,7 +48,7 @@ def bodies_of(draw: Random, kinds: Dict[str, str]) -> List[str]:
         for _ in range(draw.choice([0, 1, 1, 2])):
             word = 'after' if kind == 'request' else 'on' if draw.random() < 0.85 else 'closed'
             lines.append('%s %s%s %s' % (word, name, draw.choice(['', '', ' @1', ' @2']), op_of(draw, kinds)))
-        if kind in ('async', 'timer', 'idle', 'prepare', 'check') and draw.random() < 0.6:
+        if kind in ('async', 'timer', 'idle', 'prepare', 'check', 'io') and draw.random() < 0.6:
             lines.append('on %s%s close %s' % (name, draw.choice(['', ' @1', ' @2']), name))
     return lines
 
@@ -58,6 +58,8 @@ def offers_of(draw: Random, kinds: Dict[str, str], question: str) -> List[str]:
     for name, kind in kinds.items():
         if kind == 'async' and draw.random() < 0.8:
             lines.append('may send %s %d' % (name, draw.choice([1, 1, 2])))
+        if kind == 'io' and draw.random() < 0.8:
+            lines.append('may io %s %d' % (name, draw.choice([1, 1, 2])))
         if kind == 'request' and draw.random() < 0.3:
             lines.append('may cancel %s 1' % name)
     if draw.random() < (0.8 if question.startswith('late ') else 0.3):
@@ -97,6 +99,7 @@ def script(draw: Random) -> str:
     names = ['a', 'b', 'c', 'd'][:draw.choice([1, 2, 2, 3, 3, 4])]
     kinds = {name: draw.choice(KINDS) for name in names}
     lines = ['workers %d' % draw.choice([1, 1, 2])] + ['order 1.44'] * (draw.random() < 0.15) + ['slots %d' % len(names)] * (draw.random() < 0.1)
+    lines += ['io'] * ('io' in kinds.values())
     lines += ['var ' + name for name in names] + ['main ' + line for line in main_of(draw, kinds)] + bodies_of(draw, kinds) + ['begin']
     question = question_of(draw, kinds)
     asked = offers_of(draw, kinds, question) + bounds_of(draw, kinds) + ['find ' + question]

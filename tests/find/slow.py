@@ -46,7 +46,7 @@ def beginning(asked: Asked, state: State) -> Place:
 
 def command_of(asked: Asked, offer: Offer, left: Optional[int], state: State, is_blocked: bool) -> Optional[str]:
     """What this offer is here, if it is one."""
-    if left == 0:
+    if left == 0 or offer.word in ('send', 'cancel', 'io') and offer.argument not in state.made:
         return None
     if offer.word == 'take':
         idle = [worker for worker in range(asked.workers) if worker not in state.busy]

@@ -44,6 +44,8 @@ ANSWERS = {
 BAD_LINES = [
     ("var a\nbegin\nmay fly\nfind stuck\n", 3, "no line says `may fly`: it has the form"),
     ("var a\nbegin\nmay send b 1\nfind stuck\n", 3, "`b` isn't declared before this line"),
+    ("io\nvar a\nbegin\nmay io a 1\nmay io b 1\nfind stuck\n", 5, "`b` isn't declared before this line"),
+    ("var a\nbegin\nfind a before a\n", 3, "`a` stands on both sides of `before`, which asks for two names"),
     ("var a\nbegin\nmay send a 0\nfind stuck\n", 3, "`0` is out of range: N is 1 to 4294967295"),
     ("var a\nbegin\nmay wait\n", 4, "the line is missing that says what to look for: `find ..`"),
     ("var a\nbegin\nmay wait\nmay wait\nfind stuck\n", 4, "`may wait` stands in line 3 already, and a search has it once at most"),

@@ -28,7 +28,7 @@ fn outcome(answer: Result<Inquiry, Fault>) -> Result<Became, Fault> {
     }
 }
 
-const INPUTS: [(&[u8], Became); 12] = [
+const INPUTS: [(&[u8], Became); 13] = [
     (b"var a\nbegin\nfind never a\n", Became::Read),
     (b"order 1.44\nbegin\n# nothing\n\nfind stuck", Became::Read),
     (b"", Became::Bad(1)),
@@ -46,6 +46,10 @@ const INPUTS: [(&[u8], Became); 12] = [
     ),
     (
         b"var a\nbegin\nmay send a 1\nmay cancel a 1\nmay send a 2\nfind stuck\n",
+        Became::Bad(5),
+    ),
+    (
+        b"var a\nbegin\nmay send a 1\nmay io a 1\nmay io a 2\nfind stuck\n",
         Became::Bad(5),
     ),
     (

@@ -1,13 +1,14 @@
 //! Lines whose words are also names.
 
 use std::test::Fail;
-use uv_asking::{Part, Question, Said, read_part};
-use uv_ids::{Code, Phase, Var};
+use uv_asking::{Offer, Part, Question, Said, read_part};
+use uv_ids::{Code, Event, Phase, Var};
 use uv_script::{Names, Script};
 
 /// What a line says.
 #[derive(Clone, Copy)]
 enum Says {
+    Offers(Event, u32),
     Asks(Question),
     Clock(u64),
     States(u32),
@@ -18,7 +19,7 @@ enum Says {
 /// The names `call`, `before`, `clock`, `states`, `of`, `stuck` and `x`, from 0.
 const NAMES: &[u8] = b"var call\nvar before\nvar clock\nvar states\nvar of\nvar stuck\nvar x\n";
 
-const LINES: [(&[u8], Says); 20] = [
+const LINES: [(&[u8], Says); 24] = [
     (b"find call x", Says::Asks(Question::Call(Var(6), None))),
     (
         b"find call x 3",
@@ -36,9 +37,10 @@ const LINES: [(&[u8], Says); 20] = [
     (b"find call before 2", Says::Bad),
     (b"find late before 2", Says::Bad),
     (
-        b"find before before before",
-        Says::Asks(Question::Before(Var(1), Var(1))),
+        b"find before before x",
+        Says::Asks(Question::Before(Var(1), Var(6))),
     ),
+    (b"find before before before", Says::Bad),
     (b"find late x 0", Says::Asks(Question::Late(Var(6), 0))),
     (b"find never before", Says::Asks(Question::Never(Var(1)))),
     (b"find stuck", Says::Asks(Question::Stuck)),
@@ -60,11 +62,17 @@ const LINES: [(&[u8], Says); 20] = [
     (b"most states 0", Says::Bad),
     (b"most call 0", Says::Calls(0, 0)),
     (b"may wait 1", Says::Bad),
+    (b"may io x 2", Says::Offers(Event::Io(Var(6)), 2)),
+    (b"may io x", Says::Bad),
+    (b"may io y 1", Says::Bad),
 ];
 
 fn is_said(names: &Names, line: &[u8], says: Says) -> bool {
     match (read_part(names, line), says) {
         (Said::One(Part::Finds(found)), Says::Asks(question)) => found == question,
+        (Said::One(Part::Offers(found)), Says::Offers(event, times)) => {
+            found.offer == Offer::Step(event) && found.times == Some(times)
+        }
         (Said::One(Part::Clock(found)), Says::Clock(ms)) => found == ms,
         (Said::One(Part::States(found)), Says::States(states)) => found == states,
         (Said::One(Part::Calls(found)), Says::Calls(name, calls)) => {

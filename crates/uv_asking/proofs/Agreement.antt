@@ -55,9 +55,12 @@ offer_right names what argument =
     (λ _. cond_both (bytes_eq what (codes "cancel")) _ _ P
     (λ a. mapped (IsDeclared names argument) (IsOffer names what argument) _ (place_of names argument) (place_right names argument)
     (λ v h. is.cancel v (same _ _ a) h))
+    (λ _. cond_both (bytes_eq what (codes "io")) _ _ P
+    (λ a. mapped (IsDeclared names argument) (IsOffer names what argument) _ (place_of names argument) (place_right names argument)
+    (λ v h. is.io v (same _ _ a) h))
     (λ _. cond_both (bytes_eq what (codes "tick")) _ _ P
     (λ a. mapped (IsWithin 1 MOST_MS argument) (IsOffer names what argument) _ (number_in 1 MOST_MS argument) (number_right 1 MOST_MS argument)
-    (λ ms h. is.tick ms (same _ _ a) h)) (λ _. tt)))
+    (λ ms h. is.tick ms (same _ _ a) h)) (λ _. tt))))
 
 times_right : (names : List (List ℕ)) (word what argument times : List ℕ) → word ≡ codes "may" →
     Has (IsPart names (word ∷ what ∷ argument ∷ times ∷ [])) (times_of names what argument times)
@@ -163,9 +166,10 @@ before_right : (names : List (List ℕ)) (first middle second : List ℕ) → mi
 unfolding before_of
 before_right names first middle second w =
     let P = IsQuestion names (first ∷ middle ∷ second ∷ []) in
-    bound (IsDeclared names first) P _ (place_of names first) (place_right names first)
+    cond_both (bytes_eq first second) _ _ (Has P) (λ _. tt)
+    (λ o. bound (IsDeclared names first) P _ (place_of names first) (place_right names first)
     (λ v h. mapped (IsDeclared names second) P _ (place_of names second) (place_right names second)
-    (λ u k. is.before first v second u (ap (λ (x : List ℕ). first ∷ x ∷ second ∷ []) w) h k))
+    (λ u k. is.before first v second u (ap (λ (x : List ℕ). first ∷ x ∷ second ∷ []) w) (differs first second o) h k)))
 
 three_right : (names : List (List ℕ)) (first second third : List ℕ) →
     Has (IsQuestion names (first ∷ second ∷ third ∷ [])) (three_of names first second third)
@@ -219,6 +223,8 @@ offer_found names what argument o (is.send v w h) =
     found_is (ap (λ (x : List ℕ). offer_of names x argument) w) (found_map (λ (u : Var). Step (event.Send u)) (place_found names argument v h))
 offer_found names what argument o (is.cancel v w h) =
     found_is (ap (λ (x : List ℕ). offer_of names x argument) w) (found_map (λ (u : Var). Step (event.Cancel u)) (place_found names argument v h))
+offer_found names what argument o (is.io v w h) =
+    found_is (ap (λ (x : List ℕ). offer_of names x argument) w) (found_map (λ (u : Var). Step (event.Io u)) (place_found names argument v h))
 offer_found names what argument o (is.tick ms w h) =
     found_is (ap (λ (x : List ℕ). offer_of names x argument) w) (found_map (λ (n : ℕ). Step (event.Tick n)) (number_found 1 MOST_MS argument ms h))
 
@@ -254,8 +260,8 @@ question_found names fields q (is.nth_call name v number n e other h k) =
 question_found names fields q (is.late name v number ms e other h k) =
     found_is (ap (question_of names) e ∙ choice_other name (codes "before") _ _ other)
     (found_both (λ (u : Var) (m : ℕ). question.Late u m) (place_found names name v h) (number_found 0 MOST_MS number ms k))
-question_found names fields q (is.before first v second w e h k) =
-    found_is (ap (question_of names) e)
+question_found names fields q (is.before first v second w e other h k) =
+    found_is (ap (question_of names) e ∙ choice_other first second _ _ other)
     (found_both (λ (a b : Var). question.Before a b) (place_found names first v h) (place_found names second w k))
 question_found names fields q (is.code_of c name v e h) =
     found_is (ap (question_of names) e)

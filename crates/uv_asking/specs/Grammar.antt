@@ -27,6 +27,7 @@ pub record IsWithin (low high : ℕ) (text : List ℕ) (n : ℕ) : Type 0 where
 pub data IsOffer (names : List (List ℕ)) (what argument : List ℕ) : Offer → Type 0 where
   send : (v : Var) → what ≡ codes "send" → IsDeclared names argument v → IsOffer names what argument (Step (event.Send v))
   cancel : (v : Var) → what ≡ codes "cancel" → IsDeclared names argument v → IsOffer names what argument (Step (event.Cancel v))
+  io : (v : Var) → what ≡ codes "io" → IsDeclared names argument v → IsOffer names what argument (Step (event.Io v))
   tick : (ms : ℕ) → what ≡ codes "tick" → IsWithin 1 MOST_MS argument ms → IsOffer names what argument (Step (event.Tick ms))
 
 -- the fields behind `find`, and the question that they are, where these names are declared. Where `before` is the second of three fields they
@@ -43,8 +44,8 @@ pub data IsQuestion (names fields : List (List ℕ)) : Question → Type 0 where
       IsDeclared names name v → IsWithin 1 MOST_COUNT number n → IsQuestion names fields (question.Call v (Some n))
   late : (name : List ℕ) (v : Var) (number : List ℕ) (ms : ℕ) → fields ≡ codes "late" ∷ name ∷ number ∷ [] → name ≢ codes "before" →
       IsDeclared names name v → IsWithin 0 MOST_MS number ms → IsQuestion names fields (question.Late v ms)
-  before : (first : List ℕ) (v : Var) (second : List ℕ) (w : Var) → fields ≡ first ∷ codes "before" ∷ second ∷ [] → IsDeclared names first v →
-      IsDeclared names second w → IsQuestion names fields (question.Before v w)
+  before : (first : List ℕ) (v : Var) (second : List ℕ) (w : Var) → fields ≡ first ∷ codes "before" ∷ second ∷ [] → first ≢ second →
+      IsDeclared names first v → IsDeclared names second w → IsQuestion names fields (question.Before v w)
   code_of : (c : ids.Code) (name : List ℕ) (v : Var) → fields ≡ codes "code" ∷ code_word c ∷ codes "of" ∷ name ∷ [] → IsDeclared names name v →
       IsQuestion names fields (question.Code c (Some v))
 

@@ -30,6 +30,7 @@ unfoldable pub offer_of : List (List ℕ) → List ℕ → List ℕ → Option O
 offer_of names what argument =
     if bytes_eq what (codes "send") then option_map (λ (v : Var). Step (event.Send v)) (place_of names argument)
     else if bytes_eq what (codes "cancel") then option_map (λ (v : Var). Step (event.Cancel v)) (place_of names argument)
+    else if bytes_eq what (codes "io") then option_map (λ (v : Var). Step (event.Io v)) (place_of names argument)
     else if bytes_eq what (codes "tick") then option_map (λ (ms : ℕ). Step (event.Tick ms)) (number_in 1 MOST_MS argument)
     else None
 
@@ -111,12 +112,13 @@ numbered_of names what name number =
     else if bytes_eq what (codes "late") then late_of names name number
     else None
 
--- two names
+-- two names, and not one twice
 abbrev pub before_by : Var → Option Var → Option Question
 before_by v second = option_map (λ (w : Var). question.Before v w) second
 
 unfoldable pub before_of : List (List ℕ) → List ℕ → List ℕ → Option Question
-before_of names first second = option_and_then (λ (v : Var). before_by v (place_of names second)) (place_of names first)
+before_of names first second =
+    if bytes_eq first second then None else option_and_then (λ (v : Var). before_by v (place_of names second)) (place_of names first)
 
 -- the three fields behind `find`
 unfoldable pub three_of : List (List ℕ) → List ℕ → List ℕ → List ℕ → Option Question

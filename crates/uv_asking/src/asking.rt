@@ -46,14 +46,14 @@ pub enum Question {
     Stuck,
     /// `find late NAME MS`: the callback of this timer begins so many ms after it was due, or later.
     Late(Var, u64),
-    /// `find NAME before NAME`: a callback of the first name begins where none of the second was called.
+    /// `find NAME before NAME`: a callback of the first name begins where none of the second was called. They are two names.
     Before(Var, Var),
 }
 
 /// What is offered beside the steps of the loop and its workers, how far the search goes, and what it looks for.
 #[derive(Drop)]
 pub struct Asking {
-    /// `may send NAME N`, `may cancel NAME N`, `may tick MS N`, `may wait`.
+    /// `may send NAME N`, `may cancel NAME N`, `may io NAME N`, `may tick MS N`, `may wait`.
     pub offers: Vec<Offered>,
     /// `most clock MS`: the clock goes no further.
     pub clock: Option<u64>,

@@ -104,6 +104,9 @@ fn offer(names: &Names, what: &[u8], argument: &[u8]) -> Option<Offer>
     } else if is(what, b"cancel") {
         let name = names.number(argument)?;
         Some(Offer::Step(Event::Cancel(name)))
+    } else if is(what, b"io") {
+        let name = names.number(argument)?;
+        Some(Offer::Step(Event::Io(name)))
     } else if is(what, b"tick") {
         let ms = number_in(1, MOST_MS, argument)?;
         Some(Offer::Step(Event::Tick(ms)))

@@ -5,7 +5,7 @@ use crate::asking::{Most, Offered, Question};
 /// What one line says.
 #[derive(Clone, Copy)]
 pub enum Part {
-    /// `may send NAME N`, `may cancel NAME N`, `may tick MS N`: so often at the most, N from 1 to 2^32 - 1 and MS from 1 to 2^62
+    /// `may send NAME N`, `may cancel NAME N`, `may io NAME N`, `may tick MS N`: so often at the most, N from 1 to 2^32 - 1 and MS from 1 to 2^62
     /// (own). `may wait`: as often as one likes.
     Offers(Offered),
     /// `most clock MS`, up to 2^62 (own). It is the clock also where a name is called `clock`.

@@ -81,10 +81,14 @@ fn of_three(names: &Names, first: &[u8], second: &[u8], third: &[u8]) -> Option<
     }
 }
 
+/// Two names, and not one twice.
 #[tactic(auto, unfolding(crate::specs::Tests::before_of))]
 fn before(names: &Names, first: &[u8], second: &[u8]) -> Option<Question>
     ensures { result ≡ before_of names.now first.now second.now }
 {
+    if is(first, second) {
+        return None;
+    }
     let first = names.number(first)?;
     let second = names.number(second)?;
     Some(Question::Before(first, second))

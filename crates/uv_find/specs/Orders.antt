@@ -1,9 +1,10 @@
 -- The orders of what may come from outside of a loop: what is offered where a search stands, and where it leads.
-use Rattle.std.specs.Prelude.{ℕ, zero, suc, ◌+◌, ◌-◌, ◌&&◌, Bool, true, false, nat_lt, nat_le, is_none, map, List, [], ◌∷◌, ◌++◌, Option, Some, None, slice_get, slice_set, if◌then◌else◌}
+use Rattle.std.specs.Prelude.{ℕ, zero, suc, ◌+◌, ◌-◌, ◌&&◌, Bool, true, false, nat_lt, nat_le, is_none, is_some, map, List, [], ◌∷◌, ◌++◌, Option, Some, None, slice_get, slice_set, if◌then◌else◌}
 use Rattle.std.specs.List.{list_all}
 use Rattle.uv_ids.specs.declared.event.Event.{Event}
 use Rattle.uv_ids.specs.declared.event.Event.TheVariants as event
 use Rattle.uv_ids.specs.declared.id.Id.{Id}
+use Rattle.uv_ids.specs.declared.id.Var.{Var}
 use Rattle.uv_ids.specs.declared.seen.Seen.{Seen}
 use Rattle.uv_ids.specs.declared.fault.Why.TheVariants.{Blocked}
 use Rattle.uv_records.specs.Handles.{is_timer}
@@ -101,9 +102,21 @@ abbrev pub wait_until : Program → State → Option ℕ → Option Event
 wait_until p s None = None
 wait_until p s (Some deadline) = if is_blocked p s then Some (event.Tick (deadline - s.clock)) else None
 
+-- what a send, a cancel and a callback of I/O are for
+abbrev pub aim : Event → Option Var
+aim (event.Send v) = Some v
+aim (event.Cancel v) = Some v
+aim (event.Io v) = Some v
+aim e = None
+
+-- the name was bound to a handle or a request: none comes before there is one, and one that is gone was there
+abbrev pub is_made : State → Option Var → Bool
+is_made s None = true
+is_made s (Some v) = is_some (named s v).id
+
 -- the event that an offer is in a state
 abbrev pub event_of : Program → State → Offer → Option Event
-event_of p s (Step e) = Some e
+event_of p s (Step e) = if is_made s (aim e) then Some e else None
 event_of p s Take = take_by (idle_among s (worker_count p))
 event_of p s Wait = wait_until p s (deadline_at s.place)
 

@@ -1,13 +1,13 @@
 //! The event that an offer is, and one step of a session.
 ghost use Rattle.std.specs.Prelude.{◌≡◌, ◌<◌, ◌-◌, ◌&&◌, nat_le, take, length, IfOk};
-ghost use Rattle.uv_find.specs.Orders.{idle_among, take_by, is_blocked, deadline_at, wait_until, event_of, keeps_clock, timed, may_take, offered_here, is_called_within, is_within};
+ghost use Rattle.uv_find.specs.Orders.{idle_among, take_by, aim, is_made, is_blocked, deadline_at, wait_until, event_of, keeps_clock, timed, may_take, offered_here, is_called_within, is_within};
 ghost use Rattle.uv_find.specs.Steps.{Stands, StepsWithin, TakesOffer, state_in};
 ghost use Rattle.uv_model.specs.After.{after};
 ghost use Rattle.uv_script.specs.Program.{worker_count};
 
 use std::alloc::AllocError;
 use uv_asking::{Most, Offer};
-use uv_ids::{Event, Fault, Why};
+use uv_ids::{Event, Fault, Var, Why};
 use uv_model::{Machine, Outcome, Place, Stage};
 use uv_records::Calls;
 use uv_session::Session;
@@ -101,6 +101,28 @@ fn wait_until<M: Machine>(
     }
 }
 
+/// The name that a send, a cancel or a callback of I/O is for.
+fn aim(event: Event) -> Option<Var>
+    ensures { result ≡ aim event }
+{
+    match event {
+        Event::Send(name) => Some(name),
+        Event::Cancel(name) => Some(name),
+        Event::Io(name) => Some(name),
+        _ => None,
+    }
+}
+
+/// Whether a name was bound to a handle or a request; any event may come that is for none.
+fn is_made<M: Machine>(machine: &M, name: Option<Var>) -> bool
+    ensures { result ≡ is_made (after (M.program machine.now) (M.standing machine.now)) name }
+{
+    match name {
+        None => true,
+        Some(name) => machine.named(name).id.is_some(),
+    }
+}
+
 /// The event that an offer is here. Nothing changes.
 fn event_of<M: Machine>(session: &mut Session<M>, offer: Offer) -> Result<Option<Event>, AllocError>
     requires room { length session.old.standing < session.old.limit }
@@ -109,7 +131,13 @@ fn event_of<M: Machine>(session: &mut Session<M>, offer: Offer) -> Result<Option
     ensures event { IfOk result (λ event. event ≡ event_of session.old.program (state_in session.old) offer) }
 {
     match offer {
-        Offer::Step(event) => Ok(Some(event)),
+        Offer::Step(event) => {
+            if is_made(session.machine(), aim(event)) {
+                Ok(Some(event))
+            } else {
+                Ok(None)
+            }
+        }
         Offer::Take => Ok(take_by(idle_worker(session.machine()))),
         Offer::Wait => {
             let deadline = deadline_at(session.machine().place());
