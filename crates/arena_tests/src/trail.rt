@@ -63,12 +63,12 @@ fn ended(last: &mut LastStep<u64>, place: u64) {
 fn push<R: Abort>(rt: &R, trail: &mut Trail<u64>, last: &mut LastStep<u64>) {
     last.rename(Naming::Unbound(Var(2)));
     trail.reserve().expect(rt, "there is memory");
-    trail.push(last);
+    trail.push_at(last.place(), last);
 }
 
 /// The last record is that of this place, and named as all are.
 fn pops(trail: &mut Trail<u64>, last: &mut LastStep<u64>, place: u64) -> bool {
-    trail.pop(last) && last.place() == place && matches!(last.naming(), Naming::Unbound(Var(2)))
+    trail.pop_at(last) == Some(place) && matches!(last.naming(), Naming::Unbound(Var(2)))
 }
 
 /// A timer that wasn't set got another record.
@@ -103,7 +103,7 @@ fn records_take_their_smallest_form(rt: HostRuntime) {
 fn records_lie_in_rows(rt: HostRuntime) {
     let mut trail = Trail::new(rt.alloc());
     let mut last = LastStep::new(0);
-    assert!(rt; !trail.pop(&mut last));
+    assert!(rt; trail.pop_at(&mut last).is_none());
     called(&mut last, 1);
     push(&rt, &mut trail, &mut last);
     edited(&mut last, 2);

@@ -1,14 +1,12 @@
 -- What holds after each call that changes a handle.
-use Rattle.std.specs.Prelude.{Bool, true, false, ◌≡◌, ◌≢◌, eqb, ◌∷◌, Option, Some, None, if◌then◌else◌}
+use Rattle.std.specs.Prelude.{Bool, true, false, ◌≡◌, ◌≢◌, eqb, ◌∷◌, Option, Some, if◌then◌else◌}
 use Rattle.uv_ids.specs.declared.id.Id.{Id}
 use Rattle.uv_ids.specs.declared.id.Var.{Var}
 use Rattle.uv_ids.specs.declared.phase.Kind.{Kind}
-use Rattle.uv_ids.specs.declared.code.Code.{Code}
 use Rattle.uv_records.specs.declared.handle.HandleRecord.{HandleRecord}
 use Rattle.uv_records.specs.declared.lists.ListName.{ListName}
-use Rattle.uv_records.specs.declared.lists.ListName.TheVariants.{Closing, ClosingYet}
-use Rattle.uv_records.specs.Handles.{inited, closed}
-use Rattle.uv_records.specs.Refusals.{refusal, close_refusal}
+use Rattle.uv_records.specs.declared.lists.ListName.TheVariants.{ClosingYet}
+use Rattle.uv_records.specs.Handles.{inited}
 use Rattle.uv_records.specs.Slots.{freed, with_held}
 use Rattle.uv_records.specs.Walks.{without}
 use Rattle.uv_arena.specs.Image.{members, held, on_list, plain_slots}
@@ -18,7 +16,7 @@ use Rattle.uv_handle.specs.declared.undo.AddUndo.{AddUndo}
 use Rattle.uv_handle.specs.declared.undo.ListUndo.{ListUndo}
 use Rattle.uv_handle.specs.declared.undo.DelistUndo.{DelistUndo}
 use Rattle.uv_handle.specs.declared.undo.TakeUndo.{TakeUndo}
-use Rattle.uv_handle.specs.Counted.{Counted, IsCounted, record_at, found, record_undone, add_undone, enlist_undone, delist_undone, take_undone, CanUndoRecord, CanUndoAdd, CanUndoEnlist, CanUndoDelist, CanUndoTake}
+use Rattle.uv_handle.specs.Counted.{Counted, IsCounted, record_at, record_undone, add_undone, enlist_undone, delist_undone, take_undone, CanUndoRecord, CanUndoAdd, CanUndoEnlist, CanUndoDelist, CanUndoTake}
 
 module _ {X : Type 0} (read : X → Option HandleRecord) (make : HandleRecord → X) where
   -- a handle as `init` makes it is held under the id, and on no list
@@ -37,17 +35,6 @@ module _ {X : Type 0} (read : X → Option HandleRecord) (make : HandleRecord �
     pub counts : IsCounted read new
     pub undone : record_undone read make u new ≡ old
     pub can_undo : CanUndoRecord read make new u
-
-  -- an op that isn't refused gave the handle another record
-  pub record Did (why : HandleRecord → Option Code) (row : HandleRecord → HandleRecord) (old new : Counted X) (d : Id) (u : RecordUndo) : Type 0 where
-    pub from : HandleRecord
-    pub there : record_at read old.arena d ≡ Some from
-    pub allowed : why from ≡ None
-    pub changed : IsChanged old new d from (row from) u
-
-  -- a refused op changes nothing
-  abbrev pub Refused : (HandleRecord → Option Code) → Counted X → Counted X → Id → Code → Type 0
-  Refused why old new d code = (refusal why (found read old.arena d) ≡ Some code) × (new ≡ old)
 
   -- the handle has this record now, and is at the front of a list
   pub record IsEnlisted (old new : Counted X) (d : Id) (from to : HandleRecord) (list : ListName) (u : ListUndo) : Type 0 where
@@ -75,12 +62,6 @@ module _ {X : Type 0} (read : X → Option HandleRecord) (make : HandleRecord �
     pub counts : IsCounted read new
     pub undone : delist_undone read make u new ≡ old
     pub can_undo : CanUndoDelist read make new u
-
-  -- the handle is closing, at the front of the closing list
-  pub record IsClosed (old new : Counted X) (d : Id) (u : ListUndo) : Type 0 where
-    pub from : HandleRecord
-    pub allowed : close_refusal from ≡ None
-    pub enlisted : IsEnlisted old new d from (closed from) Closing u
 
   -- the front of those that have yet to be closed is off its list, and its slot is freed
   pub record IsTaken (old new : Counted X) (d : Id) (content : X) (u : TakeUndo) : Type 0 where

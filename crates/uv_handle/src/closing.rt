@@ -1,19 +1,17 @@
-//! Ops on handles: references and activity, closing, and the closing list.
-ghost use Rattle.std.specs.Prelude.{◌≡◌, ℕ, Option, Some, None, IfOk, IfErr, IfSome, IfNone, false, []};
+//! A handle's record, and the closing list.
+ghost use Rattle.std.specs.Prelude.{◌≡◌, Option, Some, None, IfOk, IfErr, IfSome, IfNone, []};
 ghost use Rattle.uv_ids.specs.declared.code.Code.{Code};
 ghost use Rattle.uv_records.specs.declared.handle.HandleRecord.{HandleRecord};
 ghost use Rattle.uv_records.specs.declared.lists.ListName.TheVariants.{Closing, ClosingYet};
 ghost use Rattle.uv_records.specs.Count.{keeps_in};
-ghost use Rattle.uv_records.specs.Handles.{referenced_as, active_as};
-ghost use Rattle.uv_records.specs.Refusals.{refusal, no_refusal, close_refusal};
-ghost use Rattle.uv_arena.specs.Image.{members, held, on_list};
-ghost use Rattle.uv_arena.specs.Undo.{splice_undone, CanUndoSplice};
+ghost use Rattle.uv_records.specs.Refusals.{refusal};
+ghost use Rattle.uv_arena.specs.Image.{members};
 ghost use Rattle.uv_arena.specs.Calls.{IsFirst, IsSpliced};
 ghost use Rattle.uv_handle.specs.Counted.{counted, record_at, found, IsCounted, take_undone, CanUndoTake};
-ghost use Rattle.uv_handle.specs.Changes.{Did, Refused, IsClosed, IsTaken};
+ghost use Rattle.uv_handle.specs.Changes.{IsTaken};
 
 use crate::handles::Handles;
-use crate::undo::{ListUndo, RecordUndo, TakeUndo};
+use crate::undo::TakeUndo;
 use uv_arena::{Slots, SpliceUndo};
 use uv_ids::{Code, Id};
 use uv_records::{HandleRecord, HoldsHandle, ListName};
@@ -45,65 +43,6 @@ fn keeps_alive<T: HoldsHandle>(content: &T) -> bool
 }
 
 impl Handles {
-    /// References a handle, or not (uv_ref, uv_unref).
-    pub fn set_ref<T: HoldsHandle>(
-        &mut self,
-        slots: &mut Slots<T>,
-        id: Id,
-        referenced: bool,
-    ) -> Result<RecordUndo, Code>
-        requires { IsCounted T.held_record (counted slots.old.image self.old) }
-        ensures ok { IfOk result (λ u. Did T.held_record T.of_record no_refusal (referenced_as referenced)
-            (counted slots.old.image self.old) (counted slots.new.image self.new) id u) }
-        ensures err { IfErr result (λ code. Refused T.held_record T.of_record no_refusal
-            (counted slots.old.image self.old) (counted slots.new.image self.new) id code) }
-        ensures pieces { slots.new.room ≡ slots.old.room }
-    {
-        match handle_at(slots, id) {
-            Err(code) => Err(code),
-            Ok(handle) => Ok(self.change(slots, id, handle, handle.referenced_as(referenced))),
-        }
-    }
-
-    /// Makes a handle active, or stopped.
-    pub fn set_active<T: HoldsHandle>(
-        &mut self,
-        slots: &mut Slots<T>,
-        id: Id,
-        active: bool,
-    ) -> Result<RecordUndo, Code>
-        requires { IsCounted T.held_record (counted slots.old.image self.old) }
-        ensures ok { IfOk result (λ u. Did T.held_record T.of_record no_refusal (active_as active)
-            (counted slots.old.image self.old) (counted slots.new.image self.new) id u) }
-        ensures err { IfErr result (λ code. Refused T.held_record T.of_record no_refusal
-            (counted slots.old.image self.old) (counted slots.new.image self.new) id code) }
-        ensures pieces { slots.new.room ≡ slots.old.room }
-    {
-        match handle_at(slots, id) {
-            Err(code) => Err(code),
-            Ok(handle) => Ok(self.change(slots, id, handle, handle.active_as(active))),
-        }
-    }
-
-    /// Closes a handle that is on no list: it goes to the front of the closing list (uv_close).
-    pub fn close<T: HoldsHandle>(&mut self, slots: &mut Slots<T>, id: Id) -> Result<ListUndo, Code>
-        requires counts { IsCounted T.held_record (counted slots.old.image self.old) }
-        requires loose { refusal close_refusal (found T.held_record slots.old.image id) ≡ None → on_list slots.old.image id ≡ false }
-        ensures ok { IfOk result (λ u. IsClosed T.held_record T.of_record (counted slots.old.image self.old)
-            (counted slots.new.image self.new) id u) }
-        ensures err { IfErr result (λ code. Refused T.held_record T.of_record close_refusal
-            (counted slots.old.image self.old) (counted slots.new.image self.new) id code) }
-        ensures pieces { slots.new.room ≡ slots.old.room }
-    {
-        match handle_at(slots, id) {
-            Err(code) => Err(code),
-            Ok(handle) => match handle.close_refusal() {
-                Some(code) => Err(code),
-                None => Ok(self.enlist(slots, id, handle, handle.closed(), ListName::Closing)),
-            },
-        }
-    }
-
     /// Begins the closing section: the whole closing list has yet to be closed.
     pub fn begin_closing<T: HoldsHandle>(&self, slots: &mut Slots<T>) -> SpliceUndo
         requires counts { IsCounted T.held_record (counted slots.old.image self.now) }
@@ -113,15 +52,6 @@ impl Handles {
         ensures pieces { slots.new.room ≡ slots.old.room }
     {
         slots.splice(ListName::Closing, ListName::ClosingYet)
-    }
-
-    /// Takes the beginning of the closing section back.
-    pub fn undo_begin_closing<T: HoldsHandle>(&self, slots: &mut Slots<T>, undo: SpliceUndo)
-        requires { CanUndoSplice slots.old.image undo }
-        ensures undone { slots.new.image ≡ splice_undone undo slots.old.image }
-        ensures pieces { slots.new.room ≡ slots.old.room }
-    {
-        slots.undo_splice(undo);
     }
 
     /// Takes the front of those that have yet to be closed off its list, and frees its slot: what that held, and what takes this back

@@ -1,9 +1,8 @@
 //! Handles in the arena: their records, the count of those that keep the loop alive, and the closing list. Every change has an
 //! exact undo.
 //!
-//! The main type is `Handles`, the count beside an arena. Read `specs/Counted.antt`, then `Changes.antt`. The program makes
-//! `add`, `change`, `enlist`, `delist`, `begin_closing` and `take_closing` with their undos, and refuses before it acts;
-//! `set_ref`, `set_active` and `close` refuse and act in one call.
+//! The main type is `Handles`, the count beside an arena. Read `specs/Counted.antt`, then `Changes.antt`. No call refuses: who
+//! makes it has looked the handle up (`handle_at`), and knows that it may be done.
 #![tactic(auto)]
 
 mod closing;

@@ -4,7 +4,7 @@ ghost use Rattle.uv_records.specs.declared.lists.ListName.TheVariants.{DoneYet};
 ghost use Rattle.uv_arena.specs.Image.{members};
 ghost use Rattle.uv_arena.specs.Calls.{IsFirst};
 ghost use Rattle.uv_requests.specs.Working.{working, request_in, IsWork};
-ghost use Rattle.uv_requests.specs.Undo.{begin_undone, collect_undone, CanUndoBegin, CanUndoCollect};
+ghost use Rattle.uv_requests.specs.Undo.{collect_undone, CanUndoCollect};
 ghost use Rattle.uv_requests.specs.Calls.{IsBegun, IsCollected};
 
 use crate::requests::{Requests, request_at};
@@ -23,15 +23,6 @@ impl Requests {
         ensures pieces { slots.new.room ≡ slots.old.room }
     {
         slots.splice(ListName::Done, ListName::DoneYet)
-    }
-
-    /// Takes the beginning of the done section back.
-    pub fn undo_begin<T: HoldsWork>(&self, slots: &mut Slots<T>, undo: SpliceUndo)
-        requires { CanUndoBegin T.held_request (working slots.old.image self.now) undo }
-        ensures undone { working slots.new.image self.now ≡ begin_undone undo (working slots.old.image self.now) }
-        ensures pieces { slots.new.room ≡ slots.old.room }
-    {
-        slots.undo_splice(undo);
     }
 
     /// Takes the front of those that have yet to be called back off its list, and frees its slot: the request as it was, and

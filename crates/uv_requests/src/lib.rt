@@ -4,8 +4,8 @@
 //! Each call says that it is a rule of the pool (`uv_work`), of the lists that the arena has. What changes slots has a call that
 //! takes it back, which answers no `Result`: it takes no memory.
 //!
-//! The main type is `Requests`. Read `specs/Working.antt`, then `Calls.antt`. The program makes `next_work` and then
-//! `start_work`, `work_of` and then `hand_in`; `take` and `finish` are both in one call.
+//! The main type is `Requests`. Read `specs/Working.antt`, then `Calls.antt`. A worker takes a request by `next_work`, which may
+//! refuse, and then `start_work`; it finishes one by `work_of` and then `hand_in`.
 #![tactic(auto)]
 
 mod done;

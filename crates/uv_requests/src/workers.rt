@@ -16,7 +16,8 @@ use uv_records::ListName;
 use uv_work::{HoldsWork, Request, WorkResult};
 
 impl Requests {
-    /// What a worker may take: the request that waits longest. Refused as `take` is.
+    /// What a worker may take: the request that waits longest. Refused if there is no such worker, if it runs one already, or if
+    /// none waits.
     pub fn next_work<T: HoldsWork>(
         &self,
         slots: &Slots<T>,
@@ -39,24 +40,6 @@ impl Requests {
                 },
             },
         }
-    }
-
-    /// A worker takes the request that waits longest. Refused if there is no such worker, if it runs one already, or if none
-    /// waits.
-    pub fn take<T: HoldsWork>(
-        &mut self,
-        slots: &mut Slots<T>,
-        worker: u16,
-    ) -> Result<(Id, TakeWorkUndo), Why>
-        requires { IsWork T.held_request (working slots.old.image self.old) }
-        ensures ok { IfOk result (λ r. IsTaken T.held_request (working slots.old.image self.old) (working slots.new.image self.new) worker r.0 r.1) }
-        ensures err { IfErr result (λ why. RefusesTake T.held_request (working slots.old.image self.old) worker why
-            × (working slots.new.image self.new ≡ working slots.old.image self.old)) }
-        ensures pieces { slots.new.room ≡ slots.old.room }
-    {
-        let (id, _) = self.next_work(slots, worker)?;
-        let undo = self.start_work(slots, worker, id);
-        Ok((id, undo))
     }
 
     /// A worker that runs nothing takes this request, which waits longest.
@@ -105,30 +88,8 @@ impl Requests {
         }
     }
 
-    /// A worker hands in the result of the request that it runs: the slot keeps the digest, and the request is done behind those
-    /// that are done already. Refused if there is no such worker, if it runs nothing, or if it runs another job.
-    pub fn finish<T: HoldsWork>(
-        &mut self,
-        slots: &mut Slots<T>,
-        worker: u16,
-        work: WorkResult,
-    ) -> Result<(Id, FinishUndo), Why>
-        requires { IsWork T.held_request (working slots.old.image self.old) }
-        ensures ok { IfOk result (λ r. IsFinished T.held_request T.of_request
-            (working slots.old.image self.old) (working slots.new.image self.new) worker r.0 work.job work.digest r.1) }
-        ensures err { IfErr result (λ why. RefusesFinish T.held_request (working slots.old.image self.old) worker work.job why
-            × (working slots.new.image self.new ≡ working slots.old.image self.old)) }
-        ensures pieces { slots.new.room ≡ slots.old.room }
-    {
-        let (id, request) = self.work_of(slots, worker)?;
-        if !request.job(id).is(work.job()) {
-            return Err(Why::NoWork);
-        }
-        let undo = self.hand_in(slots, worker, id, request, work);
-        Ok((id, undo))
-    }
-
-    /// A worker hands in the result of this request, which it runs.
+    /// A worker hands in the result of this request, which it runs: the slot keeps the digest, and the request is done behind those
+    /// that are done already.
     pub fn hand_in<T: HoldsWork>(
         &mut self,
         slots: &mut Slots<T>,

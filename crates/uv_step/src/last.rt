@@ -3,7 +3,6 @@ ghost use Rattle.std.specs.Prelude.{◌≡◌};
 ghost use Rattle.uv_step.specs.Change as change;
 ghost use Rattle.uv_step.specs.Does.{changed};
 ghost use Rattle.uv_step.specs.declared.record.Naming.TheVariants.{Same as same};
-ghost use Rattle.uv_step.specs.Record.{at_place};
 ghost use Rattle.uv_step.specs.Forms.{smaller, change_of, larger, record_of};
 ghost use Rattle.uv_step.specs.Lies.{lain};
 
@@ -107,13 +106,6 @@ impl<P: Copy> LastStep<P> {
     {
         self.row = Row::Larges;
         self.large = change;
-    }
-
-    /// The loop stood here.
-    pub fn stand_at(&mut self, place: P)
-        ensures { self.new ≡ at_place place self.old }
-    {
-        self.place = place;
     }
 
     /// The loop stood here, and nothing was changed.

@@ -1,5 +1,5 @@
 //! The records of the steps that stand.
-ghost use Rattle.std.specs.Prelude.{◌≡◌, ◌<◌, ◌≤◌, ◌+◌, ◌++◌, ◌∷◌, [], OnOk, OnErr, IfSome, IfNone, IsFalse, length, if◌then◌else◌};
+ghost use Rattle.std.specs.Prelude.{◌≡◌, ◌<◌, ◌≤◌, ◌+◌, ◌++◌, ◌∷◌, [], OnOk, OnErr, IfSome, IfNone, length};
 ghost use Rattle.uv_step.specs.Record.{at_place};
 
 use crate::entry::Entry;
@@ -80,15 +80,6 @@ impl<P: Copy> Trail<P> {
         Ok(())
     }
 
-    /// One more. It takes no memory.
-    pub fn push(&mut self, last: &LastStep<P>)
-        requires { 0 < self.old.room }
-        ensures records { self.new.records ≡ self.old.records ++ last.now ∷ [] }
-        ensures room { self.old.room ≤ self.new.room + 1 }
-    {
-        self.push_at(last.place(), last);
-    }
-
     /// One more, which is as this but for where the loop stood. It takes no memory.
     #[inline(always)]
     pub fn push_at<Q: Copy>(&mut self, place: P, last: &LastStep<Q>)
@@ -112,21 +103,6 @@ impl<P: Copy> Trail<P> {
                 self.rows.push_reserved(Row::Larges);
                 self.larges
                     .push_reserved(Entry::new(place, naming, *change));
-            }
-        }
-    }
-
-    /// The last one goes, if there is one, and is this. Says whether there was one.
-    pub fn pop(&mut self, last: &mut LastStep<P>) -> bool
-        ensures records { self.old.records ≡ self.new.records ++ (if result then last.new ∷ [] else []) }
-        ensures none { IsFalse result → (self.old.records ≡ []) × (last.new ≡ last.old) }
-        ensures room { self.old.room ≤ self.new.room }
-    {
-        match self.pop_at(last) {
-            None => false,
-            Some(place) => {
-                last.stand_at(place);
-                true
             }
         }
     }

@@ -26,18 +26,6 @@ use uv_watch::{WalkUndo, undo_take};
 use uv_work::Content;
 
 impl<P: Copy> Memory<P> {
-    /// Gives back the very memory from before the step of this record.
-    pub fn unwind(&mut self)
-        requires { CanUnwind (held self.old).room self.old.step_record (held self.old).image }
-        ensures image { (held self.new).image ≡ unwind self.old.step_record (held self.old).image }
-        ensures fit { IsFit (held self.new).image }
-        ensures room { (held self.new).room ≡ (held self.old).room }
-        ensures pieces { self.new.slots.room ≡ self.old.slots.room }
-    {
-        let place = self.step_record.place();
-        self.unwind_at(place);
-    }
-
     /// Gives back the very memory from before the step of this record, where the loop stood at this place. The record may say another
     /// one.
     #[inline(always)]

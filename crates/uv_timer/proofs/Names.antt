@@ -15,11 +15,10 @@ pub use Rattle.uv_heap.specs.Array.{Heap, SlotsDiffer, entry_at, no_entry, place
 pub use Rattle.uv_heap.specs.Order.{IsInOrder, is_same, without}
 pub use Rattle.uv_heap.specs.declared.entry.Entry.{Entry}
 pub use Rattle.uv_ids.specs.declared.id.Id.{Id}
-pub use Rattle.uv_records.specs.Handles.{stopped}
 pub use Rattle.uv_records.specs.Slots.{id_of}
 pub use Rattle.uv_records.specs.declared.handle.HandleRecord.{HandleRecord}
 pub use Rattle.uv_records.specs.declared.lists.ListName.TheVariants.{Ready}
-pub use Rattle.uv_timer.specs.Changes.{becoming, collecting, firing, starting, starting_again}
+pub use Rattle.uv_timer.specs.Changes.{becoming, collecting, firing, starting}
 pub use Rattle.uv_timer.specs.Timed.{CanUndoTimer, timed, timer_undone, with_arena}
 pub use Rattle.uv_timer.specs.Timers.{IsCollected, IsDue, IsRescheduled, NoneIsDue, NoneIsReady, cleared, due_of, first_due, first_ready, handle_first, handle_of, taken_off}
 pub use Rattle.uv_timer.specs.declared.change.Times.{Times}

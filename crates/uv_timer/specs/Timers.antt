@@ -2,18 +2,15 @@
 use Rattle.std.specs.Prelude.{◌≡◌, ◌≢◌, ◌≤◌, ℕ, ◌+◌, ◌==◌, ◌⊎◌, true, eqb, List, [], ◌∷◌, ◌++◌, slice_get, Option, Some, None, IfSome, is_some, nat_le, if◌then◌else◌}
 use Rattle.uv_ids.specs.declared.id.Id.{Id}
 use Rattle.uv_ids.specs.declared.due.Due.{Due}
-use Rattle.uv_ids.specs.declared.code.Code.{Code}
 use Rattle.uv_records.specs.declared.handle.HandleRecord.{HandleRecord}
 use Rattle.uv_records.specs.declared.lists.ListName.{ListName}
 use Rattle.uv_records.specs.declared.lists.ListName.TheVariants.{Ready}
-use Rattle.uv_records.specs.Dues.{due_in}
 use Rattle.uv_records.specs.Handles.{stopped}
-use Rattle.uv_records.specs.Refusals.{refusal, timer_refusal, start_timer_refusal, stop_refusal, again_refusal}
 use Rattle.uv_records.specs.Slots.{id_of, with_held}
 use Rattle.uv_records.specs.Walks.{without}
 use Rattle.uv_arena.specs.Image.{Image, members, slot_at, held, on_list, plain_slots}
 use Rattle.uv_arena.specs.Calls.{IsFirst}
-use Rattle.uv_handle.specs.Counted.{IsCounted, record_at, found}
+use Rattle.uv_handle.specs.Counted.{IsCounted, record_at}
 use Rattle.uv_handle.specs.Changes.{IsDelisted}
 use Rattle.uv_heap.specs.declared.entry.Entry.{Entry}
 use Rattle.uv_heap.specs.Array.{place_in}
@@ -23,7 +20,7 @@ use Rattle.uv_timer.specs.declared.change.Times.{Times}
 use Rattle.uv_timer.specs.declared.change.TimerChange.{TimerChange}
 use Rattle.uv_timer.specs.declared.undo.TimerUndo.{TimerUndo}
 use Rattle.uv_timer.specs.declared.undo.CollectUndo.{CollectUndo}
-use Rattle.uv_timer.specs.Changes.{starting, stopping, starting_again, firing}
+use Rattle.uv_timer.specs.Changes.{firing}
 use Rattle.uv_timer.specs.Timed.{Timed, timer_undone, collect_undone, CanUndoTimer, CanUndoCollect}
 
 -- the timers without that of a slot
@@ -94,17 +91,6 @@ module _ {X : Type 0} (read : X → Option HandleRecord) where
   abbrev pub NoneIsReady : Image X → Type 0
   NoneIsReady i = (members i Ready ≡ []) ⊎ ((d : Id) × IsFirst i Ready d × (record_at read i d ≡ None))
 
-  -- in how many ms a timer is due
-  pub record IsDueIn (i : Image X) (t : Times) (d : Id) (n : ℕ) : Type 0 where
-    pub from : HandleRecord
-    pub there : record_at read i d ≡ Some from
-    pub allowed : timer_refusal from ≡ None
-    pub is : n ≡ due_in t.time from
-
-  -- a refused op changes nothing
-  abbrev pub Refused : (HandleRecord → Option Code) → Timed X → Timed X → Id → Code → Type 0
-  Refused why old new d code = (refusal why (found read old.handles.arena d) ≡ Some code) × (new ≡ old)
-
   module _ (make : HandleRecord → X) where
     -- the handle has its other record, and is off its list if it was to leave it; it is on the heap if it is due at some time, and
     -- not otherwise. One that was on the heap is taken off it first, and then pushed anew
@@ -115,21 +101,6 @@ module _ {X : Type 0} (read : X → Option HandleRecord) where
       pub times : new.times ≡ drawn c.due old.times
       pub undone : timer_undone read make u new ≡ old
       pub can_undo : CanUndoTimer read make room new u
-
-    pub record IsStarted (room : ℕ) (old new : Timed X) (d : Id) (timeout repeat : ℕ) (u : TimerUndo) : Type 0 where
-      pub from : HandleRecord
-      pub allowed : start_timer_refusal from ≡ None
-      pub changed : IsRescheduled room old new d (starting old.times from timeout repeat) u
-
-    pub record IsStopped (room : ℕ) (old new : Timed X) (d : Id) (u : TimerUndo) : Type 0 where
-      pub from : HandleRecord
-      pub allowed : stop_refusal from ≡ None
-      pub changed : IsRescheduled room old new d (stopping from) u
-
-    pub record IsStartedAgain (room : ℕ) (old new : Timed X) (d : Id) (u : TimerUndo) : Type 0 where
-      pub from : HandleRecord
-      pub allowed : again_refusal from ≡ None
-      pub changed : IsRescheduled room old new d (starting_again old.times from) u
 
     -- the first timer, which is due, is off the heap, inactive, and at the end of the ready list
     pub record IsCollected (room : ℕ) (old new : Timed X) (d : Id) (u : CollectUndo) : Type 0 where

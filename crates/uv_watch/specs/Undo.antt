@@ -3,21 +3,10 @@ use Rattle.std.specs.Prelude.{Option, Some, None}
 use Rattle.uv_records.specs.declared.handle.HandleRecord.{HandleRecord}
 use Rattle.uv_arena.specs.Undo.{push_undone, unlink_undone, CanUndoPush, CanUndoUnlink}
 use Rattle.uv_handle.specs.declared.undo.RecordUndo.{RecordUndo}
-use Rattle.uv_handle.specs.Counted.{Counted, counted, record_undone, enlist_undone, CanUndoRecord, CanUndoEnlist}
-use Rattle.uv_watch.specs.declared.undo.StartUndo.{StartUndo}
-use Rattle.uv_watch.specs.declared.undo.StartUndo.TheVariants.{Listed, Alone}
+use Rattle.uv_handle.specs.Counted.{Counted, counted, record_undone, CanUndoRecord}
 use Rattle.uv_watch.specs.declared.undo.WalkUndo.{WalkUndo}
 
 module _ {X : Type 0} (read : X → Option HandleRecord) (make : HandleRecord → X) where
-  -- a handle that was started is inactive, and off the list that it was put on, if it was
-  abbrev pub start_undone : StartUndo → Counted X → Counted X
-  start_undone (Listed u) c = enlist_undone read make u c
-  start_undone (Alone u) c = record_undone read make u c
-
-  abbrev pub CanUndoStart : Counted X → StartUndo → Type 0
-  CanUndoStart c (Listed u) = CanUndoEnlist read make c u
-  CanUndoStart c (Alone u) = CanUndoRecord read make c u
-
   -- the record of a handle that was woken is put back
   abbrev pub unwoken : Option RecordUndo → Counted X → Counted X
   unwoken None c = c

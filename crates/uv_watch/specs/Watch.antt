@@ -1,5 +1,5 @@
 -- What holds after each call that changes a watcher.
-use Rattle.std.specs.Prelude.{◌≡◌, ◌≢◌, ℕ, ◌⊎◌, Bool, true, false, not, Option, Some, None, option_map, if◌then◌else◌}
+use Rattle.std.specs.Prelude.{◌≡◌, ◌≢◌, ℕ, Bool, true, false, not, Option, Some, None, option_map, if◌then◌else◌}
 use Rattle.uv_ids.specs.declared.id.Id.{Id}
 use Rattle.uv_records.specs.declared.handle.HandleRecord.{HandleRecord}
 use Rattle.uv_records.specs.declared.lists.ListName.{ListName}
@@ -18,9 +18,7 @@ use Rattle.uv_handle.specs.declared.undo.DelistUndo.{DelistUndo}
 use Rattle.uv_handle.specs.declared.undo.ListUndo.{ListUndo}
 use Rattle.uv_handle.specs.declared.undo.RecordUndo.{RecordUndo}
 use Rattle.uv_handle.specs.Counted.{Counted, IsCounted, record_at}
-use Rattle.uv_handle.specs.Changes.{IsChanged, IsEnlisted, IsDelisted}
-use Rattle.uv_watch.specs.declared.undo.StartUndo.{StartUndo}
-use Rattle.uv_watch.specs.declared.undo.StartUndo.TheVariants.{Listed, Alone}
+use Rattle.uv_handle.specs.Changes.{IsEnlisted, IsDelisted}
 use Rattle.uv_watch.specs.declared.undo.WalkUndo.{WalkUndo}
 use Rattle.uv_watch.specs.Undo.{unwoken, CanUnwake, walk_undone, CanUndoWalk}
 
@@ -60,31 +58,6 @@ module _ {X : Type 0} (read : X → Option HandleRecord) (make : HandleRecord �
     pub allowed : start_watcher_refusal from ≡ None
     pub inactive : from.active ≡ false
     pub enlisted : IsEnlisted read make old new d from (activated from) (list_of kind) u
-
-  -- a handle of I/O that was inactive is active, and on no list
-  pub record IsActivated (old new : Counted X) (d : Id) (u : RecordUndo) : Type 0 where
-    pub from : HandleRecord
-    pub is_none : watcher_kind from.kind ≡ None
-    pub allowed : start_watcher_refusal from ≡ None
-    pub inactive : from.active ≡ false
-    pub changed : IsChanged read make old new d from (activated from) u
-
-  -- a handle is started, by whether it has a list
-  abbrev pub StartsBy : Counted X → Counted X → Id → StartUndo → Type 0
-  StartsBy old new d (Listed u) = IsStarted old new d u
-  StartsBy old new d (Alone u) = IsActivated old new d u
-
-  -- a handle that is active already, or on a list, stays as it is
-  pub record IsActive (old new : Counted X) (d : Id) : Type 0 where
-    pub from : HandleRecord
-    pub there : record_at read old.arena d ≡ Some from
-    pub allowed : start_watcher_refusal from ≡ None
-    pub active : (from.active ≡ true) ⊎ (on_list old.arena d ≡ true)
-    pub same : new ≡ old
-
-  abbrev pub Starts : Counted X → Counted X → Id → Option StartUndo → Type 0
-  Starts old new d None = IsActive old new d
-  Starts old new d (Some u) = StartsBy old new d u
 
   -- the handle is inactive, and off its list unless it is closing
   abbrev pub IsStopped : Counted X → Counted X → Id → HandleRecord → DelistUndo → Type 0

@@ -1,15 +1,6 @@
 //! What takes a change of a watcher back.
 use uv_arena::{ChainPlace, PushUndo};
-use uv_handle::{ListUndo, RecordUndo};
-
-/// Takes a start back.
-#[derive(Clone, Copy)]
-pub enum StartUndo {
-    /// The handle was put on its list.
-    Listed(ListUndo),
-    /// It is of I/O, and on no list.
-    Alone(RecordUndo),
-}
+use uv_handle::RecordUndo;
 
 /// Takes one step of a walk back: where the handle stood among those yet to run, and the record of an async handle that was
 /// woken.

@@ -1,10 +1,9 @@
 //! How a section walks a list: all of it is yet to run, and each goes to the end of the list as it is called.
-ghost use Rattle.std.specs.Prelude.{◌≡◌, ℕ, Option, Some, None, IfSome, IfNone, Bool, option_map, []};
-ghost use Rattle.uv_records.specs.Lists.{list_of, yet_of};
+ghost use Rattle.std.specs.Prelude.{◌≡◌, []};
+ghost use Rattle.uv_records.specs.Lists.{yet_of};
 ghost use Rattle.uv_arena.specs.Image.{members};
-ghost use Rattle.uv_arena.specs.Undo.{splice_undone, CanUndoSplice};
 ghost use Rattle.uv_arena.specs.Calls.{IsFirst};
-ghost use Rattle.uv_handle.specs.Counted.{counted, record_at, IsCounted};
+ghost use Rattle.uv_handle.specs.Counted.{counted, IsCounted};
 ghost use Rattle.uv_watch.specs.Undo.{walk_undone, CanUndoWalk};
 ghost use Rattle.uv_watch.specs.Watch.{IsBegun, IsMovedOn, IsWoken};
 
@@ -21,38 +20,6 @@ pub fn begin<T: HoldsHandle>(slots: &mut Slots<T>, kind: WatcherKind) -> SpliceU
     ensures pieces { slots.new.room ≡ slots.old.room }
 {
     slots.splice(kind.list(), kind.yet())
-}
-
-/// Takes the beginning of a section back.
-pub fn undo_begin<T: HoldsHandle>(slots: &mut Slots<T>, undo: SpliceUndo)
-    requires { CanUndoSplice slots.old.image undo }
-    ensures undone { slots.new.image ≡ splice_undone undo slots.old.image }
-    ensures pieces { slots.new.room ≡ slots.old.room }
-{
-    slots.undo_splice(undo);
-}
-
-/// Moves the front of those yet to run to the end of its list: its id, and whether a callback was due by a send. None, and nothing
-/// changed, where there is none.
-pub fn take<T: HoldsHandle>(
-    handles: &mut Handles,
-    slots: &mut Slots<T>,
-    kind: WatcherKind,
-) -> Option<(Id, bool, WalkUndo)>
-    requires { IsCounted T.held_record (counted slots.old.image handles.old) }
-    ensures none { IfNone result ((members slots.old.image (yet_of kind) ≡ [])
-        × (counted slots.new.image handles.new ≡ counted slots.old.image handles.old)) }
-    ensures some { IfSome result (λ r. IsMovedOn T.held_record T.of_record
-        (counted slots.old.image handles.old) (counted slots.new.image handles.new) kind r.0 r.1 r.2) }
-    ensures pieces { slots.new.room ≡ slots.old.room }
-{
-    match slots.first(kind.yet()) {
-        None => None,
-        Some(id) => {
-            let (pending, undo) = move_on(handles, slots, kind, id);
-            Some((id, pending, undo))
-        }
-    }
 }
 
 /// Moves this one, the front of those yet to run, to the end of its list: whether a callback was due by a send.
