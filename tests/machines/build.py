@@ -55,8 +55,8 @@ def build_arena(folder):
 
 def name_plain(root):
     """Has the program of this copy name the plain loop."""
-    edit(os.path.join(root, PROGRAM), ('use uv_loop::ArenaLoop;', 'use uv_model::PlainLoop;'), (r'\bArenaLoop\b', 'PlainLoop'))
-    edit(os.path.join(root, 'crates.txt'), (r'(?m)^(uvt\b[^\n]*) uv_loop\b', r'\1 uv_model'))
+    edit(os.path.join(root, PROGRAM), ('use uv_loop::ArenaLoop;', 'use uv_plain::PlainLoop;'), (r'\bArenaLoop\b', 'PlainLoop'))
+    edit(os.path.join(root, 'crates.txt'), (r'(?m)^(uvt\b[^\n]*) uv_loop\b', r'\1 uv_plain'))
 
 
 def build_plain(folder):

@@ -14,7 +14,7 @@ use std::rt::Files;
 use std::{fs, io};
 use uv_ids::Fault;
 use uv_loop::ArenaLoop;
-use uv_model::PlainLoop;
+use uv_plain::PlainLoop;
 
 const EXAMPLES: [&str; 23] = [
     "two-timers",

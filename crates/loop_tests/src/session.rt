@@ -4,7 +4,8 @@ use crate::given::opened;
 use std::alloc::Global;
 use std::process::Abort;
 use uv_ids::{Event, Fault, Why};
-use uv_model::{Machine, PlainLoop};
+use uv_model::Machine;
+use uv_plain::PlainLoop;
 use uv_session::Session;
 
 fn keeps_its_limit<M: Machine, R: Abort>(rt: &R, session: &mut Session<M>) {

@@ -12,5 +12,4 @@ pub mod Steps
 pub mod After
 pub mod Handing
 pub mod Bounds
-pub mod Trail
 pub mod Layout

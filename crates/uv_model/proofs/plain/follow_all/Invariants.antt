@@ -1,7 +1,0 @@
-use Rattle.std.proofs.Common.{◌≡◌, take}
-use Rattle.uv_model.specs.After.{after}
-use Rattle.uv_model.proofs.plain.follow_all.Given as goal
-
--- the state is that after the steps so far
-abbrev pub invariant-loop-event : goal.invariant-loop-event
-invariant-loop-event l = l.state ≡ after l.script (take l.event-index l.steps)
