@@ -20,11 +20,8 @@ KEPT = {
     'uv_arena: Slots::prev': 'arena_tests: a list is walked both ways',
     'uv_live: Clock::moment': 'live_tests: the time of a clock that jumps',
     'uv_live: turn': 'live_tests: a turn without threads',
-    'uv_loop: ArenaLoop::memory': 'nobody: it may go',
-    'uv_pool: Desk::events': 'nobody: it may go',
     'uv_pool: LockedBook::wait_past': 'bench and live_tests: a thread that looks on',
     'uv_pool: PoolBook::audit': 'nobody: its clause says what a share of the finishes is',
-    'uv_records: HandleRecord::active_as': 'nobody: it may go',
     'uv_session: Session::run_to_break': 'examples and loop_tests: steps up to a break, in one call',
     'uv_session: Session::taken_back': 'loop_tests: how many steps may be run again',
     'uv_session: Session::trace': 'live_tests: the lines of the steps, in one list',
@@ -34,8 +31,6 @@ KEPT = {
     'uv_text: state_text': 'examples: a state in one text',
     'uv_wake: LoopSeat::carried': 'live_tests: what an absorb has carried',
     'uv_work: Job::new': 'arena_tests, live_tests and bench: a job without a request',
-    'uv_work: Job::rounds': 'nobody: it may go',
-    'uv_work: Job::text': 'nobody: it may go',
 }
 
 

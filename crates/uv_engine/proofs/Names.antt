@@ -22,7 +22,6 @@ pub use Rattle.uv_engine.specs.Reply.{Full, Reply, Took, add_after, add_text, at
 pub use Rattle.uv_engine.specs.Rerun.{FailsAt, HasCalls, HasSteps, IsReadingFault, IsTellingFault, Met, MetSo, RanSo, ReadsTo, called_from}
 pub use Rattle.uv_engine.specs.Sink.{CutShort}
 pub use Rattle.uv_engine.specs.Start.{FindsSkipped, HasScript, IsFirstBad, IsFirstSkipped, IsFront, IsStartFault, MissesBegin, NoScript, NoneSkipped, ParsesFront, ReadsScript, after_last, at_line, with_line}
-pub use Rattle.uv_engine.specs.Steps.{last_seen}
 pub use Rattle.uv_engine.specs.Taking.{IsReadFault, SpendsBudget, SpendsGiven}
 pub use Rattle.uv_engine.specs.Talk.{Finishes, TalksCut, TalksOn}
 pub use Rattle.uv_engine.specs.Verdict.{AllTaken, AreApart, HasOneVerdict, HasVerdict, IsHalt, IsReplayFault, IsVerdict, PartAt, Replays, Tells, cut_short, differs, full, halts, judged, no_memory, no_read, refused, same, verdict_text}

@@ -3,7 +3,6 @@ pub mod Sink
 pub mod Input
 pub mod Taking
 pub mod Reply
-pub mod Steps
 pub mod Gather
 pub mod Out
 pub mod Talk

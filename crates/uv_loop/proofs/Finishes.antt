@@ -1,5 +1,5 @@
 -- A worker finishes the request that it runs.
-use Rattle.uv_loop.proofs.Names.{◌≡◌, ℕ, List, [], slice_get, slice_set, Some, None, Ok, Err, refl, sym, ap, ◌∙◌, subst, inr, Id, Finish, Why, Program, text_of, padded, rounds_within, text_within, with_last, Job, Request, finished, job_of, FinishUndo, id_in, IsFinished, RefusesFinish, RunsOther, id_is, content_of, Place, found_or, State, with_id, Moves, Refuses, finish, work_of, job_in, job_run, RefusesResult, Content, Asked, request_of, Image, Held, working_of, OnlyWork, StandsFor, Leads, MayFinish, slots_set, ids_kept, asked_there, run_there, list_same, done_more, pool_stands, running_is}
+use Rattle.uv_loop.proofs.Names.{◌≡◌, ℕ, List, slice_get, slice_set, Some, None, Ok, Err, refl, sym, ap, ◌∙◌, subst, inr, Id, Finish, Why, Program, text_of, with_last, Job, Request, finished, job_of, FinishUndo, id_in, IsFinished, RefusesFinish, id_is, content_of, Place, found_or, State, with_id, Moves, Refuses, finish, work_of, job_in, job_run, RefusesResult, Content, Asked, request_of, Image, Held, working_of, OnlyWork, StandsFor, Leads, MayFinish, slots_set, ids_kept, asked_there, run_there, list_same, done_more, pool_stands, running_is}
 use Rattle.uv_ids.specs.declared.seen.Seen.TheVariants as seen
 use Rattle.uv_ids.specs.declared.fault.Why.TheVariants as why
 use Rattle.uv_records.specs.declared.lists.ListName.TheVariants as name
@@ -38,33 +38,16 @@ module _ (i : Image Place) (s : State) (k : ℕ) (d : Id) (r : Request) (h : Sta
       ap (λ o. job_in (work_of s o)) (run_there i s k (Some (Some d)) h runs)
       ∙ ap (λ o. job_in (found_or (with_id d (model.request_in o)) Ok (Err why.IdleWorker))) (asked_there i s d r h there)
 
-no_job : Job
-no_job = record {
-  req = record { slot = 0; generation = 0 };
-  task = record { rounds = 1; len = 0; bytes = padded []; rounds_fit = rounds_within 1 [] refl; padded = text_within 1 [] refl };
-}
-
--- a worker that runs a request runs its job
-no_other : (i : Image Place) (k : ℕ) → ((job : Job) → RunsOther request_of (working_of i) k job) → ⊥
-no_other i k e =
-    let a = e no_job in
-    let b = e (job_of a.id a.request) in
-    let same : b.id ≡ a.id = cc (a.runs, b.runs) in
-    let there : work.request_in request_of i.arena a.id ≡ Some b.request =
-    subst (λ z. work.request_in request_of i.arena z ≡ Some b.request) same b.is in
-    let one : b.request ≡ a.request = cc (a.is, there) in
-    b.other (λ l. job_of (same l) (one l))
-
 pub finish_refused : (p : Program) (i : Image Place) (s : State) (k : ℕ) (w : Why) → StandsFor i s
-    → ((job : Job) → RefusesFinish request_of (working_of i) k job w) → next p s (Finish k) ≡ Refuses w
+    → RefusesFinish request_of (working_of i) k w → next p s (Finish k) ≡ Refuses w
 unfolding next
-finish_refused p i s k why.NoWorker h e = ap (λ o. finish s k (work_of s o)) (run_there i s k None h (e no_job))
-finish_refused p i s k why.IdleWorker h e = ap (λ o. finish s k (work_of s o)) (run_there i s k (Some None) h (e no_job))
-finish_refused p i s k why.NoWork h e = absurd (no_other i k e)
-finish_refused p i s k why.Blocked h e = absurd (e no_job)
-finish_refused p i s k why.Ended h e = absurd (e no_job)
-finish_refused p i s k why.BusyWorker h e = absurd (e no_job)
-finish_refused p i s k why.Range h e = absurd (e no_job)
+finish_refused p i s k why.NoWorker h e = ap (λ o. finish s k (work_of s o)) (run_there i s k None h e)
+finish_refused p i s k why.IdleWorker h e = ap (λ o. finish s k (work_of s o)) (run_there i s k (Some None) h e)
+finish_refused p i s k why.NoWork h e = absurd e
+finish_refused p i s k why.Blocked h e = absurd e
+finish_refused p i s k why.Ended h e = absurd e
+finish_refused p i s k why.BusyWorker h e = absurd e
+finish_refused p i s k why.Range h e = absurd e
 
 -- the worker runs another job
 pub other_refused : (p : Program) (i : Image Place) (s : State) (k : ℕ) (d : Id) (r : Request) (job : Job) → StandsFor i s → MayFinish i k d r

@@ -61,7 +61,7 @@ pub use Rattle.uv_records.specs.Walks.{with_last}
 pub use Rattle.uv_records.specs.declared.lists.ListName.{ListName}
 pub use Rattle.uv_records.specs.declared.named.Named.{Named}
 pub use Rattle.uv_requests.proofs.Holding.{content_of, id_is}
-pub use Rattle.uv_requests.specs.Calls.{IsFinished, IsTaken, RefusesFinish, RefusesTake, RunsOther}
+pub use Rattle.uv_requests.specs.Calls.{IsFinished, IsTaken, RefusesFinish, RefusesTake}
 pub use Rattle.uv_requests.specs.Undo.{reopened_by}
 pub use Rattle.uv_requests.specs.Working.{id_in}
 pub use Rattle.uv_requests.specs.declared.undo.FinishUndo.{FinishUndo}
@@ -88,8 +88,6 @@ pub use Rattle.uv_step.specs.Trail.{DropsOne, unwound}
 pub use Rattle.uv_step.specs.Undo.{CanUnwind}
 pub use Rattle.uv_work.specs.Content.{request_of}
 pub use Rattle.uv_work.specs.Requests.{finished, job_of}
-pub use Rattle.uv_work.specs.TaskFields.{padded}
-pub use Rattle.uv_work.specs.TaskReading.{rounds_within, text_within}
 pub use Rattle.uv_work.specs.Tasks.{text_of}
 pub use Rattle.uv_work.specs.declared.content.Content.{Content}
 pub use Rattle.uv_work.specs.declared.content.Content.TheVariants.{Request as Asked}

@@ -73,11 +73,4 @@ impl ArenaLoop {
     {
         let _ = self.steps.seen.len();
     }
-
-    /// The memory.
-    pub fn memory(&self) -> &Memory<Place>
-        ensures { (held result.now).image ≡ self.now.walk.image }
-    {
-        &self.memory
-    }
 }

@@ -49,13 +49,6 @@ impl<'a, R: Wait, L: Ledger> Desk<'a, R, L> {
             closed: None,
         }
     }
-
-    /// The events that it answered.
-    pub fn events(&self) -> &[PoolEvent]
-        ensures { result.now ≡ self.now.events }
-    {
-        self.events.as_slice()
-    }
 }
 
 impl<'a, R: Wait, L: Ledger> Bench<L> for Desk<'a, R, L> {

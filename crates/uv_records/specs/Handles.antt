@@ -56,11 +56,6 @@ stopped h = record h { active = false; due = no_due }
 abbrev pub activated : HandleRecord → HandleRecord
 activated h = record h { active = true }
 
--- the handle, active or stopped
-abbrev pub active_as : Bool → HandleRecord → HandleRecord
-active_as true h = activated h
-active_as false h = stopped h
-
 -- a timer, started
 abbrev pub begun_at : Due → ℕ → HandleRecord → HandleRecord
 begun_at due repeat h = record h { active = true; begun = true; due = due; repeat = repeat }

@@ -7,7 +7,6 @@ ghost use Rattle.uv_records.specs.Handles.{
   inited,
   stopped,
   activated,
-  active_as,
   begun_at,
   repeating,
   referenced_as,
@@ -121,17 +120,6 @@ impl HandleRecord {
         ensures { result ≡ referenced_as referenced self }
     {
         HandleRecord { referenced, ..self }
-    }
-
-    /// The handle, active or stopped.
-    pub fn active_as(self, active: bool) -> HandleRecord
-        ensures { result ≡ active_as active self }
-    {
-        if active {
-            self.activated()
-        } else {
-            self.stopped()
-        }
     }
 
     /// The handle, closing: stopped, and no send pending.

@@ -31,20 +31,11 @@ module _ {X : Type 0} (read : X → Option Request) where
   RefusesTake w k why.NoWork = (slice_get w.running.workers k ≡ Some None) × (members w.arena Waiting ≡ [])
   RefusesTake w k _ = ⊥
 
-  -- the worker runs another job
-  pub record RunsOther (w : Working X) (k : ℕ) (job : Job) : Type 0 where
-    pub id : Id
-    pub request : Request
-    pub runs : slice_get w.running.workers k ≡ Some (Some id)
-    pub is : request_in read w.arena id ≡ Some request
-    pub other : job_of id request ≡ job → ⊥
-
-  -- why a worker's result isn't taken: there is no such worker, it runs nothing, or it runs another job
-  abbrev pub RefusesFinish : Working X → ℕ → Job → Why → Type 0
-  RefusesFinish w k job why.NoWorker = slice_get w.running.workers k ≡ None
-  RefusesFinish w k job why.IdleWorker = slice_get w.running.workers k ≡ Some None
-  RefusesFinish w k job why.NoWork = RunsOther w k job
-  RefusesFinish w k job _ = ⊥
+  -- why a worker has no result: there is no such worker, or it runs nothing
+  abbrev pub RefusesFinish : Working X → ℕ → Why → Type 0
+  RefusesFinish w k why.NoWorker = slice_get w.running.workers k ≡ None
+  RefusesFinish w k why.IdleWorker = slice_get w.running.workers k ≡ Some None
+  RefusesFinish w k _ = ⊥
 
   -- the front of those that wait is run by the worker
   pub record IsTaken (old new : Working X) (k : ℕ) (d : Id) (u : TakeWorkUndo) : Type 0 where

@@ -3,7 +3,6 @@ ghost use Rattle.std.specs.Prelude.{◌≡◌, Option, Some, None, IfOk, IfErr, 
 ghost use Rattle.uv_records.specs.declared.lists.ListName.TheVariants.{Waiting};
 ghost use Rattle.uv_arena.specs.Calls.{IsFirst};
 ghost use Rattle.uv_work.specs.Requests.{job_of};
-ghost use Rattle.uv_work.specs.declared.job.Job.{Job};
 ghost use Rattle.uv_requests.specs.Working.{working, request_in, IsWork};
 ghost use Rattle.uv_requests.specs.Undo.{take_undone, finish_undone, CanUndoTake, CanUndoFinish};
 ghost use Rattle.uv_requests.specs.Calls.{RefusesTake, RefusesFinish, IsTaken, IsFinished};
@@ -76,7 +75,7 @@ impl Requests {
         requires { IsWork T.held_request (working slots.now.image self.now) }
         ensures runs { IfOk result (λ r. slice_get self.now.workers worker ≡ Some (Some r.0)) }
         ensures request { IfOk result (λ r. request_in T.held_request slots.now.image r.0 ≡ Some r.1) }
-        ensures err { IfErr result (λ why. (job : Job) → RefusesFinish T.held_request (working slots.now.image self.now) worker job why) }
+        ensures err { IfErr result (λ why. RefusesFinish T.held_request (working slots.now.image self.now) worker why) }
     {
         match self.running(worker) {
             None => Err(Why::NoWorker),

@@ -6,7 +6,6 @@ ghost use Rattle.uv_arena.specs.Image.{members};
 ghost use Rattle.uv_work.specs.Requests.{reopened, cancel_refusal, job_of};
 ghost use Rattle.uv_work.specs.Pool.{waits};
 ghost use Rattle.uv_requests.specs.Working.{found, pool_of, request_in as held_request};
-ghost use Rattle.uv_work.specs.declared.job.Job.{Job};
 ghost use Rattle.uv_requests.specs.Calls.{RefusesTake, RefusesFinish, IsQueued, IsTaken, IsFinished, IsCancelled, IsBegun, IsCollected};
 ghost use Rattle.uv_work.specs.declared.content.Content.TheVariants.{Request as asked};
 ghost use Rattle.uv_step.specs.Change.{Queued as queued, Taken as taken, Finished as finished, Cancelled as cancelled, Begun as begun, Polled as polled};
@@ -71,7 +70,7 @@ impl<P: Copy> Memory<P> {
     pub fn work_of(&self, worker: u16) -> Result<(Id, Request), Why>
         ensures runs { IfOk result (λ r. slice_get (held self.now).image.running.workers worker ≡ Some (Some r.0)) }
         ensures request { IfOk result (λ r. held_request request_of (held self.now).image.arena r.0 ≡ Some r.1) }
-        ensures err { IfErr result (λ why. (job : Job) → RefusesFinish request_of (working_of (held self.now).image) worker job why) }
+        ensures err { IfErr result (λ why. RefusesFinish request_of (working_of (held self.now).image) worker why) }
     {
         self.requests.work_of(&self.slots, worker)
     }

@@ -13,9 +13,9 @@ pub struct Job {
 }
 
 impl Job {
-    ghost use Rattle.std.specs.Prelude.{◌<◌, ◌≤◌, ◌⊎◌, IfSome, IfNone, length};
+    ghost use Rattle.std.specs.Prelude.{◌<◌, ◌⊎◌, IfSome, IfNone, length};
     ghost use Rattle.uv_work.specs.Limits.{LONGEST_TEXT, MOST_ROUNDS};
-    ghost use Rattle.uv_work.specs.Tasks.{IsTask, text_of};
+    ghost use Rattle.uv_work.specs.Tasks.{IsTask};
 
     /// The job of a request: so many rounds over a text. None exactly outside the limits of tasks.
     pub fn new(req: Id, text: &[u8], rounds: u16) -> Option<Job>
@@ -26,22 +26,6 @@ impl Job {
             Some(task) => Some(Job { req, task }),
             None => None,
         }
-    }
-
-    /// The text that the first round hashes.
-    pub fn text(&self) -> &[u8]
-        ensures value { result.now ≡ text_of self.now.task }
-        ensures within { length result.now ≤ LONGEST_TEXT }
-    {
-        self.task.text()
-    }
-
-    /// How often a worker hashes.
-    pub fn rounds(&self) -> u16
-        ensures value { result ≡ self.now.task.rounds }
-        ensures within { (1 ≤ result) × (result ≤ MOST_ROUNDS) }
-    {
-        self.task.rounds()
     }
 
     /// Whether the two are one job: the same request, rounds and text.
