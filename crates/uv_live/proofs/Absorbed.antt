@@ -1,6 +1,5 @@
 -- One name more is absorbed.
-use Rattle.uv_live.proofs.Names.{◌≡◌, ◌∙◌, inl, inr, ℕ, ◌+◌, ◌<◌, Bool, List, [], ◌∷◌, ◌++◌, Some, take, length, get_or, slice_get, map, filter, refl, sym, ap, subst, Contains, take_more, map-append, filter-append, Var, Ticket, LoopView, AllCarried, Carries, after_absorb, Course, stepped, ThreadLine, Absorbs, Records, is_by, names_by}
-use Rattle.uv_ids.specs.declared.event.Event.TheVariants as step
+use Rattle.uv_live.proofs.Names.{◌≡◌, ◌∙◌, inl, ℕ, ◌+◌, ◌<◌, Bool, List, [], ◌∷◌, ◌++◌, Some, take, length, get_or, slice_get, map, filter, refl, sym, ap, subst, Contains, take_more, map-append, filter-append, Var, Ticket, LoopView, AllCarried, Carries, after_absorb, Course, ThreadLine, Absorbs, AbsorbsEach, sent_by, is_by, names_by}
 use Rattle.uv_live.proofs.Shares.{one_more}
 
 -- an absorb leaves what was carried
@@ -37,15 +36,17 @@ carried_more l l' names n name at a here before =
     (λ k low v there. still_carried l l' v a (before k low v there))
     (λ v there. let some : Some name ≡ Some v = sym at ∙ there in let same : name ≡ v = cc in subst (AllCarried l') same here)
 
-records_both : (xs ys : List Var) (s t u : Course) → Records xs s t → Records ys t u → Records (xs ++ ys) s u
-records_both [] ys s t u h k = subst (λ (x : Course). Records ys x u) h k
-records_both (v ∷ vs) ys s t u (inl h) k = inl (records_both vs ys s t u h k)
-records_both (v ∷ vs) ys s t u (inr h) k = inr (records_both vs ys (stepped (step.Send v) [] s) t u h k)
+each_both : (xs ys : List Var) (l m l' : LoopView) (s t u : Course) → AbsorbsEach xs l s m t → AbsorbsEach ys m t l' u
+    → AbsorbsEach (xs ++ ys) l s l' u
+each_both [] ys l m l' s t u h k =
+    subst (λ (x : LoopView). AbsorbsEach ys x s l' u) h.0 (subst (λ (x : Course). AbsorbsEach ys m x l' u) h.1 k)
+each_both (v ∷ vs) ys l m l' s t u h k = (h.0, each_both vs ys (after_absorb l v h.0) m l' (sent_by h.0 v s) t u h.1 k)
 
-pub records_more : (names : List Var) (n : ℕ) (d : Var) (s t u : Course) → n < length names → Records (take n names) s t
-    → Records (get_or names n d ∷ []) t u → Records (take (n + 1) names) s u
-records_more names n d s t u within h k =
-    subst (λ (xs : List Var). Records xs s u) (sym (take_more names n d within)) (records_both (take n names) (get_or names n d ∷ []) s t u h k)
+pub each_more : (names : List Var) (n : ℕ) (d : Var) (l m l' : LoopView) (s t u : Course) → n < length names → AbsorbsEach (take n names) l s m t
+    → AbsorbsEach (get_or names n d ∷ []) m t l' u → AbsorbsEach (take (n + 1) names) l s l' u
+each_more names n d l m l' s t u within h k =
+    subst (λ (xs : List Var). AbsorbsEach xs l s l' u) (sym (take_more names n d within))
+    (each_both (take n names) (get_or names n d ∷ []) l m l' s t u h k)
 
 -- one line more of a thread's
 pub names_more : (thread : ℕ) (lines : List ThreadLine) (n : ℕ) (d : ThreadLine) → n < length lines

@@ -1,5 +1,5 @@
 -- The entries of a log, each met by the shift of its worker.
-use Rattle.uv_live.proofs.Names.{◌≡◌, ◌∙◌, ◌<◌, ◌≤◌, ◌==◌, ◌↔◌, ℕ, ◌+◌, zero, suc, replicate, Bool, true, false, List, [], ◌∷◌, Some, map, length, drop, take, get_or, set, slice_get, refl, sym, ap, ap₂, subst, arith, cond, eq-eqb, ne_eqb, cases_lt, eqb-true, eqb-false, get_or-set_same, get_or-set_other, drop-cons, drop_all, length-drop, add-one, slice_get_within, PoolEvent, Decides, Worked, is_of, part_of, AreLeft, AreParts}
+use Rattle.uv_live.proofs.Names.{◌≡◌, ◌∙◌, ◌<◌, ◌≤◌, ◌==◌, ◌↔◌, ℕ, ◌+◌, zero, suc, replicate, Bool, true, false, List, [], ◌∷◌, Some, length, drop, get_or, set, slice_get, refl, sym, ap, ap₂, subst, arith, cond, eq-eqb, ne_eqb, eqb-true, eqb-false, get_or-set_same, get_or-set_other, drop-cons, drop_all, length-drop, add-one, slice_get_within, PoolEvent, Decides, Worked, is_of, part_of, AreLeft, AreParts}
 
 -- the part of a log with one entry more in front
 part_other : (k : ℕ) (entry : PoolEvent) (rest : List PoolEvent) → is_of k entry ≡ false → part_of k (entry ∷ rest) ≡ part_of k rest

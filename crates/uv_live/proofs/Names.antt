@@ -16,9 +16,9 @@ pub use Rattle.uv_ids.specs.declared.id.Var.{Var}
 pub use Rattle.uv_ids.specs.declared.thread_line.ThreadLine.{ThreadLine}
 pub use Rattle.uv_live.specs.Course.{Course, Plan, step_of, stepped, taken}
 pub use Rattle.uv_live.specs.Following.{Applies, Decides, Follows, IsWorkers, MayTake, OnFull, StaysEnded, Syncs}
-pub use Rattle.uv_live.specs.Running.{first_fault}
-pub use Rattle.uv_live.specs.Sending.{Absorbs, HasOwn, Records, is_by, names_by, names_in, threads_below}
-pub use Rattle.uv_live.specs.Settling.{AreLeft, AreParts, AreShifts, IsByWorker, IsSettled, SendsFit, Worked, counted, is_unthreaded, is_of, part_of, worked}
+pub use Rattle.uv_live.specs.Running.{first_fault, given_in}
+pub use Rattle.uv_live.specs.Sending.{Absorbs, AbsorbsEach, AreCarried, AreNoted, HasOwn, LinesCarried, sent_by, is_by, names_by, names_in, threads_below}
+pub use Rattle.uv_live.specs.Settling.{AreLeft, AreParts, AreShifts, IsByWorker, IsSettled, SendsFit, Worked, counted, is_line, is_unthreaded, is_of, part_of, worked}
 pub use Rattle.uv_pool.specs.Benches.{are_turns}
 pub use Rattle.uv_pool.specs.Book.{IsReplay, Standing, finish_count}
 pub use Rattle.uv_pool.specs.Calls.{Cancels, CollectsNext, IsFull, Submits, WantsMemory}

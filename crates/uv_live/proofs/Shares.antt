@@ -1,5 +1,5 @@
 -- What is left of a log's part for a worker, and of the finishes that the shares count.
-use Rattle.uv_live.proofs.Names.{◌≡◌, ◌∙◌, ◌<◌, ◌≤◌, ⊎_elim, ℕ, ◌+◌, ◌-◌, Bool, true, false, List, Some, map, option_map, length, take, get_or, slice_get, sym, ap, subst, arith, cases_lt, length-map, get_or-map, sum_by_more, sum_by_more_le, slice_get-map, slice_get-get_or, slice_get_within, PoolEvent, are_turns, finish_count, Decides, Worked, AreParts, AreShifts, IsByWorker, counted}
+use Rattle.uv_live.proofs.Names.{◌≡◌, ◌∙◌, ◌<◌, ◌≤◌, ⊎_elim, ℕ, ◌+◌, ◌-◌, true, List, Some, map, option_map, length, take, get_or, slice_get, sym, ap, subst, arith, cases_lt, length-map, get_or-map, sum_by_more, sum_by_more_le, slice_get-map, slice_get-get_or, slice_get_within, PoolEvent, are_turns, finish_count, Worked, AreParts, AreShifts, IsByWorker, counted}
 
 -- what holds below k and at k holds below k + 1
 pub one_more : (P : ℕ → Type 0) (k : ℕ) → ((j : ℕ) → j < k → P j) → P k → (j : ℕ) → j < k + 1 → P j

@@ -27,3 +27,9 @@ abbrev pub first_fault : {X : Type 0} → List (Result X Fault) → Option Fault
 first_fault [] = None
 first_fault (Err f ∷ more) = Some f
 first_fault (Ok x ∷ more) = first_fault more
+
+-- what those of some answers gave that are no fault
+abbrev pub given_in : {X : Type 0} → List (Result X Fault) → List X
+given_in [] = []
+given_in (Ok x ∷ more) = x ∷ given_in more
+given_in (Err f ∷ more) = given_in more

@@ -1,13 +1,14 @@
 -- What the senders' threads send, and what the loop absorbs of it and joins.
-use Rattle.std.specs.Prelude.{◌≡◌, ◌==◌, ◌+◌, ◌<◌, ◌≤◌, ◌⊎◌, ℕ, suc, zero, List, [], ◌∷◌, Bool, Some, length, map, filter, cond, slice_get, slice_index_or}
-use Rattle.std.specs.List.{list_any}
+use Rattle.std.specs.Prelude.{◌≡◌, ◌==◌, ◌+◌, ◌<◌, ◌≤◌, ℕ, suc, zero, List, [], ◌∷◌, Bool, true, false, Some, length, map, filter, cond, slice_get, slice_index_or}
+use Rattle.std.specs.List.{Contains, count_by, list_any}
 use Rattle.uv_ids.specs.declared.event.Event.TheVariants as step
 use Rattle.uv_ids.specs.declared.id.Var.{Var}
 use Rattle.uv_ids.specs.declared.thread_line.ThreadLine.{ThreadLine}
 use Rattle.uv_wake.specs.declared.tickets.Ticket.{Ticket}
 use Rattle.uv_wake.specs.declared.views.LoopView.{LoopView}
-use Rattle.uv_wake.specs.Seats.{Carried, AllCarried}
+use Rattle.uv_wake.specs.Seats.{Carried, AllCarried, after_absorb}
 use Rattle.uv_live.specs.Course.{Course, stepped}
+use Rattle.uv_live.specs.Settling.{is_line}
 
 abbrev pub is_by : ℕ → ThreadLine → Bool
 is_by thread line = line.thread == thread
@@ -41,7 +42,20 @@ pub record Absorbs (l l' : LoopView) : Type 0 where
 abbrev pub AreCarried : LoopView → List Var → Type 0
 AreCarried l names = (k : ℕ) (v : Var) → slice_get names k ≡ Some v → AllCarried l v
 
--- of these names, in their order, some are a send each
-abbrev pub Records : List Var → Course → Course → Type 0
-Records [] s t = t ≡ s
-Records (v ∷ vs) s t = Records vs s t ⊎ Records vs (stepped (step.Send v) [] s) t
+-- an absorb that found a send is one step more
+abbrev pub sent_by : Bool → Var → Course → Course
+sent_by true v s = stepped (step.Send v) [] s
+sent_by false v s = s
+
+-- the words of these names were absorbed in their order, and each one in which a send stood is a step
+abbrev pub AbsorbsEach : List Var → LoopView → Course → LoopView → Course → Type 0
+AbsorbsEach [] l s l' t = (l' ≡ l) × (t ≡ s)
+AbsorbsEach (v ∷ vs) l s l' t = (took : Bool) × AbsorbsEach vs (after_absorb l v took) (sent_by took v s) l' t
+
+-- each name of a number below this one that some line sends to is among these
+pub record AreNoted (number : ℕ) (lines : List ThreadLine) (names : List Var) : Type 0 where
+  pub each : (v : Var) → v.0 < number → 0 < count_by (is_line v.0) lines → Contains names v
+
+-- no ticket of a name of a number below this one that some line sends to waits in the loop's list
+abbrev pub LinesCarried : ℕ → List ThreadLine → LoopView → Type 0
+LinesCarried number lines l = (v : Var) → v.0 < number → 0 < count_by (is_line v.0) lines → AllCarried l v

@@ -8,13 +8,17 @@ pub trait Clock {
     // The time now.
     ghost hours: { Self → ℕ };
 
+    // What it is once it was asked to wait until that time.
+    ghost waited: { Self → ℕ → Self → Type 0 };
+
     /// The time now.
     fn moment(&self) -> u64
         ensures { result ≡ hours self.now };
 
     /// Waits until that time, and answers the time then.
     fn until(&mut self, due: u64) -> u64
-        ensures { result ≡ hours self.new };
+        ensures answer { result ≡ hours self.new }
+        ensures waited { waited self.old due self.new };
 }
 
 /// A clock that doesn't wait: it jumps to each time that it is asked to wait for.
@@ -34,6 +38,8 @@ impl JumpClock {
 
 impl Clock for JumpClock {
     ghost hours = { λ c. c.time };
+
+    ghost waited = { λ c due after. after.time ≡ due };
 
     fn moment(&self) -> u64
         ensures { result ≡ self.now.time }

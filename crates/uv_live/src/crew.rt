@@ -1,7 +1,7 @@
 //! The workers' threads of a live run.
-ghost use Rattle.std.specs.Prelude.{◌≡◌, ◌+◌, ◌<◌, ◌≤◌, IfErr, OnOk, vec_len, vec_capacity};
+ghost use Rattle.std.specs.Prelude.{◌≡◌, ◌+◌, ◌<◌, ◌≤◌, IfOk, IfErr, OnOk, vec_len, vec_capacity};
 ghost use Rattle.uv_ids.specs.declared.fault.Fault.TheVariants.{Memory};
-ghost use Rattle.uv_live.specs.Running.{first_fault};
+ghost use Rattle.uv_live.specs.Running.{first_fault, given_in};
 
 use std::alloc::Global;
 use std::sync::Wait;
@@ -40,7 +40,10 @@ pub(crate) struct Crew<L: Ledger> {
 
 impl<L: Ledger> Crew<L> {
     /// A crew of so many workers, of which none is started.
-    pub(crate) fn new(alloc: Global, workers: u16) -> Crew<L> {
+    pub(crate) fn new(alloc: Global, workers: u16) -> Crew<L>
+        ensures workers { result.workers ≡ workers }
+        ensures none { vec_len result.started + vec_len result.answers ≡ 0 }
+    {
         Crew {
             workers,
             started: Vec::new(alloc),
@@ -53,6 +56,9 @@ impl<L: Ledger> Crew<L> {
         ensures room { OnOk result (vec_len self.new.started < vec_capacity self.new.started) }
         ensures answer { OnOk result (vec_len self.new.answers + vec_len self.new.started < vec_capacity self.new.answers) }
         ensures err { IfErr result (λ fault. fault ≡ Memory) }
+        ensures workers { self.new.workers ≡ self.old.workers }
+        ensures started { vec_len self.new.started ≡ vec_len self.old.started }
+        ensures answers { vec_len self.new.answers ≡ vec_len self.old.answers }
     {
         self.answers.reserve(self.started.len() + 1)?;
         Ok(self.started.reserve(1)?)
@@ -62,6 +68,9 @@ impl<L: Ledger> Crew<L> {
     fn add(&mut self, worker: Worker<L>)
         requires room { vec_len self.old.started < vec_capacity self.old.started }
         requires answer { vec_len self.old.answers + vec_len self.old.started < vec_capacity self.old.answers }
+        ensures workers { self.new.workers ≡ self.old.workers }
+        ensures started { vec_len self.new.started ≡ vec_len self.old.started + 1 }
+        ensures answers { vec_len self.new.answers ≡ vec_len self.old.answers }
     {
         self.started.push_reserved(worker);
     }
@@ -82,9 +91,11 @@ pub(crate) fn start_workers<
     gate: &'s G,
     crew: &mut Crew<L>,
 ) -> Result<(), Fault>
-    ensures { IfErr result (λ fault. fault ≡ Memory) }
+    ensures err { IfErr result (λ fault. fault ≡ Memory) }
+    ensures all { OnOk result (vec_len crew.new.started ≡ vec_len crew.old.started + crew.old.workers) }
+    ensures answers { OnOk result (vec_len crew.new.answers ≡ vec_len crew.old.answers) }
 {
-    for k in 0..crew.workers {
+    'workers: for k in 0..crew.workers {
         crew.reserve()?;
         match scope.spawn(move || work(rt, alloc, book, gate, k)) {
             Ok(worker) => crew.add(worker),
@@ -95,7 +106,9 @@ pub(crate) fn start_workers<
 }
 
 /// Joins the workers' threads: what they answer, in the order of their numbers.
-pub(crate) fn join_workers<L: Ledger, R: Threads>(rt: &R, crew: Crew<L>) -> Vec<Answer<L>> {
+pub(crate) fn join_workers<L: Ledger, R: Threads>(rt: &R, crew: Crew<L>) -> Vec<Answer<L>>
+    ensures { vec_len result ≡ vec_len crew.answers + vec_len crew.started }
+{
     let Crew {
         started,
         mut answers,
@@ -123,9 +136,11 @@ pub(crate) fn lowest_fault<L: Ledger>(answers: &[Answer<L>]) -> Option<Fault>
 pub(crate) fn shifts_of<L: Ledger>(
     alloc: Global,
     answers: Vec<Answer<L>>,
-) -> Result<Vec<Shift<L>>, Fault> {
+) -> Result<Vec<Shift<L>>, Fault>
+    ensures { IfOk result (λ shifts. shifts.items ≡ given_in answers.items) }
+{
     let mut shifts = Vec::new(alloc);
-    for answer in answers {
+    'answers: for answer in answers {
         if let Ok(shift) = answer {
             match shifts.push(shift) {
                 Ok(()) => {}

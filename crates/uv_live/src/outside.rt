@@ -1,10 +1,11 @@
 //! What comes to the loop from outside the thread pool: the sends of the senders' threads.
 ghost use Rattle.std.specs.Prelude.{◌≡◌, ◌<◌, ◌+◌, ◌-◌, ◌++◌, ◌∷◌, ◌⊎◌, ℕ, [], Some, true, false, cond, length, slice_index_or, slice_set, All, OnOk, IfOk, IfErr, vec_len};
-ghost use Rattle.std.specs.List.{list_any};
+ghost use Rattle.std.specs.List.{Contains, count_by, list_any};
 ghost use Rattle.uv_ids.specs.declared.fault.Fault.TheVariants as fault;
 ghost use Rattle.uv_wake.specs.Seats.{names_of, AllCarried, AllJoined};
 ghost use Rattle.uv_live.specs.Course.{AreNamed};
-ghost use Rattle.uv_live.specs.Sending.{Absorbs, AreCarried, HasOwn, Records, is_by, names_by, names_in, threads_below};
+ghost use Rattle.uv_live.specs.Settling.{is_line};
+ghost use Rattle.uv_live.specs.Sending.{Absorbs, AbsorbsEach, AreCarried, AreNoted, HasOwn, LinesCarried, is_by, names_by, names_in, threads_below};
 
 use crate::follower::Follower;
 use std::alloc::{AllocError, Global};
@@ -39,10 +40,10 @@ impl<'a> Promise<SenderSeat> for Sends<'a> {
 #[derive(Drop)]
 pub(crate) struct Outside<'a> {
     board: &'a Board,
-    seat: LoopSeat,
+    pub(crate) seat: LoopSeat,
     pub(crate) senders: Vec<Sender<'a>>,
     /// The names that some thread sends to, in their order.
-    names: Vec<Var>,
+    pub(crate) names: Vec<Var>,
     /// How many sends the senders' threads have noted.
     sent: &'a AtomicU64,
     /// How many sends were noted when every word was absorbed last; none where a thread was started or joined since.
@@ -167,7 +168,7 @@ fn absorb_one<S: Follower>(
     ensures carried { OnOk result (AllCarried seat.new.knows name) }
     ensures plan { S.plan session.new ≡ S.plan session.old }
     ensures polling { OnOk result (S.polling session.new ≡ true) }
-    ensures records { OnOk result (Records (name ∷ []) (S.course session.old) (S.course session.new)) }
+    ensures records { OnOk result (AbsorbsEach (name ∷ []) seat.old.knows (S.course session.old) seat.new.knows (S.course session.new)) }
 {
     if seat.count(name) >= MOST_ABSORBED {
         return Err(Fault::Limit);
@@ -193,7 +194,7 @@ fn absorb_names<S: Follower>(
     ensures absorbs { Absorbs seat.old.knows seat.new.knows }
     ensures carried { OnOk result (AreCarried seat.new.knows names.now) }
     ensures plan { S.plan session.new ≡ S.plan session.old }
-    ensures records { OnOk result (Records names.now (S.course session.old) (S.course session.new)) }
+    ensures records { OnOk result (AbsorbsEach names.now seat.old.knows (S.course session.old) seat.new.knows (S.course session.new)) }
 {
     'names: for n in 0..names.len() {
         absorb_one(board, seat, names[n], session)?;
@@ -230,19 +231,35 @@ impl<'a> Outside<'a> {
         requires { names_of self.old.board.now.board ≡ (S.plan session.now).names }
         ensures board { self.new.board.now.board ≡ self.old.board.now.board }
         ensures lost { self.new.lost ≡ self.old.lost }
+        ensures noted { OnOk result (AreNoted (S.plan session.now).names (S.plan session.now).lines self.new.names.items) }
     {
         'names: for v in 0..session.name_count() {
-            if session.lines_to(Var(v)) > 0 {
-                self.note_name(Var(v))?;
-            }
+            self.note_one(session, Var(v))?;
         }
         Ok(())
+    }
+
+    /// Notes a name if some thread sends to it.
+    fn note_one<S: Follower>(&mut self, session: &S, name: Var) -> Result<(), Fault>
+        requires names { names_of self.old.board.now.board ≡ (S.plan session.now).names }
+        requires name { name.0 < (S.plan session.now).names }
+        ensures board { self.new.board.now.board ≡ self.old.board.now.board }
+        ensures lost { self.new.lost ≡ self.old.lost }
+        ensures kept { OnOk result ((v : Var) → Contains self.old.names.items v → Contains self.new.names.items v) }
+        ensures noted { OnOk result (0 < count_by (is_line name.0) (S.plan session.now).lines → Contains self.new.names.items name) }
+    {
+        if session.lines_to(name) == 0 {
+            return Ok(());
+        }
+        self.note_name(name)
     }
 
     fn note_name(&mut self, name: Var) -> Result<(), Fault>
         requires { name.0 < names_of self.old.board.now.board }
         ensures board { self.new.board.now.board ≡ self.old.board.now.board }
         ensures lost { self.new.lost ≡ self.old.lost }
+        ensures kept { OnOk result ((v : Var) → Contains self.old.names.items v → Contains self.new.names.items v) }
+        ensures noted { OnOk result (Contains self.new.names.items name) }
     {
         self.absorbed = None;
         match self.names.push(name) {
@@ -261,6 +278,7 @@ impl<'a> Outside<'a> {
         requires { AreNamed (names_of self.old.board.now.board) lines.now }
         ensures board { self.new.board.now.board ≡ self.old.board.now.board }
         ensures lost { OnOk result (self.new.lost ≡ self.old.lost) }
+        ensures names { OnOk result (self.new.names.items ≡ self.old.names.items) }
         ensures threads { OnOk result (self.new.seat.knows.splits ≡ self.old.seat.knows.splits + threads_below 64 lines.now) }
         ensures err { IfErr result (λ f. (f ≡ fault.Memory) ⊎ (f ≡ fault.Limit)) }
     {
@@ -285,6 +303,7 @@ impl<'a> Outside<'a> {
         requires known { All (λ v. v.0 < names_of self.old.board.now.board) names.items }
         ensures board { self.new.board.now.board ≡ self.old.board.now.board }
         ensures lost { OnOk result (self.new.lost ≡ self.old.lost) }
+        ensures names { OnOk result (self.new.names.items ≡ self.old.names.items) }
         ensures threads { OnOk result (self.new.seat.knows.splits ≡ self.old.seat.knows.splits + cond (list_any (is_by thread) lines.now) 1 0) }
         ensures err { IfErr result (λ f. (f ≡ fault.Memory) ⊎ (f ≡ fault.Limit)) }
     {
@@ -307,6 +326,7 @@ impl<'a> Outside<'a> {
         requires known { All (λ v. v.0 < names_of self.old.board.now.board) names.items }
         ensures board { self.new.board.now.board ≡ self.old.board.now.board }
         ensures lost { OnOk result (self.new.lost ≡ self.old.lost) }
+        ensures names { OnOk result (self.new.names.items ≡ self.old.names.items) }
         ensures threads { OnOk result (self.new.seat.knows.splits ≡ self.old.seat.knows.splits + 1) }
         ensures err { IfErr result (λ f. (f ≡ fault.Memory) ⊎ (f ≡ fault.Limit)) }
     {
@@ -341,9 +361,11 @@ impl<'a> Outside<'a> {
     pub(crate) fn absorb_all<S: Follower>(&mut self, session: &mut S) -> Result<(), Fault>
         requires polling { S.polling session.old ≡ true }
         requires names { names_of self.old.board.now.board ≡ (S.plan session.old).names }
+        requires noted { AreNoted (S.plan session.old).names (S.plan session.old).lines self.old.names.items }
         ensures board { self.new.board.now.board ≡ self.old.board.now.board }
         ensures lost { self.new.lost ≡ self.old.lost }
-        ensures carried { OnOk result (AreCarried self.new.seat.knows self.new.names.items) }
+        ensures names { self.new.names.items ≡ self.old.names.items }
+        ensures carried { OnOk result (LinesCarried (S.plan session.new).names (S.plan session.new).lines self.new.seat.knows) }
         ensures plan { S.plan session.new ≡ S.plan session.old }
     {
         let sent = self.sent.load(Ordering::SeqCst);
@@ -359,6 +381,7 @@ impl<'a> Outside<'a> {
     pub(crate) fn join_one<R: Threads>(&mut self, rt: &R) -> bool
         ensures board { self.new.board.now.board ≡ self.old.board.now.board }
         ensures lost { self.new.lost ≡ self.old.lost }
+        ensures names { self.new.names.items ≡ self.old.names.items }
         ensures left { vec_len self.new.senders ≡ vec_len self.old.senders - 1 }
         ensures none { result ≡ false → vec_len self.old.senders ≡ 0 }
     {

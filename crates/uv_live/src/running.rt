@@ -1,12 +1,13 @@
 //! A live run.
-ghost use Rattle.std.specs.Prelude.{◌≡◌, ◌<◌, Some, Ok, true, IfOk, IfNone};
+ghost use Rattle.std.specs.Prelude.{◌≡◌, ◌<◌, ◌+◌, Some, Ok, true, IfOk, IfNone};
 ghost use Rattle.uv_ids.specs.declared.fault.Why.TheVariants as why;
 ghost use Rattle.uv_wake.specs.Seats.{names_of, AllJoined};
 ghost use Rattle.uv_live.specs.Course.{AreNamed};
+ghost use Rattle.uv_live.specs.Sending.{AreNoted, LinesCarried};
 ghost use Rattle.uv_live.specs.Running.{HaltsAt, RunSettles, PassesTo};
 ghost use Rattle.uv_live.specs.Turning.{Refuses};
 ghost use Rattle.uv_live.specs.Working.{is_at_work};
-ghost use Rattle.std.specs.Prelude.{IfSome, IfErr, OnOk, is_some, length, vec_len};
+ghost use Rattle.std.specs.Prelude.{IfSome, IfErr, OnOk, MatchOption, is_some, length, vec_len};
 ghost use Rattle.uv_ids.specs.declared.fault.Fault.TheVariants as fault;
 
 use crate::clock::Clock;
@@ -31,6 +32,7 @@ use uv_wake::{Board, LoopSeat};
 fn pass_time<S: Follower, C: Clock>(session: &mut S, clock: &mut C) -> Result<(), Fault>
     ensures plan { S.plan session.new ≡ S.plan session.old }
     ensures passes { PassesTo (S.hours session.old) (C.hours clock.new) (S.course session.old) result (S.course session.new) }
+    ensures asked { MatchOption (S.due session.old) (clock.new ≡ clock.old) (λ due. C.waited clock.old due clock.new) }
 {
     match session.deadline() {
         None => Err(Fault::Stalled),
@@ -57,6 +59,7 @@ fn unblock<S: Follower, L: Ledger, C: Clock, R: Threads + Wait>(
 ) -> Result<Option<HasFinished<L>>, Fault>
     ensures board { outside.new.board.now.board ≡ outside.old.board.now.board }
     ensures lost { outside.new.lost ≡ outside.old.lost }
+    ensures names { outside.new.names.items ≡ outside.old.names.items }
     ensures plan { S.plan session.new ≡ S.plan session.old }
 
     // Where a request is open it waits for its workers, past what the session knows of them, and does nothing else.
@@ -79,6 +82,23 @@ fn unblock<S: Follower, L: Ledger, C: Clock, R: Threads + Wait>(
     }
     pass_time(session, clock)?;
     Ok(None)
+}
+
+/// Absorbs every word where the loop is at a poll.
+fn absorb_in_poll<S: Follower>(session: &mut S, outside: &mut Outside<'_>) -> Result<(), Fault>
+    requires names { names_of outside.old.board.now.board ≡ (S.plan session.old).names }
+    requires noted { AreNoted (S.plan session.old).names (S.plan session.old).lines outside.old.names.items }
+    ensures board { outside.new.board.now.board ≡ outside.old.board.now.board }
+    ensures lost { outside.new.lost ≡ outside.old.lost }
+    ensures names { outside.new.names.items ≡ outside.old.names.items }
+    ensures plan { S.plan session.new ≡ S.plan session.old }
+    ensures carried { OnOk result (S.polling session.old ≡ true
+        → LinesCarried (S.plan session.new).names (S.plan session.new).lines outside.new.seat.knows) }
+{
+    if !session.is_polling() {
+        return Ok(());
+    }
+    outside.absorb_all(session)
 }
 
 /// A turn under the book's lock: what its step did, and whether the book was open.
@@ -104,15 +124,14 @@ fn run<S: Follower, L: Ledger, C: Clock, R: Threads + Wait>(
     clock: &mut C,
 ) -> Result<bool, Fault>
     requires names { names_of outside.old.board.now.board ≡ (S.plan session.old).names }
+    requires noted { AreNoted (S.plan session.old).names (S.plan session.old).lines outside.old.names.items }
     ensures board { outside.new.board.now.board ≡ outside.old.board.now.board }
     ensures lost { outside.new.lost ≡ outside.old.lost }
     ensures plan { S.plan session.new ≡ S.plan session.old }
     ensures end { HaltsAt result (S.refusal session.new) }
 {
     'turns: for _ in rt.forever() {
-        if session.is_polling() {
-            outside.absorb_all(session)?;
-        }
+        absorb_in_poll(session, outside)?;
         let (answer, open) = locked_turn(rt, session, book);
         match answer {
             Ok(Did::Queued(_)) => book.wake_worker(),
@@ -165,6 +184,34 @@ pub(crate) struct Shared<'a, L: Ledger, G> {
     pub ghost named: { AreNamed (names_of board.now.board) lines.now },
 }
 
+/// Starts the workers, notes the names that are sent to, and starts the senders.
+fn start_threads<
+    's,
+    E,
+    S: Follower,
+    L: Ledger + Send + Sync,
+    G: Gate + Sync,
+    R: Threads + Wait + Sync,
+>(
+    rt: &'s R,
+    scope: &Scope<'s, E>,
+    shared: &Shared<'s, L, G>,
+    session: &S,
+    crew: &mut Crew<L>,
+    outside: &mut Outside<'s>,
+) -> Result<(), Fault>
+    requires board { outside.old.board.now.board ≡ shared.now.board.now.board }
+    requires names { names_of shared.now.board.now.board ≡ (S.plan session.now).names }
+    ensures board { outside.new.board.now.board ≡ outside.old.board.now.board }
+    ensures lost { OnOk result (outside.new.lost ≡ outside.old.lost) }
+    ensures noted { OnOk result (AreNoted (S.plan session.now).names (S.plan session.now).lines outside.new.names.items) }
+    ensures crew { OnOk result (vec_len crew.new.started ≡ vec_len crew.old.started + crew.old.workers) }
+{
+    start_workers(rt, shared.alloc, scope, shared.book, shared.gate, crew)?;
+    outside.note_names(session)?;
+    outside.start(scope, shared.gate, shared.lines)
+}
+
 /// Starts the threads, takes the turns, and then closes the book and joins all threads.
 fn within<
     's,
@@ -191,24 +238,11 @@ fn within<
     ensures end { IfOk result (λ r. S.refusal r.session ≡ Some why.Ended) }
 {
     let mut session = session;
-    let Shared {
-        alloc,
-        book,
-        board,
-        sent,
-        lines,
-        gate,
-    } = shared;
-    let mut outside = Outside::new(alloc, board, seat, sent);
+    let alloc = shared.alloc;
+    let book = shared.book;
+    let mut outside = Outside::new(alloc, shared.board, seat, shared.sent);
     let mut crew = Crew::new(alloc, session.worker_count());
-    let started = match start_workers(rt, alloc, scope, book, gate, &mut crew) {
-        Ok(()) => match outside.note_names(&session) {
-            Ok(()) => outside.start(scope, gate, lines),
-            Err(fault) => Err(fault),
-        },
-        Err(fault) => Err(fault),
-    };
-    let halt = match started {
+    let halt = match start_threads(rt, scope, &shared, &session, &mut crew, &mut outside) {
         Ok(()) => run(rt, &mut session, book, &mut outside, clock),
         Err(fault) => Err(fault),
     };

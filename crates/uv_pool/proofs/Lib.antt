@@ -3,6 +3,7 @@ pub mod JobLists
 pub mod Keeps
 pub mod Kept
 pub mod Leaving
+mod Looks
 mod Names
 pub mod Numbers
 pub mod Replays

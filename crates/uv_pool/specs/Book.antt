@@ -1,5 +1,5 @@
 -- What callers see of the pool's book.
-use Rattle.std.specs.Prelude.{◌≡◌, ◌+◌, ◌<◌, ◌≤◌, ℕ, List, Bool, true, false, Some, length, cond, slice_get}
+use Rattle.std.specs.Prelude.{◌≡◌, ◌+◌, ◌<◌, ◌≤◌, ℕ, List, [], ◌∷◌, ◌++◌, Bool, true, false, Some, length, cond, slice_get}
 use Rattle.std.specs.List.{count_by}
 use Rattle.uv_ids.specs.Limits.{MOST_WORKERS}
 use Rattle.uv_work.specs.Pool.{replay}
@@ -29,6 +29,10 @@ finish_count log = count_by is_finish log
 -- a job was finished past the first n entries
 abbrev pub IsFinishedPast : ℕ → List PoolEvent → Type 0
 IsFinishedPast n log = (place : ℕ) × (e : PoolEvent) × (n ≤ place) × (slice_get log place ≡ Some e) × (is_finish e ≡ true)
+
+-- this is the last entry
+abbrev pub EndsWith : PoolEvent → List PoolEvent → Type 0
+EndsWith e log = (before : List PoolEvent) × (log ≡ before ++ e ∷ [])
 
 -- the pool is the replay of the log, so each entry could be at its place
 abbrev pub IsReplay : Contents → Type 0

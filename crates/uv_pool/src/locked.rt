@@ -1,5 +1,7 @@
 //! The book under its lock.
-ghost use Rattle.std.specs.Prelude.{◌≡◌, ◌+◌, ◌<◌, IfOk, IfErr, cond, is_ok};
+ghost use Rattle.std.specs.Prelude.{◌≡◌, ◌+◌, ◌<◌, IfOk, IfErr, OnOk, cond, is_ok};
+ghost use Rattle.uv_work.specs.declared.event.PoolEvent.TheVariants.{Finish};
+ghost use Rattle.uv_pool.specs.Book.{EndsWith};
 ghost use Rattle.uv_pool.specs.Benches.{IsEnrolFault, IsTakeFault, IsFinishFault};
 ghost use Rattle.std.specs.Prelude.{◌⊎◌, ◌≤◌, true, length, Some, vec_len, vec_capacity};
 ghost use Rattle.uv_pool.specs.Calls.{run_at};
@@ -152,10 +154,30 @@ impl<L: Ledger> LockedBook<L> {
         ensures parts { share.new.parts ≡ share.old.parts }
         ensures amount { share.new.amount ≡ share.old.amount + cond (is_ok result) 1 0 }
     {
-        let answer = self.book.lock(rt).finish_for(k, work, share);
+        let (answer, guard) = self.handed_in(rt, k, work, share);
+        drop(guard);
         self.grown.notify_all();
         self.finished.notify_all();
         answer
+    }
+
+    /// Takes the result of the job that the worker runs. It gives the lock, too.
+    fn handed_in<R: Wait>(
+        &self,
+        rt: &R,
+        k: u16,
+        work: WorkResult,
+        share: &mut Share<L>,
+    ) -> (Result<(), Fault>, MutexGuard<'_, PoolBook<L>>)
+        requires { 0 < share.old.parts }
+        ensures faults { IfErr result.0 IsFinishFault }
+        ensures finished { OnOk result.0 (EndsWith (Finish k work.job.req) (mutex_guard_value result.1).hold.contents.log) }
+        ensures parts { share.new.parts ≡ share.old.parts }
+        ensures amount { share.new.amount ≡ share.old.amount + cond (is_ok result.0) 1 0 }
+    {
+        let mut guard = self.book.lock(rt);
+        let answer = guard.finish_for(k, work, share);
+        (answer, guard)
     }
 
     /// Closes the book, and wakes all that wait.

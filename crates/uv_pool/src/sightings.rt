@@ -1,6 +1,6 @@
 //! What a thread saw of a book while it held the lock, kept once the lock is let go. No clause knows what lies under a lock
 //! then. But these values are made here alone, each where a book that is lent is just so: who has one has seen it.
-ghost use Rattle.std.specs.Prelude.{◌≡◌, ◌⊎◌, true, false, [], IfSome, IfNone};
+ghost use Rattle.std.specs.Prelude.{◌≡◌, ◌⊎◌, true, false, [], IfSome, IfNone, MatchBool};
 ghost use Rattle.uv_pool.specs.Book.{IsFinishedPast};
 
 use crate::book::PoolBook;
@@ -69,6 +69,8 @@ impl<L: Ledger> HasFinished<L> {
     pub(crate) fn look(book: &PoolBook<L>, past: usize) -> Option<HasFinished<L>>
         ensures past { IfSome result (λ seen. seen.past ≡ past) }
         ensures seen { IfSome result (λ seen. IsFinishedPast past book.now.hold.contents.log ⊎ (book.now.rest.closed ≡ true)) }
+        ensures open { IfNone result (book.now.rest.closed ≡ false) }
+        ensures none { IfNone result (IsFinishedPast past book.now.hold.contents.log → ⊥) }
     {
         if !is_finished_past(book.log(), past) && !book.closed() {
             return None;
@@ -88,7 +90,7 @@ fn is_finish(event: PoolEvent) -> bool
 
 /// Whether a job was finished past the first n entries of the log.
 fn is_finished_past(log: &[PoolEvent], n: usize) -> bool
-    ensures { result ≡ true → IsFinishedPast n log.now }
+    ensures { MatchBool result (IsFinishedPast n log.now) (IsFinishedPast n log.now → ⊥) }
 {
     'places: for place in n..log.len() {
         if is_finish(log[place]) {

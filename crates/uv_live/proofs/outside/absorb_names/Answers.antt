@@ -1,5 +1,5 @@
 use Rattle.uv_live.proofs.Names.{◌∙◌, arith, slice_get-get_or, slice_get_within}
-use Rattle.uv_live.proofs.Absorbed.{absorbs_both, carried_more, records_more}
+use Rattle.uv_live.proofs.Absorbed.{absorbs_both, carried_more, each_more}
 use Rattle.uv_live.proofs.outside.absorb_names.Goals as goal
 
 pub names-preserved : goal.names-preserved
@@ -14,7 +14,7 @@ names-preserved g c =
       below = carried_more _ _ names c.names.n _ (slice_get-get_or names c.names.n _ within) one.absorbs one.carried before.below;
       plan = one.plan ∙ before.plan;
       polling = one.polling;
-      records = records_more names c.names.n _ _ _ _ within before.records one.records;
+      records = each_more names c.names.n _ _ _ _ _ _ _ within before.records one.records;
     }
 
 pub returns-clause-carried : goal.returns-clause-carried

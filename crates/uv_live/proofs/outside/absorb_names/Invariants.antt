@@ -1,4 +1,4 @@
-use Rattle.uv_live.proofs.Names.{◌≡◌, true, take, Absorbs, Records}
+use Rattle.uv_live.proofs.Names.{◌≡◌, true, take, Absorbs, AbsorbsEach}
 use Rattle.uv_live.proofs.Absorbed.{CarriedBelow}
 use Rattle.uv_live.proofs.outside.absorb_names.Given as goal
 
@@ -9,5 +9,5 @@ invariant-names g l = record {
   below : CarriedBelow l.seat.knows l.names l.n;
   plan : g.S.Follower.plan l.session ≡ g.S.Follower.plan l.initial.session;
   polling : g.S.Follower.polling l.session ≡ true;
-  records : Records (take l.n l.names) (g.S.Follower.course l.initial.session) (g.S.Follower.course l.session);
+  records : AbsorbsEach (take l.n l.names) l.initial.seat.knows (g.S.Follower.course l.initial.session) l.seat.knows (g.S.Follower.course l.session);
 }
