@@ -87,6 +87,8 @@ class Overview:
 
     def javascript(self) -> list[str]:
         """Those that JavaScript started, of which node has many on one timer of the loop."""
+        if not self.walk.notes.javascript:
+            return []
         asked = WhyJavaScript(self.walk)
         rows = asked.latest(self.least, LINES)
         self.first = rows[0][1] if rows else ""
