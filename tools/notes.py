@@ -77,6 +77,8 @@ class Notes:
     javascript: JavaScript = field(default_factory=JavaScript)
     # the requests that were queued again while they were under way
     again: list[str] = field(default_factory=list)
+    # which loop of the program it is: 0 is the first one
+    loop: int = 0
 
     def function(self, list: str, name: str, call: int) -> str:
         """Which function that call is, `` where nobody knows."""
@@ -113,6 +115,7 @@ class Notes:
         lines += [f"part {self.part}"] if self.part else []
         lines += [f"polls {self.polls}"] if self.polls else []
         lines += [f"ended {self.ended}"] if self.ended else []
+        lines += [f"loop {self.loop}"] if self.loop else []
         for name, (kind, origin) in self.names.items():
             lines.append(f"name {name} {kind} {origin}")
             for list in ("work", "on", "after", "closed"):
@@ -203,6 +206,8 @@ def take(notes: Notes, line: str) -> None:
                 notes.polls = line.removeprefix("polls ")
             case "by":
                 notes.by[int(words[1])] = " ".join(words[2:])
+            case "loop":
+                notes.loop = int(words[1])
             case "again":
                 notes.again.append(words[1])
             case "ended":

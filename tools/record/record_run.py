@@ -271,7 +271,9 @@ def from_data(data: bytes, log: Log, name: str, part: Part = Part()) -> tuple[li
         path = Path(f"{name}.rec" if len(made) == 1 or javascript == [loop] else f"{name}.{loop}.rec")
         recording = ("\n".join(it.outcome.recording) + "\n").encode()
         write(path, recording)
-        write(path.with_suffix(".notes"), notes_of(it, log.note, log.ended).text(recording).encode())
+        notes = notes_of(it, log.note, log.ended)
+        notes.loop = loop
+        write(path.with_suffix(".notes"), notes.text(recording).encode())
         lines += told(it, loop, path, log.note)
         whole &= it.is_whole()
     if not made:

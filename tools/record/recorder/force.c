@@ -1,7 +1,8 @@
 /* Forces the order of a session upon the program: what comes from outside comes only where the session has it.
  *
- * UVT_FORCE=SCHEDULE  a line for each line of the session's run, made by tools/uvt-force
+ * UVT_FORCE=SCHEDULE  a line for each line of the session's run, made by tools/forcing.py
  * UVT_FORCE_SAID=FILE where it says what it did, and where the program departs from the session
+ * UVT_FORCE_AT=FILE   a page: how far it has come (struct page), also where the program is ended by a signal
  * UVT_FORCE_LOOP=N    the loop of this number, as the log has it; else the first one
  * UVT_FORCE_STOP=1    SIGTRAP at the session's last step, before it is done
  * UVT_FORCE_EARLY=1   work begins where the session has its take; else where it has its finish
@@ -21,7 +22,9 @@
 #include <stdio.h>
 #include <stdlib.h>
 #include <string.h>
+#include <dirent.h>
 #include <sys/epoll.h>
+#include <sys/mman.h>
 #include <sys/syscall.h>
 #include <time.h>
 #include <unistd.h>
@@ -50,6 +53,7 @@ enum state { NOT_FORCING, FORCING, FREE };
 static volatile enum state state = NOT_FORCING;
 static struct item *items;
 static int item_count, cursor, departures;
+static int last_shown = -1; /* the last item at which somebody could look: an op, a callback, a send */
 static struct name *names;
 static int name_count;
 static struct loop *forced; /* the loop of the session: the first that there is */
@@ -57,6 +61,12 @@ static int depth; /* callbacks of the program under way */
 static bool stops, early, behind_poll;
 static int said = -1;
 static long progress; /* grows with each step: a gate that waits long without it opens */
+
+/* How far it has come, for who looks from outside. */
+struct page {
+    int steps, departures, done, free; /* of the session; of these; all of it has come; nothing is forced any more */
+};
+static struct page no_page, *page = &no_page;
 
 /* ---- what is said */
 
@@ -104,12 +114,25 @@ static void take_nap(void) {
     syscall(SYS_nanosleep, &nap, NULL);
 }
 
-/* ---- gates: one mutex, one condition */
+/* ---- gates: one mutex, one condition
+ *
+ * Who waits, waits in naps of 10 ms. On a busy machine a thread may get no processor for long: so a nap counts only where no thread of the
+ * program runs, but for those at gates. (A debugger that stops all threads stops who counts, too.) */
 
 static pthread_mutex_t gate = PTHREAD_MUTEX_INITIALIZER;
 static pthread_cond_t changed = PTHREAD_COND_INITIALIZER;
-enum { PATIENCE = 300 }; /* in tens of ms in which nothing goes on (a debugger that stops all threads doesn't count) */
+enum { PATIENCE = 300, AT_MOST = 6000, BLOCKED = 300, GATES = 1024 };
 static int patience = PATIENCE;
+static int at_gates[GATES]; /* the threads that wait at a gate */
+static int gate_count;
+static int leader_id;
+static int leads; /* the leader does what the session has: else it is in the program's code, or in libuv's */
+
+static int own_id(void) {
+    static __thread int id;
+    if (!id) id = (int)syscall(SYS_gettid);
+    return id;
+}
 
 static void wait_a_little(void) {
     uint64_t until = real_ns(CLOCK_REALTIME) + 10000000;
@@ -117,17 +140,79 @@ static void wait_a_little(void) {
     pthread_cond_timedwait(&changed, &gate, &time);
 }
 
-/* (with the gate's mutex) true where CONDITION came; false where it didn't for long, or nothing is forced any more */
+/* What the system says of a thread: R, S, .. */
+static char state_of(int thread) {
+    char name[64], text[512];
+    snprintf(name, sizeof name, "/proc/self/task/%d/stat", thread);
+    int descriptor = open(name, O_RDONLY | O_CLOEXEC);
+    if (descriptor < 0) return 0;
+    ssize_t length = read(descriptor, text, sizeof text - 1);
+    close(descriptor);
+    text[length < 0 ? 0 : length] = 0;
+    const char *behind = strrchr(text, ')');
+    return behind && behind[1] == ' ' ? behind[2] : 0;
+}
+
+static bool is_at_gate(int thread) {
+    for (int at = 0; at < gate_count; at++)
+        if (at_gates[at] == thread) return true;
+    return false;
+}
+
+static void come_to_gate(void) {
+    if (gate_count < GATES) at_gates[gate_count++] = own_id();
+}
+
+static void leave_gate(void) {
+    for (int at = 0; at < gate_count; at++)
+        if (at_gates[at] == own_id()) {
+            at_gates[at] = at_gates[--gate_count];
+            return;
+        }
+}
+
+/* Does any other thread of the program run, or could it? */
+static bool somebody_runs(void) {
+    bool found = false;
+    DIR *folder = opendir("/proc/self/task");
+    if (!folder) return false;
+    for (struct dirent *it; !found && (it = readdir(folder));) {
+        int thread = atoi(it->d_name);
+        if (thread <= 0 || thread == own_id() || is_at_gate(thread)) continue;
+        char state = state_of(thread);
+        found = state == 'R' || state == 'D';
+    }
+    closedir(folder);
+    return found;
+}
+
+/* (with the gate's mutex) the leader waits: true where CONDITION came; false where it didn't for long, or nothing is forced any more */
 #define WAIT(CONDITION)                                                     \
     ({                                                                      \
         long seen = progress;                                               \
-        int waited = 0;                                                     \
-        while (state == FORCING && !(CONDITION) && waited < patience) {     \
+        int waited = 0, naps = 0;                                           \
+        while (state == FORCING && !(CONDITION) && waited < patience && naps++ < AT_MOST) { \
             wait_a_little();                                                \
-            waited++;                                                       \
             if (seen != progress) seen = progress, waited = 0;              \
+            else if (!somebody_runs()) waited++;                            \
         }                                                                   \
         (CONDITION);                                                        \
+    })
+
+/* (with the gate's mutex) another thread waits, as long as the leader may come to it: where the program's own code has it wait for
+ * something (a semaphore, a lock, the end of a thread), nothing that is held at a gate would ever come. False then. */
+#define WAIT_FOR_LEADER(CONDITION)                                          \
+    ({                                                                      \
+        long seen = progress;                                               \
+        int waited = 0;                                                     \
+        come_to_gate();                                                     \
+        while (state == FORCING && !(CONDITION) && waited < BLOCKED) {      \
+            wait_a_little();                                                \
+            if (seen != progress || leads || state_of(leader_id) != 'S') seen = progress, waited = 0; \
+            else waited++;                                                  \
+        }                                                                   \
+        leave_gate();                                                       \
+        waited < BLOCKED;                                                   \
     })
 
 static void set_free(const char *why) {
@@ -135,6 +220,7 @@ static void set_free(const char *why) {
     pthread_mutex_lock(&gate);
     freed_at = real_ns(CLOCK_MONOTONIC);
     state = FREE;
+    page->free = 1;
     pthread_cond_broadcast(&changed);
     pthread_mutex_unlock(&gate);
     if (why) say("%s", why);
@@ -157,15 +243,17 @@ static void depart(const char *format, ...) {
     vsnprintf(text, sizeof text, format, words);
     va_end(words);
     const struct item *next = at_cursor();
-    departures++;
+    page->departures = ++departures;
     say("DEPARTS at step %d: %s", next ? next->step : item_count ? items[item_count - 1].step : 0, text);
 }
 
 /* The callback of the last step goes on with all as the session left it: until it is over nothing comes from outside. */
 static void step_done(void) {
+    page->steps = items[cursor].step;
     cursor++;
     progress++;
     if (cursor == item_count) {
+        page->done = 1;
         say("DONE %d %d", items[item_count - 1].step, departures);
         if (depth == 0) set_free(NULL);
     }
@@ -226,6 +314,11 @@ int uv_thread_create(uv_thread_t *thread, uv_thread_cb entry, void *word) {
     return CALL(uv_thread_create_ex)(thread, &none, entry, word);
 }
 
+/* (with the gate's mutex) what a thread has that is let through a gate before its step */
+static void let_through(const char *what) {
+    depart("%s before its step: the loop's thread waits in the program's own code, and may wait for it", what);
+}
+
 static void at_gate(struct worker *worker, enum place place) {
     worker->place = place;
     progress++;
@@ -241,12 +334,12 @@ void uv_mutex_lock(uv_mutex_t *mutex) {
             worker->may_run = worker->may_finish = false;
             worker->number = -1;
             at_gate(worker, AT_TAKE);
-            while (state == FORCING && !worker->may_take) wait_a_little();
+            if (!WAIT_FOR_LEADER(worker->may_take)) let_through("a worker takes a request");
             worker->may_take = false;
             worker->place = TAKING;
         } else if (worker->place == RUNNING && forced && mutex == &forced->uv->wq_mutex) {
             at_gate(worker, AT_FINISH);
-            while (state == FORCING && !worker->may_finish) wait_a_little();
+            if (!WAIT_FOR_LEADER(worker->may_finish)) let_through("a worker hands in a request");
             worker->place = FINISHING;
         }
         pthread_mutex_unlock(&gate);
@@ -260,7 +353,7 @@ void force_unlocked(uv_mutex_t *mutex) {
     if (!worker || worker->place != TAKING || mutex != pool_mutex) return;
     pthread_mutex_lock(&gate);
     at_gate(worker, TAKEN);
-    while (state == FORCING && !early && !worker->may_run) wait_a_little();
+    if (!early && !WAIT_FOR_LEADER(worker->may_run)) let_through("a worker begins its work");
     worker->place = RUNNING;
     pthread_mutex_unlock(&gate);
 }
@@ -291,17 +384,19 @@ static struct worker *worker_of(long number) {
 /* ---- threads that send */
 
 static bool is_leader(void) {
-    return state == FORCING && !me && forced->uv && pthread_equal(forced->thread, pthread_self());
+    bool is = state == FORCING && !me && forced->uv && pthread_equal(forced->thread, pthread_self());
+    if (is) leader_id = own_id();
+    return is;
 }
-
 
 struct sender {
     struct sender *next;
     int name;
-    bool may_send, has_sent, last;
+    bool may_send, last;
 };
 
 static struct sender *senders;
+static long sent; /* how many sends were done that waited at a gate. (A thread may be gone, or send again, as soon as it has sent) */
 static int joining;
 static const struct worker *waits_for; /* the leader, for this one's finish */
 
@@ -328,9 +423,11 @@ bool force_send(void *handle, struct sender **handed) {
     senders = sender;
     progress++;
     pthread_cond_broadcast(&changed);
-    WAIT(sender->may_send || joining || (me && waits_for == me));
+    bool leads_on = WAIT_FOR_LEADER(sender->may_send || joining || (me && waits_for == me));
     if (!sender->may_send && state == FORCING) {
-        depart("a thread sends to %s, and the session has no send there%s", name_of(name), joining ? ": the program waits for that thread" : waits_for == me && me ? ": its request is to be finished there" : "");
+        const char *why = joining ? "the program waits for that thread" : me && waits_for == me ? "its request is to be finished there"
+                        : leads_on ? "" : "the loop's thread waits in the program's own code, and may wait for it";
+        depart("a thread sends to %s, and the session has no send there%s%s", name_of(name), *why ? ": " : "", why);
     }
     sender->may_send = true;
     pthread_mutex_unlock(&gate);
@@ -344,7 +441,7 @@ void force_sent(struct sender *sender) {
     struct sender **at = &senders;
     while (*at && *at != sender) at = &(*at)->next;
     if (*at) *at = sender->next;
-    sender->has_sent = true;
+    sent++;
     progress++;
     pthread_cond_broadcast(&changed);
     pthread_mutex_unlock(&gate);
@@ -423,11 +520,16 @@ static void do_send(const struct item *item) {
         WAIT(holder->place != TAKEN);
     }
     if (sender) {
+        long before = sent;
         sender->may_send = true;
-        sender->last = cursor + 1 == item_count;
-        if (sender->last) say("AT %d %s", item->step, item->text);
+        sender->last = cursor == last_shown;
+        if (sender->last) {
+            say("AT %d %s", item->step, item->text);
+            page->steps = item->step;
+            page->done = cursor + 1 == item_count;
+        }
         pthread_cond_broadcast(&changed);
-        WAIT(sender->has_sent);
+        WAIT(sent != before);
     } else {
         depart("no thread of the program sends to %s", name_of(item->name));
     }
@@ -463,10 +565,12 @@ static bool is_shown(const struct item *item) {
 static void advance(bool through) {
     const struct item *it;
     int held = unlock_all();
+    leads++;
     while (state == FORCING && (it = at_cursor()) && (is_outside(it) || (through && !is_shown(it)))) {
         if (is_outside(it)) do_item(it);
         step_done();
     }
+    leads--;
     lock_again(held);
 }
 
@@ -523,9 +627,10 @@ static int choices(int at) {
         }
     for (struct sender *it = senders; it; it = it->next)
         if (!it->may_send && count++ == at) {
+            long before = sent;
             it->may_send = true;
             pthread_cond_broadcast(&changed);
-            WAIT(it->has_sent);
+            WAIT(sent != before);
             return -1;
         }
     return count;
@@ -542,8 +647,10 @@ static bool choose(void) {
 
 static void maybe_choose(void) {
     int held = unlock_all();
+    leads++;
     if (stall && up_to(8) == 0) moved += up_to((unsigned)stall + 1);
     while (up_to(MAY) == 0 && choose()) continue;
+    leads--;
     lock_again(held);
 }
 
@@ -601,26 +708,8 @@ void force_before(const char *function) {
     if (it && it->type == OP && it->answer && strcmp(it->answer, "ESTALE") == 0 && is_same_word(it->word, function)) {
         say("AT %d %s", it->step, it->text);
         say("STALE %s asks for %s, whose handle or request is gone", function, name_of(it->name));
-        if (cursor + 1 == item_count) stop_here();
+        if (cursor == last_shown) stop_here();
         step_done();
-    }
-}
-
-/* Where the program was built with a sanitizer: what libuv would touch there is touched so that it sees it. */
-void force_touch(const void *address) {
-    static void *(*poisoned)(const void *, size_t);
-    static void (*load)(const void *);
-    static bool looked;
-    if (state == NOT_FORCING) return;
-    if (!looked) {
-        poisoned = (void *(*)(const void *, size_t))dlsym(RTLD_DEFAULT, "__asan_region_is_poisoned");
-        load = (void (*)(const void *))dlsym(RTLD_DEFAULT, "__asan_load8");
-        looked = true;
-    }
-    const void *at;
-    if (poisoned && load && address && (at = poisoned(address, 64))) {
-        say("ASAN the program hands libuv memory that is not its own any more");
-        load(at);
     }
 }
 
@@ -727,7 +816,7 @@ static void did_op(const char *words) {
         if (it->answer && strcmp(it->answer, shown.answer) != 0)
             depart("`%s %s` answers %s in the program, and %s in the session", it->word, name_of(it->name), shown.answer, it->answer);
     }
-    if (cursor + 1 == item_count) {
+    if (cursor == last_shown) {
         say("AT %d %s", it->step, it->text);
         stop_here();
     }
@@ -769,7 +858,7 @@ static void began_callback(const char *words) {
     if (type == CALL_ON && it->type == CALL_CLOSED && name == it->name && name >= 0) early_id = id, type = CALL_CLOSED;
     if (it->type == type && name == it->name && name >= 0) {
         if (type != CALL_ON) names[name].id = -1;
-        if (cursor + 1 == item_count) {
+        if (cursor == last_shown) {
             say("AT %d %s", it->step, it->text);
             stop_here();
         }
@@ -829,7 +918,7 @@ void force_event(struct loop *loop, char type, const char *words) {
             break;
         }
         if (it->number != atol(words))
-            say("TIMEOUT at step %d: the poll may wait %s ms in the program, and %ld in the session", it->step, words, it->number);
+            say("at step %d the poll may wait %s ms in the program, and %ld in the session", it->step, words, it->number);
         step_done();
         break;
     case 'r':
@@ -861,10 +950,12 @@ static void look_at_clock(void) {
     for (int at = cursor; at < item_count && !is_shown(&items[at]); at++) {
         if (items[at].type != SECTION || strcmp(items[at].word, "timers") != 0) continue;
         int held = unlock_all();
+        leads++;
         while (cursor <= at && state == FORCING) {
             if (is_outside(&items[cursor])) do_item(&items[cursor]);
             step_done();
         }
+        leads--;
         lock_again(held);
         return;
     }
@@ -910,8 +1001,11 @@ uint64_t force_clock(uint64_t real_ms) {
 
 static bool sleeps(uint64_t ns) {
     if (state != FORCING) return false;
+    bool is = is_leader();
     crept += ns;
+    leads += is;
     take_nap();
+    leads -= is;
     return true;
 }
 
@@ -951,10 +1045,8 @@ static int file_of(const struct name *name) {
 
 enum { WANTED = 1024 };
 
-bool force_poll(struct loop *loop, int descriptor, struct epoll_event *events, int room, int timeout, int *got) {
+static bool poll_in_order(int descriptor, struct epoll_event *events, int room, int timeout, int *got) {
     const struct item *it;
-    if (state != FORCING || loop != forced || !is_leader()) return false;
-    if (at_random) return poll_at_random(descriptor, events, room, timeout, got);
     int held = unlock_all();
     advance(false);
     lock_again(held);
@@ -1004,7 +1096,7 @@ bool force_poll(struct loop *loop, int descriptor, struct epoll_event *events, i
                 handed++;
                 is_there = true;
             }
-        if (!is_there && wanted[at] != wake_file) depart("nothing comes for the handle of I/O whose callback the session has there");
+        if (!is_there && wanted[at] != wake_file) depart("nothing comes for the handle of I/O whose callback the session has there (other processes run in real time, and are not forced)");
     }
     uint64_t deadline = forced->uv->time + (uint64_t)(timeout < 0 ? 0 : timeout);
     if (handed == 0 && timeout != 0 && (timeout < 0 || virtual_ns() / 1000000 < deadline)) {
@@ -1014,6 +1106,14 @@ bool force_poll(struct loop *loop, int descriptor, struct epoll_event *events, i
     }
     *got = handed;
     return true;
+}
+
+bool force_poll(struct loop *loop, int descriptor, struct epoll_event *events, int room, int timeout, int *got) {
+    if (state != FORCING || loop != forced || !is_leader()) return false;
+    leads++;
+    bool is = at_random ? poll_at_random(descriptor, events, room, timeout, got) : poll_in_order(descriptor, events, room, timeout, got);
+    leads--;
+    return is;
 }
 
 /* ---- the beginning and the end */
@@ -1056,6 +1156,7 @@ static void read_schedule(FILE *file) {
         item.rest = strdup(cut(&rest));
         item.answer = strdup(cut(&rest));
         item.text = strdup(rest);
+        if (item.type == OP || item.type == SEND || (item.type >= CALL_ON && item.type <= CALL_CLOSED)) last_shown = item_count;
         items[item_count++] = item;
     }
     free(line);
@@ -1073,37 +1174,46 @@ static void in_child(void) {
     state = NOT_FORCING;
 }
 
-/* A process has its first loop: from here on it is forced. (A debugger that starts the program has none.) */
-void force_loop(struct loop *loop) {
-    const char *schedule = getenv("UVT_FORCE"), *file = getenv("UVT_FORCE_SAID"), *random = getenv("UVT_FORCE_RANDOM");
-    const char *which = getenv("UVT_FORCE_LOOP");
-    if (loop->number != (which ? atoi(which) : 0)) return;
-    if (random && state == NOT_FORCING && !forced) {
-        seed = (strtoull(random, NULL, 10) + 1) * 0x9E3779B97F4A7C15u;
-        stall = getenv("UVT_FORCE_STALL") ? atoi(getenv("UVT_FORCE_STALL")) : 0;
-        if (file) said = open(file, O_WRONLY | O_CREAT | O_APPEND | O_CLOEXEC, 0644);
-        unsetenv("UVT_FORCE_RANDOM");
-        began = loop->base * 1000000;
-        began_real = real_ns(CLOCK_REALTIME) / 1000000 * 1000000;
-        forced = loop;
-        at_random = true;
-        atexit(at_end);
-        pthread_atfork(NULL, NULL, in_child);
-        state = FORCING;
-        return;
-    }
-    FILE *read = schedule && state == NOT_FORCING && !forced ? fopen(schedule, "re") : NULL;
-    if (!read) return;
+/* The page that tells how far it has come. */
+static void open_page(const char *file) {
+    int descriptor = file ? open(file, O_RDWR | O_CREAT | O_CLOEXEC, 0644) : -1;
+    if (descriptor < 0) return;
+    void *got = ftruncate(descriptor, sizeof *page) == 0 ? mmap(NULL, sizeof *page, PROT_READ | PROT_WRITE, MAP_SHARED, descriptor, 0) : MAP_FAILED;
+    if (got != MAP_FAILED) page = got;
+    close(descriptor);
+}
+
+static void begin_forcing(struct loop *loop) {
+    const char *file = getenv("UVT_FORCE_SAID");
     if (file) said = open(file, O_WRONLY | O_CREAT | O_APPEND | O_CLOEXEC, 0644);
-    read_schedule(read);
-    fclose(read);
-    unsetenv("UVT_FORCE"); /* (not for its children) */
-    stops = getenv("UVT_FORCE_STOP") != NULL;
-    early = getenv("UVT_FORCE_EARLY") != NULL;
+    open_page(getenv("UVT_FORCE_AT"));
     began = loop->base * 1000000;
     began_real = real_ns(CLOCK_REALTIME) / 1000000 * 1000000;
     forced = loop;
+    leader_id = own_id();
     atexit(at_end);
     pthread_atfork(NULL, NULL, in_child);
-    if (item_count) state = FORCING;
+    state = FORCING;
+}
+
+/* A process has its first loop: from here on it is forced. (A debugger that starts the program has none, and its children are not forced.) */
+void force_loop(struct loop *loop) {
+    const char *schedule = getenv("UVT_FORCE"), *random = getenv("UVT_FORCE_RANDOM"), *which = getenv("UVT_FORCE_LOOP");
+    if (state != NOT_FORCING || forced || loop->number != (which ? atoi(which) : 0)) return;
+    if (random) {
+        seed = (strtoull(random, NULL, 10) + 1) * 0x9E3779B97F4A7C15u;
+        stall = getenv("UVT_FORCE_STALL") ? atoi(getenv("UVT_FORCE_STALL")) : 0;
+        at_random = true;
+        begin_forcing(loop);
+        unsetenv("UVT_FORCE_RANDOM");
+        return;
+    }
+    FILE *read = schedule ? fopen(schedule, "re") : NULL;
+    if (!read) return;
+    read_schedule(read);
+    fclose(read);
+    unsetenv("UVT_FORCE");
+    stops = getenv("UVT_FORCE_STOP") != NULL;
+    early = getenv("UVT_FORCE_EARLY") != NULL;
+    if (item_count) begin_forcing(loop);
 }

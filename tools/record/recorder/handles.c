@@ -268,13 +268,17 @@ static void referenced(uv_handle_t *handle, const char *word) {
 }
 
 void uv_ref(uv_handle_t *handle) {
+    bool from_libuv = INSIDE();
+    if (!from_libuv) touch(handle);
     CALL(uv_ref)(handle);
-    if (!INSIDE()) referenced(handle, "ref");
+    if (!from_libuv) referenced(handle, "ref");
 }
 
 void uv_unref(uv_handle_t *handle) {
+    bool from_libuv = INSIDE();
+    if (!from_libuv) touch(handle);
     CALL(uv_unref)(handle);
-    if (!INSIDE()) referenced(handle, "unref");
+    if (!from_libuv) referenced(handle, "unref");
 }
 
 /* ---- timers and the watchers of the loop's sections */
@@ -305,6 +309,7 @@ void uv_unref(uv_handle_t *handle) {
     REAL(NAME)                                                        \
     int NAME(KIND *handle) {                                          \
         if (INSIDE()) return CALL(NAME)(handle);                      \
+        touch(handle);                                                \
         lock();                                                       \
         int answer = REALLY(CALL(NAME)(handle));                      \
         write_op(asked(handle), WORD, "", answer);                     \
@@ -344,6 +349,7 @@ REAL(uv_timer_get_repeat)
 /* Of a timer that doesn't repeat libuv changes nothing, and says ok: no op, since here it would stop the timer. */
 int uv_timer_again(uv_timer_t *handle) {
     if (INSIDE()) return CALL(uv_timer_again)(handle);
+    touch(handle);
     lock();
     bool nothing = CALL(uv_timer_get_repeat)(handle) == 0;
     int answer = REALLY(CALL(uv_timer_again)(handle));
@@ -372,6 +378,7 @@ int uv_timer_start(uv_timer_t *handle, uv_timer_cb callback, uint64_t timeout, u
 void uv_timer_set_repeat(uv_timer_t *handle, uint64_t repeat) {
     char words[32];
     bool from_libuv = INSIDE();
+    if (!from_libuv) touch(handle);
     CALL(uv_timer_set_repeat)(handle, repeat);
     if (from_libuv) return;
     snprintf(words, sizeof words, " %llu", (unsigned long long)repeat);
@@ -412,7 +419,7 @@ int uv_async_send(uv_async_t *handle) {
         lock();
         object = find(handle);
     }
-    force_touch(handle);
+    touch(handle);
     struct loop *by = running_here();
     if (object && !own && by) write_line(object->loop, 'S', "%d %u %d", object->id, (uint64_t)here, by->number);
     else if (object && !own) write_line(object->loop, 'S', "%d %u", object->id, (uint64_t)here);

@@ -213,6 +213,7 @@ int uv_queue_work(uv_loop_t *uv, uv_work_t *request, uv_work_cb work, uv_after_w
 
 int uv_cancel(uv_req_t *request) {
     if (INSIDE()) return CALL(uv_cancel)(request);
+    touch(request);
     lock();
     int answer = REALLY(CALL(uv_cancel)(request));
     write_op(asked(request), "cancel", "", answer);

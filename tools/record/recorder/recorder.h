@@ -68,6 +68,8 @@ struct object *find(const void *address);
 struct object *earlier(const struct object *object);
 /* The same, of what the program has asked something of: where another thread than the loop's does that, a line says so. */
 struct object *asked(const void *address);
+/* Memory that is handed to libuv, in front of what libuv does with it: a sanitizer with which the program was built doesn't see into libuv. */
+void touch(const void *address);
 /* A line where another thread than the loop's asks something of a loop that runs, `id` -1 for the loop itself. */
 void note_thread(struct loop *loop, int id);
 struct object *put(struct loop *loop, void *address);
@@ -143,7 +145,6 @@ void force_loop(struct loop *loop);
 bool forces(void);
 void force_before(const char *function);
 void force_event(struct loop *loop, char type, const char *words);
-void force_touch(const void *address);
 bool force_send(void *handle, struct sender **handed);
 void force_sent(struct sender *sender);
 uint64_t force_clock(uint64_t real_ms);
@@ -154,7 +155,6 @@ static inline void force_loop(struct loop *loop) { (void)loop; }
 static inline bool forces(void) { return false; }
 static inline void force_before(const char *function) { (void)function; }
 static inline void force_event(struct loop *loop, char type, const char *words) { (void)loop, (void)type, (void)words; }
-static inline void force_touch(const void *address) { (void)address; }
 static inline bool force_send(void *handle, struct sender **handed) { return (void)handle, (void)handed, false; }
 static inline void force_sent(struct sender *sender) { (void)sender; }
 static inline uint64_t force_clock(uint64_t real_ms) { return real_ms; }
