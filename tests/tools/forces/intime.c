@@ -10,9 +10,10 @@ static void after_job(uv_work_t *r, int status) {
     struct job *mine = r->data;
     mine->done = status == 0;
     free(mine);
+    job = NULL;
 }
 static void on_limit(uv_timer_t *t) {
-    if (uv_cancel((uv_req_t *)&job->work) == 0) free(job);
+    if (job && uv_cancel((uv_req_t *)&job->work) == 0) free(job);
     uv_close((uv_handle_t *)t, NULL);
 }
 int main(void) {

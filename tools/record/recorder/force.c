@@ -121,7 +121,7 @@ static void take_nap(void) {
 
 static pthread_mutex_t gate = PTHREAD_MUTEX_INITIALIZER;
 static pthread_cond_t changed = PTHREAD_COND_INITIALIZER;
-enum { PATIENCE = 300, AT_MOST = 6000, BLOCKED = 300, GATES = 1024 };
+enum { PATIENCE = 300, AT_MOST = 1000, BLOCKED = 300, GATES = 1024 };
 static int patience = PATIENCE;
 static int at_gates[GATES]; /* the threads that wait at a gate */
 static int gate_count;
@@ -780,7 +780,7 @@ static void did_op(const char *words) {
     if (!it) return;
     int found = -1;
     for (int at = cursor, seen = 0; at < item_count && seen < 12; at++) {
-        if (is_outside(&items[at])) continue;
+        if (is_outside(&items[at]) || items[at].type == SILENT) continue;
         if (items[at].type != OP) break;
         seen++;
         if (fits_op(&items[at], &shown)) {
