@@ -59,8 +59,8 @@ class Recorded:
 
     def offers(self) -> list[str]:
         clock = sum(int(it.split(" ")[1]) for it in self.steps if it.startswith("tick "))
-        sends = {it: self.steps.count(f"send {it}") for it in self.kinds()}
-        return ["may wait", f"most clock {3 * clock + 100}", *(f"may send {name} {min(3, count)}" for name, count in sends.items() if count)]
+        came = [(word, it, self.steps.count(f"{word} {it}")) for it in self.kinds() for word in ("send", "io")]
+        return ["may wait", f"most clock {3 * clock + 100}", *(f"may {word} {name} {min(3, count)}" for word, name, count in came if count)]
 
     def pairs(self, names: list[str]) -> Iterator[str]:
         """Two that were called in this order, the other way."""
@@ -298,7 +298,7 @@ class Hunt:
         path = recording_of(ran.name, self.loop)
         if not (how := badly(ran, self.first)):
             return self.recorded(ran)
-        by = f"order {seed} at random" + (f", of up to {stall} ms late" if stall else "")
+        by = f"order {seed} at random"
         if not path.exists():
             return self.bad(ran, how, by, "")
         script, commands = read_input(path)

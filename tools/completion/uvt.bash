@@ -11,8 +11,8 @@ _uvt() {
         libuv) words='--node' ;;
         find) words='-o' ;;
         record) words='-o --log --bare' ;;
-        force) words='-o --stop --early --random --stall --loop' ;;
-        hunt) words='-o --most' ;;
+        force) words='-o --stop --early --random --stall --seed --loop --quiet' ;;
+        hunt) words='-o --for --part --join' ;;
         esac
     fi
     COMPREPLY=($(compgen -W "$words" -- "$word"))

@@ -173,16 +173,19 @@ static void leave_gate(void) {
 
 /* Does any other thread of the program run, or could it? */
 static bool somebody_runs(void) {
+    /* (opendir would ask for memory, and whoever gives that may look at the clock) */
+    char room[4096];
     bool found = false;
-    DIR *folder = opendir("/proc/self/task");
-    if (!folder) return false;
-    for (struct dirent *it; !found && (it = readdir(folder));) {
-        int thread = atoi(it->d_name);
-        if (thread <= 0 || thread == own_id() || is_at_gate(thread)) continue;
-        char state = state_of(thread);
-        found = state == 'R' || state == 'D';
-    }
-    closedir(folder);
+    int folder = open("/proc/self/task", O_RDONLY | O_DIRECTORY | O_CLOEXEC);
+    if (folder < 0) return false;
+    for (long got; !found && (got = syscall(SYS_getdents64, folder, room, sizeof room)) > 0;)
+        for (long at = 0; !found && at < got; at += ((struct dirent64 *)(room + at))->d_reclen) {
+            int thread = atoi(((struct dirent64 *)(room + at))->d_name);
+            if (thread <= 0 || thread == own_id() || is_at_gate(thread)) continue;
+            char state = state_of(thread);
+            found = state == 'R' || state == 'D';
+        }
+    close(folder);
     return found;
 }
 
@@ -973,7 +976,9 @@ int clock_gettime(clockid_t id, struct timespec *time) {
         return ((int (*)(clockid_t, struct timespec *))real("clock_gettime", &kept))(id, time);
     }
     uint64_t now;
-    if (state == FORCING && steady && depth == 0 && forced && forced->running > 0 && is_leader()) {
+    /* (libuv's own look, and not that of whoever is asked for memory there, as a sanitizer) */
+    bool is_libuv = leads == 0 && is_text_of_libuv(__builtin_return_address(0));
+    if (state == FORCING && steady && is_libuv && depth == 0 && forced && forced->running > 0 && is_leader()) {
         look_at_clock();
         now = virtual_ns();
     } else if (state == FORCING && inside == 0 && !is_locked_here()) {

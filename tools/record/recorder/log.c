@@ -305,8 +305,11 @@ void *real(const char *name, void **kept) {
 }
 
 bool is_from_libuv(const void *caller) {
+    return off || inside > 0 || is_text_of_libuv(caller);
+}
+
+bool is_text_of_libuv(const void *caller) {
     uintptr_t at = (uintptr_t)caller;
-    if (off || inside > 0) return true;
     for (int it = 0; it < text_count; it++)
         if (at >= texts[it].from && at < texts[it].to) return true;
     return false;

@@ -104,6 +104,7 @@ void *real(const char *name, void **kept);
 /* Does libuv itself call the function that asks so? Its own calls of its public functions are no ops of the program. They
  * come from its text; or, as tail calls, while a real function is under way. */
 bool is_from_libuv(const void *caller);
+bool is_text_of_libuv(const void *caller);
 /* The same; and where it doesn't, the function is kept as the one that the program called last in this thread. */
 bool is_inside(const void *caller, const char *function);
 extern __thread int inside;
