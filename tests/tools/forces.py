@@ -1,19 +1,27 @@
-"""Orders that are forced upon real programs: forces/ has C programs, and of each a session that the search has found.
+"""Orders that are forced upon real programs, and hunted: forces/ has C programs, and of some a session that the search has found.
 
-The first five are those of docs/FIND.md. Where the found order is a fault, the program is built with a sanitizer, which has to see it.
+The first five are those of docs/FIND.md. Where the found order is a fault, the program is built with a sanitizer, which has to see it. What takes
+minutes is for the hand: tests/tools/hunts.
 """
 
 from __future__ import annotations
 
 import re
+import shutil
+import signal
 import subprocess
 import tempfile
+import time
 from pathlib import Path
 
 from records import ROOT, archive, has_libuv
 
 FOLDER = Path(__file__).resolve().parent / "forces"
+PROGRAMS = ROOT / "tools" / "record" / "programs"
 SECONDS = 180
+# How force ends: all went as in the session, it departs, it could not be done, the program ended badly.
+WELL, DEPARTS, FAULT, BADLY = 0, 1, 2, 3
+REPORT = "heap-use-after-free"
 # Of each whether it touches memory that is gone, and whether that is its last step.
 FORCED = {
     "cancel": (False, False), "send": (True, True), "starve": (False, False), "retry": (True, False), "server": (True, False),
@@ -23,8 +31,9 @@ FLAGS = ["-O1", "-g", "-w"]
 
 
 def compiled(name: str, folder: str, *more: str) -> str:
-    program = f"{folder}/{name}"
-    subprocess.run(["cc", *FLAGS, str(FOLDER / f"{name}.c"), "-o", program, *more, "-ldl", "-lpthread"], check=True)
+    program, source = f"{folder}/{name}", FOLDER / f"{name}.c"
+    source = source if source.exists() else PROGRAMS / f"{name}.c"
+    subprocess.run(["cc", *FLAGS, str(source), "-o", program, *more, "-ldl", "-lpthread"], check=True)
     return program
 
 
@@ -33,20 +42,116 @@ def has_sanitizer(folder: str) -> bool:
     return ran.returncode == 0
 
 
-def forced(words: list[str], folder: str) -> str:
-    ran = subprocess.run([str(ROOT / "tools" / "uvt-force"), *words], capture_output=True, text=True, errors="replace", cwd=folder, timeout=SECONDS)
-    return ran.stdout + ran.stderr
+def tool(word: str, words: list[str], folder: str) -> tuple[int, str]:
+    ran = subprocess.run([str(ROOT / "tools" / f"uvt-{word}"), *words], capture_output=True, text=True, errors="replace", cwd=folder, timeout=SECONDS)
+    return ran.returncode, ran.stdout + ran.stderr
+
+
+def forced(words: list[str], folder: str) -> tuple[int, str]:
+    return tool("force", words, folder)
+
+
+def is_whole(said: str) -> bool:
+    return bool(re.search(r"^all \d+ steps, 0 departures, same$", said, re.MULTILINE))
 
 
 def try_one(check, name: str, folder: str, sanitizer: bool) -> None:
     gone, last = FORCED[name]
     program = compiled(name, folder, *(["-fsanitize=address"] if gone and sanitizer else []), "-luv")
-    said = forced(["-o", f"{name}.forced", str(FOLDER / f"{name}.uvt"), program], folder)
-    check(f"force, {name}: no departure", "departs" not in said, said)
-    check(f"force, {name}: all steps", bool(re.search(r"^all \d+ steps of the session|^step \d+: .* = ESTALE" if last else r"^all \d+ steps of", said, re.M)), said)
-    check(f"force, {name}: its callbacks", "\nsame: the " in said, said)
+    status, said = forced(["-o", f"{name}.forced", str(FOLDER / f"{name}.uvt"), program], folder)
+    check(f"force, {name}: all steps, no departure, the same callbacks", is_whole(said), said)
     if gone and sanitizer:
-        check(f"force, {name}: what the order does", "heap-use-after-free" in said, said)
+        check(f"force, {name}: what the order does", REPORT in said and "\nthe program ended with status 1\n" in said, said)
+    if not gone or sanitizer:
+        check(f"force, {name}: its status", status == (BADLY if gone else WELL), f"{status} {said}")
+
+
+def try_faults(check, folder: str) -> None:
+    program = compiled("starve", folder, "-luv")
+    status, said = forced(["-o", "other.forced", str(FOLDER / "cancel.uvt"), program], folder)
+    check("force, another program departs, and it is said where", status == DEPARTS and "departs at step " in said, f"{status} {said}")
+    check("force, another program: how far it came", bool(re.search(r"^\d+ of 19 steps, \d+ departures?, ", said, re.MULTILINE)), said)
+    for words, why in (
+        ([f"{folder}/nowhere.uvt", program], "nowhere.uvt: No such file"), ([str(FOLDER / "starve.uvt"), f"{folder}/missing"], "could not be started"),
+        ([str(FOLDER / "starve.c"), program], "bad script line 1"),
+    ):
+        status, said = forced(words, folder)
+        check(f"force, a fault: {why}", status == FAULT and why in said and "Traceback" not in said, f"{status} {said}")
+
+
+def try_own(check, folder: str) -> None:
+    """Programs in the order of their own recordings."""
+    for name in ("late", "mixed", "threads", "starved", "zero"):
+        program = compiled(name, folder, "-luv")
+        tool("record", ["-o", name, program], folder)
+        status, said = forced(["-o", f"{name}.forced", f"{name}.rec", program], folder)
+        check(f"force, {name}: its own recording", status == WELL and is_whole(said), f"{status} {said}")
+
+
+def try_sanitizer(check, folder: str) -> None:
+    """Memory that is gone and that libuv looks at: no sanitizer sees that, and the recorder tells it."""
+    program = compiled("late-send", folder, "-fsanitize=address", "-luv")
+    alone = subprocess.run([program], capture_output=True, text=True, errors="replace")
+    check("a sanitizer doesn't see into libuv by itself", alone.returncode == 0 and REPORT not in alone.stderr, alone.stderr)
+    said = tool("record", ["-o", "late-send", program], folder)[1]
+    check("record, a use after free in libuv", REPORT in said and bool(re.search(r"in main \S+late-send.c:11$", said, re.MULTILINE)), said)
+
+
+def try_random(check, folder: str) -> None:
+    program = compiled("upload", folder, "-fsanitize=address", "-luv")
+    status, said = forced(["--random", "200", "-o", "found", program], folder)
+    check("force at random, until one ends badly", status == BADLY and REPORT in said and "its order: " in said, f"{status} {said}")
+    status, said = forced(["-o", "again", "found.rec", program], folder)
+    check("force, the recording of that run", status == BADLY and REPORT in said and is_whole(said), f"{status} {said}")
+    counted = compiled("upload", folder, "-DCOUNTED", "-fsanitize=address", "-luv")
+    status, said = forced(["--random", "30", "-o", "found", counted], folder)
+    check("force at random, a healthy program", status == WELL and said == "30 runs, and each ended well\n", f"{status} {said}")
+
+
+def try_hunts(check, folder: str) -> None:
+    program = compiled("lookup", folder, "-fsanitize=address", "-luv")
+    status, said = tool("hunt", ["-o", "found", program], folder)
+    check("hunt, an order with a use after free", status == BADLY and REPORT in said and "in 2 of 2 further runs in the same order" in said, f"{status} {said}")
+    check("hunt, where that is", bool(re.search(r"^    in \w+ \(lookup\.c:\d+\)$", said, re.MULTILINE)), said)
+    status, said = forced(["-o", "again", "found.uvt", program], folder)
+    check("hunt, its order is forced again", status == BADLY and REPORT in said and ", 0 departures, " in said, f"{status} {said}")
+    healthy = compiled("zero", folder, "-fsanitize=address", "-luv")
+    began = time.monotonic()
+    status, said = tool("hunt", ["--for", "6s", healthy], folder)
+    check("hunt, a healthy program", status == WELL and said.startswith("each run ended well\n    "), f"{status} {said}")
+    check("hunt, the time that is given", 5 < time.monotonic() - began < 30, f"{time.monotonic() - began:.0f} s")
+    for words, why in (([f"{folder}/missing"], "could not be started"), (["--part", "3/2", healthy], "a part is K/N"), (["--for", "soon", healthy], "a time is 60s"),
+                       (["--join", str(FOLDER / "lookup.c")], "no report of a part"), (["/bin/true"], "called nothing of libuv")):
+        status, said = tool("hunt", words, folder)
+        check(f"hunt, a fault: {why}", status == FAULT and why in said and "Traceback" not in said, f"{status} {said}")
+
+
+def try_interrupt(check, folder: str) -> None:
+    hunting = subprocess.Popen(
+        [str(ROOT / "tools" / "uvt-hunt"), "--for", "10m", f"{folder}/zero"], cwd=folder, stdout=subprocess.PIPE, stderr=subprocess.STDOUT, text=True
+    )
+    time.sleep(6)
+    hunting.send_signal(signal.SIGINT)
+    said = hunting.communicate(timeout=SECONDS)[0]
+    lines = said.splitlines()
+    good = hunting.returncode == 130 and lines[0] == "each run ended well" and lines[-1] == "it was interrupted, and not at its end"
+    check("hunt, an interrupt", good and "Traceback" not in said, f"{hunting.returncode} {said}")
+
+
+def try_parts(check, folder: str) -> None:
+    """Three parts by GNU parallel, and what they found together."""
+    if not shutil.which("parallel"):
+        print("tools: a hunt in parts: not tried, since there is no GNU parallel (Debian: parallel)", flush=True)
+        return
+    program = f"{folder}/lookup"
+    words = ["parallel", "-j", "3", str(ROOT / "tools" / "uvt-hunt"), "--for", "20s", "-o", "parts", "--part", "{}/3", program, ":::", "1", "2", "3"]
+    subprocess.run(words, cwd=folder, capture_output=True, timeout=SECONDS)
+    reports = sorted(it.name for it in Path(folder).glob("parts.*.report"))
+    check("hunt, a report of each part", reports == [f"parts.{it}-of-3.report" for it in (1, 2, 3)], f"{reports}")
+    status, said = tool("hunt", ["-o", "joined", "--join", *reports], folder)
+    check("hunt, the parts joined", status == BADLY and REPORT in said and said.rstrip().endswith("in 3 parts"), f"{status} {said}")
+    status, said = tool("hunt", ["-o", "joined", "--join", *reports[:2]], folder)
+    check("hunt, a part is missing", said.startswith("part 3 of 3 is missing\n"), f"{status} {said}")
 
 
 def try_forces(tries) -> None:
@@ -57,12 +162,16 @@ def try_forces(tries) -> None:
         sanitizer = has_sanitizer(folder)
         for name in FORCED:
             try_one(tries.check, name, folder, sanitizer)
-        said = forced(["-o", "other.forced", str(FOLDER / "cancel.uvt"), compiled("starve", folder, "-luv")], folder)
-        tries.check("force, another program departs, and it is said where", "departs at step " in said, said)
+        try_faults(tries.check, folder)
+        try_own(tries.check, folder)
         if libuv := archive():
-            program = compiled("starve", folder, libuv)
-            said = forced(["-o", "within.forced", str(FOLDER / "starve.uvt"), program], folder)
-            tries.check("force, libuv within the program", "departs" not in said and bool(re.search(r"^all \d+ steps of", said, re.M)), said)
+            status, said = forced(["-o", "within.forced", str(FOLDER / "starve.uvt"), compiled("starve", folder, libuv)], folder)
+            tries.check("force, libuv within the program", status == WELL and is_whole(said), said)
+        if not sanitizer:
+            print("tools: orders that are hunted: not tried, since `cc` has no AddressSanitizer", flush=True)
+            return
+        for part in (try_sanitizer, try_random, try_hunts, try_interrupt, try_parts):
+            part(tries.check, folder)
 
 
 if __name__ == "__main__":

@@ -298,8 +298,8 @@ def from_log(path: Path, name: str | None, part: Part) -> int:
 
 def recorder(forcing: bool = False) -> Path:
     """The recorder, or that which forces an order as well, compiled where that isn't done yet or its sources are newer."""
-    sources = [it for it in sorted(RECORDER.glob("*.c")) if forcing or it.name != "force.c"]
-    newest = max(it.stat().st_mtime for it in [*sources, RECORDER / "recorder.h"])
+    sources = [it for it in sorted(RECORDER.glob("*.c")) if forcing or not it.name.startswith("force")]
+    newest = max(it.stat().st_mtime for it in [*sources, *RECORDER.glob("*.h")])
     built = BUILT.with_name("force.so") if forcing else BUILT
     if built.is_file() and built.stat().st_mtime >= newest:
         return built

@@ -11,77 +11,32 @@
  * end, libuv's look at the clock, the poll) it does what the session has there: it moves the clock, lets one worker take a request,
  * lets it hand the request in, lets one thread send, and waits until that is done. All others wait at gates. */
 #define _GNU_SOURCE
-#include "recorder.h"
+#define _GNU_SOURCE
+#include "force.h"
 
-#include <dlfcn.h>
 #include <errno.h>
 #include <fcntl.h>
-#include <sched.h>
-#include <signal.h>
-#include <stdarg.h>
 #include <stdio.h>
 #include <stdlib.h>
 #include <string.h>
-#include <dirent.h>
-#include <sys/epoll.h>
 #include <sys/mman.h>
 #include <sys/syscall.h>
-#include <time.h>
 #include <unistd.h>
 
-/* ---- the schedule */
+volatile enum state state = NOT_FORCING;
+struct item *items;
+int item_count, cursor;
+int last_shown = -1;
+struct name *names;
+int name_count;
+struct loop *forced;
+int depth;
+bool early, behind_poll;
+static uint64_t began_real;
+static __thread unsigned reads;
+static __thread uint64_t crept, told;
 
-/* TICK .. CANCEL come from outside; SECTION and SILENT are what the loop does and nobody sees; the others the program shows. */
-enum type { TICK, TAKE, FINISH, SEND, CANCEL, SECTION, SILENT, CALL_ON, CALL_AFTER, CALL_CLOSED, OP, RUN, END, POLL };
-
-struct item {
-    enum type type;
-    bool is_io; /* of a callback: it is a step `io NAME` */
-    int name, step;
-    long number; /* of a tick, the worker of a take or finish, the timeout of a poll (-1: infinite) */
-    char *word, *rest, *answer, *text;
-};
-
-struct name {
-    char *text;
-    int id; /* of its object, -1 where it has none */
-    void *address;
-    const char *kind;
-};
-
-enum state { NOT_FORCING, FORCING, FREE };
-static volatile enum state state = NOT_FORCING;
-static struct item *items;
-static int item_count, cursor, departures;
-static int last_shown = -1; /* the last item at which somebody could look: an op, a callback, a send */
-static struct name *names;
-static int name_count;
-static struct loop *forced; /* the loop of the session: the first that there is */
-static int depth; /* callbacks of the program under way */
-static bool stops, early, behind_poll;
-static int said = -1;
-static long progress; /* grows with each step: a gate that waits long without it opens */
-
-/* How far it has come, for who looks from outside. */
-struct page {
-    int steps, departures, done, free; /* of the session; of these; all of it has come; nothing is forced any more */
-};
-static struct page no_page, *page = &no_page;
-
-/* ---- what is said */
-
-static void say(const char *format, ...) {
-    char text[1024];
-    va_list words;
-    va_start(words, format);
-    int length = vsnprintf(text, sizeof text - 1, format, words);
-    va_end(words);
-    if (length > (int)sizeof text - 2) length = sizeof text - 2;
-    text[length++] = '\n';
-    if (write(said >= 0 ? said : 2, text, (size_t)length) < 0) return;
-}
-
-static const char *name_of(int at) {
+const char *name_of(int at) {
     return at >= 0 && at < name_count ? names[at].text : "?";
 }
 
@@ -91,163 +46,8 @@ static int name_by_id(int id) {
     return -1;
 }
 
-/* ---- time */
-
-static uint64_t began, moved; /* in ns and in ms */
-static uint64_t freed_at, began_real;
-static __thread unsigned reads;
-static __thread uint64_t crept, told;
-
-static uint64_t real_ns(clockid_t id) {
-    struct timespec time;
-    syscall(SYS_clock_gettime, id, &time);
-    return (uint64_t)time.tv_sec * 1000000000 + (uint64_t)time.tv_nsec;
-}
-
-static uint64_t virtual_ns(void) {
-    uint64_t now = began + moved * 1000000;
-    return state == FREE ? now + real_ns(CLOCK_MONOTONIC) - freed_at : now;
-}
-
-static struct timespec nap = {0, 50000};
-static void take_nap(void) {
-    syscall(SYS_nanosleep, &nap, NULL);
-}
-
-/* ---- gates: one mutex, one condition
- *
- * Who waits, waits in naps of 10 ms. On a busy machine a thread may get no processor for long: so a nap counts only where no thread of the
- * program runs, but for those at gates. (A debugger that stops all threads stops who counts, too.) */
-
-static pthread_mutex_t gate = PTHREAD_MUTEX_INITIALIZER;
-static pthread_cond_t changed = PTHREAD_COND_INITIALIZER;
-enum { PATIENCE = 300, AT_MOST = 1000, BLOCKED = 300, GATES = 1024 };
-static int patience = PATIENCE;
-static int at_gates[GATES]; /* the threads that wait at a gate */
-static int gate_count;
-static int leader_id;
-static int leads; /* the leader does what the session has: else it is in the program's code, or in libuv's */
-
-static int own_id(void) {
-    static __thread int id;
-    if (!id) id = (int)syscall(SYS_gettid);
-    return id;
-}
-
-static void wait_a_little(void) {
-    uint64_t until = real_ns(CLOCK_REALTIME) + 10000000;
-    struct timespec time = {(time_t)(until / 1000000000), (long)(until % 1000000000)};
-    pthread_cond_timedwait(&changed, &gate, &time);
-}
-
-/* What the system says of a thread: R, S, .. */
-static char state_of(int thread) {
-    char name[64], text[512];
-    snprintf(name, sizeof name, "/proc/self/task/%d/stat", thread);
-    int descriptor = open(name, O_RDONLY | O_CLOEXEC);
-    if (descriptor < 0) return 0;
-    ssize_t length = read(descriptor, text, sizeof text - 1);
-    close(descriptor);
-    text[length < 0 ? 0 : length] = 0;
-    const char *behind = strrchr(text, ')');
-    return behind && behind[1] == ' ' ? behind[2] : 0;
-}
-
-static bool is_at_gate(int thread) {
-    for (int at = 0; at < gate_count; at++)
-        if (at_gates[at] == thread) return true;
-    return false;
-}
-
-static void come_to_gate(void) {
-    if (gate_count < GATES) at_gates[gate_count++] = own_id();
-}
-
-static void leave_gate(void) {
-    for (int at = 0; at < gate_count; at++)
-        if (at_gates[at] == own_id()) {
-            at_gates[at] = at_gates[--gate_count];
-            return;
-        }
-}
-
-/* Does any other thread of the program run, or could it? */
-static bool somebody_runs(void) {
-    /* (opendir would ask for memory, and whoever gives that may look at the clock) */
-    char room[4096];
-    bool found = false;
-    int folder = open("/proc/self/task", O_RDONLY | O_DIRECTORY | O_CLOEXEC);
-    if (folder < 0) return false;
-    for (long got; !found && (got = syscall(SYS_getdents64, folder, room, sizeof room)) > 0;)
-        for (long at = 0; !found && at < got; at += ((struct dirent64 *)(room + at))->d_reclen) {
-            int thread = atoi(((struct dirent64 *)(room + at))->d_name);
-            if (thread <= 0 || thread == own_id() || is_at_gate(thread)) continue;
-            char state = state_of(thread);
-            found = state == 'R' || state == 'D';
-        }
-    close(folder);
-    return found;
-}
-
-/* (with the gate's mutex) the leader waits: true where CONDITION came; false where it didn't for long, or nothing is forced any more */
-#define WAIT(CONDITION)                                                     \
-    ({                                                                      \
-        long seen = progress;                                               \
-        int waited = 0, naps = 0;                                           \
-        while (state == FORCING && !(CONDITION) && waited < patience && naps++ < AT_MOST) { \
-            wait_a_little();                                                \
-            if (seen != progress) seen = progress, waited = 0;              \
-            else if (!somebody_runs()) waited++;                            \
-        }                                                                   \
-        (CONDITION);                                                        \
-    })
-
-/* (with the gate's mutex) another thread waits, as long as the leader may come to it: where the program's own code has it wait for
- * something (a semaphore, a lock, the end of a thread), nothing that is held at a gate would ever come. False then. */
-#define WAIT_FOR_LEADER(CONDITION)                                          \
-    ({                                                                      \
-        long seen = progress;                                               \
-        int waited = 0;                                                     \
-        come_to_gate();                                                     \
-        while (state == FORCING && !(CONDITION) && waited < BLOCKED) {      \
-            wait_a_little();                                                \
-            if (seen != progress || leads || state_of(leader_id) != 'S') seen = progress, waited = 0; \
-            else waited++;                                                  \
-        }                                                                   \
-        leave_gate();                                                       \
-        waited < BLOCKED;                                                   \
-    })
-
-static void set_free(const char *why) {
-    if (state != FORCING) return;
-    pthread_mutex_lock(&gate);
-    freed_at = real_ns(CLOCK_MONOTONIC);
-    state = FREE;
-    page->free = 1;
-    pthread_cond_broadcast(&changed);
-    pthread_mutex_unlock(&gate);
-    if (why) say("%s", why);
-}
-
-static void stop_here(void) {
-    if (stops) raise(SIGTRAP);
-}
-
-/* ---- departures */
-
-static const struct item *at_cursor(void) {
+const struct item *at_cursor(void) {
     return cursor < item_count ? &items[cursor] : NULL;
-}
-
-static void depart(const char *format, ...) {
-    char text[512];
-    va_list words;
-    va_start(words, format);
-    vsnprintf(text, sizeof text, format, words);
-    va_end(words);
-    const struct item *next = at_cursor();
-    page->departures = ++departures;
-    say("DEPARTS at step %d: %s", next ? next->step : item_count ? items[item_count - 1].step : 0, text);
 }
 
 /* The callback of the last step goes on with all as the session left it: until it is over nothing comes from outside. */
@@ -257,218 +57,15 @@ static void step_done(void) {
     progress++;
     if (cursor == item_count) {
         page->done = 1;
-        say("DONE %d %d", items[item_count - 1].step, departures);
+        say("DONE %d", items[item_count - 1].step);
         if (depth == 0) set_free(NULL);
     }
-}
-
-/* ---- workers of the pool */
-
-enum place { STARTING, AT_TAKE, TAKING, TAKEN, RUNNING, AT_FINISH, FINISHING, ASLEEP };
-
-struct worker {
-    enum place place;
-    long number; /* that of the session, while it has a request */
-    int name;
-    bool may_take, may_run, may_finish;
-};
-
-static struct worker pool[1024];
-static int pool_count;
-static __thread struct worker *me;
-static uv_mutex_t *pool_mutex;
-
-struct start {
-    uv_thread_cb entry;
-    void *word;
-};
-
-static void begin_worker(void *word) {
-    struct start start = *(struct start *)word;
-    free(word);
-    pthread_mutex_lock(&gate);
-    if (pool_count < 1024) me = &pool[pool_count++];
-    pthread_mutex_unlock(&gate);
-    start.entry(start.word);
-}
-
-REAL(uv_thread_create_ex)
-REAL(uv_mutex_lock)
-REAL(uv_cond_wait)
-REAL(uv_thread_join)
-
-static void *started(uv_thread_cb *entry, void *word) {
-    struct start *start = malloc(sizeof *start);
-    if (!start) return word;
-    *start = (struct start){*entry, word};
-    *entry = begin_worker;
-    return start;
-}
-
-int uv_thread_create_ex(uv_thread_t *thread, const uv_thread_options_t *options, uv_thread_cb entry, void *word) {
-    if (state == FORCING && is_from_libuv(__builtin_return_address(0))) word = started(&entry, word);
-    return CALL(uv_thread_create_ex)(thread, options, entry, word);
-}
-
-int uv_thread_create(uv_thread_t *thread, uv_thread_cb entry, void *word) {
-    /* (libuv's own uv_thread_create calls uv_thread_create_ex, which sees the program's thread come from libuv) */
-    uv_thread_options_t none = {.flags = UV_THREAD_NO_FLAGS};
-    if (state == FORCING && is_from_libuv(__builtin_return_address(0))) word = started(&entry, word);
-    return CALL(uv_thread_create_ex)(thread, &none, entry, word);
-}
-
-/* (with the gate's mutex) what a thread has that is let through a gate before its step */
-static void let_through(const char *what) {
-    depart("%s before its step: the loop's thread waits in the program's own code, and may wait for it", what);
-}
-
-static void at_gate(struct worker *worker, enum place place) {
-    worker->place = place;
-    progress++;
-    pthread_cond_broadcast(&changed);
-}
-
-void uv_mutex_lock(uv_mutex_t *mutex) {
-    struct worker *worker = me;
-    if (worker && state == FORCING) {
-        if (!pool_mutex) pool_mutex = mutex;
-        pthread_mutex_lock(&gate);
-        if (mutex == pool_mutex) {
-            worker->may_run = worker->may_finish = false;
-            worker->number = -1;
-            at_gate(worker, AT_TAKE);
-            if (!WAIT_FOR_LEADER(worker->may_take)) let_through("a worker takes a request");
-            worker->may_take = false;
-            worker->place = TAKING;
-        } else if (worker->place == RUNNING && forced && mutex == &forced->uv->wq_mutex) {
-            at_gate(worker, AT_FINISH);
-            if (!WAIT_FOR_LEADER(worker->may_finish)) let_through("a worker hands in a request");
-            worker->place = FINISHING;
-        }
-        pthread_mutex_unlock(&gate);
-    }
-    CALL(uv_mutex_lock)(mutex);
-}
-
-/* (pool.c stands before uv_mutex_unlock, and calls this behind it) */
-void force_unlocked(uv_mutex_t *mutex) {
-    struct worker *worker = me;
-    if (!worker || worker->place != TAKING || mutex != pool_mutex) return;
-    pthread_mutex_lock(&gate);
-    at_gate(worker, TAKEN);
-    if (!early && !WAIT_FOR_LEADER(worker->may_run)) let_through("a worker begins its work");
-    worker->place = RUNNING;
-    pthread_mutex_unlock(&gate);
-}
-
-void uv_cond_wait(uv_cond_t *condition, uv_mutex_t *mutex) {
-    struct worker *worker = me;
-    if (worker && mutex == pool_mutex && state == FORCING) {
-        pthread_mutex_lock(&gate);
-        at_gate(worker, ASLEEP);
-        pthread_mutex_unlock(&gate);
-    }
-    CALL(uv_cond_wait)(condition, mutex);
-    if (worker && mutex == pool_mutex) worker->place = TAKING;
-}
-
-static struct worker *worker_at(enum place place) {
-    for (int at = 0; at < pool_count; at++)
-        if (pool[at].place == place) return &pool[at];
-    return NULL;
-}
-
-static struct worker *worker_of(long number) {
-    for (int at = 0; at < pool_count; at++)
-        if (pool[at].number == number && pool[at].place >= TAKEN && pool[at].place <= AT_FINISH) return &pool[at];
-    return NULL;
-}
-
-/* ---- threads that send */
-
-static bool is_leader(void) {
-    bool is = state == FORCING && !me && forced->uv && pthread_equal(forced->thread, pthread_self());
-    if (is) leader_id = own_id();
-    return is;
-}
-
-struct sender {
-    struct sender *next;
-    int name;
-    bool may_send, last;
-};
-
-static struct sender *senders;
-static long sent; /* how many sends were done that waited at a gate. (A thread may be gone, or send again, as soon as it has sent) */
-static int joining;
-static const struct worker *waits_for; /* the leader, for this one's finish */
-
-static struct sender *sender_of(int name) {
-    for (struct sender *it = senders; it; it = it->next)
-        if (it->name == name && !it->may_send) return it;
-    return NULL;
-}
-
-/* A thread sends: it waits for its step. True: SENDER has to be handed to `force_sent`. */
-bool force_send(void *handle, struct sender **handed) {
-    *handed = NULL;
-    if (state != FORCING || is_leader()) return false;
-    int name = -1;
-    for (int at = 0; at < name_count; at++)
-        if (names[at].address == handle && names[at].kind && strcmp(names[at].kind, "async") == 0) name = at;
-    if (name < 0) return false;
-    static __thread struct sender mine; /* (a thread sends one after another) */
-    struct sender *sender = &mine;
-    memset(sender, 0, sizeof *sender);
-    sender->name = name;
-    pthread_mutex_lock(&gate);
-    sender->next = senders;
-    senders = sender;
-    progress++;
-    pthread_cond_broadcast(&changed);
-    bool leads_on = WAIT_FOR_LEADER(sender->may_send || joining || (me && waits_for == me));
-    if (!sender->may_send && state == FORCING) {
-        const char *why = joining ? "the program waits for that thread" : me && waits_for == me ? "its request is to be finished there"
-                        : leads_on ? "" : "the loop's thread waits in the program's own code, and may wait for it";
-        depart("a thread sends to %s, and the session has no send there%s%s", name_of(name), *why ? ": " : "", why);
-    }
-    sender->may_send = true;
-    pthread_mutex_unlock(&gate);
-    if (sender->last) stop_here();
-    *handed = sender;
-    return true;
-}
-
-void force_sent(struct sender *sender) {
-    pthread_mutex_lock(&gate);
-    struct sender **at = &senders;
-    while (*at && *at != sender) at = &(*at)->next;
-    if (*at) *at = sender->next;
-    sent++;
-    progress++;
-    pthread_cond_broadcast(&changed);
-    pthread_mutex_unlock(&gate);
-}
-
-int uv_thread_join(uv_thread_t *thread) {
-    bool waits = state == FORCING && !me && !is_from_libuv(__builtin_return_address(0));
-    if (state == FORCING && is_from_libuv(__builtin_return_address(0))) set_free("the program ends before the session does");
-    if (waits) {
-        force_before("uv_thread_join");
-        pthread_mutex_lock(&gate);
-        joining++;
-        pthread_cond_broadcast(&changed);
-        pthread_mutex_unlock(&gate);
-    }
-    int answer = CALL(uv_thread_join)(thread);
-    if (waits) joining--;
-    return answer;
 }
 
 /* ---- steps from outside, by the loop's thread */
 
 /* (the worker itself writes no such line: its work may begin later) */
-static void write_taken(int id) {
+void write_taken(int id) {
     lock();
     struct object *object = id >= 0 ? object_by_id(id) : NULL;
     if (object && is_seen_work(object)) write_line(forced, 'T', "%d", id);
@@ -577,116 +174,6 @@ static void advance(bool through) {
     lock_again(held);
 }
 
-struct shown;
-/* ---- without a session: an order at random (UVT_FORCE_RANDOM=SEED), in which no real time goes by */
-
-enum { MAY = 3, WAITING = 4096 };
-static bool at_random;
-static uint64_t seed;
-static int stall; /* the clock may jump so far at once, in ms */
-static int waiting[WAITING]; /* requests that no worker has yet */
-static int waiting_count;
-
-static unsigned up_to(unsigned count) {
-    seed ^= seed << 13, seed ^= seed >> 7, seed ^= seed << 17;
-    return (unsigned)((seed >> 11) % count);
-}
-
-static void no_more_waiting(int id) {
-    for (int at = 0; at < waiting_count; at++)
-        if (waiting[at] == id) {
-            memmove(&waiting[at], &waiting[at + 1], (size_t)(--waiting_count - at) * sizeof *waiting);
-            return;
-        }
-}
-
-static bool can_finish(const struct worker *worker) {
-    return worker->place >= TAKEN && worker->place <= AT_FINISH && !worker->may_finish;
-}
-
-/* (with the gate's mutex) How many steps from outside there could be; the one of this number is done where `at` is one. */
-static int choices(int at) {
-    int count = 0;
-    if (waiting_count && worker_at(AT_TAKE) && count++ == at) {
-        struct worker *worker = worker_at(AT_TAKE);
-        int id = waiting[0];
-        no_more_waiting(id);
-        worker->may_take = true;
-        pthread_cond_broadcast(&changed);
-        WAIT(worker->place >= TAKEN);
-        pthread_mutex_unlock(&gate);
-        write_taken(id);
-        pthread_mutex_lock(&gate);
-        return -1;
-    }
-    for (int it = 0; it < pool_count; it++)
-        if (can_finish(&pool[it]) && count++ == at) {
-            pool[it].may_run = pool[it].may_finish = true;
-            waits_for = &pool[it];
-            pthread_cond_broadcast(&changed);
-            WAIT(pool[it].place == AT_TAKE);
-            waits_for = NULL;
-            return -1;
-        }
-    for (struct sender *it = senders; it; it = it->next)
-        if (!it->may_send && count++ == at) {
-            long before = sent;
-            it->may_send = true;
-            pthread_cond_broadcast(&changed);
-            WAIT(sent != before);
-            return -1;
-        }
-    return count;
-}
-
-static bool choose(void) {
-    pthread_mutex_lock(&gate);
-    int count = choices(-1);
-    if (count > 0) choices((int)up_to((unsigned)count));
-    pthread_mutex_unlock(&gate);
-    progress++;
-    return count > 0;
-}
-
-static void maybe_choose(void) {
-    int held = unlock_all();
-    leads++;
-    if (stall && up_to(8) == 0) moved += up_to((unsigned)stall + 1);
-    while (up_to(MAY) == 0 && choose()) continue;
-    leads--;
-    lock_again(held);
-}
-
-/* The poll: what is ready is handed out, the wake last or first; where nothing is, something comes, or the clock goes on. */
-static bool poll_at_random(int descriptor, struct epoll_event *events, int room, int timeout, int *got) {
-    uint64_t until = virtual_ns() / 1000000 + (uint64_t)(timeout > 0 ? timeout : 0);
-    if (forced->uv->time + (uint64_t)(timeout > 0 ? timeout : 0) < until) until = forced->uv->time + (uint64_t)timeout;
-    maybe_choose();
-    behind_poll = true;
-    take_nap(); /* (threads of the program come to their gates) */
-    for (int idle = 0;;) {
-        int found = (int)syscall(SYS_epoll_pwait, descriptor, events, room, 0, NULL, 8);
-        if (found > 0 || timeout == 0 || (timeout > 0 && virtual_ns() / 1000000 >= until)) {
-            for (int at = found - 1; at > 0; at--) {
-                int other = (int)up_to((unsigned)at + 1);
-                struct epoll_event kept = events[at];
-                events[at] = events[other], events[other] = kept;
-            }
-            *got = found < 0 ? 0 : found;
-            return true;
-        }
-        int held = unlock_all();
-        pthread_mutex_lock(&gate);
-        int count = choices(-1), chosen = (int)up_to((unsigned)(count + (timeout > 0 ? 1 : 0) + (count == 0 && timeout < 0 ? 1 : 0)));
-        if (chosen < count) choices(chosen);
-        pthread_mutex_unlock(&gate);
-        if (chosen >= count && timeout > 0) moved = until - began / 1000000;
-        else if (chosen >= count) syscall(SYS_epoll_pwait, descriptor, events, room, 5, NULL, 8), idle++;
-        lock_again(held);
-        if (idle > 2000) return false;
-    }
-}
-
 /* ---- what the program shows */
 
 static bool is_same_word(const char *word, const char *function) {
@@ -716,13 +203,7 @@ void force_before(const char *function) {
     }
 }
 
-/* An op of the log, cut: WORD %ID REST = ANSWER. */
-struct shown {
-    char word[64], rest[256], answer[64];
-    int id;
-};
-
-static struct shown read_shown(const char *words) {
+struct shown read_shown(const char *words) {
     struct shown shown = {.id = -1};
     const char *end = strstr(words, " = ");
     size_t length = end ? (size_t)(end - words) : strlen(words);
@@ -879,16 +360,7 @@ void force_event(struct loop *loop, char type, const char *words) {
     if (loop != forced || !is_leader()) return;
     reads = 0;
     if (at_random) {
-        struct shown shown = read_shown(words);
-        if (type == 'B') depth++, behind_poll = false;
-        if (type == 'E' && --depth == 0) maybe_choose();
-        if (type == 'O' && strcmp(shown.word, "queue") == 0 && waiting_count < WAITING) waiting[waiting_count++] = shown.id;
-        if (type == 'O' && strcmp(shown.word, "cancel") == 0 && strcmp(shown.answer, "ok") == 0) no_more_waiting(shown.id);
-        if (type == 'O' && strcmp(shown.word, "init") == 0 && strcmp(shown.rest, "async") == 0) {
-            struct object *object = object_by_id(shown.id);
-            names = realloc(names, (size_t)(name_count + 1) * sizeof *names);
-            names[name_count++] = (struct name){"async", shown.id, object ? object->address : NULL, "async"};
-        }
+        random_event(type, words);
         return;
     }
     /* (a run in the callback of the last step) */
@@ -1206,9 +678,7 @@ void force_loop(struct loop *loop) {
     const char *schedule = getenv("UVT_FORCE"), *random = getenv("UVT_FORCE_RANDOM"), *which = getenv("UVT_FORCE_LOOP");
     if (state != NOT_FORCING || forced || loop->number != (which ? atoi(which) : 0)) return;
     if (random) {
-        seed = (strtoull(random, NULL, 10) + 1) * 0x9E3779B97F4A7C15u;
-        stall = getenv("UVT_FORCE_STALL") ? atoi(getenv("UVT_FORCE_STALL")) : 0;
-        at_random = true;
+        begin_random(strtoull(random, NULL, 10), getenv("UVT_FORCE_STALL") ? atoi(getenv("UVT_FORCE_STALL")) : 0);
         begin_forcing(loop);
         unsetenv("UVT_FORCE_RANDOM");
         return;

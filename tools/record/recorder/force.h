@@ -1,0 +1,161 @@
+/* What the files of a forced order have in common: force.c goes along the session, force_gates.c holds the program's threads, and force_random.c
+ * chooses where there is no session. The names are the library's own: a program that has the same ones keeps them. */
+#ifndef FORCE_H
+#define FORCE_H
+
+#include "recorder.h"
+
+#include <signal.h>
+#include <sys/epoll.h>
+#include <time.h>
+
+#pragma GCC visibility push(hidden)
+
+/* ---- the schedule (force.c) */
+
+/* TICK .. CANCEL come from outside; SECTION and SILENT are what the loop does and nobody sees; the others the program shows. */
+enum type { TICK, TAKE, FINISH, SEND, CANCEL, SECTION, SILENT, CALL_ON, CALL_AFTER, CALL_CLOSED, OP, RUN, END, POLL };
+
+struct item {
+    enum type type;
+    bool is_io; /* of a callback: it is a step `io NAME` */
+    int name, step;
+    long number; /* of a tick, the worker of a take or finish, the timeout of a poll (-1: infinite) */
+    char *word, *rest, *answer, *text;
+};
+
+struct name {
+    char *text;
+    int id; /* of its object, -1 where it has none */
+    void *address;
+    const char *kind;
+};
+
+/* An op of the log, cut: WORD %ID REST = ANSWER. */
+struct shown {
+    char word[64], rest[256], answer[64];
+    int id;
+};
+
+enum state { NOT_FORCING, FORCING, FREE };
+extern volatile enum state state;
+extern struct item *items;
+extern int item_count, cursor;
+extern int last_shown; /* the last item at which somebody could look: an op, a callback, a send */
+extern struct name *names;
+extern int name_count;
+extern struct loop *forced; /* the loop of the session */
+extern int depth; /* callbacks of the program under way */
+extern bool early, behind_poll;
+
+const char *name_of(int at);
+const struct item *at_cursor(void);
+struct shown read_shown(const char *words);
+/* A line that says that a worker took it. (The worker itself writes none: its work may begin later.) */
+void write_taken(int id);
+
+/* ---- what is said, and the time (force_gates.c) */
+
+/* How far it has come, for who looks from outside. */
+struct page {
+    int steps, departures, done, free; /* of the session; of these; all of it has come; nothing is forced any more */
+};
+extern struct page *page;
+extern int said; /* the file */
+extern bool stops;
+extern uint64_t began, moved; /* the clock where it began, in ns; and how far it has moved since, in ms */
+
+void say(const char *format, ...);
+void depart(const char *format, ...);
+uint64_t real_ns(clockid_t id);
+uint64_t virtual_ns(void);
+void take_nap(void);
+void stop_here(void);
+/* Nothing is forced from here on. */
+void set_free(const char *why);
+
+/* ---- gates (force_gates.c) */
+
+enum { PATIENCE = 300, AT_MOST = 1000, BLOCKED = 300 };
+extern pthread_mutex_t gate;
+extern pthread_cond_t changed;
+extern long progress; /* grows with each step: a gate that waits long without it opens */
+extern int patience;
+extern int leader_id;
+extern int leads; /* the leader does what the session has: else it is in the program's code, or in libuv's */
+
+int own_id(void);
+bool is_leader(void);
+void wait_a_little(void);
+char state_of(int thread);
+bool somebody_runs(void);
+void come_to_gate(void);
+void leave_gate(void);
+
+/* (with the gate's mutex) the leader waits: true where CONDITION came; false where it didn't for long, or nothing is forced any more */
+#define WAIT(CONDITION)                                                     \
+    ({                                                                      \
+        long seen = progress;                                               \
+        int waited = 0, naps = 0;                                           \
+        while (state == FORCING && !(CONDITION) && waited < patience && naps++ < AT_MOST) { \
+            wait_a_little();                                                \
+            if (seen != progress) seen = progress, waited = 0;              \
+            else if (!somebody_runs()) waited++;                            \
+        }                                                                   \
+        (CONDITION);                                                        \
+    })
+
+/* (with the gate's mutex) another thread waits, as long as the leader may come to it: where the program's own code has it wait for
+ * something (a semaphore, a lock, the end of a thread), nothing that is held at a gate would ever come. False then. */
+#define WAIT_FOR_LEADER(CONDITION)                                          \
+    ({                                                                      \
+        long seen = progress;                                               \
+        int waited = 0;                                                     \
+        come_to_gate();                                                     \
+        while (state == FORCING && !(CONDITION) && waited < BLOCKED) {      \
+            wait_a_little();                                                \
+            if (seen != progress || leads || state_of(leader_id) != 'S') seen = progress, waited = 0; \
+            else waited++;                                                  \
+        }                                                                   \
+        leave_gate();                                                       \
+        waited < BLOCKED;                                                   \
+    })
+
+/* ---- workers, and threads that send (force_gates.c) */
+
+enum place { STARTING, AT_TAKE, TAKING, TAKEN, RUNNING, AT_FINISH, FINISHING, ASLEEP };
+
+struct worker {
+    enum place place;
+    long number; /* that of the session, while it has a request */
+    int name;
+    bool may_take, may_run, may_finish;
+};
+
+struct sender {
+    struct sender *next;
+    int name;
+    bool may_send, last;
+};
+
+extern struct worker pool[];
+extern int pool_count;
+extern const struct worker *waits_for; /* the leader, for this one's finish */
+extern struct sender *senders;
+extern long sent; /* how many sends were done that waited at a gate. (A thread may be gone, or send again, as soon as it has sent) */
+
+struct worker *worker_at(enum place place);
+struct worker *worker_of(long number);
+struct sender *sender_of(int name);
+
+/* ---- an order at random (force_random.c) */
+
+extern bool at_random;
+void begin_random(uint64_t number, int jumps);
+void maybe_choose(void);
+void random_event(char type, const char *words);
+bool poll_at_random(int descriptor, struct epoll_event *events, int room, int timeout, int *got);
+
+#pragma GCC visibility pop
+
+#endif
