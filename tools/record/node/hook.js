@@ -2,13 +2,13 @@
 // What the JavaScript of a program in node does, for the recorder: ./uvt record has node load this file before the program.
 //
 // It tells of two things, in lines J of the log (docs/RECORD.md, "The log"). Of each timer and immediate: which function it calls and which
-// line asked for it, when it is called, when that ends, and when it is cleared. And which functions V8 found under way, a look each
-// millisecond: so each long callback has names, be it of a server, a promise or a tick.
+// line asked for it, when it is called, when that ends, and when it is cleared. And which functions V8 finds under way, a look each
+// millisecond (recorder/looks.c): so each long callback has names, be it of a server, a promise or a tick.
 //
-// UVT_LOOKS=0 leaves out the looks.
+// UVT_LOOKS is how many microseconds lie between two looks, 1000 where nothing is said; 0 leaves them out.
 
 (() => {
-  const { UVT_LOG, UVT_RECORDER, UVT_LOOKS } = process.env;
+  const { UVT_LOG, UVT_RECORDER } = process.env;
   const loaded = { exports: {} };
   try {
     if (!UVT_LOG || !UVT_RECORDER) return;
@@ -16,9 +16,8 @@
   } catch {
     return;
   }
-  const { born, begin, end, gone, referenced, note, place, stack, base, last, undisturbed } = loaded.exports;
-  const from = base() * 1000;
-  if (from < 0) return;
+  const { born, begin, end, gone, referenced, look, unlook, is } = loaded.exports;
+  if (!is()) return;
   const { isMainThread } = require('worker_threads');
   const { apply } = Reflect;
   const TIMER = 0, IMMEDIATE = 2;
@@ -80,84 +79,6 @@
     });
   }
 
-  // ---- looks
-
-  const places = new Map(), stacks = new Map();
-  function placeOf({ functionName, url, lineNumber }) {
-    const text = `${(functionName || '(anonymous)').replaceAll(' ', '_')} ${url ? `${url.replaceAll(' ', '_')}:${lineNumber + 1}` : '-'}`;
-    let found = places.get(text);
-    if (found === undefined) places.set(text, found = place(text));
-    return found;
-  }
-
-  function stackOf(parent, at, line) {
-    const key = `${parent} ${at} ${line}`;
-    let found = stacks.get(key);
-    if (found === undefined) stacks.set(key, found = stack(parent, at, line));
-    return found;
-  }
-
-  // Of each node of a profile its stack: the place of each function, and at which line it was found most.
-  function write({ nodes, startTime, samples, timeDeltas }) {
-    const all = new Map(nodes.map((node) => [node.id, node])), numbers = new Map();
-    const rows = nodes.length ? [[nodes[0], -1]] : [];
-    for (const [node, parent] of rows) {
-      let most = { line: 0, ticks: 0 };
-      for (const tick of node.positionTicks ?? []) if (tick.ticks > most.ticks) most = tick;
-      const { functionName } = node.callFrame;
-      const found = functionName === '(idle)' || functionName === '(root)' ? -1 : stackOf(parent, placeOf(node.callFrame), most.line);
-      numbers.set(node.id, found);
-      for (const child of node.children ?? []) rows.push([all.get(child), found]);
-    }
-    let at = startTime, last = -1, first = 0;
-    const busy = (until) => {
-      if (last >= 0) note(`busy ${last} ${Math.max(0, first - from)} ${until - first}`);
-    };
-    for (let k = 0; k < samples.length; k++) {
-      at += timeDeltas[k];
-      const found = numbers.get(samples[k]);
-      if (found === last) continue;
-      busy(at);
-      last = found;
-      first = at;
-    }
-    busy(Math.max(first + 1000, at));
-  }
-
-  function look() {
-    const { Session } = require('inspector');
-    const session = new Session();
-    const ask = (word, values) => {
-      let found;
-      session.post(word, values, (fault, given) => {
-        found = given;
-      });
-      return found;
-    };
-    session.connect();
-    undisturbed();
-    ask('Profiler.enable');
-    ask('Profiler.setSamplingInterval', { interval: 1000 });
-    ask('Profiler.start');
-    return () => {
-      const found = ask('Profiler.stop');
-      if (found) write(found.profile);
-    };
-  }
-
-  let stop = () => {};
-  if (UVT_LOOKS !== '0') {
-    try {
-      stop = look();
-    } catch {
-      // a node without the inspector
-    }
-  }
-  let is = false;
-  const once = () => {
-    if (!is) stop();
-    is = true;
-  };
-  process.on('exit', once);
-  if (isMainThread) last(once);
+  look(isMainThread ? 1 : 0);
+  process.on('exit', unlook);
 })();

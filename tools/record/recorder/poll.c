@@ -5,6 +5,7 @@
 #include <poll.h>
 #include <string.h>
 #include <sys/epoll.h>
+#include <time.h>
 
 REAL(uv_is_active)
 REAL(uv_is_closing)
@@ -101,12 +102,34 @@ static int note_events(struct loop *loop, const struct epoll_event *events, int 
     return got;
 }
 
+/* Where looks are to be written while the loop waits (looks.c), that is a wait up to then, and another one. */
+static int wait_for(int descriptor, struct epoll_event *events, int room, int timeout, const sigset_t *signals) {
+    return signals ? CALL(epoll_pwait)(descriptor, events, room, timeout, signals) : CALL(epoll_wait)(descriptor, events, room, timeout);
+}
+
+static int64_t clock_now(void) {
+    struct timespec time;
+    clock_gettime(CLOCK_MONOTONIC, &time);
+    return (int64_t)time.tv_sec * 1000 + time.tv_nsec / 1000000;
+}
+
+static int really_wait(struct loop *loop, int descriptor, struct epoll_event *events, int room, int timeout, const sigset_t *signals) {
+    int first = loop && timeout != 0 ? wait_before_looks(loop) : -1;
+    if (first < 0 || (timeout > 0 && timeout <= first)) return wait_for(descriptor, events, room, timeout, signals);
+    int64_t begin = clock_now();
+    int got = first ? wait_for(descriptor, events, room, first, signals) : 0;
+    if (got != 0) return got;
+    write_looks_here();
+    int64_t left = timeout - (clock_now() - begin);
+    return wait_for(descriptor, events, room, timeout < 0 ? timeout : left > 0 ? (int)left : 0, signals);
+}
+
 int epoll_wait(int descriptor, struct epoll_event *events, int room, int timeout) {
     struct loop *loop = polls(descriptor, __builtin_return_address(0));
     int got;
     note_poll(loop, timeout);
     if (loop && force_poll(loop, descriptor, events, room, timeout, &got)) return note_events(loop, events, got);
-    return note_events(loop, events, CALL(epoll_wait)(descriptor, events, room, timeout));
+    return note_events(loop, events, really_wait(loop, descriptor, events, room, timeout, NULL));
 }
 
 int epoll_pwait(int descriptor, struct epoll_event *events, int room, int timeout, const sigset_t *signals) {
@@ -114,5 +137,5 @@ int epoll_pwait(int descriptor, struct epoll_event *events, int room, int timeou
     int got;
     note_poll(loop, timeout);
     if (loop && force_poll(loop, descriptor, events, room, timeout, &got)) return note_events(loop, events, got);
-    return note_events(loop, events, CALL(epoll_pwait)(descriptor, events, room, timeout, signals));
+    return note_events(loop, events, really_wait(loop, descriptor, events, room, timeout, signals));
 }

@@ -188,12 +188,16 @@ void settle(struct object *watcher);
 /* The same of all whose callback has just ended, but for the one whose next callback begins (NULL: for none). */
 void settle_all(struct loop *loop, const struct object *but);
 
-/* ---- interpreters (node.c, script.c) */
+/* ---- interpreters (node.c, places.c, looks.c, script.c) */
 
 int new_place_number(void);
 
 /* A line that says where JavaScript asked for this object of the loop, if it is under way in this thread. */
 void note_javascript(struct loop *loop, int id);
+
+/* How long the loop may wait, in ms, before the looks of this thread are to be written; -1: there are none, or no new ones. */
+int wait_before_looks(struct loop *loop);
+void write_looks_here(void);
 
 /* Calls a callback of the program: what it asks of libuv are ops again. */
 #define PROGRAM(call)           \
