@@ -111,6 +111,8 @@ class Look:
 
 @dataclass
 class JavaScript:
+    # node's number of the thread: 0 is the first one, the others are workers; None where the log doesn't say
+    thread: int | None = None
     resources: dict[int, Resource] = field(default_factory=dict)
     spans: list[Span] = field(default_factory=list)
     looks: list[Look] = field(default_factory=list)
@@ -122,12 +124,13 @@ class JavaScript:
     by_call: dict[tuple[str, str, int], list[Span]] = field(default_factory=dict)
 
     def __bool__(self) -> bool:
-        return bool(self.resources or self.spans or self.looks)
+        return bool(self.resources or self.spans or self.looks or self.thread is not None)
 
     # ---- lines
 
     def lines(self) -> list[str]:
-        found = [f"js line {where} {text}" for where, text in self.source.items()]
+        found = [f"js thread {self.thread}"] if self.thread is not None else []
+        found += [f"js line {where} {text}" for where, text in self.source.items()]
         for it in self.resources.values():
             found.append(f"js new {it.id} {it.kind} {it.when} {it.delay} {it.function.words()} {it.at.words()}")
             found += [f"js gone {it.id} {it.gone} {it.gone_at.words()}"] if it.gone is not None else []
@@ -144,6 +147,8 @@ class JavaScript:
     def take(self, words: list[str]) -> None:
         """Takes a line, without its `js`."""
         match words:
+            case ["thread", number]:
+                self.thread = int(number)
             case ["line", where, *text]:
                 self.source[where] = " ".join(text)
             case ["new", id, kind, when, delay, function, where, inside, at]:

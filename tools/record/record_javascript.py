@@ -109,6 +109,8 @@ class Reader:
                 resource.gone, resource.gone_at = event.clock, place_of(self.log, int(words[2]))
             case "ref" if resource:
                 resource.referenced, resource.referenced_at = words[2] == "1", place_of(self.log, int(words[3]))
+            case "thread":
+                self.found.thread = id
             case "busy":
                 self.raw.append((int(words[2]), int(words[2]) + int(words[3]), id))
 

@@ -226,7 +226,35 @@ def queued_again(program: Program) -> list[str]:
     ]
 
 
-def told(made: Made, loop: int, path: Path, note: str) -> list[str]:
+# The threads that node has for itself, by words in the functions of their loops; and those with JavaScript.
+OWN = {"DelayedTaskScheduler": "node's own, for V8's tasks that are due later", "tracing::Agent": "node's own, for its tracing"}
+WITH_JAVASCRIPT = "node::Environment::"
+
+
+def functions_of(program: Program) -> str:
+    return " ".join([*(it.text for it in program.origins), *(it for rows in program.functions.values() for _, it in rows)])
+
+
+def loop_of_javascript(made: list[tuple[int, Made]]) -> int | None:
+    """Of the loops of node the one that has the program's JavaScript, and not that of a worker; None where there is none, or nobody knows."""
+    first = [loop for loop, it in made if it.program.javascript.thread == 0]
+    known = [loop for loop, it in made if it.program.javascript] or [loop for loop, it in made if WITH_JAVASCRIPT in functions_of(it.program)]
+    return first[0] if first else known[0] if len(known) == 1 else None
+
+
+def whose(program: Program, is_node: bool) -> str:
+    """Which of node's loops it is, in a few words; `` of another program's."""
+    functions = functions_of(program)
+    if not is_node:
+        return ""
+    if program.javascript.thread:
+        return f"the JavaScript of worker {program.javascript.thread}"
+    if program.javascript or WITH_JAVASCRIPT in functions:
+        return "the program's JavaScript"
+    return next((said for word, said in OWN.items() if word in functions), "node's own: it has no JavaScript")
+
+
+def told(made: Made, loop: int, path: Path, note: str, whose: str = "") -> list[str]:
     """What is said of a loop: how far its recording goes, and the command that opens it."""
     outcome, program = made.outcome, made.program
     head = f"loop {loop}: {outcome.callbacks} of {outcome.of} callbacks, {outcome.steps} steps: "
@@ -236,7 +264,7 @@ def told(made: Made, loop: int, path: Path, note: str) -> list[str]:
         lines = [head + f"same up to line {outcome.item.line} of the log", f"    there {where_it_stops(made)}"]
     else:
         lines = [head + "same"]
-    lines += [f"    {it}" for it in (program.began, program.stopped, note, *by_other_threads(program), *queued_again(program), made.polls.said()) if it]
+    lines += [f"    {it}" for it in (whose, program.began, program.stopped, note, *by_other_threads(program), *queued_again(program), made.polls.said()) if it]
     if outcome.answers:
         lines.append(f"    {len(outcome.answers)} answers differ, first: {outcome.answers[0]}")
     if outcome.ends:
@@ -265,16 +293,15 @@ def from_data(data: bytes, log: Log, name: str, part: Part = Part()) -> tuple[li
     """Makes the recordings of a log, and writes them. Answers what is to be said, and whether all go all the way."""
     made, lines = all_made(log, part)
     whole = True
-    # (a program in node has loops beside that of its JavaScript, of which it knows nothing)
-    javascript = [loop for loop, it in made if it.program.javascript]
+    first = loop_of_javascript(made)
     for loop, it in made:
-        path = Path(f"{name}.rec" if len(made) == 1 or javascript == [loop] else f"{name}.{loop}.rec")
+        path = Path(f"{name}.rec" if len(made) == 1 or loop == first else f"{name}.{loop}.rec")
         recording = ("\n".join(it.outcome.recording) + "\n").encode()
         write(path, recording)
         notes = notes_of(it, log.note, log.ended)
         notes.loop = loop
         write(path.with_suffix(".notes"), notes.text(recording).encode())
-        lines += told(it, loop, path, log.note)
+        lines += told(it, loop, path, log.note, whose(it.program, first is not None))
         whole &= it.is_whole()
     if not made:
         lines.append(f"no loop with callbacks in {log.lines} lines of the log" + (f": {log.note}" if log.note else ""))
@@ -432,9 +459,25 @@ def run_program(words: list[str], folder: Path, bare: bool) -> tuple[int, int]:
             signal.signal(number, handler)
 
 
+# Programs that run a file of somebody's; and their words behind which there is none.
+RUNNERS = re.compile(r"node(js)?|python[\d.]*|pypy[\d.]*|lua(jit)?[\d.]*")
+WITHOUT = {"-c", "-e", "-m", "-p", "-i", "--eval", "--print", "--test"}
+
+
+def name_for(words: list[str]) -> str:
+    """What the files are called where nobody says: as the program, or as the file that it runs (`node app.js`: `app`)."""
+    program = Path(words[0]).name
+    for it in words[1:] if RUNNERS.fullmatch(program) else []:
+        if it in WITHOUT:
+            break
+        if not it.startswith("-") and (Path(it).is_file() or Path(f"{it}.js").is_file()):
+            return Path(it).stem or program
+    return program
+
+
 def from_program(words: list[str], name: str | None, part: Part, bare: bool = False) -> int:
     """Runs a program, and makes recordings of each of its processes that has a loop."""
-    name = name or Path(words[0]).name
+    name = name or name_for(words)
     built_program()
     folder = room_for(name)
     try:

@@ -18,7 +18,7 @@
   }
   const { born, begin, end, gone, referenced, look, unlook, is } = loaded.exports;
   if (!is()) return;
-  const { isMainThread } = require('worker_threads');
+  const { threadId } = require('worker_threads');
   const { apply } = Reflect;
   const TIMER = 0, IMMEDIATE = 2;
 
@@ -79,6 +79,6 @@
     });
   }
 
-  look(isMainThread ? 1 : 0);
+  look(threadId);
   process.on('exit', unlook);
 })();

@@ -89,11 +89,14 @@ CALLED(referenced, 2) {
     return 0;
 }
 
-/* look(FIRST): looks begin in this thread; in the first one of the program signals that end it wait for what is to be written. */
+/* look(THREAD): looks begin in this thread, of node's number; in the first one, 0, signals that end the program wait for what is to be
+ * written. */
 CALLED(look, 1) {
     if (!loop) return -1;
+    uint64_t thread = (uint64_t)number(env, words[0]);
+    write_line(loop, 'J', "thread %u", thread);
     begin_looks(env);
-    if (number(env, words[0]) > 0) look_before_signals(loop);
+    if (thread == 0) look_before_signals(loop);
     return 0;
 }
 
