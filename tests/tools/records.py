@@ -314,10 +314,81 @@ def try_within(check, folder: str, libuv: str) -> None:
     for name, wanted in (("late-within", "no symbols (strip)"), ("late-whole", "with its C library too")):
         ran = recorded([f"./{name}"], folder)
         check(f"record, {name} without what it takes", ran.returncode == 2 and wanted in ran.stderr and " is late: " in ran.stdout, ran)
+    try_merged(check, folder)
+    try_two(check, folder, libuv)
     words = ["cc", "-w", "-O1", "-rdynamic", "-I", str(ROOT / "tools" / "record" / "recorder"), str(LOGS.parent / "bridges.c"), "-o", f"{folder}/bridges"]
     subprocess.run([*words, "-ldl", "-lpthread"], check=True)
     ran = subprocess.run([f"{folder}/bridges"], capture_output=True, text=True, timeout=SECONDS)
     check("record, the bridges", ran.returncode == 0 and ran.stdout == "ok\n", ran)
+
+
+# What stands for libuv where it is compiled with the program as one: the environment's word that each has in it, and functions of its names.
+MERGED = """#include <stdio.h>
+static int uv_loop_init(void) { return 0; }
+static int uv_run(void) { return puts("UV_THREADPOOL_SIZE"); }
+int main(void) { return uv_loop_init() + (uv_run() < 0); }
+"""
+
+
+def try_merged(check, folder: str) -> None:
+    """libuv's functions are no functions any more (-flto does so)."""
+    (Path(folder) / "merged.c").write_text(MERGED)
+    subprocess.run(["cc", "-O2", "-flto", f"{folder}/merged.c", "-o", f"{folder}/merged"], check=True)
+    ran = recorded(["./merged"], folder)
+    check("record, a program of -flto", ran.returncode == 2 and "are no functions any more (LTO)" in ran.stderr and "THREADPOOL" in ran.stdout, ran)
+
+
+# A library that takes libuv from libuv.so.1, and what stands for that, of another version. The program has a libuv of its own within it.
+PLUGIN = """extern const char *uv_version_string(void);
+extern int uv_loop_close(void *);
+const char *plug(void) { return uv_loop_close((void *)0) == 0 ? "none" : uv_version_string(); }
+"""
+OTHER = """const char *uv_version_string(void) { return VERSION; }
+int uv_loop_close(void *none) { return -1; }
+"""
+BOTH = """#include <dlfcn.h>
+#include <stdio.h>
+#include <uv.h>
+const char *plug(void);
+static void on_timer(uv_timer_t *timer) { uv_close((uv_handle_t *)timer, NULL); }
+int main(int count, char **words) {
+    static uv_timer_t timer;
+    uv_timer_init(uv_default_loop(), &timer);
+    uv_timer_start(&timer, on_timer, 1, 0);
+    uv_run(uv_default_loop(), UV_RUN_DEFAULT);
+    if (count > 1) puts(((const char *(*)(void))dlsym(dlopen(words[1], RTLD_NOW), "plug"))());
+    else puts("no plug-in");
+    return 0;
+}
+"""
+
+
+def try_two(check, folder: str, libuv: str) -> None:
+    """Two libuvs in one process, of two versions: refused, and no call goes to the wrong one. Of one version they are recorded."""
+    place = Path(folder) / "two"
+    for version in ("other", "same"):
+        (place / version).mkdir(parents=True)
+    for name, text in (("plugin", PLUGIN), ("other", OTHER), ("both", BOTH)):
+        (place / f"{name}.c").write_text(text)
+    cc = lambda *words: subprocess.run(["cc", "-w", *words], cwd=place, check=True)  # noqa: E731
+    asked = "#include <uv.h>\nUV_VERSION_MAJOR UV_VERSION_MINOR UV_VERSION_PATCH\n"
+    header = subprocess.run(["cc", "-E", "-P", "-"], input=asked, capture_output=True, text=True).stdout
+    own = ".".join(header.split()[-3:])
+    for kind, version in (("other", "1.99.0"), ("same", own)):
+        cc("-shared", "-fPIC", "-Wl,-soname,libuv.so.1", f'-DVERSION="{version}"', "other.c", "-o", f"{kind}/libuv.so.1")
+        cc("-shared", "-fPIC", "plugin.c", "-o", f"{kind}/plugin.so", f"{kind}/libuv.so.1", f"-Wl,-rpath,{place}/{kind}")
+    cc("-O1", "both.c", "-o", "both", libuv, "-ldl", "-lpthread")
+    cc("-O1", "both.c", "-o", "linked", libuv, "-ldl", "-lpthread", "-Wl,--exclude-libs,ALL", "-Wl,--no-as-needed", "other/plugin.so",
+       f"-Wl,-rpath,{place}/other")
+    ran = recorded(["./both"], str(place))
+    check("record, a program that may load a second libuv", ran.returncode == 0 and ": same" in ran.stdout, ran)
+    ran = recorded(["./both", "same/plugin.so"], str(place))
+    check("record, two libuvs of one version", ran.returncode == 0 and ": same" in ran.stdout, ran)
+    two = f"there are two, {own} within the program and 1.99.0 as a library"
+    ran = recorded(["./both", "other/plugin.so"], str(place))
+    check("record, a second libuv that comes later", ran.returncode == 2 and two in ran.stderr and "no plug-in" not in ran.stdout, ran)
+    ran = recorded(["./linked", "other/plugin.so"], str(place))
+    check("record, a second libuv from the start", ran.returncode == 2 and two in ran.stderr and "1.99.0" in ran.stdout, ran)
 
 
 def try_unseen(check, folder: str) -> None:

@@ -37,12 +37,12 @@ struct function {
 static struct function *functions;
 static int function_count;
 
-enum { APART = 1 << 16 }; /* functions of libuv don't lie farther apart */
+enum { APART = 1 << 16, REFUSED = 70 }; /* functions of libuv don't lie farther apart; the status of a program that is ended */
 
 /* A file that is read, and where it was loaded. */
 struct file {
     const char *name;
-    uintptr_t moved, lowest; /* by how much it was moved; where it begins */
+    uintptr_t moved, lowest, highest; /* by how much it was moved; where it begins, and ends */
     char *data;
     size_t size;
     const Elf64_Sym *symbols;
@@ -428,18 +428,54 @@ static const char *hook_functions(uintptr_t lowest) {
 
 static bool own; /* the functions are those of a libuv within a file */
 
+/* Why a libuv within the program can't be recorded beside the library libuv, which another library uses: they are of two versions, and the
+ * recorder, which comes before both, has one. NULL where there is no such library, or it is of the same version. */
+static const char *why_not_beside(void) {
+    static char why[200];
+    const char *(*version)(void), *within = ((const char *(*)(void))own_function("uv_version_string"))();
+    void *library = dlopen("libuv.so.1", RTLD_LAZY | RTLD_NOLOAD);
+    version = library ? (const char *(*)(void))dlsym(library, "uv_version_string") : NULL;
+    bool differs = version && strcmp(version(), within) != 0;
+    if (differs) snprintf(why, sizeof why, "there are two, %s within the program and %s as a library, and the recorder can't tell who calls which", within, version());
+    if (library) dlclose(library);
+    return differs ? why : NULL;
+}
+
+static uintptr_t own_from, own_to; /* the file that has it */
+
+void see_caller(const void *caller) {
+    enum { CALLERS = 256 };
+    static const void *seen[CALLERS];
+    const void **at = &seen[((uintptr_t)caller * 0x9E3779B97F4A7C15u) >> 56];
+    if (!own || ((uintptr_t)caller >= own_from && (uintptr_t)caller < own_to) || *at == caller) return;
+    *at = caller;
+    const char *why = why_not_beside();
+    if (!why) return;
+    fprintf(stderr, "uvt-record: %s: the program is ended\n", why);
+    note_unseen(NULL, why);
+    _exit(REFUSED);
+}
+
+static void forget_functions(struct file *file) {
+    free(functions);
+    functions = NULL;
+    function_count = 0;
+    own = false;
+    munmap(file->data, file->size);
+}
+
 /* Looks for a libuv within a file that is loaded, and hooks it. (The file stays mapped then: names lie in it.) */
 static void hook_file(struct file file) {
+    const char *beside = NULL;
     if (own || !open_file(&file)) return;
     list_functions(&file);
     own = function_of("uv_run") && function_of("uv_loop_init");
-    if (!own) {
-        free(functions);
-        functions = NULL;
-        function_count = 0;
-        munmap(file.data, file.size);
+    if (!own || (beside = why_not_beside())) {
+        forget_functions(&file);
+        if (beside) note_unseen(NULL, beside);
         return;
     }
+    own_from = file.lowest, own_to = file.highest;
     find_ends(&file);
     tell_text();
     const char *why = hook_functions(file.lowest);
@@ -455,7 +491,7 @@ struct asked_file {
 
 static int ask_file(struct dl_phdr_info *info, size_t size, void *word) {
     struct asked_file *asked = word;
-    uintptr_t lowest = UINTPTR_MAX, address = (uintptr_t)asked->address;
+    uintptr_t lowest = UINTPTR_MAX, highest = 0, address = (uintptr_t)asked->address;
     bool within = !address;
     (void)size;
     for (int at = 0; at < info->dlpi_phnum; at++) {
@@ -463,11 +499,12 @@ static int ask_file(struct dl_phdr_info *info, size_t size, void *word) {
         uintptr_t from = info->dlpi_addr + part->p_vaddr;
         if (part->p_type != PT_LOAD) continue;
         if (from < lowest) lowest = from;
+        if (from + part->p_memsz > highest) highest = from + part->p_memsz;
         within |= address >= from && address < from + part->p_memsz;
     }
     if (!within) return 0;
     asked->found = true;
-    asked->file = (struct file){.name = *info->dlpi_name ? info->dlpi_name : "/proc/self/exe", .moved = info->dlpi_addr, .lowest = lowest};
+    asked->file = (struct file){.name = *info->dlpi_name ? info->dlpi_name : "/proc/self/exe", .moved = info->dlpi_addr, .lowest = lowest, .highest = highest};
     return 1;
 }
 

@@ -146,6 +146,10 @@ static bool open_log(void) {
 }
 
 void note_unseen(const char *function, const char *why) {
+    if (window && !function) {
+        write_line(NULL, 'U', "- %s", why);
+        off = true;
+    }
     if (window || unseen_count == sizeof unseen / sizeof *unseen) return;
     unseen[unseen_count++] = (struct unseen){function ? function : "-", why};
     if (!function && open_log()) off = true;
@@ -317,6 +321,7 @@ bool is_text_of_libuv(const void *caller) {
 
 bool is_inside(const void *caller, const char *function) {
     if (is_from_libuv(caller)) return true;
+    see_caller(caller);
     called = function;
     if (forces()) force_before(function);
     return false;

@@ -132,6 +132,9 @@ bool knows_libuv(void);
 void hook_program(void);
 void hook_caller(const void *caller);
 bool has_own_libuv(void);
+/* This place calls a function of libuv's. Where it lies in a library that takes libuv from elsewhere, of another version than the program's
+ * own, the program is ended, and it is said why. */
+void see_caller(const void *caller);
 /* Its function of this name as it was; NULL if it has none. */
 void *own_function(const char *name);
 /* Calls of a function of it can't be seen, or (NULL) of none, and then nothing is recorded: a line behind the first one says why. */
