@@ -21,6 +21,9 @@ KINDS = {"timer": "a timer", "interval": "an interval", "immediate": "an immedia
 # So little isn't told, in ms; and so many parts at the most.
 LEAST = 2
 PARTS = 3
+# So many columns a line of an answer about JavaScript has, and so many signs of the program's text stay at the least.
+COLUMNS = 120
+OF_TEXT = 24
 # Of the word of a step's line the list of its callbacks, and which of a name's counts is that.
 LISTS = {"call": ("on", 0), "after": ("after", 1), "closed": ("closed", 2)}
 PLACE = re.compile(r"\S+:\d+")
@@ -47,6 +50,31 @@ class Place:
 
 
 NOWHERE = Place("-", "-")
+
+
+def fold_at(line: str, begin: int, end: int) -> int:
+    """Where a line that is too long is cut, so that the rest goes below: 0 where it can't be. From `begin` to `end` stands the program's text."""
+    least = len(line) - len(line.lstrip()) + COLUMNS // 3
+    found = [it for it in re.finditer(r"[;,:]? ", line[: COLUMNS + 2]) if it.start() > least and it.end() - 1 <= COLUMNS and not begin < it.start() < end]
+    parts = [it.end() - 1 for it in found if it[0] in ("; ", ", ") or it[0] == ": " and it.end() == begin]
+    words = [it.start() for it in found]
+    return parts[-1] if parts else words[-1] if words else 0
+
+
+def fitted(line: str) -> list[str]:
+    """A line of an answer, in as many columns as a person reads. A long text of the program's is cut, and what is left goes below."""
+    indent, found = " " * (len(line) - len(line.lstrip()) + 4), []
+    while len(line) > COLUMNS:
+        begin, end = line.find("`"), line.rfind("`")
+        room = COLUMNS - begin - 4
+        if 0 <= begin and end >= COLUMNS and room >= OF_TEXT:
+            line, end = f"{line[: begin + 1 + room]}..{line[end:]}", begin + room + 3
+        cut = fold_at(line, begin, end)
+        if not cut or len(line) <= COLUMNS:
+            break
+        found.append(line[:cut])
+        line = indent + line[cut:].lstrip()
+    return [*found, line]
 
 
 def at(place: Place) -> str:
@@ -107,6 +135,15 @@ class Look:
     begin: int
     end: int
     under: Under
+
+
+@dataclass
+class Part:
+    """A function that took time: how long, that in a sentence, and what had called it, `` where that says no more."""
+
+    took: int
+    text: str
+    what: str = ""
 
 
 @dataclass
@@ -193,9 +230,9 @@ class JavaScript:
             by[under.outer] = by.get(under.outer, 0) + took
         return max(by, key=by.get, default=found)
 
-    def told(self, begin: int, end: int) -> list[str]:
-        """What JavaScript did between two times, the longest first, in a sentence each."""
-        parts: list[tuple[int, str]] = []
+    def parts(self, begin: int, end: int) -> list[Part]:
+        """What JavaScript did between two times, the longest first."""
+        parts: list[Part] = []
         spans = [it for it in self.spans_in(begin, end) if min(it.end, end) - max(it.begin, begin) >= LEAST]
         gaps, behind = [], begin
         for it in sorted(spans, key=lambda it: it.begin):
@@ -203,28 +240,42 @@ class JavaScript:
                 continue
             resource, who = self.resources[it.id], self.who(it)
             first, last = max(it.begin, begin), min(it.end, end)
-            asked = f", {resource.what()}" + (f" {resource.asked()}" if resource.asked() else "")
-            parts.append((last - first, f"{who.text()}{asked}, took {it.end - it.begin} ms{self.inside(first, last, who)}"))
+            what = f"{resource.what()}, {resource.asked()}" if resource.asked() else resource.what()
+            parts.append(Part(last - first, f"{who.text()} took {it.end - it.begin} ms{self.inside(first, last, who)}", f"{who.text()}: {what}"))
             gaps.append((behind, it.begin))
             behind = max(behind, it.end)
         gaps.append((behind, end))
+        parts += self.between_spans(gaps)
+        parts.sort(key=lambda it: -it.took)
+        return parts[:PARTS]
+
+    def between_spans(self, gaps: list[tuple[int, int]]) -> list[Part]:
+        """The same of what no timer or immediate called, by looks."""
         by: dict[tuple[str, Place], list[tuple[int, int, int]]] = {}
         for first, last in gaps:
-            if last - first < LEAST:
-                continue
-            for under, took in self.under(first, last):
-                if under.how in ("timer", "immediate"):
-                    continue
-                by.setdefault((under.how, under.outer), []).append((took, first, last))
+            for under, took in self.under(first, last) if last - first >= LEAST else ():
+                if under.how not in ("timer", "immediate"):
+                    by.setdefault((under.how, under.outer), []).append((took, first, last))
+        parts = []
         for (how, outer), rows in by.items():
             took = round(sum(it[0] for it in rows) / 1000)
             if took >= LEAST:
-                from_how = f", from {HOW[how]}," if how in HOW else ""
                 first, last = min(it[1] for it in rows), max(it[2] for it in rows)
                 name = outer.where.rpartition(":")[0] if how == "main" and outer.function == "(anonymous)" else outer.text()
-                parts.append((took, f"{name}{from_how} took {took} ms{self.inside(first, last, outer)}"))
-        parts.sort(key=lambda it: -it[0])
-        return [it for _, it in parts[:PARTS]]
+                parts.append(Part(took, f"{name}, from {HOW[how]}, took {took} ms{self.inside(first, last, outer)}"))
+        return parts
+
+    def told(self, begin: int, end: int) -> list[str]:
+        """The same, in a sentence each."""
+        return [it.text for it in self.parts(begin, end)]
+
+    def alive(self, time: int) -> list[Place]:
+        """The functions of the program's timers that are to be called at this time or later, and keep node alive."""
+        last = {it.id: it.begin for it in self.spans}
+        kept = [it for it in self.resources.values() if it.kind in ("timer", "interval") and it.when <= time and it.referenced
+                and (it.gone is None or it.gone > time) and not it.function.where.startswith("node:")
+                and (it.kind == "interval" or last.get(it.id, time + 1) > time)]
+        return list(dict.fromkeys(it.function for it in kept))
 
     def longest(self, begin: int, end: int) -> Place | None:
         """The program's function that took most of the time between two."""
@@ -253,7 +304,7 @@ class JavaScript:
         said = [f"in {inner.text()}"] if inner != who else []
         said += [f"in {top}, which it calls"] if top != "-" and inner == who else [f"in its call of {top}"] if top != "-" else []
         said += [f"at line {line}" + (f": `{self.source[self.line_of(inner, line)]}`" if self.line_of(inner, line) in self.source else "")] if line != "0" else []
-        return f" ({round(took / 1000)} ms of it {', '.join(said)})" if said else ""
+        return f", {round(took / 1000)} ms of it {', '.join(said)}" if said else ""
 
     @staticmethod
     def line_of(place: Place, line: str) -> str:

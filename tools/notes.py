@@ -18,6 +18,7 @@ from dataclasses import dataclass, field
 from pathlib import Path
 
 from javascript import JavaScript
+from node_names import InNode, in_node
 
 HEAD = "uvt-notes 1"
 # What would steer a terminal: the control signs of ASCII and those of 0x80 to 0x9f, but for the line feed and the tab.
@@ -79,6 +80,19 @@ class Notes:
     again: list[str] = field(default_factory=list)
     # which loop of the program it is: 0 is the first one
     loop: int = 0
+
+    def in_node(self, name: str, kind: str = "", call: int = 1) -> InNode | None:
+        """What this callback of the name is in node, of which the JavaScript is known; None in any other program. Without a kind: any of its."""
+        if not self.javascript or name not in self.names:
+            return None
+        kinds = (kind,) if kind else ("on", "after", "closed")
+        function = next((found for it in kinds if (found := self.function(it, name, call))), "") or self.names[name][1]
+        return in_node(self.names[name][0], name, function)
+
+    def is_nodes_own(self, name: str) -> bool:
+        """Does node have it for itself, in a program whose JavaScript is known?"""
+        found = self.in_node(name)
+        return found is not None and found.own
 
     def function(self, list: str, name: str, call: int) -> str:
         """Which function that call is, `` where nobody knows."""

@@ -8,10 +8,12 @@ from __future__ import annotations
 from dataclasses import dataclass
 
 from came import LEFT, behind, came, waited
+from javascript import LEAST, at, fitted
+from node_names import IMMEDIATES
 from places import read_place
 from waits import Wait
 from walk import Took, Walk
-from why import KINDS, MANY, Why, few, in_javascript, named, times
+from why import FIFTH, KINDS, MANY, Why, few, in_javascript, named, sentence, times
 from why_javascript import WhyJavaScript
 
 # How many lines each part has at the most.
@@ -37,14 +39,28 @@ def head(walk: Walk) -> list[str]:
 
 
 def long_callbacks(walk: Walk) -> list[str]:
-    found = sorted((it for it in walk.tooks if it.is_callback()), key=Took.took, reverse=True)[:LINES]
+    found = sorted((it for it in walk.tooks if it.is_callback()), key=Took.took, reverse=True)
+    if walk.notes.javascript:
+        return in_node(walk, found)
+    found = found[:LINES]
     return [f"{it.took()} ms: {named(it).rstrip(',')}, from step {it.first} to {it.last}, at {it.pieces[0][0]} ms"
             + in_javascript(walk, it, it.pieces[0][0], it.pieces[-1][1]) for it in found]
 
 
+def in_node(walk: Walk, found: list[Took]) -> list[str]:
+    """The same of node: what JavaScript did in them, and of node's own those that took a fifth of all."""
+    whole, rows = sum(it.took() for it in found), []
+    for it in found:
+        begin, end = it.pieces[0][0], it.pieces[-1][1]
+        told = walk.notes.javascript.told(begin, end)
+        if it.took() >= LEAST and (told or FIFTH * it.took() >= whole):
+            rows.append(f"{it.took()} ms: {sentence(walk, it, begin, end) if told else f'{named(it)}, from step {it.first} to {it.last}'}, at {begin} ms")
+    return rows[:LINES]
+
+
 def main_program(walk: Walk) -> list[str]:
     """What JavaScript did before the first run of the loop."""
-    found = [it for it in walk.tooks if it.what == "the main program" and walk.notes.javascript]
+    found = [it for it in walk.tooks if it.what == "the main program" and walk.notes.javascript.told(it.pieces[0][0], it.pieces[-1][1])]
     return [f"{it.took()} ms, from step {it.first} to {it.last}" + in_javascript(walk, it, it.pieces[0][0], it.pieces[-1][1]) for it in found]
 
 
@@ -58,7 +74,7 @@ class Overview:
 
     def __init__(self, walk: Walk) -> None:
         self.walk = walk
-        self.whys = {name: Why(walk, name) for name in walk.script.names() if name in walk.of_name}
+        self.whys = {name: Why(walk, name) for name in walk.script.names() if name in walk.of_name and not walk.notes.is_nodes_own(name)}
         self.least = 2 if walk.notes.names else 1
         self.next: list[tuple[int, str]] = []
         # the latest timer of JavaScript: who has that asks about it first
@@ -114,23 +130,28 @@ class Overview:
         wait = late.wait
         if wait.what == "io" and came(self.walk, wait).where != LEFT:
             return self.told(late, "")
-        between = self.walk_between(wait.ended, late.took)
+        between = self.walk_between(wait, late)
         return f"{late.took} ms that the loop hadn't looked: {late.name}, step {wait.ended}, call {wait.call}: {between}"
 
-    def walk_between(self, step: int, gap: int) -> str:
-        end = self.walk.clock(step)
-        return self.whys[next(iter(self.whys))].delay(end - gap, end)
+    def walk_between(self, wait: Wait, late: Late) -> str:
+        end = self.walk.clock(wait.ended)
+        return self.whys[late.name].delay(end - late.took, end)
 
     def unwoken(self) -> list[str]:
         """Whose callbacks waited for the next poll, since nobody had woken the one that a callback of I/O left."""
-        found = [(it, others) for it in self.walk.left_by_io if (others := waited(self.walk, it))]
+        found = [(it, others) for it in self.walk.left_by_io if (others := [name for name in waited(self.walk, it) if name in self.whys])]
         self.next += [(1, others[0]) for _, others in found[:1]]
         return [f"{few(others)}: the callback of {self.walk.calls[it.call][1]} left the poll of step {it.poll} at step {it.call}, and nobody had"
                 " woken it by then" for it, others in found[:LINES]]
 
     def requests(self) -> list[str]:
         found = [Late(name, self.away(it), it) for name, it in self.called("work")]
-        return [f"{it.took} ms from its queueing to its callback: {it.name}, step {it.wait.ended}: {self.parts(it)}" for it in self.worst(found)]
+        return [f"{it.took} ms from its queueing to its callback: {self.request(it)}, step {it.wait.ended}: {self.parts(it)}" for it in self.worst(found)]
+
+    def request(self, late: Late) -> str:
+        """Its name; with the line of JavaScript that asked for it, where that is known."""
+        place = self.walk.notes.javascript.asked.get((late.name, late.wait.call))
+        return f"asked for {at(place)} ({late.name})" if place else late.name
 
     def parts(self, late: Late) -> str:
         """Where a request's time went."""
@@ -160,12 +181,16 @@ class Overview:
         waited = [it.first for it in walk.tooks if it.is_poll()]
         step = walk.length if ends else waited[-1] if waited else 0
         state = walk.state(step)
-        kept = [f"{it.name} ({self.kind(it.name, it.kind)})" for it in state.slots
-                if it.name and (it.kind == "work" or it.values.get("active") == "1" and it.values.get("ref") == "1")]
+        names = [(it.name, it.kind) for it in state.slots
+                 if it.name and (it.kind == "work" or it.values.get("active") == "1" and it.values.get("ref") == "1")]
+        kept = [f"{name} ({self.kind(name, kind)})" for name, kind in names if name in self.whys]
+        if len(kept) < len(names):
+            # (of node's own one is for all the timers of JavaScript)
+            kept = [f"{it.text()} (timer)" for it in walk.notes.javascript.alive(walk.clock(step))] + kept
         if not kept:
             return []
-        if ends:
-            self.next.append((0, kept[0].split(" ")[0]))
+        if ends and names[0][0] in self.whys:
+            self.next.append((0, names[0][0]))
         where = "at the end, where the run is under way still" if ends else f"in the last poll that waited, at step {step}"
         blocked = ", and the poll waits" if ends and walk.after == "blocked" else ""
         return [f"{where}{blocked}: {few(kept)}"]
@@ -192,16 +217,21 @@ class Overview:
         counts: dict[str, int] = {}
         for kind in ("call", "after", "closed"):
             for step in self.walk.steps_between(kind, row[0], row[-1]):
-                name = self.walk.lines[step].split(" ")[1]
-                counts[name] = counts.get(name, 0) + 1
+                name = self.who_is(*self.walk.calls[step])
+                counts[name] = counts.get(name, 0) + (name != "")
         who = [name for name, count in sorted(counts.items(), key=lambda it: -it[1]) if 2 * count >= len(row)]
-        idle = self.walk.state(row[len(row) // 2]).lists["idle"]
+        idle = [it for it in self.walk.state(row[len(row) // 2]).lists["idle"] if not self.walk.notes.is_nodes_own(it)]
         why = f"{few(who)} {'was' if len(who) == 1 else 'were'} called in each of these rounds or most" if who else "nobody was called each time"
         are = "is an active idle handle" if len(idle) == 1 else "are active idle handles"
         active = f"; {few(idle)} {are}, so the poll doesn't wait" if idle else ""
-        self.next += [(len(row), who[0])] if who else []
+        self.next += [(len(row), who[0])] if who and who[0] in self.whys else []
         begin, end = self.walk.clock(row[0]), self.walk.clock(row[-1])
         return f"{len(row)} polls in a row didn't wait, from step {row[0]} to {row[-1]}, {end - begin} ms: {why}{active}"
+
+    def who_is(self, kind: str, name: str, call: int) -> str:
+        """A name, or what its callback is in node; `` where that tells nothing of the program."""
+        node = self.walk.notes.in_node(name, kind, call)
+        return name if node is None or not node.own else IMMEDIATES if node.words == IMMEDIATES else ""
 
     def never(self) -> list[str]:
         """Timers and sends that never came, and handles that nobody uses."""
@@ -223,7 +253,7 @@ class Overview:
         return found[:LINES]
 
     def answer(self, ask: str) -> list[str]:
-        lines = head(self.walk)
+        lines, asked_for = head(self.walk), [it for it in self.walk.script.names() if not self.walk.notes.is_nodes_own(it)]
         for title, rows in (
             ("the longest callbacks", long_callbacks(self.walk)), ("the main program", main_program(self.walk)),
             ("the latest timers of JavaScript", self.javascript()), ("the latest timers", self.timers()), ("the latest sends", self.sends()),
@@ -235,8 +265,8 @@ class Overview:
             lines += [title, *(f"    {it}" for it in rows)] if rows else []
         late = max(self.next, default=(0, ""))[1]
         name = self.first or late or next(iter(self.whys), "")
-        names = self.walk.script.names()
-        lines += [f"names: {listed(names)}"] if names else []
         functions = self.walk.notes.javascript.names()
         lines += [f"functions of JavaScript: {listed(functions)}"] if functions else []
-        return lines + ([f"ask next: {ask.replace('NAME', name)}"] if name else [])
+        lines += [f"names: {listed(asked_for)}"] if asked_for else []
+        lines += [f"ask next: {ask.replace('NAME', name)}"] if name else []
+        return [row for line in lines for row in fitted(line)] if self.walk.notes.javascript else lines

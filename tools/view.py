@@ -14,7 +14,7 @@ from conversation import Conversation, Script
 from places import MEANT, Place, next_line, read_place
 from waits import Wait
 from walk import Took, Walk
-from why import Why
+from why import FIFTH, Why
 from why_javascript import WhyJavaScript
 
 TEMPLATE = Path(__file__).resolve().parent / "view.html"
@@ -196,7 +196,7 @@ class Page:
     def values(self) -> dict[str, object]:
         """All that the page is given."""
         whys, late = self.whys()
-        lanes = self.all_lanes()
+        lanes = [it for it in self.all_lanes() if self.is_told(it)]
         functions = self.functions()
         lanes[1:1] = functions
         asked = WhyJavaScript(self.walk) if functions else None
@@ -214,6 +214,14 @@ class Page:
             "from": RED_RECORDED if self.walk.notes.names else RED, "kinds": {name: kind for name, (kind, _) in self.walk.notes.names.items()},
             "meant": MEANT, "came": self.came(), "texts": self.texts.rows,
         }
+
+    def is_told(self, lane: Lane) -> bool:
+        """Does it have a lane? In node not what node has for itself, unless its callbacks took a fifth of the time that all took."""
+        if not self.walk.notes.is_nodes_own(lane.name):
+            return True
+        found = [it for it in self.walk.tooks if it.is_callback()]
+        mine = sum(it.took() for it in found if it.what.rpartition(" of ")[2] == lane.name)
+        return mine > 0 and FIFTH * mine >= sum(it.took() for it in found)
 
     def came(self) -> list[list[object]]:
         """The callbacks of I/O: their steps, whose, and what came, where the notes say that."""

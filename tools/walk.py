@@ -9,6 +9,7 @@ from dataclasses import dataclass, field
 from typing import Callable, Iterator
 
 from conversation import Conversation, Fault, Script, State
+from node_names import InNode
 from places import Place, next_line, read_place
 from pool import Pool
 
@@ -43,8 +44,9 @@ class Took:
     first: int
     last: int
     pieces: list[tuple[int, int]] = field(default_factory=list)
-    # of a callback the program's function, where that is known
+    # of a callback the program's function, where that is known; and of one of node's what it is in node
     function: str = ""
+    node: InNode | None = None
 
     def is_callback(self) -> bool:
         return " of " in self.what
@@ -178,7 +180,7 @@ class Walk:
             new = Took("the loop, between two callbacks", step, step)
         elif first:
             kind, name, call = self.calls[first]
-            new = Took(f"{WORDS[kind]} of {name}", first, step, function=self.notes.function(kind, name, call))
+            new = Took(f"{WORDS[kind]} of {name}", first, step, function=self.notes.function(kind, name, call), node=self.notes.in_node(name, kind, call))
         elif not runs:
             new = Took("the main program", step, step)
         elif poll:

@@ -38,7 +38,9 @@ def times(count: int, what: str) -> str:
 
 
 def named(took: Took) -> str:
-    """A callback, with the program's function where that is known."""
+    """A callback, with the program's function where that is known; in node what it does."""
+    if took.node:
+        return took.node.words
     return f"{took.what}, {took.function}," if took.function else took.what
 
 
@@ -54,6 +56,24 @@ def in_javascript(walk: Walk, took: Took, begin: int, end: int) -> str:
     """What JavaScript did in it, between two times of the clock; `` where that isn't known."""
     found = walk.notes.javascript.told(max(begin, took.pieces[0][0]), min(end, took.pieces[-1][1])) if begin < end else []
     return f": {'; '.join(found)}" if found else ""
+
+
+# Of a stretch of time the part that a callback of node's own has to have taken to be told.
+FIFTH = 5
+
+
+def is_told(took: Took, begin: int, end: int) -> bool:
+    """Is it worth a word in what is said of this time? Node's own callbacks are where they took a fifth of it."""
+    return not (took.node and took.node.own) or FIFTH * took.between(begin, end) >= end - begin
+
+
+def sentence(walk: Walk, took: Took, begin: int, end: int) -> str:
+    """Where the clock went on, with what JavaScript did in it: that comes first in node."""
+    told_of = in_javascript(walk, took, begin, end)
+    if not took.node or not told_of:
+        return told(took) + told_of
+    steps = f"from step {took.first} to {took.last}" if took.first < took.last else f"at step {took.first}"
+    return f"{told_of.removeprefix(': ')}, in {took.node.words}, {steps}"
 
 
 class Why:
@@ -198,11 +218,12 @@ class Why:
     def delay(self, begin: int, end: int) -> str:
         """Where the clock went on between two times of it."""
         found, causes = [], self.walk.causes(begin, end)
+        causes = [it for it in causes if is_told(it, begin, end)] or causes
         for took in causes:
             if took.is_poll() and begin < end:
                 found.append(self.in_poll(took, begin, end, causes))
             else:
-                found.append(told(took) + in_javascript(self.walk, took, begin, end))
+                found.append(sentence(self.walk, took, begin, end))
         return "; ".join(found)
 
     def in_poll(self, took: Took, begin: int, end: int, told_already: list[Took]) -> str:
@@ -361,9 +382,18 @@ class Why:
             return self.unseen_request(wait)
         details = [self.waited(wait), self.ran(wait), *self.unwoken(wait), self.handed(wait)]
         passed = self.overtaken(wait)
+        if self.notes.javascript:
+            return self.request_parts(wait), details
         if passed:
             return f"behind {few(passed)}, queued later and done earlier", details
         return f"done at step {wait.finished}, {self.between(wait, wait.finished)}", details
+
+    def request_parts(self, wait: Wait) -> str:
+        """Where its time went."""
+        queued, called = self.walk.clock(wait.asked), self.walk.clock(wait.ended)
+        taken, through = self.walk.happened(wait.taken[0]), self.walk.happened(wait.finished)
+        return (f"called {called - queued} ms after it was asked for: {taken - queued} ms it waited for a worker, {through - taken} ms it ran,"
+                f" {called - through} ms it waited for the loop")
 
     def unseen_request(self, wait: Wait) -> tuple[str, list[str]]:
         """Nobody saw when it was through; but where each worker has work that is seen, it waits."""
@@ -386,7 +416,9 @@ class Why:
         before = self.before(state.lists["waiting"])
         away = self.walk.happened(step) - self.walk.clock(wait.asked)
         had = self.walk.pool.names_between(wait.asked, step) if away and self.walk.pool.full_between(wait.asked, step) else []
-        behind = (f": the workers had {few(had)}{self.asked_for(had)}" if had else "") + (f", behind {few(before)}" if before else "")
+        asked = self.asked_for(had)
+        behind = (f": the workers had {times(len(had), 'request') if asked else few(had)}{asked}" if had else "") + (
+            f", behind {few(before)}" if before and not asked else "")
         took = f"worker {worker} took it at step {step}"
         if step in self.notes.guessed:
             return f"waited for a worker from step {wait.asked} on{behind}; when one took it nobody knows"

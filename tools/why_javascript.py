@@ -9,9 +9,9 @@ from __future__ import annotations
 import difflib
 
 from conversation import Fault
-from javascript import LEAST, JavaScript, Place, Resource, Span, at
+from javascript import LEAST, JavaScript, Place, Resource, Span, at, fitted
 from walk import Walk
-from why import MANY, Why, few, times
+from why import MANY, Why, few, is_told, times
 from why import told as without
 
 
@@ -36,23 +36,29 @@ class WhyJavaScript:
         step = self.step_of.get(span.call)
         return f"step {step}" if step else "the main program"
 
-    def delay(self, span: Span) -> str:
-        """What went on between the time at which it was due and its call."""
-        found = []
-        for took in self.walk.causes(span.due, span.begin):
+    def delay(self, span: Span) -> tuple[str, list[str]]:
+        """What went on between the time at which it was due and its call; and what had called each function of that, and where."""
+        found, below = [], []
+        causes = self.walk.causes(span.due, span.begin)
+        for took in [it for it in causes if is_told(it, span.due, span.begin)] or causes:
             begin, end = max(span.due, took.pieces[0][0]), min(span.begin, took.pieces[-1][1])
             steps = f"from step {took.first} to {took.last}" if took.first < took.last else f"at step {took.first}"
-            if told := self.js.told(begin, end):
-                found.append((end - begin, f"{'; '.join(told)}, in {took.what}, {steps}"))
+            if parts := self.js.parts(begin, end):
+                found.append((end - begin, "; ".join(it.text for it in parts)))
+                where = took.node.words if took.node else took.what
+                below += [f"{it.what}, in {where}, {steps}" for it in parts if it.what] or [f"in {where}, {steps}"]
             else:
                 found.append((end - begin, self.why.delay(begin, end) if took.is_poll() else without(took)))
         shown = [text for took, text in found if took >= LEAST] or [text for _, text in found]
-        return "; ".join(dict.fromkeys(shown))
+        return "; ".join(dict.fromkeys(shown)), list(dict.fromkeys(below))
 
     def called(self, span: Span, resource: Resource, number: int) -> list[str]:
         late = self.late(span)
-        how = f"late by {late} ms: {self.delay(span)}" if late > 1 else "on time"
-        lines = [f"{self.where(span)}, call {number}: {how}", f"    due at {span.due} ms, called at {span.begin} ms, in the call of {span.call[1]}"]
+        how, below = self.delay(span) if late > 1 else ("", [])
+        lines = [f"{self.where(span)}, call {number}: {f'late by {late} ms: {how}' if late > 1 else 'on time'}", *(f"    {it}" for it in below)]
+        node = self.walk.notes.in_node(span.call[1])
+        # (its own callback's name is for who goes on in the shell)
+        lines.append(f"    due at {span.due} ms, called at {span.begin} ms" + ("" if node and node.own else f", in the call of {span.call[1]}"))
         took = span.end - span.begin
         if took >= LEAST:
             lines.append(f"    took {took} ms{self.js.inside(span.begin, span.end, self.js.who(span))}")
@@ -61,9 +67,12 @@ class WhyJavaScript:
     # ---- a name
 
     def answer(self, name: str) -> list[str]:
-        resources = self.js.named(name)
+        return [row for line in self.all_of(name) for row in fitted(line)]
+
+    def all_of(self, name: str) -> list[str]:
+        resources, asked = self.js.named(name), [it for it, place in self.js.asked.items() if place.is_(name)]
         if not resources:
-            return self.found(name)
+            return self.requests(name, asked) if asked else self.found(name)
         groups: dict[tuple[Place, Place, str, int], list[Resource]] = {}
         for it in resources:
             groups.setdefault((it.function, it.at, it.kind, it.delay), []).append(it)
@@ -128,6 +137,22 @@ class WhyJavaScript:
             return [f"{head}: `unref` {at(resource.referenced_at)} has it keep nothing alive, and nothing else did any more: {ends}"]
         return [f"{head}: {ends}"]
 
+    # ---- a line that asked for requests of the pool
+
+    def requests(self, name: str, asked: list[tuple[str, int]]) -> list[str]:
+        """Those that took longest, from when they were asked for to their callbacks."""
+        found = []
+        for request, call in asked:
+            why = Why(self.walk, request)
+            found += [(self.walk.clock(it.ended) - self.walk.clock(it.asked), why, it) for it in why.history.waits
+                      if it.how == "called" and it.what == "work" and it.call == call]
+        found.sort(key=lambda it: -it[0])
+        lines = [f"{name}: {times(len(asked), 'request')} of the pool, asked for {at(self.js.asked[asked[0]])}"]
+        for _, why, wait in found[:PART]:
+            head, *rest = why.one(wait)
+            lines += [f"{why.name}, {head}", *rest]
+        return lines + ([f"the other {times(len(found) - PART, 'request')} took no longer"] if len(found) > PART else [])
+
     # ---- a function that is no timer's
 
     def found(self, name: str) -> list[str]:
@@ -147,7 +172,7 @@ class WhyJavaScript:
         lines = [f"{place.text()}: a function of JavaScript, under way for {whole} ms, in {times(len(rows), 'callback')} of the loop of {LEAST} ms or more"]
         for mine, took in rows[:MANY]:
             begin, end = took.pieces[0][0], took.pieces[-1][1]
-            lines.append(f"step {took.first}: {mine} ms, in {took.what}: {'; '.join(self.js.told(begin, end))}")
+            lines.append(f"step {took.first}: {mine} ms, in {took.node.words if took.node else took.what}: {'; '.join(self.js.told(begin, end))}")
         return lines
 
     def functions(self) -> list[str]:
@@ -162,8 +187,7 @@ class WhyJavaScript:
         for span in sorted(found, key=self.late, reverse=True)[:most]:
             resource = self.js.resources[span.id]
             name = resource.function.function if resource.function.function not in ("-", "(anonymous)") else resource.at.where
-            rows.append((self.late(span), name, f"{resource.function.text()}, {resource.what()} {resource.asked()}, {self.where(span)}:"
-                         f" late by {self.late(span)} ms: {self.delay(span)}"))
+            rows.append((self.late(span), name, f"{resource.function.text()}, {self.where(span)}: late by {self.late(span)} ms: {self.delay(span)[0]}"))
         return rows
 
     def never(self) -> list[str]:

@@ -30,17 +30,19 @@ FOLDER = Path(__file__).resolve().parent / "javascript"
 ALLOWED = 3
 # Of each program whom somebody asks about, whom of the loop he would have to ask about without the hook, and what is to be said.
 QUESTIONS = {
-    "json": ("beat", "environment_runtimers", r"load \(json\.js:5\), a timer of 33 ms started at json\.js:13, took .* at line 6: `const users = JSON\.parse"),
-    "syncfs": ("poll", "environment_runtimers", r"readConfig \(syncfs\.js:4\), a timer of 20 ms started at syncfs\.js:10, took .* in readFileSync"),
-    "crypto": ("heartbeat", "environment_runtimers", r"login \(crypto\.js:10\).* took .* in check \(crypto\.js:6\), in its call of pbkdf2Sync"),
-    "nested": ("answer", "environment_runtimers", r"refresh \(nested\.js:15\), .* took .* in score \(nested\.js:2\), at line 5"),
-    "promise": ("beat", "environment_runtimers", r"migrate \(promise\.js:2\), from a promise, took .* in convert \(promise\.js:10\), at line 12"),
+    "json": ("beat", "environment_runtimers", r"late by \d+ ms: load \(json\.js:5\) took \d+ ms, \d+ ms of it at line 6: `const users = JSON\.parse.*"
+             r"load \(json\.js:5\): a timer of 33 ms, started at json\.js:13"),
+    "syncfs": ("poll", "environment_runtimers", r"readConfig \(syncfs\.js:4\) took \d+ ms, \d+ ms of it in readFileSync.*: a timer of 20 ms, started at syncfs\.js:10"),
+    "crypto": ("heartbeat", "environment_runtimers", r"login \(crypto\.js:10\), from an event, took \d+ ms, \d+ ms of it in check \(crypto\.js:6\), in its call of pbkdf2Sync"),
+    "nested": ("answer", "environment_runtimers", r"refresh \(nested\.js:15\).* took \d+ ms, \d+ ms of it in score \(nested\.js:2\), at line 5"),
+    "promise": ("beat", "environment_runtimers", r"migrate \(promise\.js:2\), from a promise, took \d+ ms, \d+ ms of it in convert \(promise\.js:10\), at line 12"),
     "ticks": ("save", "environment_runtimers", r"drain \(ticks\.js:3\), from process\.nextTick, took"),
-    "server": ("timeout", "environment_runtimers", r"handle \(server\.js:12\).* took .* in render \(server\.js:4\), at line 7"),
-    "immediate": ("save", "environment_runtimers", r"flush \(immediate\.js:3\), an immediate started at immediate\.js:\d+.*, took .* at line 6"),
-    "pool": ("fs_stat", "fs_stat", r"(?:each worker had other work,|the workers had) .*, asked for at pool\.js:6, in hash(?:.*\n)*.*asked for at pool\.js:10, in readSettings"),
+    "server": ("timeout", "environment_runtimers", r"handle \(server\.js:12\), from an event, took \d+ ms, \d+ ms of it in render \(server\.js:4\), at line 7"),
+    "immediate": ("save", "environment_runtimers", r"flush \(immediate\.js:3\) took \d+ ms, \d+ ms of it at line 6.*: an immediate, started at immediate\.js:\d+"),
+    "pool": ("fs_stat", "fs_stat", r"(?:each worker had other work,|the workers had) .*, asked for at pool\.js:6, in hash.*asked for at pool\.js:10, in readSettings"),
     "unref": ("cleanup", "environment_runtimers", r"never called: `unref` at unref\.js:8 "),
-    "drift": ("sample", "environment_runtimers", r"compact \(drift\.js:10\), an interval of 70 ms started at drift\.js:16, took .* at line 12(.*\n)*drift: call 20 came"),
+    "drift": ("sample", "environment_runtimers", r"compact \(drift\.js:10\) took \d+ ms, \d+ ms of it at line 12.*compact \(drift\.js:10\): an interval of 70 ms, started at drift\.js:16"
+              r".*drift: call 20 came"),
 }
 
 
@@ -54,7 +56,13 @@ def made(name: str, data: bytes) -> Path:
 def answer(path: Path, name: str) -> str:
     script, commands = read_input(path)
     with Walk(script, commands) as walk:
-        return "\n".join(why(walk, name) if name in script.names() else WhyJavaScript(walk).answer(name))
+        lines = why(walk, name) if name in script.names() else WhyJavaScript(walk).answer(name)
+        return "\n".join(lines)
+
+
+def unfolded(said: str) -> str:
+    """An answer in a line: where it is folded goes by how long the numbers in it are."""
+    return re.sub(r"\n *", " ", said)
 
 
 def try_one(tries: object, name: str) -> None:
@@ -62,14 +70,15 @@ def try_one(tries: object, name: str) -> None:
     data = (FOLDER / f"{name}.log").read_bytes()
     path = made(name, data)
     said = answer(path, function)
-    tries.check(f"javascript {name}", re.search(wanted, said) is not None, said)
+    tries.check(f"javascript {name}", re.search(wanted, unfolded(said)) is not None, said)
+    tries.check(f"javascript {name}: in 120 columns", max(map(len, said.splitlines())) <= 120 or name == "pool", said)
     steps = path.read_text().split("begin\n")[1]
     # (as a recorder without the hook has it)
     bare = b"".join(it for it in data.splitlines(keepends=True) if not re.match(rb"(-|\d+) J ", it))
     path.unlink()
     path = made(name, bare)
     said = answer(path, handle)
-    tries.check(f"javascript {name}: without the hook nobody knows", re.search(wanted, said) is None and ".js:" not in said, said)
+    tries.check(f"javascript {name}: without the hook nobody knows", re.search(wanted, unfolded(said)) is None and ".js:" not in said, said)
     tries.check(f"javascript {name}: the recording is the same", path.read_text().split("begin\n")[1] == steps, "other steps")
 
 
@@ -97,7 +106,7 @@ def try_notes(tries: object) -> None:
     script, commands = read_input(path)
     with Walk(script, commands) as walk:
         told = "\n".join(Overview(walk).answer("why NAME"))
-        tries.check("javascript: the overview", "the latest timers of JavaScript\n    beat (json.js:10)" in told and "functions of JavaScript: beat, load" in told, told)
+        tries.check("javascript: the overview", "the latest timers of JavaScript\n    beat (json.js:10)" in told and "environment_runtimers" not in told and "functions of JavaScript: beat, load" in told, told)
         page = Page(walk).values()
         tries.check("javascript: lanes", {"beat", "load"} <= {it["name"] for it in page["lanes"]}, page["lanes"])
         tries.check("javascript: a long callback", any(it[2] == "load (json.js:5)" for it in page["long"]), page["long"])
