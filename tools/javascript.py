@@ -171,7 +171,7 @@ class JavaScript:
         for it in self.resources.values():
             found.append(f"js new {it.id} {it.kind} {it.when} {it.delay} {it.function.words()} {it.at.words()}")
             found += [f"js gone {it.id} {it.gone} {it.gone_at.words()}"] if it.gone is not None else []
-            found += [f"js ref {it.id} {int(it.referenced)} {it.referenced_at.words()}"] if it.referenced_at != NOWHERE else []
+            found += [f"js ref {it.id} {int(it.referenced)} {it.referenced_at.words()}"] if it.referenced_at != NOWHERE or not it.referenced else []
         found += [f"js by {name} {call} {place.words()}" for (name, call), place in self.asked.items()]
         for it in self.spans:
             due = f" {it.due}" if it.due is not None else ""

@@ -8,6 +8,7 @@ from __future__ import annotations
 
 import os
 import re
+import subprocess
 import sys
 import tempfile
 from pathlib import Path
@@ -26,6 +27,7 @@ from why import why  # noqa: E402
 from why_javascript import WhyJavaScript  # noqa: E402
 
 FOLDER = Path(__file__).resolve().parent / "javascript"
+SECONDS = 600
 # (the clock of a log has whole milliseconds, and a timer says what its work took, without what comes before and behind it)
 ALLOWED = 3
 # Of each program whom somebody asks about, whom of the loop he would have to ask about without the hook, and what is to be said.
@@ -63,6 +65,57 @@ def answer(path: Path, name: str) -> str:
 def unfolded(said: str) -> str:
     """An answer in a line: where it is folded goes by how long the numbers in it are."""
     return re.sub(r"\n *", " ", said)
+
+
+def called(data: bytes) -> list[tuple[str, str]]:
+    """Which timers and immediates were called, in order, by the log's own lines: where the function of each begins, and where it was started."""
+    places, asked, found = {}, {}, []
+    for line in data.decode().splitlines():
+        words = line.split(" ")
+        if line.startswith("- J place "):
+            places[words[3]] = words[-1].rpartition("/")[2]
+        elif words[1:2] == ["J"] and words[4:5] == ["new"]:
+            asked[words[5]] = tuple(places.get(it, "-") for it in words[7:9])
+        elif words[1:2] == ["J"] and words[4:5] == ["run"]:
+            found.append(asked[words[5]])
+    return found
+
+
+def try_lifted(tries: object, name: str) -> None:
+    """A second recording in which each timer and immediate is a handle: it goes to its end, and calls what the program called."""
+    data = (FOLDER / f"{name}.log").read_bytes()
+    log = read_log(data)
+    lines, whole = from_data(data, log, name, lifts=True)
+    tries.check(f"javascript {name}, lifted: same to its end", whole and any("lifted: " in it for it in lines), lines)
+    path = next(Path().glob(f"{name}*.lift.rec"))
+    recording, notes = path.read_text(), read_notes(path, path.read_bytes())
+    calls = [it.split(" ")[1] for it in recording.partition("\ncalls\n")[2].splitlines() if it.startswith("call ")]
+    counts: dict[str, int] = {}
+    said = []
+    for call in calls:
+        counts[call] = counts.get(call, 0) + 1
+        if "of JavaScript" in notes.names[call][1]:
+            said.append(re.search(r"\((?:.*/)?([^/]*:\d+)\)$", notes.function("on", call, counts[call])))
+    wanted = called(data)
+    functions = [it[1] if it else "-" for it in said]
+    agrees = len(wanted) == len(functions) and all(have in one or have == "-" for have, one in zip(functions, wanted))
+    tries.check(f"javascript {name}, lifted: its calls are the program's", agrees, (functions, wanted))
+    verdict = subprocess.run([os.environ["UVT"], "replay"], input=path.read_bytes(), capture_output=True, timeout=SECONDS).stdout.decode().strip()
+    tries.check(f"javascript {name}, lifted: replay", verdict == "same", verdict)
+    path.unlink()
+
+
+def try_find(tries: object) -> None:
+    """The search is asked by a line of the program. Time goes by once, by 25 ms, or where the loop waits for it: so who waits is late by these."""
+    data = (FOLDER / "json.log").read_bytes()
+    from_data(data, read_log(data), "json", lifts=True)
+    for late, wanted in ((25, r"found in \d+ steps"), (26, r"never within clock 500: \d+ states, every order")):
+        words = ["json.lift.rec", "may tick 25 1", "may wait", "most clock 500", f"find late json.js:12 {late}"]
+        ran = subprocess.run([str(ROOT / "tools" / "uvt-find"), *words], capture_output=True, text=True, timeout=SECONDS)
+        tries.check(f"javascript, find late json.js:12 {late}", re.match(wanted, ran.stdout) is not None, ran)
+        tries.check("javascript, find: whom it is about", "json.js:12 is `beat`: beat (json.js:10), a timer of JavaScript, started at json.js:12\n" in ran.stderr, ran.stderr)
+    ran = subprocess.run([str(ROOT / "tools" / "uvt-find"), "json.lift.rec", "find call json.js:3"], capture_output=True, text=True, timeout=SECONDS)
+    tries.check("javascript, find: a line of nobody's", ran.returncode == 70 and "no timer and no immediate was started at json.js:3" in ran.stderr, ran)
 
 
 def try_one(tries: object, name: str) -> None:
@@ -121,6 +174,9 @@ def try_javascript(tries: object) -> None:
                 # (the lines of the program are read from its files, as they lie where it was started)
                 Path(f"{name}.js").write_bytes((FOLDER / f"{name}.js").read_bytes())
                 try_one(tries, name)
+            for name in [*QUESTIONS, "truth"]:
+                try_lifted(tries, name)
+            try_find(tries)
             try_notes(tries)
             try_truth(tries)
         finally:

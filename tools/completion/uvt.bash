@@ -10,7 +10,7 @@ _uvt() {
         view) words='--trace-event' ;;
         libuv) words='--node' ;;
         find) words='-o' ;;
-        record) words='-o --log --bare' ;;
+        record) words='-o --log --bare --lift' ;;
         force) words='-o --stop --early --random --stall --seed --loop --quiet' ;;
         hunt) words='-o --for --part --join' ;;
         esac

@@ -15,6 +15,8 @@ HOWS = {
 BETWEEN = ("tick", "timer", "immediate")
 COLLECTOR = "(garbage_collector)"
 SHOWN = 70
+# What a line at which a timer is called says of it.
+REPEATS, UNREFERENCED = 1, 2
 # The hook's own file; and its functions that stand between a timer and its callback.
 HOOK = "/record/node/hook.js:"
 PASSED = {"uvt_called", "get", "set", "ref", "unref"}
@@ -102,7 +104,9 @@ class Reader:
                 self.open[id] = call, event.clock, start, delay
                 if resource and start is not None:
                     self.behind = max(self.behind if self.behind is not None else -(1 << 60), resource.when - start)
-                    resource.kind = "interval" if len(words) > 4 else resource.kind
+                    flags = int(words[4]) if len(words) > 4 else 0
+                    resource.kind = "interval" if flags & REPEATS else resource.kind
+                    resource.referenced &= not flags & UNREFERENCED
             case "ran" if it := self.open.pop(id, None):
                 self.rows.append((id, it[0], it[1], event.clock, it[2], it[3]))
             case "gone" if resource:

@@ -49,7 +49,7 @@ WORDS = {
     "V": re.compile(rf"{NUMBER} \d{{1,9}}(?: \d{{1,9}})?"),
     "K": re.compile(rf"all|end|{NUMBER} [a-z_]+ [01] [01] [01] {NUMBER} {NUMBER} {NUMBER}"),
     "J": re.compile(
-        rf"new {NUMBER} (?:timer|interval|immediate|soon|callback) (?:-1|{NUMBER}) (?:-1|{NUMBER}) {NUMBER}|run {NUMBER}(?: {NUMBER} {NUMBER}(?: 1)?)?|ran {NUMBER}"
+        rf"new {NUMBER} (?:timer|interval|immediate|soon|callback) (?:-1|{NUMBER}) (?:-1|{NUMBER}) {NUMBER}|run {NUMBER}(?: {NUMBER} {NUMBER}(?: [123])?)?|ran {NUMBER}"
         rf"|gone {NUMBER} (?:-1|{NUMBER})|ref {NUMBER} [01] (?:-1|{NUMBER})|by {NUMBER} {NUMBER}|busy {NUMBER} {NUMBER} {NUMBER}|thread {NUMBER}"
     ),
     "Q": re.compile(rf"{NUMBER} {NUMBER}"),
@@ -80,6 +80,8 @@ class Address:
     # `-` where nobody knows it; `NAME+OFFSET/SIZE` within a variable, `NAME@FILE:LINE` of a function with debug information
     symbol: str
     file: str
+    # where a name that is made of it comes from, in a sentence, where that isn't a function's symbol
+    origin: str = ""
 
     def name(self) -> str:
         return re.split(r"[+@]", self.symbol)[0]

@@ -19,6 +19,7 @@ from conversation import INSTALLED, OUT, Fault, built_program
 from notes import Notes
 from record_differences import PAGE, heading_of, says
 from record_follow import CALLS, MANY_WORKERS, Follower, NeedsWake, Outcome
+from record_lift import CantLift, lift
 from record_log import Event, Log, read_log
 from record_names import name_addresses, named_log
 from record_polls import Polls, compare
@@ -289,33 +290,56 @@ def all_made(log: Log, part: Part) -> tuple[list[tuple[int, Made]], list[str]]:
     return made, [f"loop {loop} is left out: {fault}" for loop, fault in faults.items()]
 
 
-def from_data(data: bytes, log: Log, name: str, part: Part = Part()) -> tuple[list[str], bool]:
+def put(path: Path, loop: int, made: Made, log: Log) -> None:
+    """Writes the recording of a loop, and its notes."""
+    recording = ("\n".join(made.outcome.recording) + "\n").encode()
+    write(path, recording)
+    notes = notes_of(made, log.note, log.ended)
+    notes.loop = loop
+    write(path.with_suffix(".notes"), notes.text(recording).encode())
+
+
+def lifted(log: Log, loop: int, path: Path, part: Part) -> tuple[list[str], bool]:
+    """A second recording of a loop with JavaScript, in which each of its timers and immediates is a handle of its own."""
+    try:
+        other, handles = lift(log, loop)
+        made = make(other, loop, part)
+    except (CantLift, NoPart) as fault:
+        return [f"loop {loop} can't be lifted: {fault}"], False
+    if not made:
+        return [f"loop {loop} can't be lifted: it has no callback but node's own"], False
+    put(path, loop, made, log)
+    lines = told(made, loop, path, log.note, f"lifted: {handles} handle{'s' * (handles != 1)} for the timers and immediates of JavaScript, and node's own for them left out")
+    return lines, made.is_whole()
+
+
+def from_data(data: bytes, log: Log, name: str, part: Part = Part(), lifts: bool = False) -> tuple[list[str], bool]:
     """Makes the recordings of a log, and writes them. Answers what is to be said, and whether all go all the way."""
     made, lines = all_made(log, part)
     whole = True
     first = loop_of_javascript(made)
     for loop, it in made:
         path = Path(f"{name}.rec" if len(made) == 1 or loop == first else f"{name}.{loop}.rec")
-        recording = ("\n".join(it.outcome.recording) + "\n").encode()
-        write(path, recording)
-        notes = notes_of(it, log.note, log.ended)
-        notes.loop = loop
-        write(path.with_suffix(".notes"), notes.text(recording).encode())
+        put(path, loop, it, log)
         lines += told(it, loop, path, log.note, whose(it.program, first is not None))
         whole &= it.is_whole()
+        if lifts and it.program.javascript:
+            more, well = lifted(log, loop, path.with_suffix(".lift.rec"), part)
+            lines += more
+            whole &= well
     if not made:
         lines.append(f"no loop with callbacks in {log.lines} lines of the log" + (f": {log.note}" if log.note else ""))
         whole = False
     return lines, whole and not log.note
 
 
-def from_log(path: Path, name: str | None, part: Part) -> int:
+def from_log(path: Path, name: str | None, part: Part, lifts: bool = False) -> int:
     """A log that was kept."""
     try:
         data = path.read_bytes()
     except OSError as fault:
         raise Fault(f"{path}: {fault.strerror}") from None
-    lines, whole = from_data(data, read_log(data), name or path.name.removesuffix(".log"), part)
+    lines, whole = from_data(data, read_log(data), name or path.name.removesuffix(".log"), part, lifts)
     print("\n".join(lines), flush=True)
     return 0 if whole else 1
 
@@ -475,7 +499,7 @@ def name_for(words: list[str]) -> str:
     return program
 
 
-def from_program(words: list[str], name: str | None, part: Part, bare: bool = False) -> int:
+def from_program(words: list[str], name: str | None, part: Part, bare: bool = False, lifts: bool = False) -> int:
     """Runs a program, and makes recordings of each of its processes that has a loop."""
     name = name or name_for(words)
     built_program()
@@ -491,7 +515,8 @@ def from_program(words: list[str], name: str | None, part: Part, bare: bool = Fa
         whole = True
         for path in logs:
             process = name if len(logs) == 1 else f"{name}.{path.name.split('.')[1]}"
-            whole &= from_fresh(path, process, len(logs) > 1, part, signal.Signals(-status).name if status < 0 and path in last_of(logs, pid) else "")
+            by = signal.Signals(-status).name if status < 0 and path in last_of(logs, pid) else ""
+            whole &= from_fresh(path, process, len(logs) > 1, part, by, lifts)
         return 0 if whole else 1
     finally:
         shutil.rmtree(folder, ignore_errors=True)
@@ -502,7 +527,7 @@ def last_of(logs: list[Path], process: int) -> list[Path]:
     return [it for it in logs if it.name.split(".")[1].split("-")[0] == str(process)][-1:]
 
 
-def from_fresh(path: Path, name: str, several: bool, part: Part, ended_by: str = "") -> bool:
+def from_fresh(path: Path, name: str, several: bool, part: Part, ended_by: str = "", lifts: bool = False) -> bool:
     """A log that has just been written. It is kept first, and then gets its symbols: so it isn't lost where the disk is full."""
     kept = Path(f"{name}.log")
     try:
@@ -528,6 +553,6 @@ def from_fresh(path: Path, name: str, several: bool, part: Part, ended_by: str =
         print(f"uvt-record: {fault}: the log stays as it is, without its symbols", file=sys.stderr)
     if several:
         print(f"process {log.process}, {log.program}", flush=True)
-    lines, whole = from_data(data, log, name, part)
+    lines, whole = from_data(data, log, name, part, lifts)
     print("\n".join(lines), flush=True)
     return whole

@@ -255,6 +255,8 @@ class Maker:
         if address and (base := base_name(address, size)):
             return base, f"the variable {address.name()}{element(address, size)} of {address.file}", True
         address = self.log.addresses.get(self.first_callback.get(id, -1))
+        if address and address.origin and (base := base_name(address, 0)):
+            return base, address.origin, False
         if address and (base := base_name(address, 0)) and not address.name().endswith(WRAPPER):
             return base, f"in memory of its own: the name is that of its function {self.told(address)}", False
         return kind, "in memory of its own, and its function has no symbol that tells more", False

@@ -20,14 +20,14 @@
   if (!is()) return;
   const { threadId } = require('worker_threads');
   const { apply } = Reflect;
-  const TIMER = 0, IMMEDIATE = 2;
+  const TIMER = 0, IMMEDIATE = 2, REPEATS = 1, UNREFERENCED = 2;
 
   // ---- timers and immediates
   //
   // node keeps the callback of each in a property, which it sets as it makes it, and to null as it is cleared or was called. Here that is a
   // property of the prototype, and so each of them passes by, those of node's own too. What else they have is as it was.
 
-  const number = Symbol('uvt number'), called = Symbol('uvt called'), isUnder = Symbol('uvt under');
+  const number = Symbol('uvt number'), called = Symbol('uvt called'), isUnder = Symbol('uvt under'), keeps = Symbol('uvt keeps');
 
   function watch(prototype, property, kind) {
     Object.defineProperty(prototype, property, {
@@ -39,12 +39,14 @@
       set(callback) {
         const held = this;
         if (typeof callback !== 'function') {
-          if (held[number] && !held[isUnder]) gone(held[number]);
+          // (it may clear itself: that tells something of an interval)
+          if (held[number] && (!held[isUnder] || held._repeat)) gone(held[number]);
           held[called] = callback;
           return;
         }
         held[called] = function uvt_called(...words) {
-          begin(held[number], kind === TIMER ? held._idleStart ?? -1 : -1, held._idleTimeout ?? 0, held._repeat ? 1 : 0);
+          const flags = (held._repeat ? REPEATS : 0) + (kind === TIMER && !held.hasRef() ? UNREFERENCED : 0);
+          begin(held[number], kind === TIMER ? held._idleStart ?? -1 : -1, held._idleTimeout ?? 0, flags);
           held[isUnder] = true;
           try {
             return apply(callback, this, words);
@@ -67,15 +69,20 @@
   clearImmediate(immediate);
   watch(timers, '_onTimeout', TIMER);
   watch(immediates, '_onImmediate', IMMEDIATE);
-  for (const [word, is] of [['ref', 1], ['unref', 0]]) {
-    const real = timers[word];
-    Object.defineProperty(timers, word, {
+  // (whether it keeps node alive is a property of node's own, by a symbol)
+  const refed = Object.getOwnPropertySymbols(timer).find((it) => it.description === 'refed');
+  if (refed) {
+    Object.defineProperty(timers, refed, {
       configurable: true,
-      writable: true,
-      value: { [word]() {
-        if (this[number]) referenced(this[number], is);
-        return apply(real, this, []);
-      } }[word],
+      enumerable: true,
+      get() {
+        return this[keeps];
+      },
+      set(keepsNode) {
+        // (null: it is over)
+        if (typeof keepsNode === 'boolean' && this[number] && keepsNode !== (this[keeps] ?? true)) referenced(this[number], keepsNode ? 1 : 0);
+        this[keeps] = keepsNode;
+      },
     });
   }
 

@@ -62,12 +62,14 @@ CALLED(born, 3) {
     return ids;
 }
 
-/* begin(ID, START, DELAY, REPEATS): it begins; of a timer, that was started at this time of node's, START, and else -1. end(ID): it ends. */
+/* begin(ID, START, DELAY, FLAGS): it begins; of a timer, that was started at this time of node's, START, and else -1. FLAGS: 1, it repeats,
+ * 2, it keeps nothing alive. end(ID): it ends. */
 CALLED(begin, 4) {
     int64_t start = number(env, words[1]), delay = number(env, words[2]);
     uint64_t id = (uint64_t)number(env, words[0]);
-    const char *repeats = number(env, words[3]) > 0 ? " 1" : "";
-    if (loop && start >= 0) write_line(loop, 'J', "run %u %u %u%s", id, (uint64_t)start, (uint64_t)(delay < 0 ? 0 : delay), repeats);
+    static const char *const FLAGS[] = {"", " 1", " 2", " 3"};
+    const char *flags = FLAGS[number(env, words[3]) & 3];
+    if (loop && start >= 0) write_line(loop, 'J', "run %u %u %u%s", id, (uint64_t)start, (uint64_t)(delay < 0 ? 0 : delay), flags);
     else if (loop) write_line(loop, 'J', "run %u", id);
     return 0;
 }
