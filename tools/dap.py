@@ -13,10 +13,12 @@ from typing import Callable
 from came import what_came
 from conversation import Conversation, Fault, Script, State, read_input
 from dap_breaks import More, Unknown, more_of
+from dap_javascript import InJavaScript
 from places import Place, next_line, read_place
 from said import CODES, SECTIONS
 from walk import OUTSIDE, Walk, longest_way
 from why import why
+from why_javascript import WhyJavaScript
 
 OPS = re.compile(r"main |(on|after|closed) \S+ ")
 THREAD = 1
@@ -109,6 +111,7 @@ class Adapter:
         # what the client counts lines and columns from
         self.base = [1, 1]
         self.lines: dict[int, More] = {}
+        self.javascript: InJavaScript | None = None
         self.calls: dict[str, More] = {}
         self.filters: set[str] = set()
         # how far the steps that stand, and those that were taken back, reach
@@ -190,6 +193,7 @@ class Adapter:
             self.talk = None
         self.launched = self.steps = longest_way(self.script, commands)
         self.top = 0
+        self.javascript = InJavaScript(self.script.notes.javascript, path) if self.script.notes.javascript else None
         self.talk = Conversation(self.script)
         self.later.append(lambda: self.event("initialized"))
 
@@ -215,6 +219,8 @@ class Adapter:
         mine = isinstance(source, dict) and isinstance(source.get("path"), str) and os.path.abspath(source["path"]) == self.path
         if mine:
             self.lines = {}
+        elif self.javascript and isinstance(source, dict) and isinstance(source.get("path"), str):
+            return {"breakpoints": self.javascript.set_breaks(source["path"], list(asked), self.base[0], self.refusal)}
         for line, more in asked:
             first = self.first_line()
             at = line - first if isinstance(line, int) else -1
@@ -289,6 +295,8 @@ class Adapter:
                 return reason
         if self.lines and (more := self.lines.get(next_line(self.script, self.place()))) and self.is_hit(more):
             return "breakpoint"
+        if self.javascript and self.steps is self.launched and (more := self.javascript.matched(lines, self.talk.state)) and self.is_hit(more):
+            return "breakpoint"
         return None
 
     def is_hit(self, more: More) -> bool:
@@ -357,7 +365,7 @@ class Adapter:
         here = self.talk.length
         found = self.rback()
         target = self.talk.length if found else 0
-        if self.lines and (reason := self.line_before(here, target)):
+        if (self.lines or self.javascript and self.javascript.breaks) and (reason := self.line_before(here, target)):
             return self.stopped(reason)
         self.goto(target)
         self.stopped(self.break_of(self.talk.trace()[-1]) if found else "entry")
@@ -376,6 +384,9 @@ class Adapter:
         for length in range(here - 1, target - 1, -1):
             state = self.talk.state_at(length)
             more = self.lines.get(next_line(self.script, read_place(state.place)))
+            if not more and self.javascript and self.steps is self.launched and length:
+                more = self.javascript.begun(self.talk.state_at(length - 1), state)
+                self.talk.state_at(length)
             if more and More(more.condition).holds(state):
                 return "breakpoint"
             if (here - length) % STRIDE == 0 and self.is_asked_to_stop():
@@ -422,6 +433,9 @@ class Adapter:
         shown = [{"id": number, "name": name, "line": 0, "column": 0} for number, name in enumerate(names, 1)]
         if at is not None:
             shown[0].update(source=source, line=at + self.first_line(), column=self.base[1])
+        if self.javascript and self.steps is self.launched and self.talk.length:
+            of_javascript = self.javascript.frames(place, self.talk.trace()[-1], self.talk.state().counts, self.base)
+            shown = [{**it, "id": number} for number, it in enumerate([*of_javascript, *shown], 1)]
         first = arguments.get("startFrame") or 0
         levels = arguments.get("levels") or len(shown)
         if not isinstance(first, int) or not isinstance(levels, int):
@@ -479,6 +493,9 @@ class Adapter:
 
     def why(self, name: str) -> list[str]:
         """Of the steps that stand. (A program of its own goes through them, so that this one stays where it is.)"""
+        if self.javascript and name not in self.script.names():
+            with Walk(self.script, self.launched) as walk:
+                return WhyJavaScript(walk).answer(name)
         if name not in self.script.names():
             raise Refused(f"the script has no name `{name}`")
         with Walk(self.script, self.talk.recording().steps) as walk:

@@ -129,6 +129,15 @@ class Under:
     line: str
     top: str
 
+    def words(self) -> str:
+        """As it stands in a line of the notes."""
+        return f"{self.how} {self.outer.words()} {self.inner.words()} {self.line} {self.top}"
+
+
+def read_under(words: list[str]) -> Under:
+    how, outer, where, inner, place, line, top = words
+    return Under(how, Place(outer, where), Place(inner, place), line, top)
+
 
 @dataclass
 class Look:
@@ -155,6 +164,10 @@ class JavaScript:
     looks: list[Look] = field(default_factory=list)
     # of a request of the pool, by its name and which after callback of it: which line asked for it
     asked: dict[tuple[str, int], Place] = field(default_factory=dict)
+    # of a callback of the loop what was under way most in it, and for how many ms
+    most: dict[tuple[str, str, int], tuple[int, Under]] = field(default_factory=dict)
+    # where the program was started: its files are said from there
+    home: str = ""
     # the text of a line of the program
     source: dict[str, str] = field(default_factory=dict)
     # by call of the loop
@@ -167,6 +180,7 @@ class JavaScript:
 
     def lines(self) -> list[str]:
         found = [f"js thread {self.thread}"] if self.thread is not None else []
+        found += [f"js home {self.home}"] if self.home else []
         found += [f"js line {where} {text}" for where, text in self.source.items()]
         for it in self.resources.values():
             found.append(f"js new {it.id} {it.kind} {it.when} {it.delay} {it.function.words()} {it.at.words()}")
@@ -176,9 +190,8 @@ class JavaScript:
         for it in self.spans:
             due = f" {it.due}" if it.due is not None else ""
             found.append(f"js ran {it.id} {' '.join(map(str, it.call))} {it.begin} {it.end}{due}")
-        for it in self.looks:
-            u = it.under
-            found.append(f"js look {it.begin} {it.end} {u.how} {u.outer.words()} {u.inner.words()} {u.line} {u.top}")
+        found += [f"js look {it.begin} {it.end} {it.under.words()}" for it in self.looks]
+        found += [f"js most {' '.join(map(str, call))} {took} {under.words()}" for call, (took, under) in self.most.items()]
         return found
 
     def take(self, words: list[str]) -> None:
@@ -192,8 +205,12 @@ class JavaScript:
                 self.resources[int(id)] = Resource(int(id), kind, Place(function, where), Place(inside, at), int(when), int(delay))
             case ["ran", id, list, name, call, begin, end, *due] if int(id) in self.resources:
                 self.add(Span(int(id), (list, name, int(call)), int(begin), int(end), int(due[0]) if due else None))
-            case ["look", begin, end, how, outer, where, inner, place, line, top]:
-                self.looks.append(Look(int(begin), int(end), Under(how, Place(outer, where), Place(inner, place), line, top)))
+            case ["home", *folder]:
+                self.home = " ".join(folder)
+            case ["look", begin, end, *under]:
+                self.looks.append(Look(int(begin), int(end), read_under(under)))
+            case ["most", list, name, call, took, *under]:
+                self.most[list, name, int(call)] = int(took), read_under(under)
             case ["gone", id, when, function, where]:
                 self.resources[int(id)].gone, self.resources[int(id)].gone_at = int(when), Place(function, where)
             case ["ref", id, ref, function, where]:
@@ -310,16 +327,38 @@ class JavaScript:
     def line_of(place: Place, line: str) -> str:
         return f"{place.where.rpartition(':')[0]}:{line}"
 
-    def called(self, line: str, counts: dict[str, list[int]]) -> list[str]:
-        """What JavaScript ran in the callback that the line of a step begins, in a sentence each. `counts`: how often each name was called."""
+    def note_most(self, call: tuple[str, str, int], begin: int, end: int) -> None:
+        """What was under way most in this callback of the loop, where that took long enough to tell."""
+        by: dict[Under, int] = {}
+        for under, took in self.under(begin, end) if end - begin >= LEAST else ():
+            by[under] = by.get(under, 0) + took
+        most = max(by, key=by.get, default=None)
+        if most and by[most] >= 1000 * LEAST:
+            self.most[call] = round(by[most] / 1000), most
+
+    @staticmethod
+    def call_of(line: str, counts: dict[str, list[int]]) -> tuple[str, str, int] | None:
+        """The callback that the line of a step begins: its list, its name and which call it is, where `counts` has how often each was called."""
         words = line.split(" ")
-        if not self or words[0] not in LISTS or words[1] not in counts:
-            return []
+        if words[0] not in LISTS or words[1] not in counts:
+            return None
         kind, which = LISTS[words[0]]
-        found = []
-        for span in self.by_call.get((kind, words[1], counts[words[1]][which]), [])[:PARTS]:
+        return kind, words[1], counts[words[1]][which]
+
+    def called(self, line: str, counts: dict[str, list[int]]) -> list[str]:
+        """What JavaScript ran in the callback that the line of a step begins, in a sentence each."""
+        call, found = self.call_of(line, counts) if self else None, []
+        if not call:
+            return []
+        for span in self.by_call.get(call, [])[:PARTS]:
             resource, took = self.resources[span.id], span.end - span.begin
-            found.append(f"{self.who(span).text()}, {resource.what()} {resource.asked()}" + (f", took {took} ms" if took else ""))
+            found.append(f"{self.who(span).text()}, {resource.what()}, {resource.asked()}" + (f", took {took} ms" if took else ""))
+        if call in self.most:
+            took, under = self.most[call]
+            text = self.source.get(self.line_of(under.inner, under.line), "")
+            line = f", at line {under.line}" + (f": `{text}`" if text else "") if under.line != "0" else ""
+            top = f", in its call of {under.top}" if under.top != "-" else ""
+            found.append(f"{took} ms in {under.inner.text()}{top}{line}" + (f", called by {under.outer.text()}" if under.outer != under.inner else ""))
         return found
 
     # ---- names that a person may ask for

@@ -6,12 +6,15 @@ import difflib
 from typing import Callable
 
 from came import what_came
-from conversation import BAD, Conversation, State
+from conversation import BAD, Conversation, Fault, State
+from frames import Frames
+from javascript import PLACE, fitted
 from places import Place, next_line, read_place
 from said import CODES, SECTIONS
 from shell_breaks import Break, Breaks
 from walk import OUTSIDE, Walk
 from why import why
+from why_javascript import WhyJavaScript
 
 OWN = ["loop", "take", "finish", "cancel", "send", "io", "tick", "back", "forward", "break", "rback", "trace", "state", "image", "record"]
 INFO = ["timers", "handles", "requests", "loop", "breaks"]
@@ -44,7 +47,8 @@ class Shell:
         self.steps = self.recorded
         self.write = write
         self.colour = colour
-        self.breaks = Breaks(talk)
+        javascript = talk.script.notes.javascript
+        self.breaks = Breaks(talk, Frames(javascript, "") if javascript else None)
         self.checkpoints: list[int] = []
         self.last = ""
         self.commands: dict[str, Callable[[list[str]], None]] = {
@@ -199,7 +203,8 @@ class Shell:
         if step.startswith("io ") and self.steps is self.recorded and (told := what_came(self.talk.script.notes, step, self.talk.state())):
             self.write(f"    {told}")
         if len(lines) == 1 and self.steps is self.recorded and (javascript := self.talk.script.notes.javascript):
-            self.show([f"    {it}" for it in javascript.called(lines[0], self.talk.state().counts if lines[0].startswith(CALLED) else {})])
+            told = javascript.called(lines[0], self.talk.state().counts if lines[0].startswith(CALLED) else {})
+            self.show([row for it in told for row in fitted(f"    {it}")])
         return lines
 
     def is_over(self, lines: list[str]) -> bool:
@@ -370,6 +375,8 @@ class Shell:
         if word is None:
             return None
         script = self.talk.script
+        if PLACE.fullmatch(word) and self.breaks.frames:
+            return self.in_javascript(word)
         if word.isdecimal():
             if script.first <= int(word) < script.first + len(script.lines):
                 return "line", word
@@ -382,8 +389,19 @@ class Shell:
             return None
         return kind, word
 
+    def in_javascript(self, word: str) -> tuple[str, str] | None:
+        """A line of the program's own: the callbacks of the loop in which it was seen."""
+        file, _, line = word.rpartition(":")
+        found = self.breaks.frames.nearest(file, int(line))
+        if found is None:
+            self.write(f"no function of {file} was seen under way in a callback")
+            return None
+        if found != int(line):
+            self.write(f"nothing was seen at line {line}: the break is at line {found}")
+        return "javascript", f"{file}:{found}"
+
     def do_break(self, words: list[str]) -> None:
-        """break NAME, CODE, SECTION or LINE: stops at its callbacks, its answers, where it begins, where it comes next"""
+        """break NAME, CODE, SECTION, LINE or FILE:LINE of JavaScript: stops at its callbacks, its answers, where it begins, where it comes next"""
         if found := self.what_to_break(words):
             self.show(self.breaks.add(*found))
 
@@ -412,6 +430,8 @@ class Shell:
         place = self.place()
         self.write(f"at {self.talk.length}, {place.words()}")
         at = next_line(self.talk.script, place)
+        if self.breaks.frames and place.callback and self.steps is self.recorded:
+            self.show([f"    in {it.text()}" for it in self.breaks.frames.by_call.get(place.callback[:3], [])])
         if at is not None:
             self.write(f"{at + self.talk.script.first:>5} > {self.talk.script.lines[at]}")
 
@@ -446,13 +466,23 @@ class Shell:
         return f"; called {', '.join(told)}" if told else "; never called"
 
     def do_why(self, words: list[str]) -> None:
-        """why NAME: for each of its callbacks up to here, what made it late, or why it never came"""
+        """why NAME: for each of its callbacks up to here, what made it late, or why it never came; in node a function or FILE:LINE, too"""
+        if self.breaks.frames and len(words) == 1 and words[0] and words[0] not in self.names():
+            return self.why_javascript(words[0])
         name = self.one_name(words)
         if name is None:
             return
         # (a program of its own goes through the steps, so that this one stays where it is)
         with Walk(self.talk.script, self.talk.recording().steps) as walk:
-            self.show(why(walk, name))
+            self.show([row for line in why(walk, name) for row in (fitted(line) if self.breaks.frames else [line])])
+
+    def why_javascript(self, name: str) -> None:
+        """Of a function of JavaScript, or a line of it, in all that was recorded."""
+        with Walk(self.talk.script, self.recorded) as walk:
+            try:
+                self.show(WhyJavaScript(walk).answer(name))
+            except Fault as fault:
+                self.write(str(fault))
 
     def do_info(self, words: list[str]) -> None:
         """info timers, handles, requests, loop, breaks: what there is of these"""

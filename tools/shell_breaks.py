@@ -6,6 +6,7 @@ from __future__ import annotations
 from dataclasses import dataclass
 
 from conversation import Conversation, State
+from frames import Frames, begun
 from places import next_line, read_place
 
 KEPT = ("call", "code", "section")
@@ -14,7 +15,7 @@ KEPT = ("call", "code", "section")
 @dataclass
 class Break:
     number: int
-    # one of KEPT, `line` or `watch`
+    # one of KEPT, `line`, `watch` or `javascript`: a line of the program's own
     kind: str
     what: str
     # it goes as it stops
@@ -34,8 +35,9 @@ def value_of(state: State, name: str) -> str:
 
 
 class Breaks:
-    def __init__(self, talk: Conversation) -> None:
+    def __init__(self, talk: Conversation, frames: Frames | None = None) -> None:
         self.talk = talk
+        self.frames = frames
         self.rows: list[Break] = []
         self.made = 0
 
@@ -81,6 +83,12 @@ class Breaks:
         for it in self.rows:
             if it.kind == "line" and at is not None and at + self.talk.script.first == int(it.what):
                 return it, f"line {it.what} comes next"
+            if it.kind == "javascript" and self.frames:
+                file, _, line = it.what.rpartition(":")
+                calls = self.frames.calls_at(file, int(line))
+                # (on the way back it comes next)
+                if call := begun(before, state, calls) or begun(state, before, calls):
+                    return it, "\n".join(f"    {frame.text()}" for frame in self.frames.by_call[call])
             if it.kind == "watch" and (was := value_of(before, it.what)) != (now := value_of(state, it.what)):
                 return it, f"{it.what} was {was}\n{it.what} is  {now}"
         return None

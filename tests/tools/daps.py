@@ -17,6 +17,7 @@ CONVERSATIONS = ROOT / "tests" / "program" / "conversations"
 # An async handle that a callback of I/O sends to, in a poll that nobody woke.
 BEFORE_SENDS = "what-a-callback-of-i-o-sends-to-in-a-poll-that-nobody-woke-is-called-an-iteration-later"
 ADAPTER = str(ROOT / "tools" / "uvt-dap")
+RECORD = str(ROOT / "tools" / "uvt-record")
 SECONDS = 60
 
 # The shapes of the protocol (its JSON schema), of what the adapter sends: a field's type, `?` where it may be missing; a list has
@@ -435,6 +436,37 @@ def try_pause(check) -> None:
         check("adapter, a wrong message in a long loop", status == 1 and told == "uvt-dap: what came is no message: its body is no JSON\n", told)
 
 
+def try_javascript(check) -> None:
+    """Of a program in node its own source: a breakpoint in it, and frames with its lines. What took the time in json.js is its line 6, in `load`,
+    at line 5; it is the third call of node's timers, as the log's lines `run` have it."""
+    with tempfile.TemporaryDirectory() as folder:
+        for name in ("json.js", "json.log"):
+            (Path(folder) / name).write_bytes((Path(__file__).resolve().parent / "javascript" / name).read_bytes())
+        subprocess.run([RECORD, "--log", "json.log"], cwd=folder, capture_output=True, check=True, env=os.environ)
+        source = {"path": str(Path(folder) / "json.js")}
+        client = Client(check)
+        client.begin(Path(folder) / "json.rec")
+        wanted = [{"verified": True, "line": 6}, {"verified": True, "line": 6}]
+        shown = client.ask("setBreakpoints", source=source, breakpoints=[{"line": 6}, {"line": 7}])["breakpoints"]
+        check("adapter, breakpoints in JavaScript", shown == wanted, shown)
+        shown = client.ask("setBreakpoints", source={"path": "/tmp/other.js"}, breakpoints=[{"line": 6}])["breakpoints"]
+        check("adapter, no breakpoint in another file", [it["verified"] for it in shown] == [False], shown)
+        client.ask("configurationDone")
+        client.until("stopped")
+        check("adapter, on to a line of JavaScript", client.go("continue") == "breakpoint")
+        frames = client.ask("stackTrace", threadId=1)["stackFrames"]
+        check("adapter, the program's source", (frames[0]["name"], frames[0]["line"], frames[0].get("source", {}).get("path")) == ("load", 6, source["path"]), frames)
+        check("adapter, below it the loop's callback", frames[2]["name"] == "call 3 of `on environment_runtimers`", frames)
+        told = client.ask("evaluate", expression="why beat")["result"]
+        check("adapter, why a timer of JavaScript was late", "load (json.js:5) took" in told and "at line 6" in told, told)
+        client.go("stepOut")
+        check("adapter, behind it", client.stack()[0][0] != "load", client.stack())
+        check("adapter, back to it", client.go("reverseContinue") == "breakpoint" and client.stack()[0] == ("load", 6), client.stack())
+        client.ask("setBreakpoints", source=source, breakpoints=[{"line": 10}])
+        check("adapter, back to another", client.go("reverseContinue") == "breakpoint" and client.stack()[0] == ("beat", 10), client.stack())
+        check("adapter, the end of JavaScript", client.end() == (0, ""))
+
+
 def try_adapter(tries) -> None:
-    for part in (try_breakpoints, try_conditions, try_io, try_stacks, try_faults, try_odd, try_gone, try_long, try_pause):
+    for part in (try_breakpoints, try_conditions, try_io, try_stacks, try_faults, try_odd, try_gone, try_long, try_pause, try_javascript):
         part(tries.check)

@@ -165,6 +165,24 @@ def try_notes(tries: object) -> None:
         tries.check("javascript: a long callback", any(it[2] == "load (json.js:5)" for it in page["long"]), page["long"])
 
 
+def try_shell(tries: object) -> None:
+    """A step shows where JavaScript is, and a break stops there: load, at line 5, is the third call of node's timers, and took its time at line 6."""
+    made("json", (FOLDER / "json.log").read_bytes())
+    for lines, wanted in (
+        (["run", "break json.js:6", "continue"], ["    2232 ms in load (json.js:5), at line 6: `const users = JSON.parse(text);`",
+                                                  "break javascript json.js:6, #1, at 124", "    load (json.js:6)"]),
+        (["run", "tbreak json.js:7", "continue", "info breaks"], ["nothing was seen at line 7: the break is at line 6", "no breaks"]),
+        (["break json.js:5", "reverse-continue"], ["break ok", "break javascript json.js:5, #1, at 123"]),
+        (["break other.js:6"], ["no function of other.js was seen under way in a callback"]),
+        (["goto 125", "where"], ["    in load (json.js:6)"]),
+        (["why load"], ["load (json.js:5): a timer of 33 ms, started at json.js:13, 1 call"]),
+        (["why laod"], ["no name `laod`, and no function or line of JavaScript that was seen: did you mean `load`?"]),
+    ):
+        ran = subprocess.run([str(ROOT / "tools" / "uvt-shell"), "json.rec"], input="\n".join(lines) + "\n", capture_output=True, text=True, timeout=SECONDS)
+        out = ran.stdout.splitlines()
+        tries.check(f"javascript, shell, {lines}", all(it in out for it in wanted) and "Traceback" not in ran.stderr, ran)
+
+
 def try_javascript(tries: object) -> None:
     before = os.getcwd()
     with tempfile.TemporaryDirectory() as folder:
@@ -177,6 +195,7 @@ def try_javascript(tries: object) -> None:
             for name in [*QUESTIONS, "truth"]:
                 try_lifted(tries, name)
             try_find(tries)
+            try_shell(tries)
             try_notes(tries)
             try_truth(tries)
         finally:

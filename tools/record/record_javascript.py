@@ -152,6 +152,7 @@ class Reader:
             else:
                 last = None
         self.read_sources()
+        self.found.home = self.log.home if self.found else ""
         return self.found
 
     def read_sources(self) -> None:

@@ -617,6 +617,9 @@ def make_program(log: Log, events: list[Event]) -> Program:
             break
     maker.name_last()
     maker.program.javascript = maker.javascript.done()
+    for it in maker.items if maker.program.javascript else ():
+        if isinstance(it, Done) and NO_CLOCK not in (it.clock, it.call.clock):
+            maker.program.javascript.note_most((it.call.callback, it.call.name, it.call.number), it.call.clock, it.clock)
     return maker.program
 
 
