@@ -1,11 +1,11 @@
-"""The commands of README.md, docs/TOOLS.md, docs/RECORD.md and docs/FIND.md, each as it stands, in order, in a fresh clone with a home of its own.
+"""The commands of README.md, docs/TOOLS.md, docs/RECORD.md, docs/FIND.md and docs/HUNT.md, each as it stands, in order, in a fresh clone with a home of its own.
 
 A block of text on a page is a block of commands if its first line begins with one of the words of COMMANDS. Each line has to end with
 status 0 (or the one of STATUS) and with nothing on the errors, and the block behind it is what its lines print: all of it, or with
 lines `..` parts of it. What is not run as it stands:
 
   apt-get     isn't run: where no compiler with libuv's header is there, the commands behind it that need one are left out, and that is said
-  real runs   of ./late and what stands on its recording: the figures differ from run to run, so numbers count as equal. Where the page goes
+  real runs   of ./late and ./upload, and what stands on their recordings: the figures differ from run to run, so numbers count as equal. Where the page goes
               on in another way by its own figures (a `tick`), the recording is that of its own run, whose log is kept (tests/tools/logs)
   packages    `tools/package` and what is done with its files, where the program isn't a proved one: it refuses to pack that
 
@@ -20,15 +20,18 @@ import tempfile
 from pathlib import Path
 from typing import Callable, NamedTuple, Optional
 
-PAGES = ("README.md", "docs/TOOLS.md", "docs/RECORD.md", "docs/FIND.md")
+PAGES = ("README.md", "docs/TOOLS.md", "docs/RECORD.md", "docs/FIND.md", "docs/HUNT.md")
 COMMANDS = ('./uvt ', 'uvt ', 'tools/', 'tests/', 'make ', 'cc ', 'cp ', 'ln ', 'mkdir ', 'cd ', 'tar ', 'printf ', 'grep ', 'sed ', 'cat ',
-            'apt-get ', 'git ', 'rt ')
+            'apt-get ', 'git ', 'rt ', 'parallel ', './upload')
 # What doesn't end with status 0: on the real libuv the example goes another way, and the page shows which.
 # And a search that answers `never` ends with status 1.
 ENDS = {
     'libuv examples/cancel-in-time.uvt': 3,
     "find examples/late-timer.uvt 'may tick 40 1' 'may wait' 'find late beat 41'": 1,
     'find examples/debounce.find': 1,
+    # (what is hunted ends badly)
+    'hunt ./upload': 3,
+    'force upload.hunt.uvt ./upload 2>&1': 3,
 }
 STATUS = {'%s %s' % (uvt, words): status for words, status in ENDS.items() for uvt in ('./uvt', 'uvt')}
 # What says something on the errors, and is well.
@@ -128,8 +131,11 @@ class Walker:
     def why_left_out(self, command: str) -> str:
         if command.startswith('apt-get '):
             return 'it changes the machine'
-        if not self.libuv and re.search(r'^cc |record |late\.rec|uvt libuv ', command):
+        if not self.libuv and re.search(r'^cc |record |late\.rec|uvt libuv |upload', command):
             return 'there is no C compiler `cc` with libuv\'s header'
+        for word, package in (('gdb', 'gdb'), ('parallel', 'parallel')):
+            if re.search(r'(^| )%s ' % word, command) and not shutil.which(word):
+                return 'there is no %s (Debian: %s)' % (word, package)
         if not self.proved and re.match(r'tools/package |tar ', command):
             return 'the program is none that was proved'
         return ''
@@ -148,7 +154,7 @@ class Walker:
             self.count += 1
             what = '%s:%d: %s' % (block.page, block.line, command)
             self.check(what, ended.returncode == STATUS.get(command, 0), 'got %r' % ((ended.returncode, ended.stdout, ended.stderr),))
-            errors = NOTICE.sub('', ended.stderr) if 'uvt find ' in command and not self.has_search else ended.stderr
+            errors = NOTICE.sub('', ended.stderr) if re.search('uvt (find|hunt) ', command) and not self.has_search else ended.stderr
             self.check(what + ', its errors', errors == SAYS.get(command, ''), 'got %r' % errors)
             output += ended.stdout
             if command.endswith('uvt record ./late'):
@@ -179,7 +185,7 @@ class Walker:
         output = self.type(block)
         if block.shown is None or len(self.left_out) > before:
             return
-        real = any('./late' in it or 'late.rec' in it for it in block.commands)
+        real = any(it in command for it in ('./late', 'late.rec', './upload', 'upload.hunt') for command in block.commands)
         holds = is_like(block.shown, output) if real else is_shown(block.shown, output)
         for _ in range(2):
             # (on a machine that does much else a run may go another way: it is recorded once more)

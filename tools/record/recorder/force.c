@@ -90,6 +90,19 @@ static void do_take(const struct item *item) {
     write_taken(item->name >= 0 ? names[item->name].id : -1);
 }
 
+/* (with the gate's mutex) The work that is held may be what this one waits for: then all that was taken begins. */
+static bool is_through(const struct worker *worker) {
+    int whole = patience;
+    patience = SOON;
+    bool is = WAIT(worker->place == AT_TAKE);
+    patience = whole;
+    if (is) return true;
+    for (int at = 0; at < pool_count; at++)
+        if (pool[at].place == TAKEN) pool[at].may_run = true;
+    pthread_cond_broadcast(&changed);
+    return WAIT(worker->place == AT_TAKE);
+}
+
 static void do_finish(const struct item *item) {
     pthread_mutex_lock(&gate);
     struct worker *worker = worker_of(item->number);
@@ -99,7 +112,7 @@ static void do_finish(const struct item *item) {
         worker->may_run = worker->may_finish = true;
         waits_for = worker;
         pthread_cond_broadcast(&changed);
-        if (!WAIT(worker->place == AT_TAKE)) depart("the work of %s doesn't come to its end: it waits for something", name_of(item->name));
+        if (!is_through(worker)) depart("the work of %s doesn't come to its end: it waits for something", name_of(item->name));
         waits_for = NULL;
     }
     pthread_mutex_unlock(&gate);
@@ -111,7 +124,7 @@ static void do_send(const struct item *item) {
     for (int tries = 0; !sender && state == FORCING; tries++) {
         int whole = patience;
         struct worker *holder = worker_at(TAKEN);
-        if (holder && !holder->may_run) patience = 20; /* the work of a request may send: first those that send anyway */
+        if (holder && !holder->may_run) patience = SOON; /* the work of a request may send: first those that send anyway */
         WAIT((sender = sender_of(item->name)) != NULL);
         patience = whole;
         if (sender || !holder || holder->may_run) break;

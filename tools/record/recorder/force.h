@@ -76,7 +76,8 @@ void set_free(const char *why);
 
 /* ---- gates (force_gates.c) */
 
-enum { PATIENCE = 300, AT_MOST = 1000, BLOCKED = 300 };
+/* In naps: how long a gate is closed; however busy the machine is; where the leader waits; and where something else can be tried first. */
+enum { PATIENCE = 300, AT_MOST = 1000, BLOCKED = 300, SOON = 20 };
 extern pthread_mutex_t gate;
 extern pthread_cond_t changed;
 extern long progress; /* grows with each step: a gate that waits long without it opens */
