@@ -14,12 +14,12 @@ import signal
 import struct
 import subprocess
 import time
-from collections.abc import Iterator
+from collections.abc import Callable, Iterator
 from dataclasses import dataclass, field
 from pathlib import Path
 
 from conversation import Conversation, Fault, Script
-from record_run import Part, from_fresh, recorder, room_for, sanitizers, why_not, with_hooks
+from record_run import Part, from_fresh, from_log, recorder, room_for, sanitizers, why_not, with_hooks
 
 SECTIONS = {"pending", "idle", "prepare", "done", "async", "check", "closing", "timers"}
 ASKS = {"now", "alive", "timeout", "due", "hasref", "active", "closing"}
@@ -28,8 +28,9 @@ CALLS = {"call": "on", "after": "after", "closed": "closed"}
 REPORT = re.compile(r"(?:ERROR|WARNING): (\w+Sanitizer: [\w-]+)")
 # So many departures are listed.
 SHOWN = 8
-# How long a run may take, in seconds: so often the time of the first run, and as long at the least.
-TIMES, LEAST = 10, 30
+# How long a run may take, in seconds: so often the time of the first run, and as long at the least. Where that didn't end by itself: so long, and
+# so long behind the session's last step.
+TIMES, LEAST, ENDLESS, GRACE = 10, 30, 10, 2
 
 
 # ---- the session, line by line
@@ -157,6 +158,8 @@ class Order:
     # (made of the session)
     rows: list[str] = field(default_factory=list)
     lines: list[str] = field(default_factory=list)
+    # the program doesn't end by itself: it is ended behind the last step, or, at random, where the clock has gone so far, in ms
+    endless: int = 0
 
     def __post_init__(self) -> None:
         if self.script:
@@ -212,7 +215,7 @@ def environment_of(words: list[str], folder: Path, order: Order) -> dict[str, st
         "ASAN_OPTIONS": ":".join(filter(None, ["detect_leaks=0", os.environ.get("ASAN_OPTIONS", "")])),
     }
     if order.seed is not None:
-        return given | {"UVT_FORCE_RANDOM": str(order.seed), "UVT_FORCE_STALL": str(order.stall)}
+        return given | {"UVT_FORCE_RANDOM": str(order.seed), "UVT_FORCE_STALL": str(order.stall), "UVT_FORCE_UNTIL": str(order.endless)}
     if not order.script:
         return given
     (folder / "schedule").write_text("\n".join(order.rows) + "\n")
@@ -229,13 +232,13 @@ def hooks(given: dict[str, str]) -> dict[str, str]:
     return more | {"UVT_RECORDER": str(recorder(True))}
 
 
-def read_page(path: Path) -> tuple[int, int, bool]:
-    """How many steps of the session have come, how many departures there were, and whether all has come."""
+def read_page(path: Path) -> tuple[int, int, bool, bool]:
+    """How many steps of the session have come, how many departures there were, whether all has come, and whether nothing is forced any more."""
     try:
-        steps, departures, done, _ = struct.unpack("iiii", path.read_bytes()[:16])
+        steps, departures, done, free = struct.unpack("iiii", path.read_bytes()[:16])
     except (OSError, struct.error):
-        return 0, 0, False
-    return steps, departures, bool(done)
+        return 0, 0, False, False
+    return steps, departures, bool(done), bool(free)
 
 
 def told(path: Path) -> list[str]:
@@ -272,7 +275,22 @@ def end_all(ran: subprocess.Popen[bytes]) -> None:
     ran.wait()
 
 
-def run_at(words: list[str], environment: dict[str, str], folder: Path, seconds: float | None) -> tuple[int, int, Ran]:
+def wait_for(ran: subprocess.Popen[bytes], seconds: float, is_over: Callable[[], bool]) -> bool:
+    """Waits for its end. False where it took too long, or all is over but its end."""
+    until = time.monotonic() + seconds
+    while time.monotonic() < until:
+        try:
+            ran.wait(min(0.5, max(0.0, until - time.monotonic())))
+            return True
+        except subprocess.TimeoutExpired:
+            if is_over():
+                until = min(until, time.monotonic() + GRACE)
+    return False
+
+
+def run_at(
+    words: list[str], environment: dict[str, str], folder: Path, seconds: float | None, is_over: Callable[[], bool]
+) -> tuple[int, int, Ran]:
     """Runs it: at the terminal where no time is given, else with its output kept and its time limited. Answers its process too."""
     began = time.monotonic()
     if seconds is None:
@@ -280,11 +298,14 @@ def run_at(words: list[str], environment: dict[str, str], folder: Path, seconds:
             ran = subprocess.Popen(words, env=dict(os.environ, **environment))
         except OSError as fault:
             raise Fault(why_not(words[0], fault)) from None
-        before = signal.signal(signal.SIGINT, lambda *_: None)
+        # (an interrupt at the terminal is for the program; what ends this tool ends the program)
+        before = {signal.SIGINT: signal.signal(signal.SIGINT, lambda *_: None)}
+        before |= {it: signal.signal(it, lambda *_: ran.terminate()) for it in (signal.SIGTERM, signal.SIGHUP)}
         try:
             status = ran.wait()
         finally:
-            signal.signal(signal.SIGINT, before)
+            for number, handler in before.items():
+                signal.signal(number, handler)
         return ran.pid, status, Ran(status, time.monotonic() - began)
     with (folder / "output").open("wb") as output:
         try:
@@ -293,19 +314,16 @@ def run_at(words: list[str], environment: dict[str, str], folder: Path, seconds:
             )
         except OSError as fault:
             raise Fault(why_not(words[0], fault)) from None
-        late = False
         try:
-            ran.wait(seconds)
-        except subprocess.TimeoutExpired:
-            late = True
+            late = not wait_for(ran, seconds, is_over)
         finally:
             end_all(ran)
     text = (folder / "output").read_text(errors="replace")
     return ran.pid, ran.returncode, Ran(ran.returncode, time.monotonic() - began, text, late)
 
 
-def run(words: list[str], order: Order, name: str, seconds: float | None = None, records: bool = True) -> Ran:
-    """Runs the program in this order, and records it: NAME.rec."""
+def run(words: list[str], order: Order, name: str, seconds: float | None = None, records: bool = True, part: Part = Part()) -> Ran:
+    """Runs the program in this order, and records it, or this part of it: NAME.rec."""
     with folder_for(name) as folder:
         environment = environment_of(words, folder, order)
         started = words
@@ -314,17 +332,23 @@ def run(words: list[str], order: Order, name: str, seconds: float | None = None,
             environment["ASAN_OPTIONS"] = f"{environment['ASAN_OPTIONS']}:abort_on_error=1"
             wrapper = " ".join(f"'{a}={b}'" for a, b in environment.items())
             started, environment = [words[0], "-ex", f"set exec-wrapper env {wrapper}", *words[1:]], {}
-        pid, status, ran = run_at(started, environment, folder, seconds)
+        pid, status, ran = run_at(started, environment, folder, seconds, lambda: order.endless > 0 and read_page(folder / "at")[3])
         ran.told = told(folder / "said")
-        ran.steps, ran.departures, ran.done = read_page(folder / "at")
+        ran.steps, ran.departures, ran.done, _ = read_page(folder / "at")
         ran.name = name
         logs = sorted(folder.glob("log.*.log"), key=lambda it: (not it.name.startswith(f"log.{pid}."), it.stat().st_mtime_ns))
         if logs and records:
             said = io.StringIO()
             with contextlib.redirect_stdout(said):
-                from_fresh(logs[0], name, False, Part(), signal_of(-status) if status < 0 and not ran.late else "")
+                from_fresh(logs[0], name, False, part, signal_of(-status) if status < 0 and not ran.late else "")
             ran.recorded = said.getvalue()
         return ran
+
+
+def remake(name: str) -> None:
+    """The recording of the whole log, where it was of a part."""
+    with contextlib.redirect_stdout(io.StringIO()):
+        from_log(Path(f"{name}.log"), name, Part())
 
 
 def recording_of(name: str, loop: int) -> Path:
@@ -335,7 +359,7 @@ def recording_of(name: str, loop: int) -> Path:
 
 def limit(first: Ran) -> float:
     """How long a run may take where the first one took so long."""
-    return max(LEAST, TIMES * first.seconds)
+    return ENDLESS if first.late else max(LEAST, TIMES * first.seconds)
 
 
 def badly(ran: Ran, first: Ran) -> str:

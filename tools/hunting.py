@@ -14,14 +14,17 @@ from dataclasses import dataclass, field
 from pathlib import Path
 
 from conversation import Fault, read_bytes, read_input
-from forcing import Order, Ran, badly, limit, recording_of, run
+from forcing import Order, Ran, badly, limit, recording_of, remake, run
+from record_run import Part
 
 BODY = re.compile(r"(on|after|closed) (\S+) (?:@\d+ )?(\S+)(?: (\S+))?")
 FRAME = re.compile(r"^ +#\d+ 0x[0-9a-f]+ in (\S+) (\S+):(\d+)", re.MULTILINE)
 NAMELESS = {"run", "stoploop", "updatetime", "closeloop"}
 # How long the first run and a search may take, in seconds; how long the clock stands still in a callback where no callback of the recording
 # took longer, in ms; and how many orders at random come before the questions, and behind them.
-FIRST, SEARCH, STALL, BEFORE, BEHIND = 20, 15, 15, 10, 100
+FIRST, SEARCH, STALL, BEFORE, BEHIND = 10, 15, 15, 10, 100
+# So many callbacks of each run are looked at.
+LOOKED = Part(most=2000)
 CODES = ("ESTALE", "EINVAL", "EBUSY")
 # Of so many names each pair is asked about: of more than that, of neighbours alone.
 PAIRS = 12
@@ -150,7 +153,9 @@ class TimeOver(Exception):
 class Hunt:
     """Questions of a program's recordings, and orders at random, until one ends badly."""
 
-    def __init__(self, words: list[str], search: str, folder: Path, seconds: float | None, part: tuple[int, int], tell: Callable[[str], None]) -> None:
+    def __init__(
+        self, words: list[str], search: str, folder: Path, seconds: float | None, part: tuple[int, int], tell: Callable[[str], None]
+    ) -> None:
         self.words, self.search, self.folder, self.part, self.tell = words, search, folder, part, tell
         self.began = time.monotonic()
         self.until = None if seconds is None else self.began + seconds
@@ -176,7 +181,8 @@ class Hunt:
     def force(self, order: Order, records: bool = True) -> Ran:
         self.left()
         self.runs += 1
-        return run(self.words, order, str(self.folder / f"run{self.runs}"), limit(self.first), records)
+        order.endless = int(1000 * self.first.seconds) if self.first.late else 0
+        return run(self.words, order, str(self.folder / f"run{self.runs}"), limit(self.first), records, LOOKED)
 
     def recorded(self, ran: Ran) -> Recorded | None:
         path = recording_of(ran.name, self.loop)
@@ -295,10 +301,11 @@ class Hunt:
         self.tell(f"order {seed} at random")
         stall = STALL if seed % 2 else 0
         ran = self.force(Order(seed=seed, stall=stall, loop=self.loop))
-        path = recording_of(ran.name, self.loop)
         if not (how := badly(ran, self.first)):
             return self.recorded(ran)
-        by = f"order {seed} at random"
+        by, path = f"order {seed} at random", recording_of(ran.name, self.loop)
+        if Path(f"{ran.name}.log").exists():
+            remake(ran.name)
         if not path.exists():
             return self.bad(ran, how, by, "")
         script, commands = read_input(path)

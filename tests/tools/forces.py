@@ -38,8 +38,8 @@ def compiled(name: str, folder: str, *more: str) -> str:
 
 
 def has_sanitizer(folder: str) -> bool:
-    ran = subprocess.run(["cc", "-fsanitize=address", "-x", "c", "-", "-o", f"{folder}/none"], input="int main(void) { return 0; }", capture_output=True, text=True)
-    return ran.returncode == 0
+    words = ["cc", "-fsanitize=address", "-x", "c", "-", "-o", f"{folder}/none"]
+    return subprocess.run(words, input="int main(void) { return 0; }", capture_output=True, text=True).returncode == 0
 
 
 def tool(word: str, words: list[str], folder: str) -> tuple[int, str]:
@@ -72,11 +72,20 @@ def try_faults(check, folder: str) -> None:
     check("force, another program departs, and it is said where", status == DEPARTS and "departs at step " in said, f"{status} {said}")
     check("force, another program: how far it came", bool(re.search(r"^\d+ of 19 steps, \d+ departures?, ", said, re.MULTILINE)), said)
     for words, why in (
-        ([f"{folder}/nowhere.uvt", program], "nowhere.uvt: No such file"), ([str(FOLDER / "starve.uvt"), f"{folder}/missing"], "could not be started"),
+        ([f"{folder}/nowhere.uvt", program], "nowhere.uvt: No such file"),
+        ([str(FOLDER / "starve.uvt"), f"{folder}/missing"], "could not be started"),
         ([str(FOLDER / "starve.c"), program], "bad script line 1"),
     ):
         status, said = forced(words, folder)
         check(f"force, a fault: {why}", status == FAULT and why in said and "Traceback" not in said, f"{status} {said}")
+
+
+def try_locked(check, folder: str) -> None:
+    """The loop's thread waits for a lock, which a thread has that waits for its step: that is let through, and it is said."""
+    program = compiled("locked", folder, "-luv")
+    status, said = forced(["-o", "locked.forced", str(FOLDER / "locked.uvt"), program], folder)
+    why = "a thread sends to report, and the session has no send there: the loop's thread waits in the program's own code, and may wait for it"
+    check("force, a thread that has a lock", status == DEPARTS and f": {why}\n" in said and "value 1\n" in said, f"{status} {said}")
 
 
 def try_own(check, folder: str) -> None:
@@ -111,7 +120,8 @@ def try_random(check, folder: str) -> None:
 def try_hunts(check, folder: str) -> None:
     program = compiled("lookup", folder, "-fsanitize=address", "-luv")
     status, said = tool("hunt", ["-o", "found", program], folder)
-    check("hunt, an order with a use after free", status == BADLY and REPORT in said and "in 2 of 2 further runs in the same order" in said, f"{status} {said}")
+    good = status == BADLY and REPORT in said and "in 2 of 2 further runs in the same order" in said
+    check("hunt, an order with a use after free", good, f"{status} {said}")
     check("hunt, where that is", bool(re.search(r"^    in \w+ \(lookup\.c:\d+\)$", said, re.MULTILINE)), said)
     status, said = forced(["-o", "again", "found.uvt", program], folder)
     check("hunt, its order is forced again", status == BADLY and REPORT in said and ", 0 departures, " in said, f"{status} {said}")
@@ -120,8 +130,10 @@ def try_hunts(check, folder: str) -> None:
     status, said = tool("hunt", ["--for", "6s", healthy], folder)
     check("hunt, a healthy program", status == WELL and said.startswith("each run ended well\n    "), f"{status} {said}")
     check("hunt, the time that is given", 5 < time.monotonic() - began < 30, f"{time.monotonic() - began:.0f} s")
-    for words, why in (([f"{folder}/missing"], "could not be started"), (["--part", "3/2", healthy], "a part is K/N"), (["--for", "soon", healthy], "a time is 60s"),
-                       (["--join", str(FOLDER / "lookup.c")], "no report of a part"), (["/bin/true"], "called nothing of libuv")):
+    for words, why in (
+        ([f"{folder}/missing"], "could not be started"), (["--part", "3/2", healthy], "a part is K/N"), (["--for", "soon", healthy], "a time is 60s"),
+        (["--join", str(FOLDER / "lookup.c")], "no report of a part"), (["/bin/true"], "called nothing of libuv"),
+    ):
         status, said = tool("hunt", words, folder)
         check(f"hunt, a fault: {why}", status == FAULT and why in said and "Traceback" not in said, f"{status} {said}")
 
@@ -163,6 +175,7 @@ def try_forces(tries) -> None:
         for name in FORCED:
             try_one(tries.check, name, folder, sanitizer)
         try_faults(tries.check, folder)
+        try_locked(tries.check, folder)
         try_own(tries.check, folder)
         if libuv := archive():
             status, said = forced(["-o", "within.forced", str(FOLDER / "starve.uvt"), compiled("starve", folder, libuv)], folder)

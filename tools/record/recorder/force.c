@@ -586,7 +586,8 @@ static bool poll_in_order(int descriptor, struct epoll_event *events, int room, 
                 handed++;
                 is_there = true;
             }
-        if (!is_there && wanted[at] != wake_file) depart("nothing comes for the handle of I/O whose callback the session has there (other processes run in real time, and are not forced)");
+        if (!is_there && wanted[at] != wake_file)
+            depart("nothing comes for the handle of I/O whose callback the session has there (other processes run in real time, and are not forced)");
     }
     uint64_t deadline = forced->uv->time + (uint64_t)(timeout < 0 ? 0 : timeout);
     if (handed == 0 && timeout != 0 && (timeout < 0 || virtual_ns() / 1000000 < deadline)) {
@@ -624,7 +625,9 @@ static void read_schedule(FILE *file) {
     size_t size = 0;
     ssize_t length;
     int item_room = 0, name_room = 0;
-    static const char *const TYPES[] = {"tick", "take", "finish", "send", "cancel", "section", "silent", "on", "after", "closed", "op", "run", "end", "poll"};
+    static const char *const TYPES[] = {
+        "tick", "take", "finish", "send", "cancel", "section", "silent", "on", "after", "closed", "op", "run", "end", "poll",
+    };
     while ((length = getline(&line, &size, file)) > 0) {
         if (line[length - 1] == '\n') line[length - 1] = 0;
         char *rest = line, *kind = cut(&rest);
@@ -691,7 +694,8 @@ void force_loop(struct loop *loop) {
     const char *schedule = getenv("UVT_FORCE"), *random = getenv("UVT_FORCE_RANDOM"), *which = getenv("UVT_FORCE_LOOP");
     if (state != NOT_FORCING || forced || loop->number != (which ? atoi(which) : 0)) return;
     if (random) {
-        begin_random(strtoull(random, NULL, 10), getenv("UVT_FORCE_STALL") ? atoi(getenv("UVT_FORCE_STALL")) : 0);
+        const char *jumps = getenv("UVT_FORCE_STALL"), *until = getenv("UVT_FORCE_UNTIL");
+        begin_random(strtoull(random, NULL, 10), jumps ? atoi(jumps) : 0, until ? strtoull(until, NULL, 10) : 0);
         begin_forcing(loop);
         unsetenv("UVT_FORCE_RANDOM");
         return;

@@ -152,7 +152,7 @@ struct sender *sender_of(int name);
 /* ---- an order at random (force_random.c) */
 
 extern bool at_random;
-void begin_random(uint64_t number, int jumps);
+void begin_random(uint64_t number, int jumps, uint64_t until);
 void maybe_choose(void);
 void random_event(char type, const char *words);
 bool poll_at_random(int descriptor, struct epoll_event *events, int room, int timeout, int *got);

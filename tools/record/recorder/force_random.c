@@ -11,12 +11,14 @@ enum { MAY = 3, WAITING = 4096 };
 bool at_random;
 static uint64_t seed;
 static int stall; /* the clock may jump so far at once, in ms */
+static uint64_t last; /* nothing is forced once it has moved so far, in ms: 0 is never */
 static int waiting[WAITING]; /* requests that no worker has yet */
 static int waiting_count;
 
-void begin_random(uint64_t number, int jumps) {
+void begin_random(uint64_t number, int jumps, uint64_t until) {
     seed = (number + 1) * 0x9E3779B97F4A7C15u;
     stall = jumps;
+    last = until;
     at_random = true;
 }
 
@@ -94,6 +96,8 @@ void maybe_choose(void) {
 bool poll_at_random(int descriptor, struct epoll_event *events, int room, int timeout, int *got) {
     uint64_t until = virtual_ns() / 1000000 + (uint64_t)(timeout > 0 ? timeout : 0);
     if (forced->uv->time + (uint64_t)(timeout > 0 ? timeout : 0) < until) until = forced->uv->time + (uint64_t)timeout;
+    if (last && moved > last) set_free(NULL);
+    if (state != FORCING) return false;
     maybe_choose();
     behind_poll = true;
     take_nap(); /* (threads of the program come to their gates) */
