@@ -18,6 +18,8 @@ HOW = {
     "event": "an event", "hook": "a look of its own",
 }
 KINDS = {"timer": "a timer", "interval": "an interval", "immediate": "an immediate", "soon": "a call_soon", "callback": "a callback"}
+# What node does as soon as a callback of JavaScript is over.
+AT_ONCE = ("tick", "promise")
 # So little isn't told, in ms; and so many parts at the most.
 LEAST = 2
 PARTS = 3
@@ -75,6 +77,23 @@ def fitted(line: str) -> list[str]:
         found.append(line[:cut])
         line = indent + line[cut:].lstrip()
     return [*found, line]
+
+
+def length(looks: list[Look]) -> int:
+    return sum(it.end - it.begin for it in looks)
+
+
+def longest(looks: list[Look], what: str) -> str:
+    """The line, or what was called, in which most of these looks are."""
+    by: dict[str, list[Look]] = {}
+    for it in looks:
+        by.setdefault(getattr(it.under, what), []).append(it)
+    return max(by, key=lambda it: length(by[it]))
+
+
+def how_much(took: int, whole: int) -> str:
+    """A part of a time, in words: V8 may count what a function does to the one that calls it, so a part in ms would be more than is known."""
+    return "nearly all" if 10 * took >= 9 * whole else "most" if 2 * took >= whole else "a third or more"
 
 
 def at(place: Place) -> str:
@@ -224,14 +243,20 @@ class JavaScript:
 
     # ---- what was under way
 
-    def under(self, begin: int, end: int) -> list[tuple[Under, int]]:
-        """What was under way between two times (in ms), and how long (in thousandths), the longest first."""
-        found: dict[Under, int] = {}
-        first = bisect.bisect_right(self.looks, begin * 1000, key=lambda it: it.end)
+    def looks_in(self, begin: int, end: int) -> list[Look]:
+        """What was under way between two times (in ms), as far as it lies there."""
+        first, found = bisect.bisect_right(self.looks, begin * 1000, key=lambda it: it.end), []
         for look in itertools.islice(self.looks, first, None):
             if look.begin >= end * 1000:
                 break
-            found[look.under] = found.get(look.under, 0) + min(look.end, end * 1000) - max(look.begin, begin * 1000)
+            found.append(Look(max(look.begin, begin * 1000), min(look.end, end * 1000), look.under))
+        return found
+
+    def under(self, begin: int, end: int) -> list[tuple[Under, int]]:
+        """The same, each once, and how long (in thousandths), the longest first."""
+        found: dict[Under, int] = {}
+        for look in self.looks_in(begin, end):
+            found[look.under] = found.get(look.under, 0) + look.end - look.begin
         return sorted(found.items(), key=lambda it: -it[1])
 
     def spans_in(self, begin: int, end: int) -> list[Span]:
@@ -247,44 +272,55 @@ class JavaScript:
             by[under.outer] = by.get(under.outer, 0) + took
         return max(by, key=by.get, default=found)
 
-    def parts(self, begin: int, end: int) -> list[Part]:
-        """What JavaScript did between two times, the longest first."""
+    def parts(self, begin: int, end: int, within: tuple[int, int] | None = None) -> list[Part]:
+        """What JavaScript did between two times, the longest first. With a part of that time: what lies within it, and how long it took in all."""
         parts: list[Part] = []
-        spans = [it for it in self.spans_in(begin, end) if min(it.end, end) - max(it.begin, begin) >= LEAST]
+        least, most = within or (begin, end)
         gaps, behind = [], begin
-        for it in sorted(spans, key=lambda it: it.begin):
-            if it.begin < behind and parts:
+        for it in sorted(self.spans_in(begin, end), key=lambda it: it.begin):
+            if min(it.end, end) - max(it.begin, begin) < LEAST or it.begin < behind and parts:
                 continue
             resource, who = self.resources[it.id], self.who(it)
-            first, last = max(it.begin, begin), min(it.end, end)
             what = f"{resource.what()}, {resource.asked()}" if resource.asked() else resource.what()
-            parts.append(Part(last - first, f"{who.text()} took {it.end - it.begin} ms{self.inside(first, last, who)}", f"{who.text()}: {what}"))
+            inside = self.inside(max(it.begin, begin), min(it.end, end), who)
+            parts.append(Part(min(it.end, most) - max(it.begin, least), f"{who.text()} took {it.end - it.begin} ms{inside}", f"{who.text()}: {what}"))
             gaps.append((behind, it.begin))
             behind = max(behind, it.end)
         gaps.append((behind, end))
-        parts += self.between_spans(gaps)
-        parts.sort(key=lambda it: -it.took)
-        return parts[:PARTS]
+        parts += self.between_spans(gaps, (least, most))
+        kept = [it for it in parts if it.took >= LEAST]
+        kept.sort(key=lambda it: -it.took)
+        return kept[:PARTS]
 
-    def between_spans(self, gaps: list[tuple[int, int]]) -> list[Part]:
+    def between_spans(self, gaps: list[tuple[int, int]], within: tuple[int, int]) -> list[Part]:
         """The same of what no timer or immediate called, by looks."""
-        by: dict[tuple[str, Place], list[tuple[int, int, int]]] = {}
+        by: dict[tuple[str, Place], list[Look]] = {}
+        took: dict[tuple[str, Place], int] = {}
+        about = set()
         for first, last in gaps:
-            for under, took in self.under(first, last) if last - first >= LEAST else ():
-                if under.how not in ("timer", "immediate"):
-                    by.setdefault((under.how, under.outer), []).append((took, first, last))
-        parts = []
-        for (how, outer), rows in by.items():
-            took = round(sum(it[0] for it in rows) / 1000)
-            if took >= LEAST:
-                first, last = min(it[1] for it in rows), max(it[2] for it in rows)
-                name = outer.where.rpartition(":")[0] if how == "main" and outer.function == "(anonymous)" else outer.text()
-                parts.append(Part(took, f"{name}, from {HOW[how]}, took {took} ms{self.inside(first, last, outer)}"))
-        return parts
+            looks = [it for it in self.looks_in(first, last) if it.under.how not in ("timer", "immediate")] if last - first >= LEAST else []
+            found = {(it.under.how, it.under.outer) for it in looks}
+            for it in looks:
+                by.setdefault((it.under.how, it.under.outer), []).append(it)
+            for who in found:
+                # (nothing else is done behind a callback: where nobody else was found, all of that time is theirs)
+                alone = len(found) == 1 and who[0] in AT_ONCE
+                mine = 1000 * (last - first) if alone else length([it for it in looks if (it.under.how, it.under.outer) == who])
+                took[who] = took.get(who, 0) + mine
+                about |= {who} if who[0] in AT_ONCE and not alone else set()
+        return [self.part_of(who, rows, (took[who], who in about), within) for who, rows in by.items() if took[who] >= 1000 * LEAST]
 
-    def told(self, begin: int, end: int) -> list[str]:
+    def part_of(self, who: tuple[str, Place], rows: list[Look], took: tuple[int, bool], within: tuple[int, int]) -> Part:
+        """A function that was found in these looks: how long it took in thousandths of a ms, and whether that is about so long."""
+        how, outer = who
+        mine = sum(max(0, min(it.end, 1000 * within[1]) - max(it.begin, 1000 * within[0])) for it in rows)
+        name = outer.where.rpartition(":")[0] if how == "main" and outer.function == "(anonymous)" else outer.text()
+        inside = self.inside(rows[0].begin // 1000, -(-rows[-1].end // 1000), outer)
+        return Part(round(mine / 1000), f"{name}, from {HOW[how]}, took {'about ' if took[1] else ''}{round(took[0] / 1000)} ms{inside}")
+
+    def told(self, begin: int, end: int, within: tuple[int, int] | None = None) -> list[str]:
         """The same, in a sentence each."""
-        return [it.text for it in self.parts(begin, end)]
+        return [it.text for it in self.parts(begin, end, within)]
 
     def alive(self, time: int) -> list[Place]:
         """The functions of the program's timers that are to be called at this time or later, and keep node alive."""
@@ -307,21 +343,25 @@ class JavaScript:
 
     def inside(self, begin: int, end: int, who: Place) -> str:
         """Which line, and what it called, took most of it, where that tells more."""
-        by: dict[tuple[Place, str, str], int] = {}
-        whole = 0
-        for under, took in self.under(begin, end):
-            if under.outer == who or under.inner == who:
-                by[under.inner, under.line, under.top] = by.get((under.inner, under.line, under.top), 0) + took
-                whole += took
+        by: dict[tuple[Place, str, str], list[Look]] = {}
+        for it in self.looks_in(begin, end):
+            if who in (it.under.outer, it.under.inner):
+                own = it.under.inner == who
+                by.setdefault((it.under.inner, it.under.line if own else "0", it.under.top if own else "-"), []).append(it)
         if not by:
             return ""
-        (inner, line, top), took = max(by.items(), key=lambda it: it[1])
-        if took < LEAST * 1000 or 3 * took < whole:
+        (inner, line, top), rows = max(by.items(), key=lambda it: length(it[1]))
+        took, whole = length(rows), sum(length(it) for it in by.values())
+        if took < LEAST * 1000 or 3 * took < max(whole, 1000 * (end - begin)):
             return ""
+        if inner != who:
+            # (of another function all its time, where it was most)
+            line = longest(rows, "line")
+            top = longest(rows, "top")
         said = [f"in {inner.text()}"] if inner != who else []
         said += [f"in {top}, which it calls"] if top != "-" and inner == who else [f"in its call of {top}"] if top != "-" else []
         said += [f"at line {line}" + (f": `{self.source[self.line_of(inner, line)]}`" if self.line_of(inner, line) in self.source else "")] if line != "0" else []
-        return f", {round(took / 1000)} ms of it {', '.join(said)}" if said else ""
+        return f", {how_much(took, max(whole, 1000 * (end - begin)))} of it {', '.join(said)}" if said else ""
 
     @staticmethod
     def line_of(place: Place, line: str) -> str:
@@ -354,11 +394,11 @@ class JavaScript:
             resource, took = self.resources[span.id], span.end - span.begin
             found.append(f"{self.who(span).text()}, {resource.what()}, {resource.asked()}" + (f", took {took} ms" if took else ""))
         if call in self.most:
-            took, under = self.most[call]
+            _, under = self.most[call]
             text = self.source.get(self.line_of(under.inner, under.line), "")
             line = f", at line {under.line}" + (f": `{text}`" if text else "") if under.line != "0" else ""
             top = f", in its call of {under.top}" if under.top != "-" else ""
-            found.append(f"{took} ms in {under.inner.text()}{top}{line}" + (f", called by {under.outer.text()}" if under.outer != under.inner else ""))
+            found.append(f"found most in {under.inner.text()}{top}{line}" + (f", called by {under.outer.text()}" if under.outer != under.inner else ""))
         return found
 
     # ---- names that a person may ask for

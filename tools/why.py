@@ -54,7 +54,8 @@ def told(took: Took) -> str:
 
 def in_javascript(walk: Walk, took: Took, begin: int, end: int) -> str:
     """What JavaScript did in it, between two times of the clock; `` where that isn't known."""
-    found = walk.notes.javascript.told(max(begin, took.pieces[0][0]), min(end, took.pieces[-1][1])) if begin < end else []
+    first, last = took.pieces[0][0], took.pieces[-1][1]
+    found = walk.notes.javascript.told(first, last, (max(begin, first), min(end, last))) if begin < end else []
     return f": {'; '.join(found)}" if found else ""
 
 

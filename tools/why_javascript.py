@@ -43,12 +43,13 @@ class WhyJavaScript:
         for took in [it for it in causes if is_told(it, span.due, span.begin)] or causes:
             begin, end = max(span.due, took.pieces[0][0]), min(span.begin, took.pieces[-1][1])
             steps = f"from step {took.first} to {took.last}" if took.first < took.last else f"at step {took.first}"
-            if parts := self.js.parts(begin, end):
+            if parts := self.js.parts(took.pieces[0][0], took.pieces[-1][1], (begin, end)):
                 found.append((end - begin, "; ".join(it.text for it in parts)))
                 where = took.node.words if took.node else took.what
                 below += [f"{it.what}, in {where}, {steps}" for it in parts if it.what] or [f"in {where}, {steps}"]
             else:
                 found.append((end - begin, self.why.delay(begin, end) if took.is_poll() else without(took)))
+        found.sort(key=lambda it: -it[0])
         shown = [text for took, text in found if took >= LEAST] or [text for _, text in found]
         return "; ".join(dict.fromkeys(shown)), list(dict.fromkeys(below))
 

@@ -437,17 +437,17 @@ def try_pause(check) -> None:
 
 
 def try_javascript(check) -> None:
-    """Of a program in node its own source: a breakpoint in it, and frames with its lines. What took the time in json.js is its line 6, in `load`,
-    at line 5; it is the third call of node's timers, as the log's lines `run` have it."""
+    """Of a program in node its own source: a breakpoint in it, and frames with its lines. What took the time in json.js is its line 8, in `load`,
+    which begins at line 6."""
     with tempfile.TemporaryDirectory() as folder:
-        for name in ("json.js", "json.log"):
-            (Path(folder) / name).write_bytes((Path(__file__).resolve().parent / "javascript" / name).read_bytes())
+        for name in ("json.js", "node20/json.log"):
+            (Path(folder) / Path(name).name).write_bytes((Path(__file__).resolve().parent / "javascript" / name).read_bytes())
         subprocess.run([RECORD, "--log", "json.log"], cwd=folder, capture_output=True, check=True, env=os.environ)
         source = {"path": str(Path(folder) / "json.js")}
         client = Client(check)
         client.begin(Path(folder) / "json.rec")
-        wanted = [{"verified": True, "line": 6}, {"verified": True, "line": 6}]
-        shown = client.ask("setBreakpoints", source=source, breakpoints=[{"line": 6}, {"line": 7}])["breakpoints"]
+        wanted = [{"verified": True, "line": 8}, {"verified": True, "line": 8}]
+        shown = client.ask("setBreakpoints", source=source, breakpoints=[{"line": 8}, {"line": 9}])["breakpoints"]
         check("adapter, breakpoints in JavaScript", shown == wanted, shown)
         shown = client.ask("setBreakpoints", source={"path": "/tmp/other.js"}, breakpoints=[{"line": 6}])["breakpoints"]
         check("adapter, no breakpoint in another file", [it["verified"] for it in shown] == [False], shown)
@@ -455,15 +455,16 @@ def try_javascript(check) -> None:
         client.until("stopped")
         check("adapter, on to a line of JavaScript", client.go("continue") == "breakpoint")
         frames = client.ask("stackTrace", threadId=1)["stackFrames"]
-        check("adapter, the program's source", (frames[0]["name"], frames[0]["line"], frames[0].get("source", {}).get("path")) == ("load", 6, source["path"]), frames)
-        check("adapter, below it the loop's callback", frames[2]["name"] == "call 3 of `on environment_runtimers`", frames)
+        check("adapter, the program's source", (frames[0]["name"], frames[0]["line"], frames[0].get("source", {}).get("path")) == ("load", 8, source["path"]), frames)
+        below = [it["name"] for it in frames[1:] if it["name"].startswith("call ")]
+        check("adapter, below it the loop's callback", len(below) == 1 and below[0].endswith(" of `on environment_runtimers`"), frames)
         told = client.ask("evaluate", expression="why beat")["result"]
-        check("adapter, why a timer of JavaScript was late", "load (json.js:5) took" in told and "at line 6" in told, told)
+        check("adapter, why a timer of JavaScript was late", "load (json.js:6) took" in told and "at line 8" in told, told)
         client.go("stepOut")
         check("adapter, behind it", client.stack()[0][0] != "load", client.stack())
-        check("adapter, back to it", client.go("reverseContinue") == "breakpoint" and client.stack()[0] == ("load", 6), client.stack())
-        client.ask("setBreakpoints", source=source, breakpoints=[{"line": 10}])
-        check("adapter, back to another", client.go("reverseContinue") == "breakpoint" and client.stack()[0] == ("beat", 10), client.stack())
+        check("adapter, back to it", client.go("reverseContinue") == "breakpoint" and client.stack()[0] == ("load", 8), client.stack())
+        client.ask("setBreakpoints", source=source, breakpoints=[{"line": 13}])
+        check("adapter, back to another", client.go("reverseContinue") == "breakpoint" and client.stack()[0] == ("beat", 13), client.stack())
         check("adapter, the end of JavaScript", client.end() == (0, ""))
 
 

@@ -476,7 +476,7 @@ class Follower:
 
     def end_time(self, at: int) -> int:
         item, ahead = self.items[at], self.items[at + 1 : at + FAR]
-        if self.ahead.has_end_near(at) and self.starts_behind_end(item.now, ahead):
+        if self.program.is_before(45) and self.ahead.has_end_near(at) and self.starts_behind_end(item.now, ahead):
             return NO_CLOCK
         later = (it.now for it in ahead if isinstance(it, (Call, Poll, Run, End)) and it.now > item.now)
         return min(item.clock, next(later, item.clock))

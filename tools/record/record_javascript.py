@@ -34,6 +34,11 @@ def is_program(place: Place) -> bool:
     return place.where != "-" and not place.where.startswith("node:") and HOOK not in place.where
 
 
+def how_of(frames: list[tuple[Place, int]]) -> str:
+    """How the innermost of these came to be called, by node's own functions below it; `` where these don't tell."""
+    return next((HOWS[it.function] for it, _ in frames if it.function in HOWS), "")
+
+
 class Stacks:
     """What is under way, by the number of a stack."""
 
@@ -146,7 +151,7 @@ class Reader:
             elif under:
                 last = Look(begin, end, under)
                 self.found.looks.append(last)
-            elif last and frames and last.under.how in BETWEEN and begin - last.end < 100 and HOWS.get(frames[-1][0].function) == last.under.how:
+            elif last and frames and last.under.how in BETWEEN and begin - last.end < 100 and how_of(frames) == last.under.how:
                 # (what node does between two of these is theirs)
                 last.end = end
             else:

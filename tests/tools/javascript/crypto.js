@@ -2,18 +2,26 @@
 // A server whose login hashes at once, and a heartbeat.
 const http = require('http');
 const { pbkdf2Sync } = require('crypto');
+const { took, started } = require('./said.js');
 
 function check(password) {
-  return pbkdf2Sync(password, 'salt', 60000, 64, 'sha512');
+  const done = took('check');
+  const found = pbkdf2Sync(password, 'salt', 60000, 64, 'sha512');
+  done();
+  return found;
 }
 
 function login(request, response) {
+  const done = took('login');
   response.end(check('secret').toString('hex'));
+  done();
 }
 
-function heartbeat() {}
+function heartbeat() {
+  beats.called();
+}
 
-const beats = setInterval(heartbeat, 20);
+const beats = started('heartbeat', 20, (delay) => setInterval(heartbeat, delay));
 const server = http.createServer(login).listen(0, '127.0.0.1', () => {
   setTimeout(() => {
     http.get({ port: server.address().port, host: '127.0.0.1' }, (response) => {
@@ -21,7 +29,7 @@ const server = http.createServer(login).listen(0, '127.0.0.1', () => {
       response.on('end', () => {
         server.close();
         server.closeAllConnections();
-        clearInterval(beats);
+        clearInterval(beats.timer);
       });
     });
   }, 50);

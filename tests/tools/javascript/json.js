@@ -1,14 +1,19 @@
 'use strict';
-// A heartbeat, and a file of JSON that is read whole.
+// A heartbeat, and a text of JSON that is read whole.
+const { took, started } = require('./said.js');
 const text = JSON.stringify(Array.from({ length: 300000 }, (_, at) => ({ id: at, name: `user ${at}` })));
 
 function load() {
+  const done = took('load');
   const users = JSON.parse(text);
+  done();
   return users.length;
 }
 
-function beat() {}
+function beat() {
+  beats.called();
+}
 
-const beats = setInterval(beat, 10);
+const beats = started('beat', 10, (delay) => setInterval(beat, delay));
 setTimeout(load, 33);
-setTimeout(() => clearInterval(beats), 400);
+setTimeout(() => clearInterval(beats.timer), 400);

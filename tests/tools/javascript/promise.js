@@ -1,9 +1,14 @@
 'use strict';
+// Two thousand awaits that never leave the microtasks.
+const { took, started } = require('./said.js');
+
 async function migrate(rows) {
+  const done = took('migrate');
   let sum = 0;
   for (const row of rows) {
     sum += await convert(row);
   }
+  done();
   return sum;
 }
 
@@ -13,7 +18,11 @@ async function convert(row) {
   return found;
 }
 
-setTimeout(function beat() {}, 20);
+function beat() {
+  beats.called();
+}
+
+const beats = started('beat', 20, (delay) => setTimeout(beat, delay));
 setTimeout(function start() {
-  migrate(Array.from({ length: 2000 }, (_, at) => at));
+  Promise.resolve(Array.from({ length: 2000 }, (_, at) => at)).then(migrate);
 }, 10);

@@ -1,9 +1,14 @@
 'use strict';
+// A timer that nothing waits for.
+const { started } = require('./said.js');
+
 function cleanup() {
   console.log('never printed');
 }
 
-function work() {}
+function work() {
+  works.called();
+}
 
 setTimeout(cleanup, 300).unref();
-setTimeout(work, 20);
+const works = started('work', 20, (delay) => setTimeout(work, delay));
