@@ -15,7 +15,7 @@ from dataclasses import dataclass, field
 # How a function came to be called, by node's own functions below it, in a person's words.
 HOW = {
     "timer": "a timer", "immediate": "an immediate", "tick": "process.nextTick", "promise": "a promise", "main": "the main program",
-    "event": "an event", "hook": "a look of its own",
+    "event": "an event",
 }
 KINDS = {"timer": "a timer", "interval": "an interval", "immediate": "an immediate", "soon": "a call_soon", "callback": "a callback"}
 # What node does as soon as a callback of JavaScript is over.
@@ -316,6 +316,8 @@ class JavaScript:
         mine = sum(max(0, min(it.end, 1000 * within[1]) - max(it.begin, 1000 * within[0])) for it in rows)
         name = outer.where.rpartition(":")[0] if how == "main" and outer.function == "(anonymous)" else outer.text()
         inside = self.inside(rows[0].begin // 1000, -(-rows[-1].end // 1000), outer)
+        if how == "hook":
+            return Part(round(mine / 1000), f"the recorder itself took {round(took[0] / 1000)} ms")
         return Part(round(mine / 1000), f"{name}, from {HOW[how]}, took {'about ' if took[1] else ''}{round(took[0] / 1000)} ms{inside}")
 
     def told(self, begin: int, end: int, within: tuple[int, int] | None = None) -> list[str]:
@@ -408,5 +410,6 @@ class JavaScript:
 
     def names(self) -> list[str]:
         """The functions of its timers and immediates."""
-        found = dict.fromkeys(it.function.function for it in self.resources.values() if it.kind in KINDS and not it.function.where.startswith("node:"))
+        found = dict.fromkeys(it.function.function for it in self.resources.values()
+                              if it.kind in KINDS and it.function.where != "-" and not it.function.where.startswith("node:"))
         return [it for it in found if it not in ("-", "(anonymous)")]

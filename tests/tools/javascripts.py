@@ -159,17 +159,17 @@ def try_lifted(tries: object, node: str, name: str) -> None:
 
 
 def try_find(tries: object) -> None:
-    """The search is asked by a line of the program. Time goes by once, by 25 ms, or where the loop waits for it: so who waits is late by these."""
-    data = (FOLDER / "node18" / "syncfs.log").read_bytes()
-    from_data(data, read_log(data), "syncfs", lifts=True)
-    for late, wanted in ((25, r"found in \d+ steps"), (26, r"never within clock 9000: \d+ states, every order")):
-        words = ["syncfs.lift.rec", "may tick 25 1", "may wait", "most clock 9000", f"find late syncfs.js:20 {late}"]
+    """The search is asked by a line of the program, as docs/NODE.md does. Time goes by once, by 100 ms, or where the loop waits for it: so who waits is late by these."""
+    data = (FOLDER / "node20" / "app.log").read_bytes()
+    from_data(data, read_log(data), "app", lifts=True)
+    for late, wanted in ((100, r"found in \d+ steps"), (101, r"never within clock 3000: \d+ states, every order")):
+        words = ["app.lift.rec", "may tick 100 1", "may wait", "most clock 3000", f"find late app.js:19 {late}"]
         ran = subprocess.run([str(ROOT / "tools" / "uvt-find"), *words], capture_output=True, text=True, timeout=SECONDS)
-        tries.check(f"javascript, find late syncfs.js:20 {late}", re.match(wanted, ran.stdout) is not None, ran)
-        whom = "syncfs.js:20 is `poll`: poll (syncfs.js:13), a timer of JavaScript, started at syncfs.js:20\n"
+        tries.check(f"javascript, find late app.js:19 {late}", re.match(wanted, ran.stdout) is not None, ran)
+        whom = "app.js:19 is `remind`: remind (app.js:19), a timer of JavaScript, started at app.js:19\n"
         tries.check("javascript, find: whom it is about", whom in ran.stderr, ran.stderr)
-    ran = subprocess.run([str(ROOT / "tools" / "uvt-find"), "syncfs.lift.rec", "find call syncfs.js:3"], capture_output=True, text=True, timeout=SECONDS)
-    tries.check("javascript, find: a line of nobody's", ran.returncode == 70 and "no timer and no immediate was started at syncfs.js:3" in ran.stderr, ran)
+    ran = subprocess.run([str(ROOT / "tools" / "uvt-find"), "app.lift.rec", "find call app.js:3"], capture_output=True, text=True, timeout=SECONDS)
+    tries.check("javascript, find: a line of nobody's", ran.returncode == 70 and "no timer and no immediate was started at app.js:3" in ran.stderr, ran)
 
 
 # ---- each program, and what else is told

@@ -138,7 +138,8 @@ def try_log(check, name: str, folder: str) -> None:
     said = re.split(r"^(?=loop )", ran.stdout, flags=re.MULTILINE)[1:]
     check(f"record {name}: its loops", [int(it.split(":")[0][5:]) for it in said] == list(loops), ran.stdout)
     for text, (loop, stops) in zip(said, loops.items()):
-        path = Path(folder) / (f"{name}.rec" if len(loops) == 1 else f"{name}.{loop}.rec")
+        # (the third loop of node is that of its JavaScript)
+        path = Path(folder) / (f"{name}.rec" if len(loops) == 1 or name.startswith("node") and loop == 2 else f"{name}.{loop}.rec")
         wanted, what = callbacks(log, loop), f"record {name}, loop {loop}"
         check(f"{what}: replay", verdict(path) == "same", verdict(path))
         notes = read_notes(path, path.read_bytes())
@@ -498,12 +499,14 @@ def try_whys_of_parts(check, folder: str) -> None:
 PAGES = (
     ("README.md", "late", "./uvt record ./late", "late.rec"),
     ("docs/RECORD.md", "late", "./uvt record ./late", "late.rec"),
-    ("docs/NODE.md", "node-server", "./uvt record -o server node server.js", "server.2."),
+    ("docs/NODE.md", "node-server", "./uvt record --bare -o server node server.js", "server."),
+    ("docs/NODE.md", "../javascript/node20/app", "./uvt record node app.js", "app.rec"),
 )
 
 
 def try_page(check, page: Path, folder: str, log: str, call: str, other: str) -> None:
     """Each call that the page shows, in order in one folder. In place of running the program its log is taken."""
+    log = Path(log).name
     name = "server" if " -o " in call else log
     blocks = re.findall(r"```text\n(.*?)```", page.read_text(), re.DOTALL)
     shown = [(block, behind) for block, behind in zip(blocks, blocks[1:]) if other in block or call in block]
@@ -529,6 +532,8 @@ def try_pages(check) -> None:
         with tempfile.TemporaryDirectory() as folder:
             (Path(folder) / "uvt").symlink_to(ROOT / "uvt")
             shutil.copy(LOGS / f"{log}.log", folder)
+            # (lines of JavaScript are read from its file)
+            shutil.copy(LOGS.parent / "javascript" / "app.js", folder)
             try_page(check, ROOT / page, folder, log, call, other)
 
 
