@@ -31,6 +31,10 @@ class CantLift(Exception):
     """Why a log can't be written so, in a sentence."""
 
 
+class NothingToLift(CantLift):
+    """JavaScript has no timer and no immediate."""
+
+
 @dataclass
 class Call:
     """A call of a timer or an immediate: at which event, in which call of node's own, and of a timer when it is due."""
@@ -108,6 +112,8 @@ class Lift:
         self.free: dict[tuple[str, str, str], list[int]] = {}
         self.addresses: dict[int, Address] = {}
         self.made = 0
+        # behind a start of a timer those that are started once more, each with which of its calls that is for
+        self.again: dict[tuple[int, int], list[tuple[Asked, int]]] = {}
         self.waiting: list[Asked] = []  # immediates, in the order in which they are to be called
         self.idle_active = False
         self.ended = -1  # the event at which the last run ended with nothing left
@@ -172,18 +178,24 @@ class Lift:
                 call.due += self.behind if it.is_timer() else 0
 
     def put_in_order(self) -> None:
-        """By node's lists: none is due before one that is called before it, and none while a call of node's own goes by that leaves it out."""
-        calls = sorted(((call, it) for it in self.asked.values() if it.is_timer() for call in it.calls), key=lambda row: row[0].at)
-        last: dict[int, int] = {}
+        """By node's lists: none is due before one that is called before it, and none while a call of node's own goes by that leaves it out.
+        Of those that are due at once libuv calls the one first that was started first: one that node calls later is started once more."""
+        calls = sorted(((call, it, which) for it in self.asked.values() if it.is_timer() for which, call in enumerate(it.calls)), key=lambda row: row[0].at)
+        last: dict[int, tuple[int, tuple[int, int], tuple[int, int]]] = {}
         ends = self.ends()
-        for call, it in calls:
-            begun = it.at if call is it.calls[0] else it.calls[it.calls.index(call) - 1].at
+        for call, it, which in calls:
+            begun = it.at if which == 0 else it.calls[which - 1].at
             for begin, end, now in ends[bisect.bisect_left(ends, (begun, 0, 0)) :]:
                 if begin >= call.inside:
                     break
                 call.due = max(call.due, now + 1) if end > begun else call.due
-            call.due = max(call.due, last.get(call.inside, 0))
-            last[call.inside] = call.due
+            started, anchor = (begun, 0), (it.id, which)
+            due, before, where = last.get(call.inside, (0, (-1, 0), anchor))
+            call.due = max(call.due, due)
+            if call.due == due and started < before:
+                started, anchor = (before[0], before[1] + 1), where
+                self.again.setdefault(where, []).append((it, which))
+            last[call.inside] = call.due, started, anchor
 
     def ends(self) -> list[tuple[int, int, int]]:
         """The calls of node's timers: where they begin and end, and the loop's time then."""
@@ -226,6 +238,8 @@ class Lift:
         """Its next activation: up to when its call is due, or without one its ms."""
         due = it.calls[which].due if which < len(it.calls) else like.now + max(1, it.delay)
         self.op(like, f"start %{it.handle} {max(0, due - like.now)} 0")
+        for other, its in self.again.get((it.id, which), ()):
+            self.op(like, f"start %{other.handle} {max(0, other.calls[its].due - like.now)} 0")
 
     def start_fresh(self, like: Event) -> None:
         for it, _ in self.fresh:
@@ -362,7 +376,7 @@ def lift(log: Log, loop: int) -> tuple[Log, int]:
     lifting = Lift(log, loop)
     events = lifting.lifted()
     if not lifting.made:
-        raise CantLift("JavaScript asked for no timer and no immediate")
+        raise NothingToLift("JavaScript asked for no timer and no immediate")
     found = copy.copy(log)
     found.loops = {loop: events}
     found.addresses = {**log.addresses, **lifting.addresses}

@@ -19,7 +19,7 @@ from conversation import INSTALLED, OUT, Fault, built_program
 from notes import Notes
 from record_differences import PAGE, heading_of, says
 from record_follow import CALLS, MANY_WORKERS, Follower, NeedsWake, Outcome
-from record_lift import CantLift, lift
+from record_lift import CantLift, NothingToLift, lift
 from record_log import Event, Log, read_log
 from record_names import name_addresses, named_log
 from record_polls import Polls, compare
@@ -304,6 +304,8 @@ def lifted(log: Log, loop: int, path: Path, part: Part) -> tuple[list[str], bool
     try:
         other, handles = lift(log, loop)
         made = make(other, loop, part)
+    except NothingToLift as fault:
+        return [f"loop {loop} isn't lifted: {fault}"], True
     except (CantLift, NoPart) as fault:
         return [f"loop {loop} can't be lifted: {fault}"], False
     if not made:
