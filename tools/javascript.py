@@ -135,6 +135,8 @@ class Span:
     end: int
     # of a timer
     due: int | None
+    # was it under way still as the log ends? Then its end is the last time at which that was seen
+    is_open: bool = False
 
 
 @dataclass(frozen=True)
@@ -208,7 +210,7 @@ class JavaScript:
         found += [f"js by {name} {call} {place.words()}" for (name, call), place in self.asked.items()]
         for it in self.spans:
             due = f" {it.due}" if it.due is not None else ""
-            found.append(f"js ran {it.id} {' '.join(map(str, it.call))} {it.begin} {it.end}{due}")
+            found.append(f"js {'open' if it.is_open else 'ran'} {it.id} {' '.join(map(str, it.call))} {it.begin} {it.end}{due}")
         found += [f"js look {it.begin} {it.end} {it.under.words()}" for it in self.looks]
         found += [f"js most {' '.join(map(str, call))} {took} {under.words()}" for call, (took, under) in self.most.items()]
         return found
@@ -222,8 +224,8 @@ class JavaScript:
                 self.source[where] = " ".join(text)
             case ["new", id, kind, when, delay, function, where, inside, at]:
                 self.resources[int(id)] = Resource(int(id), kind, Place(function, where), Place(inside, at), int(when), int(delay))
-            case ["ran", id, list, name, call, begin, end, *due] if int(id) in self.resources:
-                self.add(Span(int(id), (list, name, int(call)), int(begin), int(end), int(due[0]) if due else None))
+            case ["ran" | "open" as word, id, list, name, call, begin, end, *due] if int(id) in self.resources:
+                self.add(Span(int(id), (list, name, int(call)), int(begin), int(end), int(due[0]) if due else None, word == "open"))
             case ["home", *folder]:
                 self.home = " ".join(folder)
             case ["look", begin, end, *under]:
@@ -331,6 +333,10 @@ class JavaScript:
                 and (it.gone is None or it.gone > time) and not it.function.where.startswith("node:")
                 and (it.kind == "interval" or last.get(it.id, time + 1) > time)]
         return list(dict.fromkeys(it.function for it in kept))
+
+    def seen(self) -> int:
+        """The last time at which JavaScript was seen."""
+        return max([0, *(it.end for it in self.spans), *(it.end // 1000 for it in self.looks[-1:])])
 
     def longest(self, begin: int, end: int) -> Place | None:
         """The program's function that took most of the time between two."""

@@ -30,6 +30,7 @@ FUNCTIONS = (
     ("PerIsolatePlatformData::", "V8's tasks", True),
     ("WorkerThreadsTaskRunner::", "V8's tasks", True),
     ("inspector::", "node's inspector", True),
+    ("9inspector", "node's inspector", True),
     ("tracing::", "node's tracing", True),
     ("LibuvStreamWrap::ReadStart", "a read of a {}", False),
     ("LibuvStreamWrap::OnUvRead", "a read of a {}", False),
@@ -44,6 +45,7 @@ FUNCTIONS = (
 )
 # JavaScript has no handles of these kinds: those whose function nobody knows are node's own.
 KINDS = ("timer", "idle", "prepare", "check", "async")
+VARIABLE = "_ZN4node"  # of node, in which a handle lies
 UNKNOWN = "no symbol that tells more"
 STREAMS = {"tcp": "socket", "pipe": "pipe", "tty": "terminal"}
 # node's function around the callbacks of all requests: of a stream a write, a connect or a shutdown; of one of the pool its kind says which.
@@ -54,7 +56,7 @@ def in_node(kind: str, name: str, function: str) -> InNode | None:
     """What the callback of this handle or request is, by its function; None where that isn't one of node's. `kind` is that of the name."""
     if not function or UNKNOWN in function:
         return InNode("node's own", True) if kind in KINDS else InNode(f"a callback of a {STREAMS[kind]} ({name})", False) if kind in STREAMS else None
-    if "node::" not in function:
+    if "node::" not in function and VARIABLE not in function:
         return None
     if REQUEST in function:
         what = f"{kind.replace('_', '.', 1)} of the pool" if kind not in STREAMS else f"a write or a connect of a {STREAMS[kind]}"

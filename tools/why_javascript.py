@@ -61,7 +61,9 @@ class WhyJavaScript:
         # (its own callback's name is for who goes on in the shell)
         lines.append(f"    due at {span.due} ms, called at {span.begin} ms" + ("" if node and node.own else f", in the call of {span.call[1]}"))
         took = span.end - span.begin
-        if took >= LEAST:
+        if span.is_open:
+            lines.append(f"    never ended: it was under way for {took} ms as the log ends{self.js.inside(span.begin, span.end, self.js.who(span))}")
+        elif took >= LEAST:
             lines.append(f"    took {took} ms{self.js.inside(span.begin, span.end, self.js.who(span))}")
         return lines
 

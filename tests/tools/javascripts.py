@@ -214,6 +214,19 @@ def try_notes(tries: object, node: str) -> None:
         tries.check(f"javascript {node}: a long callback", any(it[2] == "load (json.js:6)" for it in page["long"]), page["long"])
 
 
+def try_killed(tries: object) -> None:
+    """A program that was in a `for (;;)` for some seconds, and was ended by SIGKILL: its looks are there, up to its last second."""
+    path = made("forever", (FOLDER / "node20" / "forever.log").read_bytes())
+    said = unfolded(answer(path, "spin"))
+    found = re.search(r"never ended: it was under way for (\d+) ms as the log ends, nearly all of it at line 6: `for \(;;\) count\+\+;`", said)
+    tries.check("javascript, killed: what never ended", found is not None and 2000 <= int(found[1]) <= 4500, said)
+    script, commands = read_input(path)
+    with Walk(script, commands) as walk:
+        told = unfolded("\n".join(Overview(walk).answer("why NAME")))
+        tries.check("javascript, killed: what it was at", re.search(r"ENDED BY SIGKILL: .*; spin \(forever\.js:5\) took \d+ ms, .* by then", told) is not None, told)
+        tries.check("javascript, killed: nothing of node's own", "never called" not in told, told)
+
+
 def try_shell(tries: object) -> None:
     """A step shows where JavaScript is, and a break stops there: load begins at line 6, and took its time at line 8."""
     made("json", (FOLDER / "node20" / "json.log").read_bytes())
@@ -249,5 +262,6 @@ def try_javascript(tries: object) -> None:
                 try_truth(tries, node)
             try_find(tries)
             try_shell(tries)
+            try_killed(tries)
         finally:
             os.chdir(before)

@@ -156,6 +156,10 @@ class Reader:
                 last.end = end
             else:
                 last = None
+        for id, (call, begin, start, delay) in self.open.items():
+            if resource := self.found.resources.get(id):
+                due = start + behind + delay if start is not None else resource.when + resource.delay if resource.kind == "timer" else None
+                self.found.add(Span(id, call, begin, max(begin, self.found.seen()), due, True))
         self.read_sources()
         self.found.home = self.log.home if self.found else ""
         return self.found

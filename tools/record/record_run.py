@@ -20,7 +20,7 @@ from notes import Notes
 from record_differences import PAGE, heading_of, says
 from record_follow import CALLS, MANY_WORKERS, Follower, NeedsWake, Outcome
 from record_lift import CantLift, NothingToLift, lift
-from record_log import Event, Log, read_log
+from record_log import NO_CLOCK, Event, Log, read_log
 from record_names import name_addresses, named_log
 from record_polls import Polls, compare
 from record_script import Call, Done, End, Program, program_of
@@ -191,7 +191,14 @@ def where_it_ended(made: Made, by: str) -> str:
     function = Notes(functions=made.program.functions).function(call.callback, call.name, call.number)
     kind = {"on": "callback", "after": "after callback", "closed": "close callback"}[call.callback]
     where = f"in no callback, behind the {kind}" if isinstance(last, Done) else f"in the {kind}"
-    return f"{by}: this loop was {where} of {call.name}{f', {function}' if function else ''}"
+    return f"{by}: this loop was {where} of {call.name}{f', {function}' if function else ''}{in_javascript(made.program, last)}"
+
+
+def in_javascript(program: Program, last: Call | Done) -> str:
+    """What JavaScript was at, as far as that was seen; `` where nothing was."""
+    begin, seen = last.clock, program.javascript.seen()
+    told = program.javascript.told(begin, seen) if isinstance(last, Call) and NO_CLOCK < begin < seen else []
+    return f"; {'; '.join(told)} by then, and went on" if told else ""
 
 
 def notes_of(made: Made, note: str, ended: str = "") -> Notes:
