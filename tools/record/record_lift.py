@@ -296,7 +296,10 @@ class Lift:
         words = event.words.split(" ")
         it = self.asked.get(int(words[1])) if words[0] in ("new", "run", "gone", "ref") else None
         if words[0] == "run" and it:
-            self.begin(it, event, next(k for k, call in enumerate(it.calls) if call.at == at))
+            which = next((k for k, call in enumerate(it.calls) if call.at == at), None)
+            if which is None or not it.handle:
+                raise CantLift(f"at line {event.line} of the log a timer is called that nobody had asked for")
+            self.begin(it, event, which)
         self.out.append(event)
         if words[0] == "new" and it:
             it.handle = self.handle_for(it, event)
