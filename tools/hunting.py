@@ -20,8 +20,8 @@ from record_run import Part
 BODY = re.compile(r"(on|after|closed) (\S+) (?:@\d+ )?(\S+)(?: (\S+))?")
 FRAME = re.compile(r"^ +#\d+ 0x[0-9a-f]+ in (\S+) (\S+):(\d+)", re.MULTILINE)
 NAMELESS = {"run", "stoploop", "updatetime", "closeloop"}
-# How long the first run and a search may take, in seconds; how long the clock stands still in a callback where no callback of the recording
-# took longer, in ms; and how many orders at random come before the questions, and behind them.
+# How long the first run and a search may take, in seconds; how long a stall is where no callback of the recording took longer, in ms; and how many
+# orders at random come before the questions, and behind them.
 FIRST, SEARCH, STALL, BEFORE, BEHIND = 10, 15, 15, 10, 100
 # So many callbacks of each run are looked at.
 LOOKED = Part(most=2000)
@@ -39,6 +39,8 @@ class Recorded:
     bodies: dict[tuple[str, str], list[str]] = field(default_factory=dict)
     # the names, in the order in which they were called first
     called: list[str] = field(default_factory=list)
+    # how long its longest callback took, in ms, or STALL where none took longer
+    longest: int = 0
 
     def __post_init__(self) -> None:
         for line in self.lines:
@@ -55,10 +57,6 @@ class Recorded:
 
     def requests(self) -> list[str]:
         return list(dict.fromkeys(it[1] for line in self.lines if (it := re.search(r" queue (\S+) ", line))))
-
-    def longest(self) -> int:
-        """How far the clock went on at once, in ms: so long a callback took at the most, or a poll."""
-        return max([STALL, *(int(it.split(" ")[1]) for it in self.steps if it.startswith("tick "))])
 
     def offers(self) -> list[str]:
         clock = sum(int(it.split(" ")[1]) for it in self.steps if it.startswith("tick "))
@@ -89,8 +87,10 @@ class Recorded:
 def read(path: Path) -> Recorded:
     text = path.read_text(errors="replace").splitlines()
     begin, calls = text.index("begin"), text.index("calls")
+    outside = read_input(path)[0].notes.outside
+    ticks = [int(it.split(" ")[1]) for at, it in enumerate(text[begin + 1 : calls], 1) if it.startswith("tick ") and at not in outside]
     called = list(dict.fromkeys(it.split(" ")[1] for it in text[calls + 1 : -1] if it.split(" ")[0] in ("call", "after")))
-    return Recorded(text[1:begin], text[begin + 1 : calls], called=called)
+    return Recorded(text[1:begin], text[begin + 1 : calls], called=called, longest=max([STALL, *ticks]))
 
 
 def names_in(line: str) -> list[str]:
@@ -218,7 +218,7 @@ class Hunt:
         names = set(found.names())
         more = [line for key, lines in self.known.items() if key not in found.bodies and key[1] in names
                 for line in lines if names.issuperset(names_in(line))]
-        return Recorded(found.lines + more, found.steps, called=found.called)
+        return Recorded(found.lines + more, found.steps, called=found.called, longest=found.longest)
 
     def is_mine(self, text: str) -> bool:
         """Does this part ask it? Each question and each seed belongs to one of the parts."""
@@ -252,7 +252,7 @@ class Hunt:
         return None
 
     def ask_all(self, script: Recorded, open: list[Recorded]) -> Bad | None:
-        for stall, question in itertools.product(([], [f"may tick {script.longest()} 1"]), script.questions()):
+        for stall, question in itertools.product(([], [f"may tick {script.longest} 1"]), script.questions()):
             key = "\n".join(script.lines), " ".join([question, *stall])
             if key in self.asked or not self.is_mine(key[1]):
                 continue
