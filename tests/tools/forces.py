@@ -88,6 +88,12 @@ def try_locked(check, folder: str) -> None:
     check("force, a thread that has a lock", status == DEPARTS and f": {why}\n" in said and "value 1\n" in said, f"{status} {said}")
 
 
+def try_slow(check, folder: str) -> None:
+    """However long the loop's thread is at work, or gets no processor: who waits for its step waits on."""
+    status, said = forced(["-o", "slow.forced", str(FOLDER / "slow.uvt"), compiled("slow", folder, "-luv")], folder)
+    check("force, a callback of four seconds", status == WELL and is_whole(said) and "heard 0\n" in said, f"{status} {said}")
+
+
 def try_own(check, folder: str) -> None:
     """Programs in the order of their own recordings."""
     for name in ("late", "mixed", "threads", "starved", "zero"):
@@ -176,6 +182,7 @@ def try_forces(tries) -> None:
             try_one(tries.check, name, folder, sanitizer)
         try_faults(tries.check, folder)
         try_locked(tries.check, folder)
+        try_slow(tries.check, folder)
         try_own(tries.check, folder)
         if libuv := archive():
             status, said = forced(["-o", "within.forced", str(FOLDER / "starve.uvt"), compiled("starve", folder, libuv)], folder)
