@@ -51,4 +51,6 @@ class InJavaScript:
     def shown(self, frame: Frame, base: list[int]) -> dict:
         path = self.known.source(frame)
         found = {"name": frame.name, "line": frame.line + base[0] - 1, "column": base[1]}
-        return {**found, "source": {"name": os.path.basename(path), "path": path}} if path else {**found, "name": frame.text(), "line": 0, "column": 0}
+        if not path:
+            return {**found, "name": frame.text(), "line": 0, "column": 0}
+        return {**found, "source": {"name": os.path.basename(path), "path": path}}

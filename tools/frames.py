@@ -83,4 +83,7 @@ class Frames:
 def begun(before: State, state: State, calls: frozenset[Call]) -> Call | None:
     """Which of these callbacks began between two states."""
     places = dict(LISTS.values())
-    return next((it for it in calls if it[1] in state.counts and before.counts[it[1]][places[it[0]]] < it[2] <= state.counts[it[1]][places[it[0]]]), None)
+    for kind, name, number in calls:
+        if name in state.counts and before.counts[name][places[kind]] < number <= state.counts[name][places[kind]]:
+            return kind, name, number
+    return None

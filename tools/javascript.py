@@ -57,7 +57,8 @@ NOWHERE = Place("-", "-")
 def fold_at(line: str, begin: int, end: int) -> int:
     """Where a line that is too long is cut, so that the rest goes below: 0 where it can't be. From `begin` to `end` stands the program's text."""
     least = len(line) - len(line.lstrip()) + COLUMNS // 3
-    found = [it for it in re.finditer(r"[;,:]? ", line[: COLUMNS + 2]) if it.start() > least and it.end() - 1 <= COLUMNS and not begin < it.start() < end]
+    found = [it for it in re.finditer(r"[;,:]? ", line[: COLUMNS + 2])
+             if it.start() > least and it.end() - 1 <= COLUMNS and not begin < it.start() < end]
     parts = [it.end() - 1 for it in found if it[0] in ("; ", ", ") or it[0] == ": " and it.end() == begin]
     words = [it.start() for it in found]
     return parts[-1] if parts else words[-1] if words else 0
@@ -368,7 +369,8 @@ class JavaScript:
             top = longest(rows, "top")
         said = [f"in {inner.text()}"] if inner != who else []
         said += [f"in {top}, which it calls"] if top != "-" and inner == who else [f"in its call of {top}"] if top != "-" else []
-        said += [f"at line {line}" + (f": `{self.source[self.line_of(inner, line)]}`" if self.line_of(inner, line) in self.source else "")] if line != "0" else []
+        text = self.source.get(self.line_of(inner, line), "")
+        said += [f"at line {line}" + (f": `{text}`" if text else "")] if line != "0" else []
         return f", {how_much(took, max(whole, 1000 * (end - begin)))} of it {', '.join(said)}" if said else ""
 
     @staticmethod
@@ -406,7 +408,8 @@ class JavaScript:
             text = self.source.get(self.line_of(under.inner, under.line), "")
             line = f", at line {under.line}" + (f": `{text}`" if text else "") if under.line != "0" else ""
             top = f", in its call of {under.top}" if under.top != "-" else ""
-            found.append(f"found most in {under.inner.text()}{top}{line}" + (f", called by {under.outer.text()}" if under.outer != under.inner else ""))
+            by = f", called by {under.outer.text()}" if under.outer != under.inner else ""
+            found.append(f"found most in {under.inner.text()}{top}{line}{by}")
         return found
 
     # ---- names that a person may ask for

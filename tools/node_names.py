@@ -55,7 +55,9 @@ REQUEST = "MakeLibuvRequestCallback"
 def in_node(kind: str, name: str, function: str) -> InNode | None:
     """What the callback of this handle or request is, by its function; None where that isn't one of node's. `kind` is that of the name."""
     if not function or UNKNOWN in function:
-        return InNode("node's own", True) if kind in KINDS else InNode(f"a callback of a {STREAMS[kind]} ({name})", False) if kind in STREAMS else None
+        if kind in KINDS:
+            return InNode("node's own", True)
+        return InNode(f"a callback of a {STREAMS[kind]} ({name})", False) if kind in STREAMS else None
     if "node::" not in function and VARIABLE not in function:
         return None
     if REQUEST in function:

@@ -54,7 +54,8 @@ def in_node(walk: Walk, found: list[Took]) -> list[str]:
         begin, end = it.pieces[0][0], it.pieces[-1][1]
         told = walk.notes.javascript.told(begin, end)
         if it.took() >= LEAST and (told or FIFTH * it.took() >= whole):
-            rows.append(f"{it.took()} ms: {sentence(walk, it, begin, end) if told else f'{named(it)}, from step {it.first} to {it.last}'}, at {begin} ms")
+            what = sentence(walk, it, begin, end) if told else f"{named(it)}, from step {it.first} to {it.last}"
+            rows.append(f"{it.took()} ms: {what}, at {begin} ms")
     return rows[:LINES]
 
 
@@ -146,7 +147,8 @@ class Overview:
 
     def requests(self) -> list[str]:
         found = [Late(name, self.away(it), it) for name, it in self.called("work")]
-        return [f"{it.took} ms from its queueing to its callback: {self.request(it)}, step {it.wait.ended}: {self.parts(it)}" for it in self.worst(found)]
+        return [f"{it.took} ms from its queueing to its callback: {self.request(it)}, step {it.wait.ended}: {self.parts(it)}"
+                for it in self.worst(found)]
 
     def request(self, late: Late) -> str:
         """Its name; with the line of JavaScript that asked for it, where that is known."""

@@ -180,7 +180,8 @@ class Walk:
             new = Took("the loop, between two callbacks", step, step)
         elif first:
             kind, name, call = self.calls[first]
-            new = Took(f"{WORDS[kind]} of {name}", first, step, function=self.notes.function(kind, name, call), node=self.notes.in_node(name, kind, call))
+            function, node = self.notes.function(kind, name, call), self.notes.in_node(name, kind, call)
+            new = Took(f"{WORDS[kind]} of {name}", first, step, function=function, node=node)
         elif not runs:
             new = Took("the main program", step, step)
         elif poll:

@@ -172,7 +172,8 @@ class WhyJavaScript:
                 rows.append((round(mine / 1000), took))
         rows.sort(key=lambda it: -it[0])
         whole = round(sum(it.end - it.begin for it in looks) / 1000)
-        lines = [f"{place.text()}: a function of JavaScript, under way for {whole} ms, in {times(len(rows), 'callback')} of the loop of {LEAST} ms or more"]
+        lines = [f"{place.text()}: a function of JavaScript, under way for {whole} ms,"
+                 f" in {times(len(rows), 'callback')} of the loop of {LEAST} ms or more"]
         for mine, took in rows[:MANY]:
             begin, end = took.pieces[0][0], took.pieces[-1][1]
             lines.append(f"step {took.first}: {mine} ms, in {took.node.words if took.node else took.what}: {'; '.join(self.js.told(begin, end))}")
@@ -190,13 +191,15 @@ class WhyJavaScript:
         for span in sorted(found, key=self.late, reverse=True)[:most]:
             resource = self.js.resources[span.id]
             name = resource.function.function if resource.function.function not in ("-", "(anonymous)") else resource.at.where
-            rows.append((self.late(span), name, f"{resource.function.text()}, {self.where(span)}: late by {self.late(span)} ms: {self.delay(span)[0]}"))
+            late = self.late(span)
+            rows.append((late, name, f"{resource.function.text()}, {self.where(span)}: late by {late} ms: {self.delay(span)[0]}"))
         return rows
 
     def never(self) -> list[str]:
         """Those that were never called, though nobody cleared them."""
         found = [it for it in self.js.resources.values() if it.id not in self.spans and it.gone is None and not it.function.where.startswith("node:")]
-        return [f"{it.function.text()}, {it.what()} {it.asked()}: {self.uncalled(it)[0]}" for it in found if not it.at.where.startswith("node:")][:MANY]
+        mine = [it for it in found if not it.at.where.startswith("node:")]
+        return [f"{it.function.text()}, {it.what()} {it.asked()}: {self.uncalled(it)[0]}" for it in mine[:MANY]]
 
 
 # So many late calls of an interval are told.

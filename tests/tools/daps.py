@@ -455,7 +455,8 @@ def try_javascript(check) -> None:
         client.until("stopped")
         check("adapter, on to a line of JavaScript", client.go("continue") == "breakpoint")
         frames = client.ask("stackTrace", threadId=1)["stackFrames"]
-        check("adapter, the program's source", (frames[0]["name"], frames[0]["line"], frames[0].get("source", {}).get("path")) == ("load", 8, source["path"]), frames)
+        first = frames[0]["name"], frames[0]["line"], frames[0].get("source", {}).get("path")
+        check("adapter, the program's source", first == ("load", 8, source["path"]), frames)
         below = [it["name"] for it in frames[1:] if it["name"].startswith("call ")]
         check("adapter, below it the loop's callback", len(below) == 1 and below[0].endswith(" of `on environment_runtimers`"), frames)
         told = client.ask("evaluate", expression="why beat")["result"]

@@ -180,7 +180,8 @@ class Lift:
     def put_in_order(self) -> None:
         """By node's lists: none is due before one that is called before it, and none while a call of node's own goes by that leaves it out.
         Of those that are due at once libuv calls the one first that was started first: one that node calls later is started once more."""
-        calls = sorted(((call, it, which) for it in self.asked.values() if it.is_timer() for which, call in enumerate(it.calls)), key=lambda row: row[0].at)
+        calls = [(call, it, which) for it in self.asked.values() if it.is_timer() for which, call in enumerate(it.calls)]
+        calls.sort(key=lambda row: row[0].at)
         last: dict[int, tuple[int, tuple[int, int], tuple[int, int]]] = {}
         ends = self.ends()
         for call, it, which in calls:

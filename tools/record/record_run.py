@@ -272,7 +272,8 @@ def told(made: Made, loop: int, path: Path, note: str, whose: str = "") -> list[
         lines = [head + f"same up to line {outcome.item.line} of the log", f"    there {where_it_stops(made)}"]
     else:
         lines = [head + "same"]
-    lines += [f"    {it}" for it in (whose, program.began, program.stopped, note, *by_other_threads(program), *queued_again(program), made.polls.said()) if it]
+    said = (whose, program.began, program.stopped, note, *by_other_threads(program), *queued_again(program), made.polls.said())
+    lines += [f"    {it}" for it in said if it]
     if outcome.answers:
         lines.append(f"    {len(outcome.answers)} answers differ, first: {outcome.answers[0]}")
     if outcome.ends:
@@ -318,8 +319,8 @@ def lifted(log: Log, loop: int, path: Path, part: Part) -> tuple[list[str], bool
     if not made:
         return [f"loop {loop} can't be lifted: it has no callback but node's own"], False
     put(path, loop, made, log)
-    lines = told(made, loop, path, log.note, f"lifted: {handles} handle{'s' * (handles != 1)} for the timers and immediates of JavaScript, and node's own for them left out")
-    return lines, made.is_whole()
+    what = f"lifted: {handles} handle{'s' * (handles != 1)} for the timers and immediates of JavaScript, and node's own for them left out"
+    return told(made, loop, path, log.note, what), made.is_whole()
 
 
 def from_data(data: bytes, log: Log, name: str, part: Part = Part(), lifts: bool = False) -> tuple[list[str], bool]:

@@ -436,7 +436,9 @@ static const char *why_not_beside(void) {
     void *library = dlopen("libuv.so.1", RTLD_LAZY | RTLD_NOLOAD);
     version = library ? (const char *(*)(void))dlsym(library, "uv_version_string") : NULL;
     bool differs = version && strcmp(version(), within) != 0;
-    if (differs) snprintf(why, sizeof why, "there are two, %s within the program and %s as a library, and the recorder can't tell who calls which", within, version());
+    if (differs)
+        snprintf(why, sizeof why, "there are two, %s within the program and %s as a library, and the recorder can't tell who calls which", within,
+                 version());
     if (library) dlclose(library);
     return differs ? why : NULL;
 }
@@ -504,7 +506,8 @@ static int ask_file(struct dl_phdr_info *info, size_t size, void *word) {
     }
     if (!within) return 0;
     asked->found = true;
-    asked->file = (struct file){.name = *info->dlpi_name ? info->dlpi_name : "/proc/self/exe", .moved = info->dlpi_addr, .lowest = lowest, .highest = highest};
+    const char *name = *info->dlpi_name ? info->dlpi_name : "/proc/self/exe";
+    asked->file = (struct file){.name = name, .moved = info->dlpi_addr, .lowest = lowest, .highest = highest};
     return 1;
 }
 

@@ -19,7 +19,8 @@ V8(isolate_here, "_ZN2v87Isolate10GetCurrentEv", void *, void)
 V8(interrupt, "_ZN2v87Isolate16RequestInterruptEPFvPS0_PvES2_", void, void *, void (*)(void *, void *), void *)
 V8(new_profiler, "_ZN2v811CpuProfiler3NewEPNS_7IsolateENS_22CpuProfilingNamingModeENS_23CpuProfilingLoggingModeE", void *, void *, int, int)
 V8(profiler_every, "_ZN2v811CpuProfiler19SetSamplingIntervalEi", void, void *, int)
-V8(profiler_start, "_ZN2v811CpuProfiler14StartProfilingENS_5LocalINS_6StringEEENS_16CpuProfilingModeEbj", long, void *, napi_value, int, bool, unsigned)
+#define START "_ZN2v811CpuProfiler14StartProfilingENS_5LocalINS_6StringEEENS_16CpuProfilingModeEbj"
+V8(profiler_start, START, long, void *, napi_value, int, bool, unsigned)
 V8(profiler_stop, "_ZN2v811CpuProfiler13StopProfilingENS_5LocalINS_6StringEEE", void *, void *, napi_value)
 V8(profiler_end, "_ZN2v811CpuProfiler7DisposeEv", void, void *)
 V8(profile_end, "_ZN2v810CpuProfile6DeleteEv", void, void *)
@@ -99,7 +100,8 @@ static int place_of_node(struct looks *looks, void *node) {
     int line = node_line()(node);
     copy_word(name, sizeof name, node_name()(node));
     copy_word(file, sizeof file, node_file()(node));
-    struct known *found = known_at(looks->places, PLACES, &looks->place_count, mix_text(mix_text((unsigned)line, name), file));
+    uint64_t key = mix_text(mix_text((unsigned)line, name), file);
+    struct known *found = known_at(looks->places, PLACES, &looks->place_count, key);
     if (found->number < 0) found->number = place_named(name, file, line);
     return found->number;
 }
@@ -110,7 +112,8 @@ static int line_of_node(void *node) {
     unsigned count = node_line_count()(node);
     if (count > sizeof lines / sizeof *lines && !(all_lines = calloc(count, sizeof *lines))) return 0;
     if (count && node_lines()(node, all_lines, count))
-        for (unsigned at = 0; at < count; at++) if (all_lines[at].count > most.count) most.line = all_lines[at].line, most.count = all_lines[at].count;
+        for (unsigned at = 0; at < count; at++)
+            if (all_lines[at].count > most.count) most.line = all_lines[at].line, most.count = all_lines[at].count;
     if (all_lines != lines) free(all_lines);
     return most.line;
 }
@@ -124,8 +127,10 @@ static int stack_of(struct looks *looks, void *node, int *numbers, unsigned most
     if (id < most && numbers[id] != 0) return numbers[id] - 2;
     int found = -1;
     if (strcmp(name, "(root)") != 0 && strcmp(name, "(idle)") != 0) {
-        int below = stack_of(looks, node_below()(node), numbers, most, depth + 1), place = place_of_node(looks, node), line = line_of_node(node);
-        struct known *stack = known_at(looks->stacks, STACKS, &looks->stack_count, mix(mix(mix(2, (unsigned)below), (unsigned)place), (unsigned)line));
+        int below = stack_of(looks, node_below()(node), numbers, most, depth + 1);
+        int place = place_of_node(looks, node), line = line_of_node(node);
+        uint64_t key = mix(mix(mix(2, (unsigned)below), (unsigned)place), (unsigned)line);
+        struct known *stack = known_at(looks->stacks, STACKS, &looks->stack_count, key);
         if (stack->number < 0) {
             stack->number = stacks_written++;
             write_line(NULL, 'J', "stack %d %d %d %d", stack->number, below, place, line);
@@ -151,7 +156,8 @@ static void write_profile(struct looks *looks, struct loop *loop, void *profile)
         /* (a look counts up to the next one, the last one for a millisecond) */
         time = at < count ? profile_time()(profile, at) : time == first ? first + 1000 : time;
         if (found == last && at < count) continue;
-        if (last >= 0 && time > first) write_line(loop, 'J', "busy %d %u %u", last, (uint64_t)(first > from ? first - from : 0), (uint64_t)(time - first));
+        uint64_t begun = (uint64_t)(first > from ? first - from : 0), took = (uint64_t)(time - first);
+        if (last >= 0 && time > first) write_line(loop, 'J', "busy %d %u %u", last, begun, took);
         last = found;
         first = time;
     }

@@ -21,7 +21,8 @@ V8(frame_where, "_ZNK2v810StackFrame11GetLocationEv", uint64_t, napi_value)
 V8(frame_file, "_ZNK2v810StackFrame13GetScriptNameEv", napi_value, napi_value)
 V8(frame_function, "_ZNK2v810StackFrame15GetFunctionNameEv", napi_value, napi_value)
 V8(stack_sample, "_ZN2v87Isolate14GetStackSampleERKNS_13RegisterStateEPPvmPNS_10SampleInfoE", void, void *, void *, void **, size_t, void *)
-V8(after_collection, "_ZN2v87Isolate21AddGCEpilogueCallbackEPFvPS0_NS_6GCTypeENS_15GCCallbackFlagsEES2_", void, void *, void (*)(void *, int, int), int)
+#define AFTER "_ZN2v87Isolate21AddGCEpilogueCallbackEPFvPS0_NS_6GCTypeENS_15GCCallbackFlagsEES2_"
+V8(after_collection, AFTER, void, void *, void (*)(void *, int, int), int)
 
 struct place {
     struct place *next;
