@@ -48,13 +48,13 @@ REASONS = {
 # The same of the lines that ask a search.
 ASKED_REASONS = {
     'listed': '`{0}` is none of {1}',
-    'asked': 'no line behind `begin` begins with `{0}` here: it is may, most or find',
+    'asked': 'no line behind `begin` begins with `{0}` here: it is may, takes, most or find',
     'form': 'no line says `{0}`: it has the form {1}',
     'again': '`{0}` stands in line {1} already, and a search has it once at most',
     'question': 'a second question: line {0} has the first, and one is asked at a time',
     'offers': 'at most 256 lines begin with `may`',
     'find': 'the line is missing that says what to look for: `find ..`',
-    'two': '`{0}` stands on both sides of `before`, which asks for two names',
+    'two': '`{0}` stands on both sides of `{1}`, which asks for two names',
 }
 
 # What stands behind each op. NAME is declared, KIND and MODE are words, and the others are numbers.
@@ -294,12 +294,13 @@ def of_recording(lines: List[bytes], number: int) -> None:
         of_words(words[1:], STEPS[words[0]], words[0], context(script, len(script) + 1))
 
 
-# What stands behind `may`, `most` and `find`, and the word behind them; of two forms the longer one last.
+# What stands behind `may`, `takes`, `most` and `find`, and the word behind them; of two forms the longer one last.
 ASKED = {
-    'may': {'send': ['NAME N'], 'cancel': ['NAME N'], 'io': ['NAME N'], 'tick': ['MS N'], 'wait': ['']},
+    'may': {'send': ['NAME N', 'NAME N during NAME'], 'cancel': ['NAME N'], 'io': ['NAME N'], 'tick': ['MS N'], 'wait': ['']},
+    'takes': {'NAME': ['MS', '@K MS']},
     'most': {'clock': ['MS'], 'states': ['N'], 'NAME': ['CALLS']},
-    'find': {'call': ['NAME', 'NAME N'], 'code': ['CODE', 'CODE of NAME'], 'section': ['WORD'], 'never': ['NAME'], 'stuck': [''], 'late': ['NAME MS'],
-             'NAME': ['before NAME']},
+    'find': {'call': ['NAME', 'NAME N'], 'on': ['NAME', 'NAME N'], 'after': ['NAME', 'NAME N'], 'closed': ['NAME', 'NAME N'], 'code': ['CODE', 'CODE of NAME'], 'section': ['WORD'], 'never': ['NAME'], 'stuck': [''], 'late': ['NAME MS'],
+             'NAME': ['before NAME', 'after NAME']},
 }
 ASKED_RANGES = {'N': (1, 4294967295), 'may MS': (1, 2**62), 'MS': (0, 2**62), 'CALLS': (0, 4294967295)}
 
@@ -308,11 +309,18 @@ def of_field(word: str, what: str, head: str, found: Context) -> None:
     """A field of a line that asks, against what it has to be: a name, a number, a word of a list, or this very word."""
     if what == 'NAME':
         of_name(word, found)
+    elif what == '@K':
+        of_number(word[1:], 'K', 1, 2**32 - 1)
     elif what in LISTED:
         if word not in LISTED[what]:
             raise Why('listed', word, ', '.join(LISTED[what]))
     elif what.isupper():
         of_number(word, what, *ASKED_RANGES.get('%s %s' % (head, what), ASKED_RANGES.get(what, (0, LARGEST))))
+
+
+def matches(word: str, what: str) -> bool:
+    """Whether a field may be this one of a form: the very word, or the mark of a call's number."""
+    return word.startswith('@') if what == '@K' else word == what or not what.islower()
 
 
 def of_asked_line(line: bytes, found: Context) -> None:
@@ -323,23 +331,25 @@ def of_asked_line(line: bytes, found: Context) -> None:
         raise Why('asked', words[0])
     head, forms = words[0], ASKED[words[0]]
     second = words[1] if len(words) > 1 else ''
-    if head == 'find' and len(words) == 4 and words[2] == 'before' or second not in forms and 'NAME' in forms:
+    if head == 'find' and len(words) == 4 and words[2] in ('before', 'after') or second not in forms and 'NAME' in forms:
         second = 'NAME'
     shapes = [('%s %s %s' % (head, word, form)).strip() for word in ([second] if second in forms else forms) for form in forms[word]]
     for shape in shapes:
         fields = shape.split(' ')
-        if len(fields) == len(words) and all(word == what for word, what in zip(words, fields) if what.islower()):
+        if len(fields) == len(words) and all(matches(word, what) for word, what in zip(words, fields)):
             for word, what in zip(words, fields):
                 of_field(word, what, head, found)
-            if fields[1:] == ['NAME', 'before', 'NAME'] and words[1] == words[3]:
-                raise Why('two', words[1])
+            if fields[-2] in ('before', 'after', 'during') and words[-1] == words[1 if head == 'find' else 2]:
+                raise Why('two', words[-1], words[-2])
             return
     raise Why('form', line.decode('ascii'), ' or '.join('`%s`' % it for it in shapes))
 
 
 def said(words: List[bytes]) -> bytes:
     """What a line that asks says once at most: its first fields, up to a number that may differ."""
-    return b' '.join(words[:2] if words[0] == b'most' or words[1:2] == [b'wait'] else words[:3])
+    if words[0] == b'takes':
+        return b' '.join(words[:-1])
+    return b' '.join(words[:2] if words[0] == b'most' or words[1:2] == [b'wait'] else words[:3] + words[4:])
 
 
 def of_inquiry(lines: List[bytes], number: int) -> None:

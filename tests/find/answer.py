@@ -65,6 +65,8 @@ def wrong(program: str, asked: Asked, settled: Settled, answer: Answer) -> Optio
     if answer.kind == 'found':
         if settled.steps is None and settled.places is not None:
             return 'found, and there is no answer among all %d places' % settled.places
+        if settled.steps is not None and answer.number != settled.steps:
+            return 'found in %d steps, and %d are enough' % (answer.number, settled.steps)
         return wrong_session(program, asked, answer)
     if answer.kind == 'never':
         if settled.steps is not None:

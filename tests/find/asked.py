@@ -11,6 +11,8 @@ class Offer(NamedTuple):
     argument: str
     # how often it may be taken; none is as often as one likes
     times: Optional[int]
+    # of a send, the name whose request a worker has to run then
+    job: Optional[str] = None
 
 
 class Asked(NamedTuple):
@@ -20,6 +22,8 @@ class Asked(NamedTuple):
     main: int
     workers: int
     offers: List[Offer]
+    # how long the callback of a name takes, each time or that one
+    takes: Dict[Tuple[str, Optional[int]], int]
     clock: Optional[int]
     most: Dict[str, int]
     states: Optional[int]
@@ -34,7 +38,7 @@ def read(text: str) -> Asked:
         raise ValueError('the input has no line `begin`')
     script = lines[:lines.index('begin')]
     asked = Asked(script, [line.split()[1] for line in script if line.startswith('var ')], sum(line.startswith('main ') for line in script),
-                  DEFAULT_WORKERS, [], None, {}, None, ())
+                  DEFAULT_WORKERS, [], {}, None, {}, None, ())
     for line in script:
         if line.startswith('workers '):
             asked = asked._replace(workers=int(line.split()[1]))
@@ -50,13 +54,14 @@ def names_in(asked: Asked) -> List[str]:
     """The names that the lines behind `begin` name."""
     question = asked.question
     named = list(asked.most) + [offer.argument for offer in asked.offers if offer.word in ('send', 'cancel', 'io')]
-    if len(question) == 3 and question[1] == 'before':
+    named += [offer.job for offer in asked.offers if offer.job is not None] + [name for name, _ in asked.takes]
+    if len(question) == 3 and question[1] in ('before', 'after'):
         return named + [question[0], question[2]]
     if question[:1] == ('code',):
         return named + list(question[3:])
     if question in ((), ('stuck',)) or question[0] == 'section' and len(question) == 2:
         return named
-    if len(question) not in {'call': (2, 3), 'never': (2,), 'late': (3,)}.get(question[0], ()):
+    if len(question) not in {'call': (2, 3), 'on': (2, 3), 'after': (2, 3), 'closed': (2, 3), 'never': (2,), 'late': (3,)}.get(question[0], ()):
         raise ValueError('this is no question: find ' + ' '.join(question))
     if len(question) == 3 and not re.fullmatch('[0-9]+', question[2]):
         raise ValueError('this is no number: ' + question[2])
@@ -71,6 +76,11 @@ def read_line(asked: Asked, line: str) -> Asked:
         return asked._replace(offers=asked.offers + [Offer('wait', '', None)])
     if words[0] == 'may' and len(words) == 4 and words[1] in ('send', 'cancel', 'io', 'tick'):
         return asked._replace(offers=asked.offers + [Offer(words[1], words[2], int(words[3]))])
+    if words[:2] == ['may', 'send'] and len(words) == 6 and words[4] == 'during':
+        return asked._replace(offers=asked.offers + [Offer('send', words[2], int(words[3]), words[5])])
+    if words[0] == 'takes' and len(words) in (3, 4):
+        call = int(words[2].lstrip('@')) if len(words) == 4 else None
+        return asked._replace(takes={**asked.takes, (words[1], call): int(words[-1])})
     if words[0] == 'most' and len(words) == 3 and re.fullmatch('[0-9]+', words[2]):
         if words[1] == 'clock':
             return asked._replace(clock=int(words[2]))

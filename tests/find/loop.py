@@ -25,6 +25,10 @@ class State(NamedTuple):
     timers: List[str]
     # the names that were bound to a handle or a request
     made: List[str]
+    # the names that are bound to a request which a worker runs
+    jobs: List[str]
+    # the callback whose body is under way: its list, and its name
+    caller: Optional[Tuple[str, str]]
 
 
 class Reply(NamedTuple):
@@ -41,19 +45,25 @@ def read_state(lines: List[str]) -> State:
     place = lines[1].split()
     main = int(place[2]) if place[1] == 'main' else None
     deadline = int(place[4]) if place[3:4] == ['poll'] and place[4] != 'infinite' and '+' not in place else None
-    state = State('\n'.join([numbers[1]] + lines[1:]), int(numbers[2]), main, deadline, {}, [], {}, [], [])
+    caller = (place[place.index('+') + 1], place[place.index('+') + 2]) if '+' in place else None
+    state = State('\n'.join([numbers[1]] + lines[1:]), int(numbers[2]), main, deadline, {}, [], {}, [], [], [], caller)
+    bound, run = {}, []
     for line in lines[2:]:
         words = line.split()
         if words[0] == 'name':
             state.calls[words[1]] = (int(words[3]), int(words[4]), int(words[5]))
             if words[2] != 'none':
                 state.made.append(words[1])
+                bound[words[1]] = words[2]
         if words[0] == 'slot' and words[2] == 'timer':
             state.timers.append(words[3])
             if words[words.index('active') + 1] == '1':
                 state.due[words[3]] = int(words[words.index('due') + 1])
+        if words[0] == 'slot' and words[2] == 'work' and words[4] == 'running':
+            run.append(words[1])
         if words[0] == 'running':
             state.busy.extend(int(word.split(':')[0]) for word in words[1:])
+    state.jobs.extend(name for name, slot in bound.items() if slot in run)
     return state
 
 

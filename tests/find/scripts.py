@@ -5,7 +5,7 @@ from typing import Dict, List
 KINDS = ['timer', 'timer', 'timer', 'async', 'async', 'request', 'request', 'request', 'prepare', 'check', 'idle', 'io', 'io']
 CODES = ['ok', 'EINVAL', 'EBUSY', 'ECANCELED', 'EBOUND', 'EFULL', 'ESTALE', 'EKIND']
 SECTIONS = ['pending', 'idle', 'prepare', 'poll', 'done', 'async', 'check', 'closing', 'timers']
-QUESTIONS = ['call', 'nth call', 'code', 'code of', 'section', 'never', 'stuck', 'late', 'before']
+QUESTIONS = ['call', 'nth call', 'on', 'after', 'closed', 'code', 'code of', 'section', 'never', 'stuck', 'late', 'before', 'behind']
 TIMES = [0, 1, 3, 5, 5, 10]
 
 
@@ -57,14 +57,25 @@ def offers_of(draw: Random, kinds: Dict[str, str], question: str) -> List[str]:
     lines = []
     for name, kind in kinds.items():
         if kind == 'async' and draw.random() < 0.8:
-            lines.append('may send %s %d' % (name, draw.choice([1, 1, 2])))
+            jobs = [one for one in kinds if kinds[one] == 'request'] * (draw.random() < 0.4)
+            lines.append('may send %s %d' % (name, draw.choice([1, 1, 2])) + ''.join(' during ' + one for one in jobs[:1]))
         if kind == 'io' and draw.random() < 0.8:
             lines.append('may io %s %d' % (name, draw.choice([1, 1, 2])))
         if kind == 'request' and draw.random() < 0.3:
             lines.append('may cancel %s 1' % name)
     if draw.random() < (0.8 if question.startswith('late ') else 0.3):
         lines.append('may tick %d %d' % (draw.choice([1, 5, 7]), draw.choice([1, 2])))
-    return lines + ['may wait'] * (draw.random() < 0.8)
+    return lines + ['may wait'] * (draw.random() < 0.8) + takes_of(draw, kinds, question)
+
+
+def takes_of(draw: Random, kinds: Dict[str, str], question: str) -> List[str]:
+    lines = []
+    for name in kinds:
+        if draw.random() < (0.5 if question.startswith('late ') else 0.2):
+            lines.append('takes %s %d' % (name, draw.choice([1, 3, 6])))
+        if draw.random() < 0.1:
+            lines.append('takes %s @%d %d' % (name, draw.choice([1, 1, 2]), draw.choice([0, 2, 9])))
+    return lines
 
 
 def bounds_of(draw: Random, kinds: Dict[str, str]) -> List[str]:
@@ -79,9 +90,9 @@ def question_of(draw: Random, kinds: Dict[str, str]) -> str:
     if what == 'late':
         name = draw.choice([one for one in kinds if kinds[one] == 'timer'] or [name])
         return 'late %s %d' % (name, draw.choice([0, 1, 1, 2, 5]))
-    if what == 'before' and len(kinds) > 1:
-        return '%s before %s' % tuple(draw.sample(list(kinds), 2))
-    return {'call': 'call ' + name, 'nth call': 'call %s %d' % (name, draw.choice([1, 2, 3])), 'code': 'code ' + draw.choice(CODES),
+    if what in ('before', 'behind') and len(kinds) > 1:
+        return {'before': '%s before %s', 'behind': '%s after %s'}[what] % tuple(draw.sample(list(kinds), 2))
+    return {'call': 'call ' + name, 'on': 'on ' + name, 'after': 'after %s %d' % (name, draw.choice([1, 1, 2])), 'closed': 'closed ' + name, 'nth call': 'call %s %d' % (name, draw.choice([1, 2, 3])), 'code': 'code ' + draw.choice(CODES),
             'code of': 'code %s of %s' % (draw.choice(CODES), name), 'section': 'section ' + draw.choice(SECTIONS), 'never': 'never ' + name,
             'stuck': 'stuck'}.get(what, 'stuck')
 
@@ -89,8 +100,8 @@ def question_of(draw: Random, kinds: Dict[str, str]) -> str:
 def question_kind(question: str) -> str:
     """Which of the kinds a question is."""
     words = question.split()
-    if words[1:2] == ['before']:
-        return 'before'
+    if words[1:2] in (['before'], ['after']):
+        return {'before': 'before', 'after': 'behind'}[words[1]]
     return {('call', 3): 'nth call', ('code', 4): 'code of'}.get((words[0], len(words)), words[0])
 
 

@@ -7,17 +7,25 @@ from asked import Asked, Offer
 from loop import Loop, Reply, State
 
 CALLS = ['call', 'after', 'closed']
+# The callbacks that the words of a question mean.
+MEANT = {'call': CALLS, 'on': ['call'], 'after': ['after'], 'closed': ['closed']}
+# The words of `takes` don't count for the callback of a close.
+TAKING = {'on': 0, 'after': 1}
+SECTIONS = ['pending', 'idle', 'prepare', 'done', 'async', 'check', 'closing', 'timers']
 NAMELESS = ['stoploop', 'updatetime', 'now', 'alive', 'timeout', 'closeloop']
 
 
 class Place(NamedTuple):
-    """Where the search stands: the loop's state, how often each offer may still be taken, and when the timer was due that is asked for."""
+    """Where the search stands: the loop's state, how often each offer may still be taken, when the timer was due that is asked for, how many ms
+    the callback still takes that has ended, and whether the loop has left its poll and called neither a handle nor a request since."""
     state: State
     left: Tuple[Optional[int], ...]
     due: int
+    owed: int
+    quiet: bool
 
-    def key(self) -> Tuple[str, Tuple[Optional[int], ...], int]:
-        return self.state.text, self.left, self.due
+    def key(self) -> Tuple[object, ...]:
+        return self.state.text, self.left, self.due, self.owed, self.quiet
 
 
 class Move(NamedTuple):
@@ -41,13 +49,26 @@ def every_offer(asked: Asked) -> List[Offer]:
 
 
 def beginning(asked: Asked, state: State) -> Place:
-    return Place(state, tuple(offer.times for offer in every_offer(asked)), 0)
+    return Place(state, tuple(offer.times for offer in every_offer(asked)), 0, 0, False)
 
 
-def command_of(asked: Asked, offer: Offer, left: Optional[int], state: State, is_blocked: bool) -> Optional[str]:
+def may_come(offer: Offer, place: Place) -> bool:
+    """Whether something from outside may come here: not for what isn't made; no send between a poll and the first callback behind it, nor one
+    of a job that isn't run; and while a callback's time goes by no other time does, and no callback of I/O begins."""
+    if offer.word in ('send', 'cancel', 'io') and offer.argument not in place.state.made:
+        return False
+    if offer.word == 'send' and (place.quiet or offer.job is not None and offer.job not in place.state.jobs):
+        return False
+    return not (offer.word in ('io', 'tick') and place.owed)
+
+
+def command_of(asked: Asked, offer: Offer, left: Optional[int], place: Place, is_blocked: bool) -> Optional[str]:
     """What this offer is here, if it is one."""
-    if left == 0 or offer.word in ('send', 'cancel', 'io') and offer.argument not in state.made:
+    state = place.state
+    if left == 0 or not may_come(offer, place):
         return None
+    if offer.word == 'loop' and place.owed:
+        offer = Offer('tick', str(place.owed), None)
     if offer.word == 'take':
         idle = [worker for worker in range(asked.workers) if worker not in state.busy]
         return 'take %d' % idle[0] if idle else None
@@ -67,25 +88,56 @@ def is_within(asked: Asked, state: State) -> bool:
     return all(max(state.calls[name]) <= calls for name, calls in asked.most.items())
 
 
-def after(asked: Asked, place: Place, number: int, state: State) -> Place:
+def caller_of(before: State, line: Optional[str]) -> Optional[Tuple[str, str]]:
+    """The callback of a step of the loop: the one that it begins, or whose op it does."""
+    words = (line or '').split(' ')
+    if words[0] in CALLS and len(words) > 1:
+        return {'call': 'on'}.get(words[0], words[0]), words[1]
+    return before.caller
+
+
+def owed_after(asked: Asked, place: Place, command: str, line: Optional[str], state: State) -> int:
+    """How many ms a callback still takes behind a step: as soon as it has ended, all of its time, and none once the clock has gone on."""
+    if command.startswith('tick '):
+        return 0
+    caller = caller_of(place.state, line) if command.split(' ')[0] in ('loop', 'io') else None
+    if caller is None:
+        return place.owed
+    if state.caller is not None or caller[0] not in TAKING:
+        return 0
+    call = state.calls[caller[1]][TAKING[caller[0]]]
+    return asked.takes.get((caller[1], call), asked.takes.get((caller[1], None), 0))
+
+
+def quiet_after(quiet: bool, command: str, line: Optional[str]) -> bool:
+    """Whether the loop is in the done or the async section, and has called no request and no handle there; handles of I/O don't count."""
+    if command.startswith('io '):
+        return quiet
+    words = (line or '').split(' ')
+    if line in SECTIONS:
+        return line == 'done' or quiet and line == 'async'
+    return quiet and not (words[0] in ('call', 'after') and len(words) > 1)
+
+
+def after(asked: Asked, place: Place, number: int, command: str, reply: Reply) -> Place:
     """Where that offer leads."""
     left = tuple(times if at != number or times is None else times - 1 for at, times in enumerate(place.left))
-    due = state.due.get(asked.question[1], place.due) if asked.question[:1] == ('late',) else 0
-    return Place(state, left, due)
+    due = reply.state.due.get(asked.question[1], place.due) if asked.question[:1] == ('late',) else 0
+    return Place(reply.state, left, due, owed_after(asked, place, command, reply.line, reply.state), quiet_after(place.quiet, command, reply.line))
 
 
 def moves(loop: Loop, asked: Asked, place: Place, blocked: List[bool]) -> Iterator[Move]:
     """The steps that lead on from where the loop is. Behind each the loop is there still; whether it is blocked is told first."""
     steps, state = loop.steps, loop.state
     for number, offer in enumerate(every_offer(asked)):
-        command = command_of(asked, offer, place.left[number], place.state, bool(blocked and blocked[0]))
+        command = command_of(asked, offer, place.left[number], place, bool(blocked and blocked[0]))
         if command is None:
             continue
         reply: Reply = loop.step(command)
         if offer.word == 'loop':
             blocked.append(reply.refused == 'blocked')
         if reply.refused is None and is_within(asked, reply.state):
-            yield Move(number, command, reply.line, after(asked, place, number, reply.state))
+            yield Move(number, command, reply.line, after(asked, place, number, command, reply))
         loop.go_back(steps, state)
 
 
@@ -114,10 +166,11 @@ def begins_call(line: str, name: str) -> bool:
 
 def line_answers(question: Tuple[str, ...], before: Place, line: str, then: State) -> bool:
     words = line.split(' ')
-    if question[1:2] == ('before',) and len(question) == 3:
-        return begins_call(line, question[0]) and not any(before.state.calls[question[2]])
-    if question[0] == 'call':
-        number = then.calls[question[1]][CALLS.index(words[0])] if begins_call(line, question[1]) else 0
+    if question[1:2] in (('before',), ('after',)) and len(question) == 3:
+        return begins_call(line, question[0]) and any(before.state.calls[question[2]]) == (question[1] == 'after')
+    if question[0] in MEANT:
+        meant = begins_call(line, question[1]) and words[0] in MEANT[question[0]]
+        number = then.calls[question[1]][CALLS.index(words[0])] if meant else 0
         return number > 0 and (len(question) == 2 or number == int(question[2]))
     if question[0] == 'code':
         return code_in(line) == question[1] and (len(question) == 2 or named_in(line) == question[3])
@@ -130,10 +183,9 @@ def line_answers(question: Tuple[str, ...], before: Place, line: str, then: Stat
 
 
 def answers(asked: Asked, before: Place, move: Move) -> bool:
-    """Whether the step answers the question. (That nothing leads on is asked of the place: `is_stuck`.)"""
+    """Whether the step's line answers the question. (`never` and `stuck` are asked of the place: `answers_here`.)"""
     if asked.question[:1] == ('never',) and len(asked.question) == 2:
-        state = move.place.state
-        return state.main == asked.main and not any(state.calls[asked.question[1]])
+        return False
     return move.line is not None and asked.question != () and line_answers(asked.question, before, move.line, move.place.state)
 
 
@@ -146,6 +198,14 @@ def search(program: str, asked: Asked, cap: int) -> Settled:
         return search_from(loop, asked, cap)
     finally:
         loop.close()
+
+
+def answers_here(asked: Asked, place: Place, blocked: List[bool], leads: bool) -> bool:
+    """Whether the place answers the question by itself."""
+    if asked.question == ('stuck',):
+        return blocked[:1] == [True] and not leads
+    is_never = asked.question[:1] == ('never',) and len(asked.question) == 2
+    return is_never and place.state.main == asked.main and not any(place.state.calls[asked.question[1]])
 
 
 def search_from(loop: Loop, asked: Asked, cap: int) -> Settled:
@@ -168,7 +228,7 @@ def search_from(loop: Loop, asked: Asked, cap: int) -> Settled:
                     return Settled(found, None)
                 seen.add(key)
                 waiting.append((steps + (move.command,), move.place))
-        if found is None and asked.question == ('stuck',) and steps and blocked[0] and not leads:
+        if found is None and answers_here(asked, place, blocked, leads):
             found = len(steps)
     return Settled(found, len(seen))
 
@@ -194,8 +254,7 @@ def walk(loop: Loop, asked: Asked, steps: List[str]) -> Optional[str]:
         answered = answers(asked, place, move)
         loop.go_to(tuple(steps[:number]))
         place = move.place
-    if asked.question == ('stuck',) and steps:
-        blocked: List[bool] = []
-        leads = list(moves(loop, asked, place, blocked))
-        answered = blocked[0] and not leads
+    blocked: List[bool] = []
+    leads = list(moves(loop, asked, place, blocked))
+    answered = answered or answers_here(asked, place, blocked, bool(leads))
     return None if answered else 'the last step does not answer'

@@ -28,7 +28,7 @@ fn outcome(answer: Result<Inquiry, Fault>) -> Result<Became, Fault> {
     }
 }
 
-const INPUTS: [(&[u8], Became); 13] = [
+const INPUTS: [(&[u8], Became); 15] = [
     (b"var a\nbegin\nfind never a\n", Became::Read),
     (b"order 1.44\nbegin\n# nothing\n\nfind stuck", Became::Read),
     (b"", Became::Bad(1)),
@@ -57,6 +57,14 @@ const INPUTS: [(&[u8], Became); 13] = [
         Became::Bad(5),
     ),
     (b"begin\nbegin\nfind stuck\n", Became::Bad(2)),
+    (
+        b"var a\nvar b\nbegin\ntakes a 1\ntakes a @1 1\ntakes b 1\ntakes a 2\nfind stuck\n",
+        Became::Bad(7),
+    ),
+    (
+        b"var a\nvar b\nbegin\nmay send a 1\nmay send a 1 during b\nmay send a 2 during b\nfind stuck\n",
+        Became::Bad(6),
+    ),
 ];
 
 #[test]

@@ -1,7 +1,7 @@
 //! Lines whose words are also names.
 
 use std::test::Fail;
-use uv_asking::{Offer, Part, Question, Said, read_part};
+use uv_asking::{Offer, Part, Question, Said, Takes, Which, read_part};
 use uv_ids::{Code, Event, Phase, Var};
 use uv_script::{Names, Script};
 
@@ -9,6 +9,8 @@ use uv_script::{Names, Script};
 #[derive(Clone, Copy)]
 enum Says {
     Offers(Event, u32),
+    SendsDuring(u32, u32, u32),
+    Takes(u32, Option<u32>, u64),
     Asks(Question),
     Clock(u64),
     States(u32),
@@ -19,16 +21,19 @@ enum Says {
 /// The names `call`, `before`, `clock`, `states`, `of`, `stuck` and `x`, from 0.
 const NAMES: &[u8] = b"var call\nvar before\nvar clock\nvar states\nvar of\nvar stuck\nvar x\n";
 
-const LINES: [(&[u8], Says); 24] = [
-    (b"find call x", Says::Asks(Question::Call(Var(6), None))),
+const LINES: [(&[u8], Says); 40] = [
+    (
+        b"find call x",
+        Says::Asks(Question::Call(Which::Any, Var(6), None)),
+    ),
     (
         b"find call x 3",
-        Says::Asks(Question::Call(Var(6), Some(3))),
+        Says::Asks(Question::Call(Which::Any, Var(6), Some(3))),
     ),
     (b"find call x 0", Says::Bad),
     (
         b"find call before",
-        Says::Asks(Question::Call(Var(1), None)),
+        Says::Asks(Question::Call(Which::Any, Var(1), None)),
     ),
     (
         b"find call before x",
@@ -65,6 +70,34 @@ const LINES: [(&[u8], Says); 24] = [
     (b"may io x 2", Says::Offers(Event::Io(Var(6)), 2)),
     (b"may io x", Says::Bad),
     (b"may io y 1", Says::Bad),
+    (b"may send x 2 during of", Says::SendsDuring(6, 4, 2)),
+    (b"may send x 2 during x", Says::Bad),
+    (b"may io x 2 during of", Says::Bad),
+    (b"may send x 2 while of", Says::Bad),
+    (b"may send x 2 during", Says::Bad),
+    (b"takes x 0", Says::Takes(6, None, 0)),
+    (b"takes x @2 40", Says::Takes(6, Some(2), 40)),
+    (b"takes x @0 40", Says::Bad),
+    (b"takes x 2 40", Says::Bad),
+    (b"takes x", Says::Bad),
+    (
+        b"find on x",
+        Says::Asks(Question::Call(Which::Handle, Var(6), None)),
+    ),
+    (
+        b"find after x 2",
+        Says::Asks(Question::Call(Which::After, Var(6), Some(2))),
+    ),
+    (
+        b"find closed x",
+        Says::Asks(Question::Call(Which::Close, Var(6), None)),
+    ),
+    (
+        b"find x after call",
+        Says::Asks(Question::Behind(Var(6), Var(0))),
+    ),
+    (b"find x after x", Says::Bad),
+    (b"find call after 2", Says::Bad),
 ];
 
 fn is_said(names: &Names, line: &[u8], says: Says) -> bool {
@@ -72,6 +105,17 @@ fn is_said(names: &Names, line: &[u8], says: Says) -> bool {
         (Said::One(Part::Finds(found)), Says::Asks(question)) => found == question,
         (Said::One(Part::Offers(found)), Says::Offers(event, times)) => {
             found.offer == Offer::Step(event) && found.times == Some(times)
+        }
+        (Said::One(Part::Offers(found)), Says::SendsDuring(name, job, times)) => {
+            found.offer == Offer::SendDuring(Var(name), Var(job)) && found.times == Some(times)
+        }
+        (Said::One(Part::Takes(found)), Says::Takes(name, call, ms)) => {
+            found
+                == Takes {
+                    name: Var(name),
+                    call,
+                    ms,
+                }
         }
         (Said::One(Part::Clock(found)), Says::Clock(ms)) => found == ms,
         (Said::One(Part::States(found)), Says::States(states)) => found == states,

@@ -19,19 +19,20 @@ use Rattle.uv_script.proofs.AfterLines.{line_begins}
 use Rattle.uv_script.proofs.Checks.{is_line_decides, is_skipped_decides}
 use Rattle.uv_script.proofs.KindWords.{choice_other}
 use Rattle.uv_asking.specs.declared.asking.Offer.{Offer}
-use Rattle.uv_asking.specs.declared.asking.Offer.TheVariants.{Step}
+use Rattle.uv_asking.specs.declared.asking.Offer.TheVariants.{Step, SendDuring}
+use Rattle.uv_asking.specs.declared.asking.Which.{Which}
 use Rattle.uv_asking.specs.declared.asking.Question.{Question}
 use Rattle.uv_asking.specs.declared.asking.Question.TheVariants as question
 use Rattle.uv_asking.specs.declared.part.Part.{Part}
-use Rattle.uv_asking.specs.declared.part.Part.TheVariants.{Offers, Clock, Calls, States, Finds}
+use Rattle.uv_asking.specs.declared.part.Part.TheVariants.{Offers, Takes, Clock, Calls, States, Finds}
 use Rattle.uv_asking.specs.declared.part.Said.{Said}
 use Rattle.uv_asking.specs.declared.part.Said.TheVariants.{Nothing, Bad}
 use Rattle.uv_asking.specs.Limits.{MOST_COUNT, MOST_MS}
 use Rattle.uv_asking.specs.Grammar as is
-use Rattle.uv_asking.specs.Grammar.{IsWithin, IsOffer, IsQuestion, IsPart, IsNoPart, Says, nothing, one, bad}
-use Rattle.uv_asking.specs.Tests.{number_in, offer_of, times_of, waits, may_of, calls_of, bound_of, most_of, stuck_of, section_of, plain_of, nth_call_of, late_of, numbered_of, before_of, three_of, code_name_of, four_of, question_of, part_by, part_of, said_by, said_of}
-use Rattle.uv_asking.proofs.Found.{Has, mapped, bound, Found, sure, found_is, found_map, found_both}
-use Rattle.uv_asking.proofs.FieldWords.{number_right, number_found, place_right, place_found}
+use Rattle.uv_asking.specs.Grammar.{which_word, IsNoOrder, IsWithin, IsOffer, IsQuestion, IsPart, IsNoPart, Says, nothing, one, bad}
+use Rattle.uv_asking.specs.Tests.{number_in, call_in, which_named, offer_of, times_of, send_during, during_of, waits, may_of, takes_by, takes_of, calls_of, bound_of, most_of, stuck_of, section_of, named_of, plain_by, plain_of, nth_call_of, late_of, numbered_by, numbered_of, before_of, behind_of, three_of, code_name_of, four_of, question_of, part_by, part_of, said_by, said_of}
+use Rattle.uv_asking.proofs.Found.{Has, mapped, bound, Found, sure, found_is, found_map, found_both, found_three}
+use Rattle.uv_asking.proofs.FieldWords.{number_right, number_found, place_right, place_found, IsNth, nth_right, which_right, which_found}
 
 -- ---- what is found is so
 
@@ -76,16 +77,67 @@ unfolding waits
 waits_right names word what w =
     cond_both (bytes_eq what (codes "wait")) _ _ (Has (IsPart names (word ∷ what ∷ []))) (λ a. is.may_wait (two [] w (same _ _ a))) (λ _. tt)
 
+-- what a word isn't
+differs : (a b : List ℕ) → bytes_eq a b ≡ false → a ≡ b → ⊥
+differs a b e h = both_ways _ e ((bytes_eq-Decides a b).1 h)
+
+send_right : (names : List (List ℕ)) (head what name times word job : List ℕ) → head ≡ codes "may" → what ≡ codes "send" →
+    word ≡ codes "during" → (name ≡ job → ⊥) → Has (IsPart names (head ∷ what ∷ name ∷ times ∷ word ∷ job ∷ [])) (send_during names name times job)
+unfolding send_during
+send_right names head what name times word job h w d other =
+    let P = IsPart names (head ∷ what ∷ name ∷ times ∷ word ∷ job ∷ []) in
+    bound (IsDeclared names name) P _ (place_of names name) (place_right names name)
+    (λ v k. bound (IsDeclared names job) P _ (place_of names job) (place_right names job)
+    (λ u l. mapped (IsWithin 1 MOST_COUNT times) P _ (number_in 1 MOST_COUNT times) (number_right 1 MOST_COUNT times)
+    (λ n m. is.may_during name v times n job u
+    (two _ h w ∙ ap (λ (x : List ℕ). codes "may" ∷ codes "send" ∷ name ∷ times ∷ x ∷ job ∷ []) d) other k l m)))
+
+during_right : (names : List (List ℕ)) (head what name times word job : List ℕ) → head ≡ codes "may" →
+    Has (IsPart names (head ∷ what ∷ name ∷ times ∷ word ∷ job ∷ [])) (during_of names what name times word job)
+unfolding during_of
+during_right names head what name times word job h =
+    let P : Option Part → Type 0 = Has (IsPart names (head ∷ what ∷ name ∷ times ∷ word ∷ job ∷ [])) in
+    cond_both (bytes_eq what (codes "send")) _ _ P
+    (λ a. cond_both (bytes_eq word (codes "during")) _ _ P
+    (λ b. cond_both (bytes_eq name job) _ _ P (λ _. tt)
+    (λ c. send_right names head what name times word job h (same _ _ a) (same _ _ b) (differs name job c))) (λ _. tt)) (λ _. tt)
+
 may_right : (names : List (List ℕ)) (word : List ℕ) (rest : List (List ℕ)) → word ≡ codes "may" → Has (IsPart names (word ∷ rest)) (may_of names rest)
 may_right names word [] w = tt
 may_right names word (what ∷ []) w = waits_right names word what w
 may_right names word (what ∷ argument ∷ []) w = tt
 may_right names word (what ∷ argument ∷ times ∷ []) w = times_right names word what argument times w
-may_right names word (what ∷ argument ∷ times ∷ more ∷ rest) w = tt
+may_right names word (what ∷ argument ∷ times ∷ more ∷ []) w = tt
+may_right names word (what ∷ argument ∷ times ∷ more ∷ job ∷ []) w = during_right names word what argument times more job w
+may_right names word (what ∷ argument ∷ times ∷ more ∷ job ∷ last ∷ rest) w = tt
 
--- what a word isn't
-differs : (a b : List ℕ) → bytes_eq a b ≡ false → a ≡ b → ⊥
-differs a b e h = both_ways _ e ((bytes_eq-Decides a b).1 h)
+takes_each_right : (names : List (List ℕ)) (word name ms : List ℕ) → word ≡ codes "takes" →
+    Has (IsPart names (word ∷ name ∷ ms ∷ [])) (takes_by names name None ms)
+unfolding takes_by
+takes_each_right names word name ms w =
+    let P = IsPart names (word ∷ name ∷ ms ∷ []) in
+    bound (IsDeclared names name) P _ (place_of names name) (place_right names name)
+    (λ v h. mapped (IsWithin 0 MOST_MS ms) P _ (number_in 0 MOST_MS ms) (number_right 0 MOST_MS ms) (λ n k. is.takes name v ms n (front _ w) h k))
+
+takes_once_right : (names : List (List ℕ)) (word name call ms : List ℕ) (k : ℕ) → word ≡ codes "takes" → IsNth call k →
+    Has (IsPart names (word ∷ name ∷ call ∷ ms ∷ [])) (takes_by names name (Some k) ms)
+unfolding takes_by
+takes_once_right names word name call ms k w nth =
+    let P = IsPart names (word ∷ name ∷ call ∷ ms ∷ []) in
+    bound (IsDeclared names name) P _ (place_of names name) (place_right names name)
+    (λ v h. mapped (IsWithin 0 MOST_MS ms) P _ (number_in 0 MOST_MS ms) (number_right 0 MOST_MS ms)
+    (λ n m. is.takes_once name v nth.number k ms n
+    (front _ w ∙ ap (λ (x : List ℕ). codes "takes" ∷ name ∷ x ∷ ms ∷ []) nth.marked) h nth.within m))
+
+takes_right : (names : List (List ℕ)) (word : List ℕ) (rest : List (List ℕ)) → word ≡ codes "takes" →
+    Has (IsPart names (word ∷ rest)) (takes_of names rest)
+takes_right names word [] w = tt
+takes_right names word (name ∷ []) w = tt
+takes_right names word (name ∷ ms ∷ []) w = takes_each_right names word name ms w
+takes_right names word (name ∷ call ∷ ms ∷ []) w =
+    bound (IsNth call) (IsPart names (word ∷ name ∷ call ∷ ms ∷ [])) _ (call_in call) (nth_right call)
+    (λ k h. takes_once_right names word name call ms k w h)
+takes_right names word (name ∷ call ∷ ms ∷ more ∷ rest) w = tt
 
 bound_right : (names : List (List ℕ)) (word what number : List ℕ) → word ≡ codes "most" →
     Has (IsPart names (word ∷ what ∷ number ∷ [])) (bound_of names what number)
@@ -121,30 +173,35 @@ section_right names what word w =
     cond_both (bytes_eq word (codes "poll")) _ _ (Has P) (λ a. is.poll (two [] w (same _ _ a)))
     (λ _. mapped (λ (x : Phase). word ≡ phase_word x) P _ (phase_named word) (phase_right word) (λ x h. is.section x (two [] w h)))
 
-plain_right : (names : List (List ℕ)) (what argument : List ℕ) → Has (IsQuestion names (what ∷ argument ∷ [])) (plain_of names what argument)
-unfolding plain_of
-plain_right names what argument =
+named_right : (names : List (List ℕ)) (what argument : List ℕ) → Has (IsQuestion names (what ∷ argument ∷ [])) (named_of names what argument)
+unfolding named_of
+named_right names what argument =
     let P = IsQuestion names (what ∷ argument ∷ []) in
-    cond_both (bytes_eq what (codes "call")) _ _ (Has P)
-    (λ a. mapped (IsDeclared names argument) P _ (place_of names argument) (place_right names argument)
-    (λ v h. is.call argument v (front _ (same _ _ a)) h))
-    (λ _. cond_both (bytes_eq what (codes "code")) _ _ (Has P)
+    cond_both (bytes_eq what (codes "code")) _ _ (Has P)
     (λ a. mapped (λ (c : Code). argument ≡ code_word c) P _ (code_named argument) (code_right argument) (λ c h. is.code c (two [] (same _ _ a) h)))
     (λ _. cond_both (bytes_eq what (codes "section")) _ _ (Has P) (λ a. section_right names what argument (same _ _ a))
     (λ _. cond_both (bytes_eq what (codes "never")) _ _ (Has P)
     (λ a. mapped (IsDeclared names argument) P _ (place_of names argument) (place_right names argument)
-    (λ v h. is.never argument v (front _ (same _ _ a)) h)) (λ _. tt))))
+    (λ v h. is.never argument v (front _ (same _ _ a)) h)) (λ _. tt)))
 
-nth_call_right : (names : List (List ℕ)) (what name number : List ℕ) → what ≡ codes "call" → (name ≡ codes "before" → ⊥) →
-    Has (IsQuestion names (what ∷ name ∷ number ∷ [])) (nth_call_of names name number)
+plain_right : (names : List (List ℕ)) (what argument : List ℕ) → Has (IsQuestion names (what ∷ argument ∷ [])) (plain_of names what argument)
+unfolding plain_of
+plain_right names what argument = by (which_named what) (which_right what) where
+  by : (o : Option Which) → Has (λ (w : Which). what ≡ which_word w) o → Has (IsQuestion names (what ∷ argument ∷ [])) (plain_by names what argument o)
+  by None h = named_right names what argument
+  by (Some w) h = mapped (IsDeclared names argument) (IsQuestion names (what ∷ argument ∷ [])) _ (place_of names argument) (place_right names argument)
+      (λ v k. is.call w argument v (front _ h) k)
+
+nth_call_right : (names : List (List ℕ)) (which : Which) (what name number : List ℕ) → what ≡ which_word which → IsNoOrder name →
+    Has (IsQuestion names (what ∷ name ∷ number ∷ [])) (nth_call_of names which name number)
 unfolding nth_call_of
-nth_call_right names what name number w other =
+nth_call_right names which what name number w other =
     let P = IsQuestion names (what ∷ name ∷ number ∷ []) in
     bound (IsDeclared names name) P _ (place_of names name) (place_right names name)
     (λ v h. mapped (IsWithin 1 MOST_COUNT number) P _ (number_in 1 MOST_COUNT number) (number_right 1 MOST_COUNT number)
-    (λ n k. is.nth_call name v number n (front _ w) other h k))
+    (λ n k. is.nth_call which name v number n (front _ w) other h k))
 
-late_right : (names : List (List ℕ)) (what name number : List ℕ) → what ≡ codes "late" → (name ≡ codes "before" → ⊥) →
+late_right : (names : List (List ℕ)) (what name number : List ℕ) → what ≡ codes "late" → IsNoOrder name →
     Has (IsQuestion names (what ∷ name ∷ number ∷ [])) (late_of names name number)
 unfolding late_of
 late_right names what name number w other =
@@ -153,13 +210,15 @@ late_right names what name number w other =
     (λ v h. mapped (IsWithin 0 MOST_MS number) P _ (number_in 0 MOST_MS number) (number_right 0 MOST_MS number)
     (λ ms k. is.late name v number ms (front _ w) other h k))
 
-numbered_right : (names : List (List ℕ)) (what name number : List ℕ) → (name ≡ codes "before" → ⊥) →
+numbered_right : (names : List (List ℕ)) (what name number : List ℕ) → IsNoOrder name →
     Has (IsQuestion names (what ∷ name ∷ number ∷ [])) (numbered_of names what name number)
 unfolding numbered_of
-numbered_right names what name number other =
-    let P = IsQuestion names (what ∷ name ∷ number ∷ []) in
-    cond_both (bytes_eq what (codes "call")) _ _ (Has P) (λ a. nth_call_right names what name number (same _ _ a) other)
-    (λ _. cond_both (bytes_eq what (codes "late")) _ _ (Has P) (λ a. late_right names what name number (same _ _ a) other) (λ _. tt))
+numbered_right names what name number other = by (which_named what) (which_right what) where
+  by : (o : Option Which) → Has (λ (w : Which). what ≡ which_word w) o →
+      Has (IsQuestion names (what ∷ name ∷ number ∷ [])) (numbered_by names what name number o)
+  by (Some w) h = nth_call_right names w what name number h other
+  by None h = cond_both (bytes_eq what (codes "late")) _ _ (Has (IsQuestion names (what ∷ name ∷ number ∷ [])))
+      (λ a. late_right names what name number (same _ _ a) other) (λ _. tt)
 
 before_right : (names : List (List ℕ)) (first middle second : List ℕ) → middle ≡ codes "before" →
     Has (IsQuestion names (first ∷ middle ∷ second ∷ [])) (before_of names first second)
@@ -171,12 +230,24 @@ before_right names first middle second w =
     (λ v h. mapped (IsDeclared names second) P _ (place_of names second) (place_right names second)
     (λ u k. is.before first v second u (ap (λ (x : List ℕ). first ∷ x ∷ second ∷ []) w) (differs first second o) h k)))
 
+behind_right : (names : List (List ℕ)) (first middle second : List ℕ) → middle ≡ codes "after" →
+    Has (IsQuestion names (first ∷ middle ∷ second ∷ [])) (behind_of names first second)
+unfolding behind_of
+behind_right names first middle second w =
+    let P = IsQuestion names (first ∷ middle ∷ second ∷ []) in
+    cond_both (bytes_eq first second) _ _ (Has P) (λ _. tt)
+    (λ o. bound (IsDeclared names first) P _ (place_of names first) (place_right names first)
+    (λ v h. mapped (IsDeclared names second) P _ (place_of names second) (place_right names second)
+    (λ u k. is.after first v second u (ap (λ (x : List ℕ). first ∷ x ∷ second ∷ []) w) (differs first second o) h k)))
+
 three_right : (names : List (List ℕ)) (first second third : List ℕ) →
     Has (IsQuestion names (first ∷ second ∷ third ∷ [])) (three_of names first second third)
 unfolding three_of
 three_right names first second third =
-    cond_both (bytes_eq second (codes "before")) _ _ (Has (IsQuestion names (first ∷ second ∷ third ∷ [])))
-    (λ a. before_right names first second third (same _ _ a)) (λ o. numbered_right names first second third (differs second _ o))
+    let P : Option Question → Type 0 = Has (IsQuestion names (first ∷ second ∷ third ∷ [])) in
+    cond_both (bytes_eq second (codes "before")) _ _ P (λ a. before_right names first second third (same _ _ a))
+    (λ o. cond_both (bytes_eq second (codes "after")) _ _ P (λ a. behind_right names first second third (same _ _ a))
+    (λ q. numbered_right names first second third (differs second _ o, differs second _ q)))
 
 code_name_right : (names : List (List ℕ)) (what word of name : List ℕ) → what ≡ codes "code" → of ≡ codes "of" →
     Has (IsQuestion names (what ∷ word ∷ of ∷ name ∷ [])) (code_name_of names word name)
@@ -209,10 +280,11 @@ part_right names [] = tt
 part_right names (word ∷ rest) =
     let P = IsPart names (word ∷ rest) in
     cond_both (bytes_eq word (codes "may")) _ _ (Has P) (λ a. may_right names word rest (same _ _ a))
+    (λ _. cond_both (bytes_eq word (codes "takes")) _ _ (Has P) (λ a. takes_right names word rest (same _ _ a))
     (λ _. cond_both (bytes_eq word (codes "most")) _ _ (Has P) (λ a. most_right names word rest (same _ _ a))
     (λ _. cond_both (bytes_eq word (codes "find")) _ _ (Has P)
     (λ a. mapped (IsQuestion names rest) P _ (question_of names rest) (question_right names rest) (λ q h. is.finds rest q (front _ (same _ _ a)) h))
-    (λ _. tt)))
+    (λ _. tt))))
 
 -- ---- what is so is found
 
@@ -244,36 +316,53 @@ unfolding section_of
 poll_found = refl
 
 question_found : (names fields : List (List ℕ)) (q : Question) → IsQuestion names fields q → Found (question_of names fields) (AreDistinct names) q
-unfolding stuck_of plain_of three_of numbered_of nth_call_of late_of before_of four_of code_name_of
+unfolding stuck_of plain_of named_of which_named three_of numbered_of nth_call_of late_of before_of behind_of four_of code_name_of
 question_found names fields q (is.stuck e) = sure (ap (question_of names) e)
-question_found names fields q (is.call name v e h) =
-    found_is (ap (question_of names) e) (found_map (λ (u : Var). question.Call u None) (place_found names name v h))
+question_found names fields q (is.call w name v e h) =
+    found_is (ap (question_of names) e ∙ ap (plain_by names (which_word w) name) (which_found w))
+    (found_map (λ (u : Var). question.Call w u None) (place_found names name v h))
 question_found names fields q (is.code c e) =
     sure (ap (question_of names) e ∙ ap (option_map (λ (d : Code). question.Code d None)) (code_found c))
 question_found names fields q (is.section x e) = sure (ap (question_of names) e ∙ section_found x)
 question_found names fields q (is.poll e) = sure (ap (question_of names) e ∙ poll_found)
 question_found names fields q (is.never name v e h) =
     found_is (ap (question_of names) e) (found_map question.Never (place_found names name v h))
-question_found names fields q (is.nth_call name v number n e other h k) =
-    found_is (ap (question_of names) e ∙ choice_other name (codes "before") _ _ other)
-    (found_both (λ (u : Var) (m : ℕ). question.Call u (Some m)) (place_found names name v h) (number_found 1 MOST_COUNT number n k))
+question_found names fields q (is.nth_call w name v number n e other h k) =
+    found_is (ap (question_of names) e ∙ choice_other name (codes "before") _ _ other.0 ∙ choice_other name (codes "after") _ _ other.1
+    ∙ ap (numbered_by names (which_word w) name number) (which_found w))
+    (found_both (λ (u : Var) (m : ℕ). question.Call w u (Some m)) (place_found names name v h) (number_found 1 MOST_COUNT number n k))
 question_found names fields q (is.late name v number ms e other h k) =
-    found_is (ap (question_of names) e ∙ choice_other name (codes "before") _ _ other)
+    found_is (ap (question_of names) e ∙ choice_other name (codes "before") _ _ other.0 ∙ choice_other name (codes "after") _ _ other.1)
     (found_both (λ (u : Var) (m : ℕ). question.Late u m) (place_found names name v h) (number_found 0 MOST_MS number ms k))
 question_found names fields q (is.before first v second w e other h k) =
     found_is (ap (question_of names) e ∙ choice_other first second _ _ other)
     (found_both (λ (a b : Var). question.Before a b) (place_found names first v h) (place_found names second w k))
+question_found names fields q (is.after first v second w e other h k) =
+    found_is (ap (question_of names) e ∙ choice_other first second _ _ other)
+    (found_both (λ (a b : Var). question.Behind a b) (place_found names first v h) (place_found names second w k))
 question_found names fields q (is.code_of c name v e h) =
     found_is (ap (question_of names) e)
     (found_both (λ (d : Code) (u : Var). question.Code d (Some u)) (sure (code_found c)) (place_found names name v h))
 
 part_found : (names fields : List (List ℕ)) (p : Part) → IsPart names fields p → Found (part_of names fields) (AreDistinct names) p
-unfolding part_by times_of waits bound_of calls_of
+unfolding part_by times_of during_of send_during waits takes_by bound_of calls_of
 part_found names fields p (is.may what argument o times n e h k) =
     found_is (ap (part_of names) e)
     (found_both (λ (a : Offer) (m : ℕ). Offers (record { offer = a; times = Some m })) (offer_found names what argument o h)
     (number_found 1 MOST_COUNT times n k))
+part_found names fields p (is.may_during name v times n job w e other h k l) =
+    found_is (ap (part_of names) e ∙ choice_other name job _ _ other)
+    (found_three (λ (a b : Var) (m : ℕ). Offers (record { offer = SendDuring a b; times = Some m })) (place_found names name v h)
+    (place_found names job w k) (number_found 1 MOST_COUNT times n l))
 part_found names fields p (is.may_wait e) = sure (ap (part_of names) e)
+part_found names fields p (is.takes name v ms n e h k) =
+    found_is (ap (part_of names) e)
+    (found_both (λ (u : Var) (m : ℕ). Takes (record { name = u; call = None; ms = m })) (place_found names name v h) (number_found 0 MOST_MS ms n k))
+part_found names fields p (is.takes_once name v call k ms n e h c l) =
+    let one = number_found {Holds = AreDistinct names} 1 MOST_COUNT call k c in
+    found_is (ap (part_of names) e)
+    (found_three (λ (i : ℕ) (u : Var) (m : ℕ). Takes (record { name = u; call = Some i; ms = m })) one (place_found names name v h)
+    (number_found 0 MOST_MS ms n l))
 part_found names fields p (is.most_clock number ms e h) =
     found_is (ap (part_of names) e) (found_map Clock (number_found 0 MOST_MS number ms h))
 part_found names fields p (is.most_states number n e h) =
@@ -301,7 +390,10 @@ no_part names fields none = by (part_of names fields) refl (part_right names fie
 -- what is said isn't skipped
 pub says_something : (names : List (List ℕ)) (line : List ℕ) (p : Part) → IsPart names (fields_of line) p → is_skipped line ≡ false
 says_something names line p (is.may what argument o times n e h k) = line_begins line _ _ _ e
+says_something names line p (is.may_during name v times n job w e other h k l) = line_begins line _ _ _ e
 says_something names line p (is.may_wait e) = line_begins line _ _ _ e
+says_something names line p (is.takes name v ms n e h k) = line_begins line _ _ _ e
+says_something names line p (is.takes_once name v call k ms n e h c l) = line_begins line _ _ _ e
 says_something names line p (is.most_clock number ms e h) = line_begins line _ _ _ e
 says_something names line p (is.most_states number n e h) = line_begins line _ _ _ e
 says_something names line p (is.most_calls name v number n e c s h k) = line_begins line _ _ _ e

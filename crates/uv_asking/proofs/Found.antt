@@ -39,3 +39,15 @@ found_both {A} {B} {C} {o} {p} {Holds} {x} {y} f h k = record {
   found = ap (λ (q : Option A). option_and_then (λ (a : A). option_map (f a) p) q) h.found ∙ ap (option_map (f h.it)) k.found;
   same = λ d. ap (λ (a : A). f a k.it) (h.same d) ∙ ap (f x) (k.same d);
 }
+
+-- three
+pub found_three : {A B C D : Type 0} {o : Option A} {p : Option B} {q : Option C} {Holds : Type 0} {x : A} {y : B} {z : C} (f : A → B → C → D) →
+    Found o Holds x → Found p Holds y → Found q Holds z →
+    Found (option_and_then (λ (a : A). option_and_then (λ (b : B). option_map (f a b) q) p) o) Holds (f x y z)
+found_three {A} {B} {C} {D} {o} {p} {q} {Holds} {x} {y} {z} f h k l =
+    let more = found_both (f h.it) k l in
+    record {
+      it = more.it;
+      found = ap (λ (r : Option A). option_and_then (λ (a : A). option_and_then (λ (b : B). option_map (f a b) q) p) r) h.found ∙ more.found;
+      same = λ d. more.same d ∙ ap (λ (a : A). f a y z) (h.same d);
+    }

@@ -8,11 +8,13 @@ use Rattle.uv_ids.specs.Words.{code_word, phase_word}
 use Rattle.uv_script.specs.Lines.{fields_of, IsLine, IsSkipped}
 use Rattle.uv_script.specs.Words.{IsNumber, IsDeclared}
 use Rattle.uv_asking.specs.declared.asking.Offer.{Offer}
-use Rattle.uv_asking.specs.declared.asking.Offer.TheVariants.{Step, Wait}
+use Rattle.uv_asking.specs.declared.asking.Offer.TheVariants.{Step, SendDuring, Wait}
+use Rattle.uv_asking.specs.declared.asking.Which.{Which}
+use Rattle.uv_asking.specs.declared.asking.Which.TheVariants as which
 use Rattle.uv_asking.specs.declared.asking.Question.{Question}
 use Rattle.uv_asking.specs.declared.asking.Question.TheVariants as question
 use Rattle.uv_asking.specs.declared.part.Part.{Part}
-use Rattle.uv_asking.specs.declared.part.Part.TheVariants.{Offers, Clock, Calls, States, Finds}
+use Rattle.uv_asking.specs.declared.part.Part.TheVariants.{Offers, Takes, Clock, Calls, States, Finds}
 use Rattle.uv_asking.specs.declared.part.Said.{Said}
 use Rattle.uv_asking.specs.declared.part.Said.TheVariants.{Nothing, One, Bad}
 use Rattle.uv_asking.specs.Limits.{MOST_COUNT, MOST_MS}
@@ -30,22 +32,36 @@ pub data IsOffer (names : List (List ℕ)) (what argument : List ℕ) : Offer �
   io : (v : Var) → what ≡ codes "io" → IsDeclared names argument v → IsOffer names what argument (Step (event.Io v))
   tick : (ms : ℕ) → what ≡ codes "tick" → IsWithin 1 MOST_MS argument ms → IsOffer names what argument (Step (event.Tick ms))
 
--- the fields behind `find`, and the question that they are, where these names are declared. Where `before` is the second of three fields they
--- are the last form and no other one, also where a name is called so
+-- the word for these callbacks of a name
+abbrev pub which_word : Which → List ℕ
+which_word which.Any = codes "call"
+which_word which.Handle = codes "on"
+which_word which.After = codes "after"
+which_word which.Close = codes "closed"
+
+-- it is no word that stands between two names
+abbrev pub IsNoOrder : List ℕ → Type 0
+IsNoOrder word = (word ≢ codes "before") × (word ≢ codes "after")
+
+-- the fields behind `find`, and the question that they are, where these names are declared. Where `before` or `after` is the second of three
+-- fields they are that form and no other one, also where a name is called so
 pub data IsQuestion (names fields : List (List ℕ)) : Question → Type 0 where
   stuck : fields ≡ codes "stuck" ∷ [] → IsQuestion names fields question.Stuck
-  call : (name : List ℕ) (v : Var) → fields ≡ codes "call" ∷ name ∷ [] → IsDeclared names name v → IsQuestion names fields (question.Call v None)
+  call : (w : Which) (name : List ℕ) (v : Var) → fields ≡ which_word w ∷ name ∷ [] → IsDeclared names name v →
+      IsQuestion names fields (question.Call w v None)
   code : (c : ids.Code) → fields ≡ codes "code" ∷ code_word c ∷ [] → IsQuestion names fields (question.Code c None)
   section : (x : Phase) → fields ≡ codes "section" ∷ phase_word x ∷ [] → IsQuestion names fields (question.Section x)
   -- the poll is a section here
   poll : fields ≡ codes "section" ∷ codes "poll" ∷ [] → IsQuestion names fields question.Poll
   never : (name : List ℕ) (v : Var) → fields ≡ codes "never" ∷ name ∷ [] → IsDeclared names name v → IsQuestion names fields (question.Never v)
-  nth_call : (name : List ℕ) (v : Var) (number : List ℕ) (n : ℕ) → fields ≡ codes "call" ∷ name ∷ number ∷ [] → name ≢ codes "before" →
-      IsDeclared names name v → IsWithin 1 MOST_COUNT number n → IsQuestion names fields (question.Call v (Some n))
-  late : (name : List ℕ) (v : Var) (number : List ℕ) (ms : ℕ) → fields ≡ codes "late" ∷ name ∷ number ∷ [] → name ≢ codes "before" →
+  nth_call : (w : Which) (name : List ℕ) (v : Var) (number : List ℕ) (n : ℕ) → fields ≡ which_word w ∷ name ∷ number ∷ [] → IsNoOrder name →
+      IsDeclared names name v → IsWithin 1 MOST_COUNT number n → IsQuestion names fields (question.Call w v (Some n))
+  late : (name : List ℕ) (v : Var) (number : List ℕ) (ms : ℕ) → fields ≡ codes "late" ∷ name ∷ number ∷ [] → IsNoOrder name →
       IsDeclared names name v → IsWithin 0 MOST_MS number ms → IsQuestion names fields (question.Late v ms)
   before : (first : List ℕ) (v : Var) (second : List ℕ) (w : Var) → fields ≡ first ∷ codes "before" ∷ second ∷ [] → first ≢ second →
       IsDeclared names first v → IsDeclared names second w → IsQuestion names fields (question.Before v w)
+  after : (first : List ℕ) (v : Var) (second : List ℕ) (w : Var) → fields ≡ first ∷ codes "after" ∷ second ∷ [] → first ≢ second →
+      IsDeclared names first v → IsDeclared names second w → IsQuestion names fields (question.Behind v w)
   code_of : (c : ids.Code) (name : List ℕ) (v : Var) → fields ≡ codes "code" ∷ code_word c ∷ codes "of" ∷ name ∷ [] → IsDeclared names name v →
       IsQuestion names fields (question.Code c (Some v))
 
@@ -53,7 +69,15 @@ pub data IsQuestion (names fields : List (List ℕ)) : Question → Type 0 where
 pub data IsPart (names fields : List (List ℕ)) : Part → Type 0 where
   may : (what argument : List ℕ) (o : Offer) (times : List ℕ) (n : ℕ) → fields ≡ codes "may" ∷ what ∷ argument ∷ times ∷ [] →
       IsOffer names what argument o → IsWithin 1 MOST_COUNT times n → IsPart names fields (Offers (record { offer = o; times = Some n }))
+  may_during : (name : List ℕ) (v : Var) (times : List ℕ) (n : ℕ) (job : List ℕ) (w : Var) →
+      fields ≡ codes "may" ∷ codes "send" ∷ name ∷ times ∷ codes "during" ∷ job ∷ [] → name ≢ job → IsDeclared names name v →
+      IsDeclared names job w → IsWithin 1 MOST_COUNT times n → IsPart names fields (Offers (record { offer = SendDuring v w; times = Some n }))
   may_wait : fields ≡ codes "may" ∷ codes "wait" ∷ [] → IsPart names fields (Offers (record { offer = Wait; times = None }))
+  takes : (name : List ℕ) (v : Var) (ms : List ℕ) (n : ℕ) → fields ≡ codes "takes" ∷ name ∷ ms ∷ [] → IsDeclared names name v →
+      IsWithin 0 MOST_MS ms n → IsPart names fields (Takes (record { name = v; call = None; ms = n }))
+  takes_once : (name : List ℕ) (v : Var) (call : List ℕ) (k : ℕ) (ms : List ℕ) (n : ℕ) →
+      fields ≡ codes "takes" ∷ name ∷ (64 ∷ call) ∷ ms ∷ [] → IsDeclared names name v → IsWithin 1 MOST_COUNT call k → IsWithin 0 MOST_MS ms n →
+      IsPart names fields (Takes (record { name = v; call = Some k; ms = n }))
   most_clock : (number : List ℕ) (ms : ℕ) → fields ≡ codes "most" ∷ codes "clock" ∷ number ∷ [] → IsWithin 0 MOST_MS number ms →
       IsPart names fields (Clock ms)
   most_states : (number : List ℕ) (n : ℕ) → fields ≡ codes "most" ∷ codes "states" ∷ number ∷ [] → IsWithin 1 MOST_COUNT number n →

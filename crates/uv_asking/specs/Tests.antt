@@ -1,5 +1,5 @@
 -- How a line behind `begin` is read, as tests that the code computes; beside each clause that cites one stands the rule itself.
-use Rattle.std.specs.Prelude.{ℕ, List, [], ◌∷◌, ◌&&◌, nat_le, Option, Some, None, option_map, option_and_then, if◌then◌else◌, codes}
+use Rattle.std.specs.Prelude.{ℕ, ◌==◌, List, [], ◌∷◌, ◌&&◌, nat_le, Option, Some, None, option_map, option_and_then, if◌then◌else◌, codes}
 use Rattle.std.specs.Str.{bytes_eq}
 use Rattle.uv_ids.specs.declared.id.Var.{Var}
 use Rattle.uv_ids.specs.declared.code.Code as ids
@@ -9,11 +9,13 @@ use Rattle.uv_script.specs.Lines.{fields_of}
 use Rattle.uv_script.specs.Checks.{is_line, is_skipped, number_of}
 use Rattle.uv_script.specs.Reading.{place_of}
 use Rattle.uv_asking.specs.declared.asking.Offer.{Offer}
-use Rattle.uv_asking.specs.declared.asking.Offer.TheVariants.{Step, Wait}
+use Rattle.uv_asking.specs.declared.asking.Offer.TheVariants.{Step, SendDuring, Wait}
+use Rattle.uv_asking.specs.declared.asking.Which.{Which}
+use Rattle.uv_asking.specs.declared.asking.Which.TheVariants as which
 use Rattle.uv_asking.specs.declared.asking.Question.{Question}
 use Rattle.uv_asking.specs.declared.asking.Question.TheVariants as question
 use Rattle.uv_asking.specs.declared.part.Part.{Part}
-use Rattle.uv_asking.specs.declared.part.Part.TheVariants.{Offers, Clock, Calls, States, Finds}
+use Rattle.uv_asking.specs.declared.part.Part.TheVariants.{Offers, Takes, Clock, Calls, States, Finds}
 use Rattle.uv_asking.specs.declared.part.Said.{Said}
 use Rattle.uv_asking.specs.declared.part.Said.TheVariants.{Nothing, One, Bad}
 use Rattle.uv_asking.specs.Limits.{MOST_COUNT, MOST_MS}
@@ -24,6 +26,11 @@ if_within low high n = if nat_le low n && nat_le n high then Some n else None
 
 unfoldable pub number_in : ℕ → ℕ → List ℕ → Option ℕ
 number_in low high text = option_and_then (if_within low high) (number_of text)
+
+-- the number of a call, `@K`
+abbrev pub call_in : List ℕ → Option ℕ
+call_in [] = None
+call_in (b ∷ bs) = if b == 64 then number_in 1 MOST_COUNT bs else None
 
 -- the two fields behind `may` of an offer that is counted
 unfoldable pub offer_of : List (List ℕ) → List ℕ → List ℕ → Option Offer
@@ -42,6 +49,17 @@ counted o times = option_map (λ (n : ℕ). Offers (record { offer = o; times = 
 unfoldable pub times_of : List (List ℕ) → List ℕ → List ℕ → List ℕ → Option Part
 times_of names what argument times = option_and_then (λ (o : Offer). counted o (number_in 1 MOST_COUNT times)) (offer_of names what argument)
 
+-- the five fields behind `may`
+unfoldable pub send_during : List (List ℕ) → List ℕ → List ℕ → List ℕ → Option Part
+send_during names name times job = option_and_then
+    (λ (v : Var). option_and_then (λ (w : Var). counted (SendDuring v w) (number_in 1 MOST_COUNT times)) (place_of names job)) (place_of names name)
+
+unfoldable pub during_of : List (List ℕ) → List ℕ → List ℕ → List ℕ → List ℕ → List ℕ → Option Part
+during_of names what name times word job =
+    if bytes_eq what (codes "send") then
+    (if bytes_eq word (codes "during") then (if bytes_eq name job then None else send_during names name times job) else None)
+    else None
+
 -- the one field behind `may`
 unfoldable pub waits : List ℕ → Option Part
 waits what = if bytes_eq what (codes "wait") then Some (Offers (record { offer = Wait; times = None })) else None
@@ -52,7 +70,24 @@ may_of names [] = None
 may_of names (what ∷ []) = waits what
 may_of names (what ∷ argument ∷ []) = None
 may_of names (what ∷ argument ∷ times ∷ []) = times_of names what argument times
-may_of names (what ∷ argument ∷ times ∷ more ∷ rest) = None
+may_of names (what ∷ argument ∷ times ∷ word ∷ []) = None
+may_of names (what ∷ argument ∷ times ∷ word ∷ job ∷ []) = during_of names what argument times word job
+may_of names (what ∷ argument ∷ times ∷ word ∷ job ∷ more ∷ rest) = None
+
+-- how long a name's callback takes
+abbrev pub time_by : Var → Option ℕ → Option ℕ → Option Part
+time_by v call ms = option_map (λ (n : ℕ). Takes (record { name = v; call = call; ms = n })) ms
+
+unfoldable pub takes_by : List (List ℕ) → List ℕ → Option ℕ → List ℕ → Option Part
+takes_by names name call ms = option_and_then (λ (v : Var). time_by v call (number_in 0 MOST_MS ms)) (place_of names name)
+
+-- the fields behind `takes`
+abbrev pub takes_of : List (List ℕ) → List (List ℕ) → Option Part
+takes_of names [] = None
+takes_of names (name ∷ []) = None
+takes_of names (name ∷ ms ∷ []) = takes_by names name None ms
+takes_of names (name ∷ call ∷ ms ∷ []) = option_and_then (λ (k : ℕ). takes_by names name (Some k) ms) (call_in call)
+takes_of names (name ∷ call ∷ ms ∷ more ∷ rest) = None
 
 -- a name's bound
 abbrev pub calls_by : Var → Option ℕ → Option Part
@@ -83,34 +118,50 @@ stuck_of what = if bytes_eq what (codes "stuck") then Some question.Stuck else N
 unfoldable pub section_of : List ℕ → Option Question
 section_of word = if bytes_eq word (codes "poll") then Some question.Poll else option_map question.Section (phase_named word)
 
+-- the callbacks that a word means
+unfoldable pub which_named : List ℕ → Option Which
+which_named word =
+    if bytes_eq word (codes "call") then Some which.Any
+    else if bytes_eq word (codes "on") then Some which.Handle
+    else if bytes_eq word (codes "after") then Some which.After
+    else if bytes_eq word (codes "closed") then Some which.Close
+    else None
+
 -- the two fields behind `find`
-unfoldable pub plain_of : List (List ℕ) → List ℕ → List ℕ → Option Question
-plain_of names what argument =
-    if bytes_eq what (codes "call") then option_map (λ (v : Var). question.Call v None) (place_of names argument)
-    else if bytes_eq what (codes "code") then option_map (λ (c : ids.Code). question.Code c None) (code_named argument)
+unfoldable pub named_of : List (List ℕ) → List ℕ → List ℕ → Option Question
+named_of names what argument =
+    if bytes_eq what (codes "code") then option_map (λ (c : ids.Code). question.Code c None) (code_named argument)
     else if bytes_eq what (codes "section") then section_of argument
     else if bytes_eq what (codes "never") then option_map question.Never (place_of names argument)
     else None
 
+abbrev pub plain_by : List (List ℕ) → List ℕ → List ℕ → Option Which → Option Question
+plain_by names what argument (Some w) = option_map (λ (v : Var). question.Call w v None) (place_of names argument)
+plain_by names what argument None = named_of names what argument
+
+unfoldable pub plain_of : List (List ℕ) → List ℕ → List ℕ → Option Question
+plain_of names what argument = plain_by names what argument (which_named what)
+
 -- the number of a call, and how late one is
-abbrev pub call_by : Var → Option ℕ → Option Question
-call_by v number = option_map (λ (n : ℕ). question.Call v (Some n)) number
+abbrev pub call_by : Which → Var → Option ℕ → Option Question
+call_by w v number = option_map (λ (n : ℕ). question.Call w v (Some n)) number
 
 abbrev pub late_by : Var → Option ℕ → Option Question
 late_by v number = option_map (λ (ms : ℕ). question.Late v ms) number
 
-unfoldable pub nth_call_of : List (List ℕ) → List ℕ → List ℕ → Option Question
-nth_call_of names name number = option_and_then (λ (v : Var). call_by v (number_in 1 MOST_COUNT number)) (place_of names name)
+unfoldable pub nth_call_of : List (List ℕ) → Which → List ℕ → List ℕ → Option Question
+nth_call_of names w name number = option_and_then (λ (v : Var). call_by w v (number_in 1 MOST_COUNT number)) (place_of names name)
 
 unfoldable pub late_of : List (List ℕ) → List ℕ → List ℕ → Option Question
 late_of names name number = option_and_then (λ (v : Var). late_by v (number_in 0 MOST_MS number)) (place_of names name)
 
 -- a word, a name and a number
+abbrev pub numbered_by : List (List ℕ) → List ℕ → List ℕ → List ℕ → Option Which → Option Question
+numbered_by names what name number (Some w) = nth_call_of names w name number
+numbered_by names what name number None = if bytes_eq what (codes "late") then late_of names name number else None
+
 unfoldable pub numbered_of : List (List ℕ) → List ℕ → List ℕ → List ℕ → Option Question
-numbered_of names what name number =
-    if bytes_eq what (codes "call") then nth_call_of names name number
-    else if bytes_eq what (codes "late") then late_of names name number
-    else None
+numbered_of names what name number = numbered_by names what name number (which_named what)
 
 -- two names, and not one twice
 abbrev pub before_by : Var → Option Var → Option Question
@@ -120,10 +171,19 @@ unfoldable pub before_of : List (List ℕ) → List ℕ → List ℕ → Option 
 before_of names first second =
     if bytes_eq first second then None else option_and_then (λ (v : Var). before_by v (place_of names second)) (place_of names first)
 
+abbrev pub behind_by : Var → Option Var → Option Question
+behind_by v second = option_map (λ (w : Var). question.Behind v w) second
+
+unfoldable pub behind_of : List (List ℕ) → List ℕ → List ℕ → Option Question
+behind_of names first second =
+    if bytes_eq first second then None else option_and_then (λ (v : Var). behind_by v (place_of names second)) (place_of names first)
+
 -- the three fields behind `find`
 unfoldable pub three_of : List (List ℕ) → List ℕ → List ℕ → List ℕ → Option Question
 three_of names first second third =
-    if bytes_eq second (codes "before") then before_of names first third else numbered_of names first second third
+    if bytes_eq second (codes "before") then before_of names first third
+    else if bytes_eq second (codes "after") then behind_of names first third
+    else numbered_of names first second third
 
 -- a code, and the name that it is answered to
 abbrev pub code_by : ids.Code → Option Var → Option Question
@@ -150,6 +210,7 @@ question_of names (what ∷ word ∷ of ∷ name ∷ more ∷ rest) = None
 unfoldable pub part_by : List (List ℕ) → List ℕ → List (List ℕ) → Option Part
 part_by names word rest =
     if bytes_eq word (codes "may") then may_of names rest
+    else if bytes_eq word (codes "takes") then takes_of names rest
     else if bytes_eq word (codes "most") then most_of names rest
     else if bytes_eq word (codes "find") then option_map Finds (question_of names rest)
     else None

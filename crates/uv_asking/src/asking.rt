@@ -7,6 +7,8 @@ use uv_ids::{Code, Event, Phase, Var};
 pub enum Offer {
     /// This step.
     Step(Event),
+    /// A send to the first name, while a worker runs the request that the second one names.
+    SendDuring(Var, Var),
     /// The worker of the least number that runs no request takes one.
     Take,
     /// The clock goes on to the deadline of the poll in which the loop is blocked.
@@ -27,12 +29,34 @@ pub struct Most {
     pub calls: u32,
 }
 
-/// What is looked for: a step, of which this holds.
+/// How long the callback of a name takes, that of its handle or of its request: each time, or with a number the call that the script
+/// names `@N`. The clock goes on by that at its end, and by nothing else there.
+#[derive(Clone, Copy, PartialEq, Eq)]
+pub struct Takes {
+    pub name: Var,
+    pub call: Option<u32>,
+    pub ms: u64,
+}
+
+/// Which callbacks of a name are meant.
+#[derive(Clone, Copy, PartialEq, Eq)]
+pub enum Which {
+    /// `call`: any of them.
+    Any,
+    /// `on`: that of its handle.
+    Handle,
+    /// `after`: that of its request.
+    After,
+    /// `closed`: that of its close.
+    Close,
+}
+
+/// What is looked for: a step, or a place, of which this holds.
 #[derive(Clone, Copy, PartialEq, Eq)]
 pub enum Question {
-    /// `find call NAME [N]`: a callback of this name begins, that of its handle, of its request or of its close; with a number, the
-    /// one that the script calls `@N`.
-    Call(Var, Option<u32>),
+    /// `find call NAME [N]`, `find on NAME [N]`, `find after NAME [N]`, `find closed NAME [N]`: such a callback of this name begins; with a
+    /// number, the one that the script names `@N`.
+    Call(Which, Var, Option<u32>),
     /// `find code CODE [of NAME]`: a line answers this code; with a name, it is the answer to an op, a cancel or a send that names it,
     /// or its after callback.
     Code(Code, Option<Var>),
@@ -48,13 +72,17 @@ pub enum Question {
     Late(Var, u64),
     /// `find NAME before NAME`: a callback of the first name begins where none of the second was called. They are two names.
     Before(Var, Var),
+    /// `find NAME after NAME`: a callback of the first name begins where one of the second was called. They are two names.
+    Behind(Var, Var),
 }
 
 /// What is offered beside the steps of the loop and its workers, how far the search goes, and what it looks for.
 #[derive(Drop)]
 pub struct Asking {
-    /// `may send NAME N`, `may cancel NAME N`, `may io NAME N`, `may tick MS N`, `may wait`.
+    /// `may send NAME N`, `may send NAME N during JOB`, `may cancel NAME N`, `may io NAME N`, `may tick MS N`, `may wait`.
     pub offers: Vec<Offered>,
+    /// `takes NAME [@K] MS`.
+    pub takes: Vec<Takes>,
     /// `most clock MS`: the clock goes no further.
     pub clock: Option<u64>,
     /// `most NAME CALLS`.

@@ -1,14 +1,14 @@
 //! The reader of the lines behind `begin`.
-ghost use Rattle.std.specs.Prelude.{◌≡◌, ◌≢◌, ℕ, List, AllPairs};
+ghost use Rattle.std.specs.Prelude.{◌≡◌, ◌≢◌, ℕ, List, AllPairs, None, Some, option_and_then};
 ghost use Rattle.uv_script.specs.Lines.{fields_of};
 ghost use Rattle.uv_asking.specs.declared.part.Said.{Said};
 ghost use Rattle.uv_asking.specs.Grammar.{Says};
-ghost use Rattle.uv_asking.specs.Tests.{said_of, part_of, may_of, waits, times_of, offer_of, most_of, bound_of, calls_of};
+ghost use Rattle.uv_asking.specs.Tests.{said_of, part_of, may_of, waits, times_of, offer_of, during_of, send_during, takes_of, takes_by, call_in, most_of, bound_of, calls_of};
 
-use crate::asking::{Most, Offer, Offered};
+use crate::asking::{Most, Offer, Offered, Takes};
 use crate::part::{Part, Said};
 use crate::question::question;
-use crate::words::{MOST_MS, count_from, number_in};
+use crate::words::{MOST_MS, call_in, count_from, number_in};
 use uv_ids::{Event, is};
 use uv_script::{Fields, Names, is_line, is_skipped};
 
@@ -43,6 +43,8 @@ fn part_in(names: &Names, mut fields: Fields<'_>) -> Option<Part>
     let word = fields.next()?;
     if is(word, b"may") {
         may(names, fields)
+    } else if is(word, b"takes") {
+        takes(names, fields)
     } else if is(word, b"most") {
         most(names, fields)
     } else if is(word, b"find") {
@@ -62,10 +64,92 @@ fn may(names: &Names, mut fields: Fields<'_>) -> Option<Part>
         return waits(what);
     };
     let times = fields.next()?;
+    let Some(word) = fields.next() else {
+        return counted(names, what, argument, times);
+    };
+    let job = fields.next()?;
     match fields.next() {
-        None => counted(names, what, argument, times),
+        None => during(names, what, argument, times, word, job),
         Some(_) => None,
     }
+}
+
+/// A send that comes only while a request is run.
+#[tactic(auto, unfolding(crate::specs::Tests::during_of))]
+fn during(
+    names: &Names,
+    what: &[u8],
+    name: &[u8],
+    times: &[u8],
+    word: &[u8],
+    job: &[u8],
+) -> Option<Part>
+    ensures { result ≡ during_of names.now what.now name.now times.now word.now job.now }
+{
+    if is(what, b"send") {
+        if is(word, b"during") {
+            if is(name, job) {
+                return None;
+            }
+            return send_during(names, name, times, job);
+        }
+    }
+    None
+}
+
+#[tactic(auto, unfolding(crate::specs::Tests::send_during))]
+fn send_during(names: &Names, name: &[u8], times: &[u8], job: &[u8]) -> Option<Part>
+    ensures { result ≡ send_during names.now name.now times.now job.now }
+{
+    let name = names.number(name)?;
+    let job = names.number(job)?;
+    let count = count_from(1, times)?;
+    Some(Part::Offers(Offered {
+        offer: Offer::SendDuring(name, job),
+        times: Some(count),
+    }))
+}
+
+/// What stands behind `takes`.
+fn takes(names: &Names, mut fields: Fields<'_>) -> Option<Part>
+    ensures { result ≡ takes_of names.now fields.entry }
+{
+    let name = fields.next()?;
+    let second = fields.next()?;
+    let Some(third) = fields.next() else {
+        return takes_each(names, name, second);
+    };
+    match fields.next() {
+        None => takes_once(names, name, second, third),
+        Some(_) => None,
+    }
+}
+
+#[tactic(auto, unfolding(crate::specs::Tests::takes_by))]
+fn takes_each(names: &Names, name: &[u8], ms: &[u8]) -> Option<Part>
+    ensures { result ≡ takes_by names.now name.now None ms.now }
+{
+    let name = names.number(name)?;
+    let ms = number_in(0, MOST_MS, ms)?;
+    Some(Part::Takes(Takes {
+        name,
+        call: None,
+        ms,
+    }))
+}
+
+#[tactic(auto, unfolding(crate::specs::Tests::takes_by))]
+fn takes_once(names: &Names, name: &[u8], call: &[u8], ms: &[u8]) -> Option<Part>
+    ensures { result ≡ option_and_then (λ k. takes_by names.now name.now (Some k) ms.now) (call_in call.now) }
+{
+    let call = call_in(call)?;
+    let name = names.number(name)?;
+    let ms = number_in(0, MOST_MS, ms)?;
+    Some(Part::Takes(Takes {
+        name,
+        call: Some(call),
+        ms,
+    }))
 }
 
 #[tactic(auto, unfolding(crate::specs::Tests::waits))]

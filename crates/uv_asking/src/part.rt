@@ -1,20 +1,22 @@
 //! What the lines behind `begin` say.
 
-use crate::asking::{Most, Offered, Question};
+use crate::asking::{Most, Offered, Question, Takes};
 
 /// What one line says.
 #[derive(Clone, Copy)]
 pub enum Part {
-    /// `may send NAME N`, `may cancel NAME N`, `may io NAME N`, `may tick MS N`: so often at the most, N from 1 to 2^32 - 1 and MS from 1 to 2^62
-    /// (own). `may wait`: as often as one likes.
+    /// `may send NAME N`, `may send NAME N during JOB`, `may cancel NAME N`, `may io NAME N`, `may tick MS N`: so often at the most, N from 1 to
+    /// 2^32 - 1 and MS from 1 to 2^62 (own). `may wait`: as often as one likes.
     Offers(Offered),
+    /// `takes NAME MS`, `takes NAME @K MS`: K from 1 to 2^32 - 1, MS up to 2^62 (own).
+    Takes(Takes),
     /// `most clock MS`, up to 2^62 (own). It is the clock also where a name is called `clock`.
     Clock(u64),
     /// `most NAME CALLS`, up to 2^32 - 1 (own). A name that is called `clock` or `states` can't be bounded.
     Calls(Most),
     /// `most states N`, from 1 to 2^32 - 1 (own). It is the states also where a name is called `states`.
     States(u32),
-    /// `find ..`. Where `before` is the second of three fields it is `find NAME before NAME`, also where a name is called `before`.
+    /// `find ..`. Where `before` or `after` is the second of three fields it is that form, also where a name is called so.
     Finds(Question),
 }
 

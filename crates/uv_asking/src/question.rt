@@ -1,9 +1,9 @@
 //! The reader of what stands behind `find`.
 ghost use Rattle.std.specs.Prelude.{◌≡◌};
-ghost use Rattle.uv_asking.specs.Tests.{question_of, stuck_of, section_of, plain_of, nth_call_of, late_of, numbered_of, before_of, three_of, code_name_of, four_of};
+ghost use Rattle.uv_asking.specs.Tests.{question_of, stuck_of, section_of, plain_of, named_of, nth_call_of, late_of, numbered_of, before_of, behind_of, three_of, code_name_of, four_of};
 
-use crate::asking::Question;
-use crate::words::{MOST_MS, count_from, number_in};
+use crate::asking::{Question, Which};
+use crate::words::{MOST_MS, count_from, number_in, which};
 use uv_ids::{Code, Phase, is};
 use uv_script::{Fields, Names};
 
@@ -42,10 +42,21 @@ fn stuck(what: &[u8]) -> Option<Question>
 fn plain(names: &Names, what: &[u8], argument: &[u8]) -> Option<Question>
     ensures { result ≡ plain_of names.now what.now argument.now }
 {
-    if is(what, b"call") {
-        let name = names.number(argument)?;
-        Some(Question::Call(name, None))
-    } else if is(what, b"code") {
+    match which(what) {
+        Some(which) => {
+            let name = names.number(argument)?;
+            Some(Question::Call(which, name, None))
+        }
+        None => named(names, what, argument),
+    }
+}
+
+/// A word that means no callbacks, and one more.
+#[tactic(auto, unfolding(crate::specs::Tests::named_of))]
+fn named(names: &Names, what: &[u8], argument: &[u8]) -> Option<Question>
+    ensures { result ≡ named_of names.now what.now argument.now }
+{
+    if is(what, b"code") {
         let code = Code::from_word(argument)?;
         Some(Question::Code(code, None))
     } else if is(what, b"section") {
@@ -76,6 +87,8 @@ fn of_three(names: &Names, first: &[u8], second: &[u8], third: &[u8]) -> Option<
 {
     if is(second, b"before") {
         before(names, first, third)
+    } else if is(second, b"after") {
+        behind(names, first, third)
     } else {
         numbered(names, first, second, third)
     }
@@ -94,27 +107,43 @@ fn before(names: &Names, first: &[u8], second: &[u8]) -> Option<Question>
     Some(Question::Before(first, second))
 }
 
+/// The same the other way round.
+#[tactic(auto, unfolding(crate::specs::Tests::behind_of))]
+fn behind(names: &Names, first: &[u8], second: &[u8]) -> Option<Question>
+    ensures { result ≡ behind_of names.now first.now second.now }
+{
+    if is(first, second) {
+        return None;
+    }
+    let first = names.number(first)?;
+    let second = names.number(second)?;
+    Some(Question::Behind(first, second))
+}
+
 /// A word, a name and a number.
 #[tactic(auto, unfolding(crate::specs::Tests::numbered_of))]
 fn numbered(names: &Names, what: &[u8], name: &[u8], number: &[u8]) -> Option<Question>
     ensures { result ≡ numbered_of names.now what.now name.now number.now }
 {
-    if is(what, b"call") {
-        nth_call(names, name, number)
-    } else if is(what, b"late") {
-        late(names, name, number)
-    } else {
-        None
+    match which(what) {
+        Some(which) => nth_call(names, which, name, number),
+        None => {
+            if is(what, b"late") {
+                late(names, name, number)
+            } else {
+                None
+            }
+        }
     }
 }
 
 #[tactic(auto, unfolding(crate::specs::Tests::nth_call_of))]
-fn nth_call(names: &Names, name: &[u8], number: &[u8]) -> Option<Question>
-    ensures { result ≡ nth_call_of names.now name.now number.now }
+fn nth_call(names: &Names, which: Which, name: &[u8], number: &[u8]) -> Option<Question>
+    ensures { result ≡ nth_call_of names.now which name.now number.now }
 {
     let name = names.number(name)?;
     let call = count_from(1, number)?;
-    Some(Question::Call(name, Some(call)))
+    Some(Question::Call(which, name, Some(call)))
 }
 
 #[tactic(auto, unfolding(crate::specs::Tests::late_of))]

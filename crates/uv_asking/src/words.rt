@@ -1,7 +1,9 @@
 //! The fields of a line that are numbers of a range.
 ghost use Rattle.std.specs.Prelude.{◌≡◌, ◌≤◌, IfSome};
-ghost use Rattle.uv_asking.specs.Tests.{number_in};
+ghost use Rattle.uv_asking.specs.Tests.{number_in, call_in, which_named};
 
+use crate::asking::Which;
+use uv_ids::is;
 use uv_script::number;
 
 /// The most that a count says.
@@ -26,4 +28,32 @@ pub(crate) fn count_from(low: u64, field: &[u8]) -> Option<u32>
 {
     let n = number_in(low, MOST_COUNT, field)?;
     Some(n as u32)
+}
+
+/// The number of a call that a field is: `@K`.
+pub(crate) fn call_in(field: &[u8]) -> Option<u32>
+    ensures { result ≡ call_in field.now }
+{
+    match field {
+        [b'@', number @ ..] => count_from(1, number),
+        _ => None,
+    }
+}
+
+/// The callbacks that a word means.
+#[tactic(auto, unfolding(crate::specs::Tests::which_named))]
+pub(crate) fn which(word: &[u8]) -> Option<Which>
+    ensures { result ≡ which_named word.now }
+{
+    if is(word, b"call") {
+        Some(Which::Any)
+    } else if is(word, b"on") {
+        Some(Which::Handle)
+    } else if is(word, b"after") {
+        Some(Which::After)
+    } else if is(word, b"closed") {
+        Some(Which::Close)
+    } else {
+        None
+    }
 }

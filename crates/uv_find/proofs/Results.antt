@@ -1,11 +1,13 @@
 -- What a search of spots says of orders.
-use Rattle.std.proofs.Common.{◌≡◌, ℕ, ◌≤◌, List, [], ◌∷◌, ◌++◌, length, refl, sym, subst, ◌∙◌}
+use Rattle.std.proofs.Common.{◌≡◌, ℕ, ◌≤◌, true, false, inl, inr, List, [], ◌∷◌, ◌++◌, length, refl, sym, subst, ◌∙◌, arith, append-nil}
+use Rattle.std.specs.List.{IsDistinct}
 use Rattle.uv_ids.specs.declared.event.Event.{Event}
 use Rattle.uv_model.proofs.Runs.{after-nil}
 use Rattle.uv_search.specs.Settled as settled
 use Rattle.uv_find.specs.declared.finding.Answer.TheVariants as answer
 use Rattle.uv_find.specs.Orders.{Rules, Place}
 use Rattle.uv_find.specs.Courses.{Course}
+use Rattle.uv_find.specs.Questions.{place_answers}
 use Rattle.uv_find.specs.Spots.{Spot, next_spot, spot_code, first_spot, IsSpot, IsDeep}
 use Rattle.uv_find.specs.Found.{AreReached, Finds, KeysTell}
 use Rattle.uv_find.specs.Laws.{places_tell, leads_spot}
@@ -33,16 +35,25 @@ module _ (r : Rules) (s : Spot) where
       let a = moves_answer r s is i t answers in
       let l = a.1 in (
         few,
-        (a.0 ++ l.event ∷ [], (a.2.2, (a.0, l, refl, a.2.0, a.2.1))),
+        (a.0 ++ l.event ∷ [], (a.2.2, inl (a.0, l, refl, a.2.0, a.2.1))),
         (keys.0, reached number keys.0 keys.1),
       )
 
-  pub found_never : (limit number : ℕ) (t : Spot) → number ≤ limit
+  -- where it stands answers already
+  pub found_here : (limit : ℕ) → place_answers r s.place r.question ≡ true → Finds r s limit (answer.Found 0) s
+  unfolding IsDistinct
+  found_here limit answers = (
+    omega arith,
+    ([], (sym (append-nil s.steps), inr (refl, refl, answers))),
+    ([], record { count = refl; distinct = tt; each = λ k has. absurd cc }),
+  )
+
+  pub found_never : (limit number : ℕ) (t : Spot) → number ≤ limit → place_answers r s.place r.question ≡ false
       → settled.Never (λ _. length r.offers) (next_spot r) spot_code IsDeep s number → Finds r s limit (answer.Never number) t
-  found_never limit number t few n = (
+  found_never limit number t few here n = (
     few,
     record {
-      never = λ es l a. (let w = course_answers r s es l a in n.none w.0 w.1 w.2 w.3);
+      never = (here, λ es l a. (let w = course_answers r s es l a in n.none w.0 w.1 w.2 w.3));
       keys = n.keys;
       are = reached number n.keys n.are;
       all = λ es q course. (
@@ -68,6 +79,10 @@ module _ (r : Rules) (s : Spot) where
   found_deep limit t u d =
       let way = moves_course r s d.0 u d.1 in
       (u, way.0, way.1.1, way.1.0, d.2)
+
+  -- where it stands no more may be taken
+  pub found_deep_here : (limit : ℕ) → IsDeep s → Finds r s limit answer.TooDeep s
+  found_deep_here limit deep = (s, [], sym (append-nil s.steps), refl, deep)
 
 -- where the same moves were taken back, it is the same
 pub same_back : {X : Type 0} (p u : X) (ps us xs : List X) → xs ≡ p ∷ ps → xs ≡ u ∷ us → u ≡ p

@@ -7,12 +7,15 @@ use Rattle.uv_model.specs.declared.machine.Outcome.{Outcome}
 use Rattle.uv_model.specs.After.{after}
 use Rattle.uv_script.specs.Program.{Program}
 use Rattle.uv_session.specs.Shown.{Shown}
+use Rattle.uv_asking.specs.declared.asking.Takes as asking
 use Rattle.uv_asking.specs.declared.asking.Most.{Most}
 use Rattle.uv_asking.specs.declared.asking.Offer.{Offer}
 use Rattle.uv_asking.specs.declared.asking.Offered.{Offered}
 use Rattle.uv_asking.specs.declared.asking.Question.{Question}
 use Rattle.uv_find.specs.declared.orders.Made.{Made}
-use Rattle.uv_find.specs.Orders.{Rules, Place, led, leads_on, placed, taken, offered_here, offered_by, less, lessened, kept_due, times_of}
+use Rattle.uv_find.specs.declared.kept.Kept.{Kept}
+use Rattle.uv_find.specs.Kept.{kept_after}
+use Rattle.uv_find.specs.Orders.{Rules, Place, led, leads_on, placed, taken, offered_here, offered_by, less, lessened, times_of}
 use Rattle.uv_find.specs.Spots.{IsSearched, searched, spots_before, again, put_back, put_back_by}
 use Rattle.uv_find.specs.Steps.{Stands, Takes, TakesOffer, state_in}
 use Rattle.uv_find.specs.Laws.{lessened_bounded}
@@ -69,65 +72,65 @@ last_taken es e = grind (arith, common_steps)
 before_more : (p : Program) (es : List Event) (e : Event) (left : List (Option ℕ)) (times : Option ℕ) (m : Made) (ms : List Made)
     → slice_get left m.number ≡ Some times → m.left ≡ unwrap_or times 0
     → spots_before p (es ++ e ∷ []) (lessened left m.number) (m ∷ ms)
-    ≡ record { place = record { state = after p es; left = left; due = m.due }; steps = es } ∷ spots_before p es left ms
+    ≡ record { place = record { state = after p es; left = left; kept = m.kept }; steps = es } ∷ spots_before p es left ms
 before_more p es e left times m ms is count =
     let lefts : put_back (lessened left m.number) m.number m.left ≡ left = rw count (put_back_lessened left m.number times is) in
-    λ i. record { place = record { state = after p (last_taken es e i); left = lefts i; due = m.due }; steps = last_taken es e i }
+    λ i. record { place = record { state = after p (last_taken es e i); left = lefts i; kept = m.kept }; steps = last_taken es e i }
     ∷ spots_before p (last_taken es e i) (lefts i) ms
 
 -- the same steps, the same search
-pub same_searched : (s t : Shown) (offers : List Offered) (clock : Option ℕ) (most : List Most) (question : Question)
-    (left : List (Option ℕ)) (due : ℕ) (made : List Made) → Stands s s.standing t
-    → searched t offers clock most question left due made ≡ searched s offers clock most question left due made
-same_searched s t offers clock most question left due made k =
+pub same_searched : (s t : Shown) (offers : List Offered) (takes : List asking.Takes) (clock : Option ℕ) (most : List Most) (question : Question)
+    (left : List (Option ℕ)) (kept : Kept) (made : List Made) → Stands s s.standing t
+    → searched t offers takes clock most question left kept made ≡ searched s offers takes clock most question left kept made
+same_searched s t offers takes clock most question left kept made k =
     λ i. record {
-      rules = record { program = k.program i; offers = offers; clock = clock; most = most; question = question };
-      spot = record { place = record { state = after (k.program i) (k.standing i); left = left; due = due }; steps = k.standing i };
+      rules = record { program = k.program i; offers = offers; takes = takes; clock = clock; most = most; question = question };
+      spot = record { place = record { state = after (k.program i) (k.standing i); left = left; kept = kept }; steps = k.standing i };
       before = spots_before (k.program i) (k.standing i) left (reverse made);
     }
 
 -- the offer of a number
 offer_of : (r : Rules) (p : Place) (number : ℕ) (offered : Offered) (times : Option ℕ) → slice_get r.offers number ≡ Some offered
     → slice_get p.left number ≡ Some times → led r p number
-    ≡ placed r p number (leads_on r.most r.program p.state (offered_here r.program r.clock p.state offered.offer times))
+    ≡ placed r p number (leads_on r.most r.program p.state (offered_here r.program r.clock p.state p.kept offered.offer times))
 offer_of r p number offered times here may =
-    let event : offered_by r p (slice_get r.offers number) (slice_get p.left number) ≡ offered_here r.program r.clock p.state offered.offer times =
+    let event : offered_by r p (slice_get r.offers number) (slice_get p.left number) ≡ offered_here r.program r.clock p.state p.kept offered.offer times =
     rw (here, may) refl in
     ap (λ e. placed r p number (leads_on r.most r.program p.state e)) event
 
-pub takes_one : (E : Type 0) (s t : Shown) (offers : List Offered) (clock : Option ℕ) (most : List Most) (question : Question)
-    (left : List (Option ℕ)) (due : ℕ) (made : List Made) (number : ℕ) (offered : Offered) (times : Option ℕ) (outcome : Outcome)
+pub takes_one : (E : Type 0) (s t : Shown) (offers : List Offered) (takes : List asking.Takes) (clock : Option ℕ) (most : List Most) (question : Question)
+    (left : List (Option ℕ)) (kept : Kept) (made : List Made) (number : ℕ) (offered : Offered) (times : Option ℕ) (outcome : Outcome)
     → slice_get offers number ≡ Some offered → slice_get left number ≡ Some times
-    → TakesOffer {E = E} clock most s offered.offer times (Ok (Some outcome)) t
-    → Takes {E = E} (searched s offers clock most question left due made) number (Ok (Some outcome))
-    (searched t offers clock most question (lessened left number) (kept_due question (state_in t) due)
-    (made ++ record { number = number; left = unwrap_or times 0; due = due } ∷ []))
-takes_one E s t offers clock most question left due made number offered times outcome here may (e, (k, goes)) =
-    let r : Rules = record { program = s.program; offers = offers; clock = clock; most = most; question = question } in
-    let p : Place = record { state = state_in s; left = left; due = due } in
-    let m : Made = record { number = number; left = unwrap_or times 0; due = due } in
+    → TakesOffer {E = E} clock most s kept offered.offer times (Ok (Some outcome)) t
+    → Takes {E = E} (searched s offers takes clock most question left kept made) number (Ok (Some outcome))
+    (searched t offers takes clock most question (lessened left number) (kept_after takes question kept (state_in t) outcome.seen)
+    (made ++ record { number = number; left = unwrap_or times 0; kept = kept } ∷ []))
+takes_one E s t offers takes clock most question left kept made number offered times outcome here may (e, (k, goes)) =
+    let r : Rules = record { program = s.program; offers = offers; takes = takes; clock = clock; most = most; question = question } in
+    let p : Place = record { state = state_in s; left = left; kept = kept } in
+    let m : Made = record { number = number; left = unwrap_or times 0; kept = kept } in
     let turned : reverse (made ++ m ∷ []) ≡ m ∷ reverse made = reverse-append made (m ∷ []) in (
-      record { event = e; place = taken r p number (state_in t); line = outcome.seen },
+      record { event = e; place = taken r p number (state_in t) outcome.seen; line = outcome.seen },
       (
         offer_of r p number offered times here may ∙ ap (placed r p number) goes,
         refl,
-        (λ i. record { program = k.program i; offers = offers; clock = clock; most = most; question = question }),
-        ap (λ (es : List Event). record { place = taken r p number (state_in t); steps = es }) k.standing,
+        (λ i. record { program = k.program i; offers = offers; takes = takes; clock = clock; most = most; question = question }),
+        ap (λ (es : List Event). record { place = taken r p number (state_in t) outcome.seen; steps = es }) k.standing,
         (λ i. spots_before (k.program i) (k.standing i) (lessened left number) (turned i)) ∙ before_more s.program s.standing e left times m
             (reverse made) may refl,
       ),
     )
 
-pub takes_none : (E : Type 0) (s t : Shown) (offers : List Offered) (clock : Option ℕ) (most : List Most) (question : Question)
-    (left : List (Option ℕ)) (due : ℕ) (made : List Made) (number : ℕ) (offered : Offered) (times : Option ℕ)
+pub takes_none : (E : Type 0) (s t : Shown) (offers : List Offered) (takes : List asking.Takes) (clock : Option ℕ) (most : List Most) (question : Question)
+    (left : List (Option ℕ)) (kept : Kept) (made : List Made) (number : ℕ) (offered : Offered) (times : Option ℕ)
     → slice_get offers number ≡ Some offered → slice_get left number ≡ Some times
-    → Stands s s.standing t → leads_on most s.program (state_in s) (offered_here s.program clock (state_in s) offered.offer times) ≡ None
-    → Takes {E = E} (searched s offers clock most question left due made) number (Ok None)
-    (searched t offers clock most question left due made)
-takes_none E s t offers clock most question left due made number offered times here may k goes =
-    let r : Rules = record { program = s.program; offers = offers; clock = clock; most = most; question = question } in
-    let p : Place = record { state = state_in s; left = left; due = due } in
-    (offer_of r p number offered times here may ∙ ap (placed r p number) goes, same_searched s t offers clock most question left due made k)
+    → Stands s s.standing t → leads_on most s.program (state_in s) (offered_here s.program clock (state_in s) kept offered.offer times) ≡ None
+    → Takes {E = E} (searched s offers takes clock most question left kept made) number (Ok None)
+    (searched t offers takes clock most question left kept made)
+takes_none E s t offers takes clock most question left kept made number offered times here may k goes =
+    let r : Rules = record { program = s.program; offers = offers; takes = takes; clock = clock; most = most; question = question } in
+    let p : Place = record { state = state_in s; left = left; kept = kept } in
+    (offer_of r p number offered times here may ∙ ap (placed r p number) goes, same_searched s t offers takes clock most question left kept made k)
 
 -- ---- what always holds
 
@@ -137,10 +140,10 @@ as_many left offers e =
 
 pub taken_searched : (B : Type 0) (s t : Shown) (offers : List Offered) (most : List Most) (left : List (Option ℕ)) (made : List Made) (number : ℕ)
     (m : Made)
-    (E : Type 0) (clock : Option ℕ) (offer : Offer) (times : Option ℕ) (outcome : Outcome) → IsSearched B s offers left made
-    → TakesOffer {E = E} clock most s offer times (Ok (Some outcome)) t
+    (E : Type 0) (clock : Option ℕ) (k : Kept) (offer : Offer) (times : Option ℕ) (outcome : Outcome) → IsSearched B s offers left made
+    → TakesOffer {E = E} clock most s k offer times (Ok (Some outcome)) t
     → IsSearched B t offers (lessened left number) (made ++ m ∷ [])
-taken_searched B s t offers most left made number m E clock offer times outcome i (e, (k, goes)) =
+taken_searched B s t offers most left made number m E clock kept offer times outcome i (e, (k, goes)) =
     let long : length t.standing ≡ length s.standing + 1 = rw k.standing (omega (arith, length-append {A = Event})) in
     record {
       bounded = lessened_bounded left number ∙ i.bounded;

@@ -1,9 +1,9 @@
 -- Lists of events that may come in this order.
-use Rattle.std.specs.Prelude.{◌≡◌, ℕ, true, List, [], ◌∷◌, ◌++◌, Some}
+use Rattle.std.specs.Prelude.{◌≡◌, ℕ, true, false, ◌⊎◌, List, [], ◌∷◌, ◌++◌, Some}
 use Rattle.uv_ids.specs.declared.event.Event.{Event}
 use Rattle.uv_model.specs.Next.{Moves, next}
 use Rattle.uv_find.specs.Orders.{Rules, Place, Led, event_at, taken, is_within}
-use Rattle.uv_find.specs.Questions.{answers}
+use Rattle.uv_find.specs.Questions.{answers, place_answers}
 
 -- from a place an event leads on: it is offered there, the loop accepts it, and the bounds hold then
 pub record LeadsOn (r : Rules) (p : Place) (l : Led) : Type 0 where
@@ -11,7 +11,7 @@ pub record LeadsOn (r : Rules) (p : Place) (l : Led) : Type 0 where
   pub offered : event_at r p number ≡ Some l.event
   pub accepted : next r.program p.state l.event ≡ Moves l.place.state l.line
   pub within : is_within r.most l.place.state ≡ true
-  pub taken : l.place ≡ taken r p number l.place.state
+  pub taken : l.place ≡ taken r p number l.place.state l.line
 
 -- these events, one after another, lead from one place to another
 abbrev pub Course : Rules → Place → List Event → Place → Type 0
@@ -25,10 +25,18 @@ pub record Answers (r : Rules) (p : Place) (es : List Event) (l : Led) : Type 0 
   pub leads : LeadsOn r place l
   pub answers : answers r place l ≡ true
 
--- behind no events, however many, is one that answers the question
+-- the place doesn't answer the question, and behind no events, however many, is one that does
 abbrev pub NeverAnswered : Rules → Place → Type 0
-NeverAnswered r p = (es : List Event) (l : Led) → Answers r p es l → ⊥
+NeverAnswered r p = (place_answers r p r.question ≡ false) × ((es : List Event) (l : Led) → Answers r p es l → ⊥)
 
--- these events answer the question: the last of them does, and leads here
+-- the last of these events answers the question, and leads here
+abbrev pub LastAnswers : Rules → Place → List Event → Place → Type 0
+LastAnswers r p es q = (before : List Event) × (l : Led) × (es ≡ before ++ l.event ∷ []) × Answers r p before l × (q ≡ l.place)
+
+-- no event is wanted, since the place answers the question
+abbrev pub AnswersAlready : Rules → Place → List Event → Place → Type 0
+AnswersAlready r p es q = (es ≡ []) × (q ≡ p) × (place_answers r p r.question ≡ true)
+
+-- these events answer the question
 abbrev pub IsAnswer : Rules → Place → List Event → Place → Type 0
-IsAnswer r p es q = (before : List Event) × (l : Led) × (es ≡ before ++ l.event ∷ []) × Answers r p before l × (q ≡ l.place)
+IsAnswer r p es q = LastAnswers r p es q ⊎ AnswersAlready r p es q

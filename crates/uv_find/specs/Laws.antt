@@ -14,7 +14,8 @@ use Rattle.uv_state_key.proofs.States as states
 use Rattle.uv_find.specs.Orders.{Rules, Place, Led, led, with_event, leads_on, placed, event_at, taken, lessened, lessened_by, less, reached, is_within}
 use Rattle.uv_find.specs.Questions.{answers}
 use Rattle.uv_find.specs.Courses.{LeadsOn}
-use Rattle.uv_find.specs.Spots.{Spot, spot_of, next_spot, left_code, spot_code, IsSpot}
+use Rattle.uv_find.specs.declared.kept.Kept.{Kept}
+use Rattle.uv_find.specs.Spots.{Spot, spot_of, next_spot, left_code, bit, kept_code, spot_code, IsSpot}
 
 -- how often the offers may be taken that have a bound, of those that have one in both
 lefts_tell : (a b : List (Option ℕ)) (x y : List ℕ) → map is_some a ≡ map is_some b → left_code a ++ x ≡ left_code b ++ y → (a ≡ b) × (x ≡ y)
@@ -34,24 +35,38 @@ lefts_tell (Some n ∷ as1) (Some m ∷ bs) x y s e =
     let r = lefts_tell as1 bs x y more first.1 in
     (ap₂ (λ k os. Some k ∷ os) first.0 r.0, r.1)
 
+bits_tell : (a b : Bool) → bit a ≡ bit b → a ≡ b
+bits_tell false false e = refl
+bits_tell true true e = refl
+bits_tell false true e = absurd cc
+bits_tell true false e = absurd cc
+
+kept_tells : (a b : Kept) → kept_code a ≡ kept_code b → a ≡ b
+kept_tells a b e =
+    let due = numbers_tell a.due b.due (number_code a.owed ++ number_code (bit a.quiet)) (number_code b.owed ++ number_code (bit b.quiet)) e in
+    let owed = numbers_tell a.owed b.owed (number_code (bit a.quiet)) (number_code (bit b.quiet)) due.1 in
+    let quiet = numbers_tell (bit a.quiet) (bit b.quiet) [] [] (ap (λ xs. xs ++ []) owed.1) in
+    let same = bits_tell a.quiet b.quiet quiet.0 in
+    λ i. record { due = due.0 i; owed = owed.0 i; quiet = same i }
+
 -- a place is told by its key
 pub places_tell : (r : Rules) (s t : Spot) → IsSpot r s → IsSpot r t → spot_code s ≡ spot_code t → s.place ≡ t.place
 places_tell r s t is js e =
     let p = s.place in
     let q = t.place in
-    let one : state_code p.state ++ (left_code p.left ++ number_code p.due) ≡ state_code q.state ++ (left_code q.left ++ number_code q.due) =
-    sym (append_assoc (state_code p.state) (left_code p.left) (number_code p.due)) ∙ e
-    ∙ append_assoc (state_code q.state) (left_code q.left) (number_code q.due) in
-    let same = states.keys_tell r.program s.steps t.steps (left_code p.left ++ number_code p.due) (left_code q.left ++ number_code q.due)
-    (subst (λ x. state_code x ++ (left_code p.left ++ number_code p.due) ≡ state_code (after r.program t.steps) ++
-    (left_code q.left ++ number_code q.due))
+    let one : state_code p.state ++ (left_code p.left ++ kept_code p.kept) ≡ state_code q.state ++ (left_code q.left ++ kept_code q.kept) =
+    sym (append_assoc (state_code p.state) (left_code p.left) (kept_code p.kept)) ∙ e
+    ∙ append_assoc (state_code q.state) (left_code q.left) (kept_code q.kept) in
+    let same = states.keys_tell r.program s.steps t.steps (left_code p.left ++ kept_code p.kept) (left_code q.left ++ kept_code q.kept)
+    (subst (λ x. state_code x ++ (left_code p.left ++ kept_code p.kept) ≡ state_code (after r.program t.steps) ++
+    (left_code q.left ++ kept_code q.kept))
     is.state
-    (subst (λ x. state_code p.state ++ (left_code p.left ++ number_code p.due) ≡ state_code x ++ (left_code q.left ++ number_code q.due)) js.state
+    (subst (λ x. state_code p.state ++ (left_code p.left ++ kept_code p.kept) ≡ state_code x ++ (left_code q.left ++ kept_code q.kept)) js.state
     one)) in
-    let lefts = lefts_tell p.left q.left (number_code p.due) (number_code q.due) (is.bounded ∙ sym js.bounded) same.1 in
-    let due = numbers_tell p.due q.due [] [] (ap (λ xs. xs ++ []) lefts.1) in
+    let lefts = lefts_tell p.left q.left (kept_code p.kept) (kept_code q.kept) (is.bounded ∙ sym js.bounded) same.1 in
+    let kept = kept_tells p.kept q.kept lefts.1 in
     let state : p.state ≡ q.state = is.state ∙ same.0 ∙ sym js.state in
-    λ i. record { state = state i; left = lefts.0 i; due = due.0 i }
+    λ i. record { state = state i; left = lefts.0 i; kept = kept i }
 
 same_spots : (r : Rules) (s t : Spot) → s.place ≡ t.place → (o : Option Led) → SameStep spot_code (spot_of r s o) (spot_of r t o)
 same_spots r s t same None = tt
@@ -72,7 +87,7 @@ module _ (r : Rules) (p : Place) (number : ℕ) (l : Led) where
       → is_within r.most s ≡ b
       → placed r p number (with_event e (if◌then◌else◌ {A = Option (State × Option Seen)} b (Some (s, line)) None)) ≡ Some l → LeadsOn r p l
   by_within e s line true offered accepted within is =
-      let one : ◌≡◌ {A = Led} (record { event = e; place = taken r p number s; line = line }) l = cc in
+      let one : ◌≡◌ {A = Led} (record { event = e; place = taken r p number s line; line = line }) l = cc in
       subst (LeadsOn r p) one (record { number = number; offered = offered; accepted = accepted; within = within; taken = refl })
   by_within e s line false offered accepted within is = absurd (let f : ⊥ = cc in f)
 

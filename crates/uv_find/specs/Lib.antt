@@ -1,3 +1,4 @@
+pub mod Kept
 pub mod Orders
 pub mod Questions
 pub mod Courses

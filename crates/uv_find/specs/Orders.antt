@@ -1,5 +1,5 @@
 -- The orders of what may come from outside of a loop: what is offered where a search stands, and where it leads.
-use Rattle.std.specs.Prelude.{ℕ, zero, suc, ◌+◌, ◌-◌, ◌&&◌, Bool, true, false, nat_lt, nat_le, is_none, is_some, map, List, [], ◌∷◌, ◌++◌, Option, Some, None, slice_get, slice_set, if◌then◌else◌}
+use Rattle.std.specs.Prelude.{ℕ, zero, suc, ◌+◌, ◌-◌, ◌&&◌, not, Bool, true, false, nat_lt, nat_le, is_none, is_some, map, List, [], ◌∷◌, ◌++◌, Option, Some, None, slice_get, slice_set, if◌then◌else◌}
 use Rattle.std.specs.List.{list_all}
 use Rattle.uv_ids.specs.declared.event.Event.{Event}
 use Rattle.uv_ids.specs.declared.event.Event.TheVariants as event
@@ -7,29 +7,28 @@ use Rattle.uv_ids.specs.declared.id.Id.{Id}
 use Rattle.uv_ids.specs.declared.id.Var.{Var}
 use Rattle.uv_ids.specs.declared.seen.Seen.{Seen}
 use Rattle.uv_ids.specs.declared.fault.Why.TheVariants.{Blocked}
-use Rattle.uv_records.specs.Handles.{is_timer}
-use Rattle.uv_records.specs.Slots.{held}
 use Rattle.uv_script.specs.Program.{Program, worker_count}
-use Rattle.uv_work.specs.declared.content.Content.{Content}
-use Rattle.uv_work.specs.declared.content.Content.TheVariants as content
 use Rattle.uv_model.specs.declared.place.Place as loop
 use Rattle.uv_model.specs.declared.place.Place.TheVariants.{Main, Running}
 use Rattle.uv_model.specs.declared.place.Stage.{Stage}
 use Rattle.uv_model.specs.declared.place.Stage.TheVariants as stage
 use Rattle.uv_model.specs.State.{State, fresh, named}
-use Rattle.uv_model.specs.Queries.{run_by}
+use Rattle.uv_model.specs.Queries.{run_by, worker_of}
 use Rattle.uv_model.specs.Next.{Next, Moves, Refuses, next}
 use Rattle.uv_asking.specs.declared.asking.Offer.{Offer}
-use Rattle.uv_asking.specs.declared.asking.Offer.TheVariants.{Step, Take, Wait}
+use Rattle.uv_asking.specs.declared.asking.Offer.TheVariants.{Step, SendDuring, Take, Wait}
 use Rattle.uv_asking.specs.declared.asking.Offered.{Offered}
 use Rattle.uv_asking.specs.declared.asking.Most.{Most}
+use Rattle.uv_asking.specs.declared.asking.Takes.{Takes}
 use Rattle.uv_asking.specs.declared.asking.Question.{Question}
-use Rattle.uv_asking.specs.declared.asking.Question.TheVariants as asks
+use Rattle.uv_find.specs.declared.kept.Kept.{Kept}
+use Rattle.uv_find.specs.Kept.{none_kept, kept_after, owes}
 
--- what stays the same: the script, what is offered, how far the clock goes, how often names are called, and what is asked
+-- what stays the same: the script, what is offered, how long callbacks take, how far the clock goes, how often names are called, and what is asked
 pub record Rules : Type 0 where
   pub program : Program
   pub offers : List Offered
+  pub takes : List Takes
   pub clock : Option ℕ
   pub most : List Most
   pub question : Question
@@ -39,8 +38,7 @@ pub record Place : Type 0 where
   pub state : State
   -- how often each offer may still be taken; none is as often as one likes
   pub left : List (Option ℕ)
-  -- where it is asked how late a timer is called: when that timer was due as it was last active
-  pub due : ℕ
+  pub kept : Kept
 
 -- ---- what is offered
 
@@ -62,7 +60,7 @@ times_of offers = map (λ (offered : Offered). offered.times) offers
 
 -- where a search begins
 abbrev pub beginning : Rules → Place
-beginning r = record { state = fresh r.program; left = times_of r.offers; due = 0 }
+beginning r = record { state = fresh r.program; left = times_of r.offers; kept = none_kept }
 
 -- ---- the event of an offer
 
@@ -114,11 +112,33 @@ abbrev pub is_made : State → Option Var → Bool
 is_made s None = true
 is_made s (Some v) = is_some (named s v).id
 
+-- while a callback's time is still to go by, no callback of I/O begins, and no other time goes by; and nothing is sent between a poll and the
+-- first callback behind it: the loop sees that only where the poll is woken, and then it is as a send in the poll
+abbrev pub is_free : Kept → Event → Bool
+is_free k (event.Io v) = not (owes k)
+is_free k (event.Tick ms) = not (owes k)
+is_free k (event.Send v) = not k.quiet
+is_free k e = true
+
+-- where the loop would go on, a callback's time goes by first
+abbrev pub spending : Kept → Event → Event
+spending k event.Loop = if owes k then event.Tick k.owed else event.Loop
+spending k e = e
+
+abbrev pub step_of : State → Kept → Event → Option Event
+step_of s k e = if is_made s (aim e) && is_free k e then Some (spending k e) else None
+
+-- a worker runs the request that this name is bound to
+abbrev pub is_run : State → Option Id → Bool
+is_run s None = false
+is_run s (Some id) = is_some (worker_of s id)
+
 -- the event that an offer is in a state
-abbrev pub event_of : Program → State → Offer → Option Event
-event_of p s (Step e) = if is_made s (aim e) then Some e else None
-event_of p s Take = take_by (idle_among s (worker_count p))
-event_of p s Wait = wait_until p s (deadline_at s.place)
+abbrev pub event_of : Program → State → Kept → Offer → Option Event
+event_of p s k (Step e) = step_of s k e
+event_of p s k (SendDuring v job) = if is_run s (named s job).id then step_of s k (event.Send v) else None
+event_of p s k Take = take_by (idle_among s (worker_count p))
+event_of p s k Wait = wait_until p s (deadline_at s.place)
 
 -- from this clock, the event leaves it within its bound, where it has one
 abbrev pub keeps_clock : Option ℕ → ℕ → Event → Bool
@@ -133,11 +153,11 @@ abbrev pub may_take : Option ℕ → Bool
 may_take None = true
 may_take (Some n) = nat_lt 0 n
 
-abbrev pub offered_here : Program → Option ℕ → State → Offer → Option ℕ → Option Event
-offered_here p most s offer left = if may_take left then timed most s.clock (event_of p s offer) else None
+abbrev pub offered_here : Program → Option ℕ → State → Kept → Offer → Option ℕ → Option Event
+offered_here p most s k offer left = if may_take left then timed most s.clock (event_of p s k offer) else None
 
 abbrev pub offered_by : Rules → Place → Option Offered → Option (Option ℕ) → Option Event
-offered_by r p (Some offered) (Some left) = offered_here r.program r.clock p.state offered.offer left
+offered_by r p (Some offered) (Some left) = offered_here r.program r.clock p.state p.kept offered.offer left
 offered_by r p _ _ = None
 
 -- the event that the offer of this number is here, if it may still be taken
@@ -158,22 +178,9 @@ lessened_by left number (Some n) = slice_set left number (less n)
 abbrev pub lessened : List (Option ℕ) → ℕ → List (Option ℕ)
 lessened left number = lessened_by left number (slice_get left number)
 
--- when an active timer is due; what is no active timer leaves what was kept
-abbrev pub due_in : Option Content → ℕ → ℕ
-due_in (Some (content.Handle h)) due = if is_timer h.kind && h.active then h.due.at else due
-due_in _ due = due
-
-abbrev pub due_under : State → Option Id → ℕ → ℕ
-due_under s None due = due
-due_under s (Some id) due = due_in (held s.arena.slots id) due
-
-abbrev pub kept_due : Question → State → ℕ → ℕ
-kept_due (asks.Late name ms) s due = due_under s (named s name).id due
-kept_due _ s due = due
-
--- the place after the offer of this number, with this state
-abbrev pub taken : Rules → Place → ℕ → State → Place
-taken r p number s = record { state = s; left = lessened p.left number; due = kept_due r.question s p.due }
+-- the place after the offer of this number, with this state, where that appended this line
+abbrev pub taken : Rules → Place → ℕ → State → Option Seen → Place
+taken r p number s line = record { state = s; left = lessened p.left number; kept = kept_after r.takes r.question p.kept s line }
 
 -- each callback of the name was called so often at most
 abbrev pub is_called_within : State → Most → Bool
@@ -206,7 +213,7 @@ leads_on most p s (Some e) = with_event e (reached most (next p s e))
 
 abbrev pub placed : Rules → Place → ℕ → Option (Event × State × Option Seen) → Option Led
 placed r p number None = None
-placed r p number (Some t) = Some (record { event = t.0; place = taken r p number t.1; line = t.2 })
+placed r p number (Some t) = Some (record { event = t.0; place = taken r p number t.1 t.2; line = t.2 })
 
 -- where the offer of this number leads, if the loop accepts it and the bounds hold then
 abbrev pub led : Rules → Place → ℕ → Option Led

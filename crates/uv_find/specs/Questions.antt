@@ -1,5 +1,5 @@
 -- What is asked of a step.
-use Rattle.std.specs.Prelude.{ℕ, zero, suc, ◌-◌, ◌==◌, ◌&&◌, Bool, true, false, nat_le, is_none, length, Option, Some, None, slice_get, if◌then◌else◌}
+use Rattle.std.specs.Prelude.{ℕ, zero, suc, ◌-◌, ◌==◌, ◌&&◌, not, Bool, true, false, nat_le, is_none, length, Option, Some, None, slice_get, if◌then◌else◌}
 use Rattle.uv_ids.specs.declared.id.Var.{Var}
 use Rattle.uv_ids.specs.declared.seen.Callback.{Callback}
 use Rattle.uv_ids.specs.declared.seen.Callback.TheVariants as callback
@@ -17,6 +17,8 @@ use Rattle.uv_model.specs.declared.place.Place as loop
 use Rattle.uv_model.specs.declared.place.Place.TheVariants.{Main, Running}
 use Rattle.uv_model.specs.State.{State, named}
 use Rattle.uv_session.specs.Breaks.{answers_code, begins_section, begins_poll}
+use Rattle.uv_asking.specs.declared.asking.Which.{Which}
+use Rattle.uv_asking.specs.declared.asking.Which.TheVariants as which
 use Rattle.uv_asking.specs.declared.asking.Question.{Question}
 use Rattle.uv_asking.specs.declared.asking.Question.TheVariants as asks
 use Rattle.uv_find.specs.Orders.{Rules, Place, Led, led, is_blocked}
@@ -31,10 +33,18 @@ begun (seen.After digest v id) = Some (callback.After, v)
 begun (seen.Closed v id) = Some (callback.Close, v)
 begun l = None
 
--- it is one of this name, and with a number that one
-abbrev pub is_call : Var → Option ℕ → State → Option (Callback × Var) → Bool
-is_call name n s None = false
-is_call name n s (Some b) = (b.1.0 == name.0) && is_for (count_of b.0 (named s name).calls) n
+-- it is one of those that are meant
+abbrev pub is_which : Which → Callback → Bool
+is_which which.Any c = true
+is_which which.Handle callback.Handle = true
+is_which which.After callback.After = true
+is_which which.Close callback.Close = true
+is_which w c = false
+
+-- it is such a one of this name, and with a number that one
+abbrev pub is_call : Which → Var → Option ℕ → State → Option (Callback × Var) → Bool
+is_call w name n s None = false
+is_call w name n s (Some b) = is_which w b.0 && (b.1.0 == name.0) && is_for (count_of b.0 (named s name).calls) n
 
 -- no callback of this name was called
 abbrev pub is_uncalled : State → Var → Bool
@@ -100,14 +110,15 @@ is_late name ms due s l = false
 
 -- a line answers the question, in the state after it; the timer that is asked about was due then
 abbrev pub answers_line : Program → Question → ℕ → State → Seen → Bool
-answers_line p (asks.Call name n) due s l = is_call name n s (begun l)
+answers_line p (asks.Call w name n) due s l = is_call w name n s (begun l)
 answers_line p (asks.Code code name) due s l = answers_code code l && is_of name (answered_name p l)
 answers_line p (asks.Section word) due s l = begins_section word l
 answers_line p asks.Poll due s l = begins_poll l
 answers_line p (asks.Never name) due s l = false
 answers_line p asks.Stuck due s l = false
 answers_line p (asks.Late name ms) due s l = is_late name ms due s l
-answers_line p (asks.Before name other) due s l = is_call name None s (begun l) && is_uncalled s other
+answers_line p (asks.Before name other) due s l = is_call which.Any name None s (begun l) && is_uncalled s other
+answers_line p (asks.Behind name other) due s l = is_call which.Any name None s (begun l) && not (is_uncalled s other)
 
 abbrev pub line_answers : Program → Question → ℕ → State → Option Seen → Bool
 line_answers p q due s None = false
@@ -136,4 +147,4 @@ step_answers r due p line = if line_answers r.program r.question due p.state lin
 
 -- from this place, an event that led on answers the question
 abbrev pub answers : Rules → Place → Led → Bool
-answers r p l = step_answers r p.due l.place l.line
+answers r p l = step_answers r p.kept.due l.place l.line

@@ -1,14 +1,16 @@
 -- What a search goes through: places, each with the steps that led there, and its key.
-use Rattle.std.specs.Prelude.{◌≡◌, ℕ, ◌+◌, ◌-◌, ◌≤◌, take, slice_get, slice_set, Bool, List, [], ◌∷◌, ◌++◌, length, map, reverse, Option, Some, None, is_some}
+use Rattle.std.specs.Prelude.{◌≡◌, ℕ, ◌+◌, ◌-◌, ◌≤◌, if◌then◌else◌, take, slice_get, slice_set, Bool, List, [], ◌∷◌, ◌++◌, length, map, reverse, Option, Some, None, is_some}
 use Rattle.uv_ids.specs.declared.event.Event.{Event}
 use Rattle.uv_key.specs.Codes.{number_code}
 use Rattle.uv_model.specs.After.{after, STEPS}
 use Rattle.uv_state_key.specs.Key.{state_code}
 use Rattle.uv_find.specs.Orders.{Rules, Place, Led, led, times_of, every_offer, beginning}
 use Rattle.uv_find.specs.Questions.{answers}
+use Rattle.uv_find.specs.declared.kept.Kept.{Kept}
 use Rattle.uv_find.specs.declared.orders.Made.{Made}
 use Rattle.uv_asking.specs.Asked.{Asked}
 use Rattle.uv_asking.specs.declared.asking.Offered.{Offered}
+use Rattle.uv_asking.specs.declared.asking.Takes.{Takes}
 use Rattle.uv_asking.specs.declared.asking.Most.{Most}
 use Rattle.uv_asking.specs.declared.asking.Question.{Question}
 use Rattle.uv_script.specs.Program.{Program, worker_count}
@@ -32,9 +34,15 @@ left_code [] = []
 left_code (None ∷ left) = left_code left
 left_code (Some n ∷ left) = number_code n ++ left_code left
 
+abbrev pub bit : Bool → ℕ
+bit b = if b then 1 else 0
+
+abbrev pub kept_code : Kept → List ℕ
+kept_code k = number_code k.due ++ (number_code k.owed ++ number_code (bit k.quiet))
+
 -- the key of a place: what decides what comes after
 abbrev pub place_code : Place → List ℕ
-place_code p = state_code p.state ++ left_code p.left ++ number_code p.due
+place_code p = state_code p.state ++ left_code p.left ++ kept_code p.kept
 
 abbrev pub spot_code : Spot → List ℕ
 spot_code s = place_code s.place
@@ -62,7 +70,7 @@ spots_before p es left [] = []
 spots_before p es left (m ∷ ms) =
     let fs = take (length es - 1) es in
     let lefts = put_back left m.number m.left in
-    record { place = record { state = after p fs; left = lefts; due = m.due }; steps = fs } ∷ spots_before p fs lefts ms
+    record { place = record { state = after p fs; left = lefts; kept = m.kept }; steps = fs } ∷ spots_before p fs lefts ms
 
 -- what is searched: where it stands, and where it can go back to
 pub record Searched : Type 0 where
@@ -75,6 +83,7 @@ abbrev pub rules_of : Program → Asked → Rules
 rules_of p asked = record {
   program = p;
   offers = every_offer (worker_count p) asked.offers;
+  takes = asked.takes;
   clock = asked.clock;
   most = asked.most;
   question = asked.question;
@@ -84,10 +93,10 @@ abbrev pub first_spot : Rules → Spot
 first_spot r = record { place = beginning r; steps = [] }
 
 -- what the fields of a search stand for
-abbrev pub searched : Shown → List Offered → Option ℕ → List Most → Question → List (Option ℕ) → ℕ → List Made → Searched
-searched s offers clock most question left due made = record {
-  rules = record { program = s.program; offers = offers; clock = clock; most = most; question = question };
-  spot = record { place = record { state = after s.program s.standing; left = left; due = due }; steps = s.standing };
+abbrev pub searched : Shown → List Offered → List Takes → Option ℕ → List Most → Question → List (Option ℕ) → Kept → List Made → Searched
+searched s offers takes clock most question left kept made = record {
+  rules = record { program = s.program; offers = offers; takes = takes; clock = clock; most = most; question = question };
+  spot = record { place = record { state = after s.program s.standing; left = left; kept = kept }; steps = s.standing };
   before = spots_before s.program s.standing left (reverse made);
 }
 

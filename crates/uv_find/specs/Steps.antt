@@ -8,6 +8,7 @@ use Rattle.uv_model.specs.State.{State}
 use Rattle.uv_session.specs.Shown.{Shown}
 use Rattle.uv_asking.specs.declared.asking.Most.{Most}
 use Rattle.uv_asking.specs.declared.asking.Offer.{Offer}
+use Rattle.uv_find.specs.declared.kept.Kept.{Kept}
 use Rattle.uv_find.specs.Orders.{Led, led, reached, leads_on, offered_here}
 use Rattle.uv_find.specs.Spots.{Searched}
 
@@ -29,13 +30,13 @@ StepsWithin most s e (Ok None) t = Stands s s.standing t × (reached most (next 
 StepsWithin most s e (Err fault) t = Stands s s.standing t
 
 -- what may be answered where an offer is to be taken that may be taken so often, and the session then
-abbrev pub TakesOffer : {E : Type 0} → Option ℕ → List Most → Shown → Offer → Option ℕ → Result (Option Outcome) E → Shown → Type 0
-TakesOffer clock most s offer left (Ok (Some outcome)) t =
+abbrev pub TakesOffer : {E : Type 0} → Option ℕ → List Most → Shown → Kept → Offer → Option ℕ → Result (Option Outcome) E → Shown → Type 0
+TakesOffer clock most s k offer left (Ok (Some outcome)) t =
     (e : Event) × (Stands s (s.standing ++ e ∷ []) t
-    × (leads_on most s.program (state_in s) (offered_here s.program clock (state_in s) offer left) ≡ Some (e, state_in t, outcome.seen)))
-TakesOffer clock most s offer left (Ok None) t =
-    Stands s s.standing t × (leads_on most s.program (state_in s) (offered_here s.program clock (state_in s) offer left) ≡ None)
-TakesOffer clock most s offer left (Err fault) t = Stands s s.standing t
+    × (leads_on most s.program (state_in s) (offered_here s.program clock (state_in s) k offer left) ≡ Some (e, state_in t, outcome.seen)))
+TakesOffer clock most s k offer left (Ok None) t =
+    Stands s s.standing t × (leads_on most s.program (state_in s) (offered_here s.program clock (state_in s) k offer left) ≡ None)
+TakesOffer clock most s k offer left (Err fault) t = Stands s s.standing t
 
 -- what may be answered where an offer is to be taken, and the search then
 abbrev pub Takes : {E : Type 0} → Searched → ℕ → Result (Option Outcome) E → Searched → Type 0

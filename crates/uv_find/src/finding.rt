@@ -1,11 +1,12 @@
 //! A search through all orders.
-ghost use Rattle.std.specs.Prelude.{◌≡◌, IfOk};
+ghost use Rattle.std.specs.Prelude.{◌≡◌, false, IfOk};
 ghost use Rattle.uv_find.specs.Found.{Finds, KeysTell};
+ghost use Rattle.uv_find.specs.Questions.{place_answers};
 
 use crate::orders::Orders;
 use std::alloc::{AllocError, Global};
-use uv_model::Machine;
-use uv_search::{Found, Reached, go_back, search, shorten};
+use uv_model::{Machine, STEPS};
+use uv_search::{Found, Reached, go_back, search, shortest};
 
 /// So many moves are made at most to make the steps that are found fewer (own).
 const EFFORT: usize = 2_097_152;
@@ -13,9 +14,9 @@ const EFFORT: usize = 2_097_152;
 /// What a search of orders finds.
 #[derive(Clone, Copy, PartialEq, Eq)]
 pub enum Answer {
-    /// The last step answers the question. So many places were kept until then.
+    /// The last step answers the question, or the place does from which none is taken. So many places were kept until then.
     Found(usize),
-    /// No steps do, however many. They lead to so many places.
+    /// No steps do, however many, and the place doesn't. They lead to so many places.
     Never(usize),
     /// Steps lead to more places than may be kept.
     Unsettled,
@@ -33,10 +34,29 @@ pub fn find<M: Machine>(
     ensures found { IfOk result (λ answer. Finds orders.old.rules orders.old.spot limit answer orders.new.spot) }
     ensures rules { orders.new.rules ≡ orders.old.rules }
 {
+    if orders.step_count() >= STEPS - 1 {
+        return Ok(Answer::TooDeep);
+    }
+    if orders.place_answers()? {
+        return Ok(Answer::Found(0));
+    }
+    find_behind(alloc, orders, limit)
+}
+
+/// The same, where the place from which it searches doesn't answer.
+fn find_behind<M: Machine>(
+    alloc: Global,
+    orders: &mut Orders<M>,
+    limit: usize,
+) -> Result<Answer, AllocError>
+    requires here { place_answers orders.old.rules orders.old.spot.place orders.old.rules.question ≡ false }
+    ensures found { IfOk result (λ answer. Finds orders.old.rules orders.old.spot limit answer orders.new.spot) }
+    ensures rules { orders.new.rules ≡ orders.old.rules }
+{
     match search(alloc, orders, limit)? {
         Found::Way(Reached { way, keys }) => {
             go_back(orders, way.len());
-            match shorten(alloc, orders, way, EFFORT)? {
+            match shortest(alloc, orders, way, EFFORT)? {
                 Some(_) => Ok(Answer::Found(keys)),
                 None => Ok(Answer::TooDeep),
             }

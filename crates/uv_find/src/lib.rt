@@ -6,9 +6,11 @@
 
 mod beginning;
 mod finding;
+mod kept;
 mod orders;
 mod questions;
 mod steps;
 
 pub use finding::{Answer, find, place_keys_tell};
+pub use kept::Kept;
 pub use orders::{Made, Orders};

@@ -3,24 +3,25 @@ ghost use Rattle.std.specs.Prelude.{◌≡◌, ◌∷◌, ◌++◌, ◌<◌, ◌
 ghost use Rattle.uv_model.specs.After.{after, STEPS};
 ghost use Rattle.uv_asking.specs.Asked.{asked_in};
 ghost use Rattle.uv_asking.specs.declared.asking.Question.TheVariants.{Stuck};
-ghost use Rattle.uv_find.specs.Orders.{due_in, kept_due, less, lessened, is_blocked};
+ghost use Rattle.uv_find.specs.Kept.{kept_after};
+ghost use Rattle.uv_find.specs.Orders.{less, lessened, is_blocked};
 ghost use Rattle.uv_find.specs.Questions.{none_leads, line_answers, place_answers, step_answers};
-ghost use Rattle.uv_find.specs.Spots.{Searched, IsSearched, IsSpot, searched, again, put_back, rules_of, first_spot, left_code, next_spot, spot_code, IsDeep};
-ghost use Rattle.uv_find.specs.Steps.{Takes};
+ghost use Rattle.uv_find.specs.Spots.{Searched, IsSearched, IsSpot, searched, again, put_back, rules_of, first_spot, left_code, kept_code, next_spot, spot_code, IsDeep};
+ghost use Rattle.uv_find.specs.Steps.{Takes as TakesOne};
 
 use crate::beginning::{every_offer, times_of};
+use crate::kept::{Kept, kept_after, none_kept};
 use crate::questions::{has_ended, is_uncalled, line_answers};
 use crate::steps::{is_blocked, take_back, take_offer};
 use std::alloc::{AllocError, Global};
 use std::marker::Model;
-use uv_asking::{Asking, Most, Offer, Offered, Question};
+use uv_asking::{Asking, Most, Offer, Offered, Question, Takes};
 use uv_ids::{Event, Seen};
 use uv_key::push_number;
 use uv_model::{Machine, Outcome, STEPS};
 use uv_search::{Maze, Went};
 use uv_session::Session;
 use uv_state_key::push_key;
-use uv_work::Content;
 
 /// An offer that was taken, by its number.
 #[derive(Clone, Copy)]
@@ -28,8 +29,8 @@ pub struct Made {
     number: usize,
     /// How often it could be taken before, where that is bounded.
     left: u32,
-    /// What was kept of a timer's due time before.
-    due: u64,
+    /// What was kept before.
+    kept: Kept,
 }
 
 /// The orders of what is offered: a session that goes on by one offer after another, and exactly back.
@@ -37,49 +38,21 @@ pub struct Made {
 pub struct Orders<M: Machine> {
     session: Session<M>,
     offers: Vec<Offered>,
+    takes: Vec<Takes>,
     clock: Option<u64>,
     most: Vec<Most>,
     question: Question,
     left: Vec<Option<u32>>,
-    due: u64,
+    kept: Kept,
     made: Vec<Made>,
 }
 
 impl<M: Machine> Model for Orders<M> {
     ghost Value = { Searched };
 
-    ghost view = { λ a. searched a.session a.offers.items a.clock a.most.items a.question a.left.items a.due a.made.items };
+    ghost view = { λ a. searched a.session a.offers.items a.takes.items a.clock a.most.items a.question a.left.items a.kept a.made.items };
 
     ghost invariant = { λ a. IsSearched M.BackWantsMemory a.session a.offers.items a.left.items a.made.items };
-}
-
-/// When an active timer is due; what is no active timer leaves what was kept.
-fn due_in(content: Option<Content>, due: u64) -> u64
-    ensures { result ≡ due_in content due }
-{
-    match content {
-        Some(Content::Handle(handle)) => {
-            if handle.is_timer() && handle.active {
-                handle.due.at
-            } else {
-                due
-            }
-        }
-        _ => due,
-    }
-}
-
-/// What is kept of a timer's due time, as the machine stands.
-fn kept_due<M: Machine>(machine: &M, question: Question, due: u64) -> u64
-    ensures { result ≡ kept_due question (after (M.program machine.now) (M.standing machine.now)) due }
-{
-    match question {
-        Question::Late(name, _) => match machine.named(name).id {
-            None => due,
-            Some(id) => due_in(machine.held(id), due),
-        },
-        _ => due,
-    }
 }
 
 /// Once less.
@@ -133,14 +106,17 @@ impl<M: Machine> Orders<M> {
         let left = times_of(alloc, &offers)?;
         let mut most = Vec::new(alloc);
         most.extend_from_slice(&asking.most)?;
+        let mut takes = Vec::new(alloc);
+        takes.extend_from_slice(&asking.takes)?;
         Ok(Orders {
             session: Session::new(alloc, machine, STEPS),
             offers,
+            takes,
             clock: asking.clock,
             most,
             question: asking.question,
             left,
-            due: 0,
+            kept: none_kept(),
             made: Vec::new(alloc),
         })
     }
@@ -156,21 +132,34 @@ impl<M: Machine> Orders<M> {
     pub(crate) fn take(&mut self, number: usize) -> Result<Option<Outcome>, AllocError>
         requires offered { number < length self.old.rules.offers }
         requires room { length self.old.spot.steps < STEPS }
-        ensures { Takes self.old number result self.new }
+        ensures { TakesOne self.old number result self.new }
     {
         let left = self.left[number];
         let offer = self.offers[number].offer;
         self.made.reserve(1)?;
-        match take_offer(&mut self.session, self.clock, &self.most, offer, left)? {
+        match take_offer(
+            &mut self.session,
+            self.clock,
+            &self.most,
+            self.kept,
+            offer,
+            left,
+        )? {
             None => Ok(None),
             Some(outcome) => {
                 self.made.push_reserved(Made {
                     number,
                     left: left.unwrap_or(0),
-                    due: self.due,
+                    kept: self.kept,
                 });
                 lessen(&mut self.left, number);
-                self.due = kept_due(self.session.machine(), self.question, self.due);
+                self.kept = kept_after(
+                    self.session.machine(),
+                    &self.takes,
+                    self.question,
+                    self.kept,
+                    outcome.seen,
+                );
                 Ok(Some(outcome))
             }
         }
@@ -185,7 +174,7 @@ impl<M: Machine> Orders<M> {
         if let Some(made) = self.made.pop() {
             take_back(&mut self.session);
             put_back(&mut self.left, made.number, made.left);
-            self.due = made.due;
+            self.kept = made.kept;
         }
     }
 
@@ -240,20 +229,20 @@ impl<M: Machine> Orders<M> {
 
     /// What is kept of a timer's due time.
     fn due(&self) -> u64
-        ensures { result ≡ self.now.spot.place.due }
+        ensures { result ≡ self.now.spot.place.kept.due }
     {
-        self.due
+        self.kept.due
     }
 
     /// How many steps stand.
-    fn step_count(&self) -> usize
+    pub(crate) fn step_count(&self) -> usize
         ensures { result ≡ length self.now.spot.steps }
     {
         self.session.steps().len()
     }
 
     /// Whether what stands here answers the question. Nothing changes.
-    fn place_answers(&mut self) -> Result<bool, AllocError>
+    pub(crate) fn place_answers(&mut self) -> Result<bool, AllocError>
         requires room { length self.old.spot.steps < STEPS }
         ensures same { self.new ≡ self.old }
         ensures answers { IfOk result (λ answers. answers ≡ place_answers self.old.rules self.old.spot.place self.old.rules.question) }
@@ -299,6 +288,15 @@ fn push_left(out: &mut Vec<u8>, left: &[Option<u32>]) -> Result<(), AllocError>
         }
     }
     Ok(())
+}
+
+/// Appends what is kept.
+fn push_kept(out: &mut Vec<u8>, kept: Kept) -> Result<(), AllocError>
+    ensures { OnOk result (out.new.items ≡ out.old.items ++ kept_code kept) }
+{
+    push_number(out, kept.due)?;
+    push_number(out, kept.owed)?;
+    push_number(out, if kept.quiet { 1 } else { 0 })
 }
 
 impl<M: Machine> Maze for Orders<M> {
@@ -356,7 +354,7 @@ impl<M: Machine> Maze for Orders<M> {
     fn key(&self, out: &mut Vec<u8>) -> Result<(), AllocError> {
         push_key(out, self.session.machine())?;
         push_left(out, &self.left)?;
-        push_number(out, self.due)
+        push_kept(out, self.kept)
     }
 
     ghost alike = { spots_alike };

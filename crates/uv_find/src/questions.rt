@@ -2,9 +2,9 @@
 ghost use Rattle.std.specs.Prelude.{◌≡◌, ◌==◌, ◌&&◌};
 ghost use Rattle.uv_model.specs.After.{after};
 ghost use Rattle.uv_script.specs.Program.{is_for};
-ghost use Rattle.uv_find.specs.Questions.{begun, is_call, is_uncalled, op_name, name_in, answered_name, is_name, is_of, is_late, holds_timer, answers_line, line_answers, has_ended};
+ghost use Rattle.uv_find.specs.Questions.{begun, is_which, is_call, is_uncalled, op_name, name_in, answered_name, is_name, is_of, is_late, holds_timer, answers_line, line_answers, has_ended};
 
-use uv_asking::Question;
+use uv_asking::{Question, Which};
 use uv_ids::{Callback, Seen, Var};
 use uv_model::{Machine, Place};
 use uv_records::Calls;
@@ -25,13 +25,33 @@ fn begun(line: Seen) -> Option<(Callback, Var)>
     }
 }
 
-/// Whether the line begins a callback of this name, and with a number that one.
-fn is_call<M: Machine>(machine: &M, line: Seen, name: Var, number: Option<u32>) -> bool
-    ensures { result ≡ is_call name number (after (M.program machine.now) (M.standing machine.now)) (begun line) }
+/// Whether a callback is one of those that are meant.
+fn is_which(which: Which, callback: Callback) -> bool
+    ensures { result ≡ is_which which callback }
+{
+    match (which, callback) {
+        (Which::Any, _) => true,
+        (Which::Handle, Callback::Handle) => true,
+        (Which::After, Callback::After) => true,
+        (Which::Close, Callback::Close) => true,
+        _ => false,
+    }
+}
+
+/// Whether the line begins such a callback of this name, and with a number that one.
+fn is_call<M: Machine>(
+    machine: &M,
+    line: Seen,
+    which: Which,
+    name: Var,
+    number: Option<u32>,
+) -> bool
+    ensures { result ≡ is_call which name number (after (M.program machine.now) (M.standing machine.now)) (begun line) }
 {
     match begun(line) {
         None => false,
-        Some((callback, called)) => called.0 == name.0
+        Some((callback, called)) => is_which(which, callback)
+            && called.0 == name.0
             && is_for(machine.named(name).calls.of(callback), number),
     }
 }
@@ -162,7 +182,7 @@ fn answers_line<M: Machine>(machine: &M, question: Question, due: u64, line: See
     ensures { result ≡ answers_line (M.program machine.now) question due (after (M.program machine.now) (M.standing machine.now)) line }
 {
     match question {
-        Question::Call(name, number) => is_call(machine, line, name, number),
+        Question::Call(which, name, number) => is_call(machine, line, which, name, number),
         Question::Code(code, name) => Break::Code(code).matches(line)
             && is_of(name, answered_name(machine, line)),
         Question::Section(word) => Break::Section(word).matches(line),
@@ -170,8 +190,10 @@ fn answers_line<M: Machine>(machine: &M, question: Question, due: u64, line: See
         Question::Never(_) => false,
         Question::Stuck => false,
         Question::Late(name, ms) => is_late(machine, line, name, ms, due),
-        Question::Before(name, other) => is_call(machine, line, name, None)
+        Question::Before(name, other) => is_call(machine, line, Which::Any, name, None)
             && is_uncalled(machine, other),
+        Question::Behind(name, other) => is_call(machine, line, Which::Any, name, None)
+            && !is_uncalled(machine, other),
     }
 }
 

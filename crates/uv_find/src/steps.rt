@@ -1,13 +1,14 @@
 //! The event that an offer is, and one step of a session.
 ghost use Rattle.std.specs.Prelude.{◌≡◌, ◌<◌, ◌-◌, ◌&&◌, nat_le, take, length, IfOk};
-ghost use Rattle.uv_find.specs.Orders.{idle_among, take_by, aim, is_made, is_blocked, deadline_at, wait_until, event_of, keeps_clock, timed, may_take, offered_here, is_called_within, is_within};
+ghost use Rattle.uv_find.specs.Orders.{idle_among, take_by, aim, is_made, is_blocked, deadline_at, wait_until, is_free, spending, step_of, is_run, event_of, keeps_clock, timed, may_take, offered_here, is_called_within, is_within};
 ghost use Rattle.uv_find.specs.Steps.{Stands, StepsWithin, TakesOffer, state_in};
 ghost use Rattle.uv_model.specs.After.{after};
 ghost use Rattle.uv_script.specs.Program.{worker_count};
 
+use crate::kept::{Kept, owes};
 use std::alloc::AllocError;
 use uv_asking::{Most, Offer};
-use uv_ids::{Event, Fault, Var, Why};
+use uv_ids::{Event, Fault, Id, Var, Why};
 use uv_model::{Machine, Outcome, Place, Stage};
 use uv_records::Calls;
 use uv_session::Session;
@@ -123,17 +124,73 @@ fn is_made<M: Machine>(machine: &M, name: Option<Var>) -> bool
     }
 }
 
+/// Whether a step may come now: while a callback's time is still to go by, no callback of I/O begins, and no other time goes by; between a
+/// poll and the first callback behind it nothing is sent.
+fn is_free(kept: Kept, event: Event) -> bool
+    ensures { result ≡ is_free kept event }
+{
+    match event {
+        Event::Io(_) => !owes(kept),
+        Event::Tick(_) => !owes(kept),
+        Event::Send(_) => !kept.quiet,
+        _ => true,
+    }
+}
+
+/// Where the loop would go on, a callback's time goes by first.
+fn spending(kept: Kept, event: Event) -> Event
+    ensures { result ≡ spending kept event }
+{
+    match event {
+        Event::Loop => {
+            if owes(kept) {
+                Event::Tick(kept.owed)
+            } else {
+                Event::Loop
+            }
+        }
+        other => other,
+    }
+}
+
+/// The event that a step is here.
+fn step_of<M: Machine>(machine: &M, kept: Kept, event: Event) -> Option<Event>
+    ensures { result ≡ step_of (after (M.program machine.now) (M.standing machine.now)) kept event }
+{
+    if is_made(machine, aim(event)) && is_free(kept, event) {
+        Some(spending(kept, event))
+    } else {
+        None
+    }
+}
+
+/// Whether a worker runs the request of this id.
+fn is_run<M: Machine>(machine: &M, id: Option<Id>) -> bool
+    ensures { result ≡ is_run (after (M.program machine.now) (M.standing machine.now)) id }
+{
+    match id {
+        None => false,
+        Some(id) => machine.worker_of(id).is_some(),
+    }
+}
+
 /// The event that an offer is here. Nothing changes.
-fn event_of<M: Machine>(session: &mut Session<M>, offer: Offer) -> Result<Option<Event>, AllocError>
+fn event_of<M: Machine>(
+    session: &mut Session<M>,
+    kept: Kept,
+    offer: Offer,
+) -> Result<Option<Event>, AllocError>
     requires room { length session.old.standing < session.old.limit }
     requires back { M.BackWantsMemory → ⊥ }
     ensures same { Stands session.old session.old.standing session.new }
-    ensures event { IfOk result (λ event. event ≡ event_of session.old.program (state_in session.old) offer) }
+    ensures event { IfOk result (λ event. event ≡ event_of session.old.program (state_in session.old) kept offer) }
 {
     match offer {
-        Offer::Step(event) => {
-            if is_made(session.machine(), aim(event)) {
-                Ok(Some(event))
+        Offer::Step(event) => Ok(step_of(session.machine(), kept, event)),
+        Offer::SendDuring(name, job) => {
+            let machine = session.machine();
+            if is_run(machine, machine.named(job).id) {
+                Ok(step_of(machine, kept, Event::Send(name)))
             } else {
                 Ok(None)
             }
@@ -189,19 +246,20 @@ fn may_take(left: Option<u32>) -> bool
 pub fn offered_here<M: Machine>(
     session: &mut Session<M>,
     most: Option<u64>,
+    kept: Kept,
     offer: Offer,
     left: Option<u32>,
 ) -> Result<Option<Event>, AllocError>
     requires room { length session.old.standing < session.old.limit }
     requires back { M.BackWantsMemory → ⊥ }
     ensures same { Stands session.old session.old.standing session.new }
-    ensures event { IfOk result (λ event. event ≡ offered_here session.old.program most (state_in session.old) offer left) }
+    ensures event { IfOk result (λ event. event ≡ offered_here session.old.program most (state_in session.old) kept offer left) }
 {
     if !may_take(left) {
         return Ok(None);
     }
     let clock = session.machine().numbers().clock;
-    let event = event_of(session, offer)?;
+    let event = event_of(session, kept, offer)?;
     Ok(timed(most, clock, event))
 }
 
@@ -248,14 +306,15 @@ pub fn take_offer<M: Machine>(
     session: &mut Session<M>,
     clock: Option<u64>,
     most: &[Most],
+    kept: Kept,
     offer: Offer,
     left: Option<u32>,
 ) -> Result<Option<Outcome>, AllocError>
     requires room { length session.old.standing < session.old.limit }
     requires back { M.BackWantsMemory → ⊥ }
-    ensures { TakesOffer clock most.now session.old offer left result session.new }
+    ensures { TakesOffer clock most.now session.old kept offer left result session.new }
 {
-    match offered_here(session, clock, offer, left)? {
+    match offered_here(session, clock, kept, offer, left)? {
         None => Ok(None),
         Some(event) => step_within(session, event, most),
     }

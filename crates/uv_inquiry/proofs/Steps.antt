@@ -1,6 +1,7 @@
 -- What is said for the first time.
-use Rattle.std.proofs.Common.{◌≡◌, ℕ, ◌==◌, ◌||◌, Bool, true, false, not, nat_lt, List, [], ◌∷◌, length, Option, Some, None, refl, ap, sym, subst}
+use Rattle.std.proofs.Common.{◌≡◌, ℕ, ◌==◌, ◌||◌, Bool, true, false, not, nat_lt, nat_eq, List, [], ◌∷◌, length, Option, Some, None, refl, ap, ap₂, sym, subst}
 use Rattle.std.specs.Prelude.{is_none}
+use Rattle.std.specs.Option.{option_eq}
 use Rattle.std.specs.List.{list_any, AllByRecursion}
 use Rattle.std.proofs.lemmas.Bool.{and_parts, and_from, ltb-true, lt-ltb, eqb-true, both_ways}
 use Rattle.std.proofs.lemmas.Bool.Decides.{Decides-eqb}
@@ -8,14 +9,15 @@ use Rattle.uv_ids.specs.declared.id.Var.{Var}
 use Rattle.uv_ids.specs.declared.event.Event.{Event}
 use Rattle.uv_ids.specs.declared.event.Event.TheVariants as event
 use Rattle.uv_asking.specs.declared.asking.Offer.{Offer}
-use Rattle.uv_asking.specs.declared.asking.Offer.TheVariants.{Step, Take, Wait}
+use Rattle.uv_asking.specs.declared.asking.Offer.TheVariants.{Step, SendDuring, Take, Wait}
 use Rattle.uv_asking.specs.declared.asking.Offered.{Offered}
+use Rattle.uv_asking.specs.declared.asking.Takes as asking
 use Rattle.uv_asking.specs.declared.asking.Most.{Most}
 use Rattle.uv_asking.specs.declared.part.Part.{Part}
-use Rattle.uv_asking.specs.declared.part.Part.TheVariants.{Offers, Clock, Calls, States, Finds}
+use Rattle.uv_asking.specs.declared.part.Part.TheVariants.{Offers, Takes, Clock, Calls, States, Finds}
 use Rattle.uv_asking.specs.Limits.{MOST_OFFERS}
 use Rattle.uv_inquiry.specs.Drafts.{Draft, IsNew}
-use Rattle.uv_inquiry.specs.Tests.{same_step, same_offer, has_offer, has_bound, is_new}
+use Rattle.uv_inquiry.specs.Tests.{same_step, same_offer, has_offer, same_calls, has_time, has_bound, is_new}
 
 abbrev var_of : ℕ → Var
 var_of n = record { 0 = n }
@@ -47,12 +49,16 @@ step_self (event.Tick n) = itself n
 
 offer_is : (a b : Offer) → same_offer a b ≡ true → a ≡ b
 offer_is (Step a) (Step b) e = ap Step (step_is a b e)
+offer_is (SendDuring v i) (SendDuring w j) e =
+    let parts = and_parts (v.0 == w.0) (i.0 == j.0) e in
+    ap₂ SendDuring (var_is v w parts.0) (var_is i j parts.1)
 offer_is Take Take e = refl
 offer_is Wait Wait e = refl
 offer_is _ _ e = absurd cc
 
 offer_self : (a : Offer) → same_offer a a ≡ true
 offer_self (Step a) = step_self a
+offer_self (SendDuring v i) = and_from (v.0 == v.0) (i.0 == i.0) (itself v.0) (itself i.0)
 offer_self Take = refl
 offer_self Wait = refl
 
@@ -93,6 +99,31 @@ none_is (Some x) e = absurd cc
 is_offer : (o : Offer) (p : Offered) → p.offer ≡ o → same_offer p.offer o ≡ true
 is_offer o p e = subst (λ (x : Offer). same_offer x o ≡ true) (sym e) (offer_self o)
 
+is_call : (a b : Option ℕ) → option_eq nat_eq a b ≡ true → a ≡ b
+is_call None None e = refl
+is_call (Some m) (Some n) e = ap Some (eqb-true m n e)
+is_call None (Some n) e = absurd cc
+is_call (Some m) None e = absurd cc
+
+call_self : (a : Option ℕ) → option_eq nat_eq a a ≡ true
+call_self None = refl
+call_self (Some n) = itself n
+
+-- the times of the same calls
+abbrev AreSame : asking.Takes → asking.Takes → Type 0
+AreSame t u = (u.name ≡ t.name) × (u.call ≡ t.call)
+
+times_are : (t u : asking.Takes) → same_calls u t ≡ true → AreSame t u
+times_are t u e =
+    let parts = and_parts (u.name.0 == t.name.0) (option_eq nat_eq u.call t.call) e in
+    (var_is u.name t.name parts.0, is_call u.call t.call parts.1)
+
+times_same : (t u : asking.Takes) → AreSame t u → same_calls u t ≡ true
+times_same t u (name, call) =
+    and_from (u.name.0 == t.name.0) (option_eq nat_eq u.call t.call)
+    (subst (λ (w : Var). (w.0 == t.name.0) ≡ true) (sym name) (itself t.name.0))
+    (subst (λ (c : Option ℕ). option_eq nat_eq c t.call ≡ true) (sym call) (call_self t.call))
+
 is_bound : (v : Var) (m : Most) → m.name ≡ v → (m.name.0 == v.0) ≡ true
 is_bound v m e = subst (λ (w : Var). (w.0 == v.0) ≡ true) (sym e) (itself v.0)
 
@@ -103,6 +134,7 @@ new_sound d (Offers o) e =
       none_so (λ (p : Offered). same_offer p.offer o.offer) (λ (p : Offered). p.offer ≡ o.offer) (is_offer o.offer) d.offers
           (not_true (has_offer o.offer d.offers) tests.1),
     )
+new_sound d (Takes t) e = none_so (λ (u : asking.Takes). same_calls u t) (AreSame t) (times_same t) d.takes (not_true (has_time t d.takes) e)
 new_sound d (Clock ms) e = none_is d.clock e
 new_sound d (Calls m) e =
     none_so (λ (n : Most). n.name.0 == m.name.0) (λ (n : Most). n.name ≡ m.name) (is_bound m.name) d.most
@@ -115,6 +147,7 @@ new_complete d (Offers o) (few, none) =
     and_from (nat_lt (length d.offers) MOST_OFFERS) (not (has_offer o.offer d.offers)) (lt-ltb (length d.offers) MOST_OFFERS few)
     (ap not (none_found (λ (p : Offered). same_offer p.offer o.offer) (λ (p : Offered). p.offer ≡ o.offer) (λ p e. offer_is p.offer o.offer e)
     d.offers none))
+new_complete d (Takes t) h = ap not (none_found (λ (u : asking.Takes). same_calls u t) (AreSame t) (times_are t) d.takes h)
 new_complete d (Clock ms) h = ap is_none h
 new_complete d (Calls m) h =
     ap not (none_found (λ (n : Most). n.name.0 == m.name.0) (λ (n : Most). n.name ≡ m.name) (λ n e. var_is n.name m.name e) d.most h)

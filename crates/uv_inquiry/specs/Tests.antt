@@ -1,6 +1,7 @@
 -- How the lines behind `begin` are read, as functions that the code computes. They serve private clauses; that they agree with the grammar is
 -- proved.
-use Rattle.std.specs.Prelude.{◌≡◌, ℕ, ◌+◌, ◌==◌, ◌&&◌, Bool, true, false, not, nat_lt, List, length, Option, Some, None, is_none, Result, Ok, Err, if◌then◌else◌}
+use Rattle.std.specs.Prelude.{◌≡◌, ℕ, ◌+◌, ◌==◌, ◌&&◌, Bool, true, false, not, nat_lt, nat_eq, List, length, Option, Some, None, is_none, Result, Ok, Err, if◌then◌else◌}
+use Rattle.std.specs.Option.{option_eq}
 use Rattle.std.specs.List.{list_any}
 use Rattle.uv_ids.specs.declared.event.Event.{Event}
 use Rattle.uv_ids.specs.declared.event.Event.TheVariants as event
@@ -8,12 +9,13 @@ use Rattle.uv_ids.specs.declared.fault.Fault.{Fault}
 use Rattle.uv_ids.specs.declared.fault.Fault.TheVariants as fault
 use Rattle.uv_script.specs.Lines.{lines_of}
 use Rattle.uv_asking.specs.declared.asking.Offer.{Offer}
-use Rattle.uv_asking.specs.declared.asking.Offer.TheVariants.{Step, Take, Wait}
+use Rattle.uv_asking.specs.declared.asking.Offer.TheVariants.{Step, SendDuring, Take, Wait}
 use Rattle.uv_asking.specs.declared.asking.Offered.{Offered}
+use Rattle.uv_asking.specs.declared.asking.Takes as asking
 use Rattle.uv_asking.specs.declared.asking.Most.{Most}
 use Rattle.uv_asking.specs.declared.asking.Asking.{Asking}
 use Rattle.uv_asking.specs.declared.part.Part.{Part}
-use Rattle.uv_asking.specs.declared.part.Part.TheVariants.{Offers, Clock, Calls, States, Finds}
+use Rattle.uv_asking.specs.declared.part.Part.TheVariants.{Offers, Takes, Clock, Calls, States, Finds}
 use Rattle.uv_asking.specs.declared.part.Said.{Said}
 use Rattle.uv_asking.specs.declared.part.Said.TheVariants.{Nothing, One, Bad}
 use Rattle.uv_asking.specs.Limits.{MOST_OFFERS}
@@ -36,6 +38,7 @@ same_step a b = false
 -- whether one offer is the other
 abbrev pub same_offer : Offer → Offer → Bool
 same_offer (Step a) (Step b) = same_step a b
+same_offer (SendDuring v i) (SendDuring w j) = (v.0 == w.0) && (i.0 == j.0)
 same_offer Take Take = true
 same_offer Wait Wait = true
 same_offer a b = false
@@ -43,12 +46,20 @@ same_offer a b = false
 abbrev pub has_offer : Offer → List Offered → Bool
 has_offer o offers = list_any (λ (p : Offered). same_offer p.offer o) offers
 
+-- whether the time of these calls was said
+abbrev pub same_calls : asking.Takes → asking.Takes → Bool
+same_calls a b = (a.name.0 == b.name.0) && option_eq nat_eq a.call b.call
+
+abbrev pub has_time : asking.Takes → List asking.Takes → Bool
+has_time t takes = list_any (λ (u : asking.Takes). same_calls u t) takes
+
 abbrev pub has_bound : ℕ → List Most → Bool
 has_bound v most = list_any (λ (m : Most). m.name.0 == v) most
 
 -- whether that is said for the first time, and there is room for it
 abbrev pub is_new : Draft → Part → Bool
 is_new d (Offers o) = nat_lt (length d.offers) MOST_OFFERS && not (has_offer o.offer d.offers)
+is_new d (Takes t) = not (has_time t d.takes)
 is_new d (Clock ms) = is_none d.clock
 is_new d (Calls m) = not (has_bound m.name.0 d.most)
 is_new d (States n) = is_none d.states

@@ -4,11 +4,11 @@ ghost use Rattle.std.specs.List.{list_any};
 ghost use Rattle.uv_script.specs.Lines.{lines_of};
 ghost use Rattle.uv_asking.specs.Asked.{asked_in};
 ghost use Rattle.uv_inquiry.specs.Drafts.{unsaid, with_part, finished};
-ghost use Rattle.uv_inquiry.specs.Tests.{same_step, same_offer, has_offer, has_bound, is_new, ReadsLine, ReadsLines, ReadsAsking};
+ghost use Rattle.uv_inquiry.specs.Tests.{same_step, same_offer, has_offer, same_calls, has_time, has_bound, is_new, ReadsLine, ReadsLines, ReadsAsking};
 
 use std::alloc::{AllocError, Global};
 use std::marker::Model;
-use uv_asking::{Asking, Most, Offer, Offered, Part, Question, Said, read_part};
+use uv_asking::{Asking, Most, Offer, Offered, Part, Question, Said, Takes, read_part};
 use uv_ids::{Event, Fault, Var};
 use uv_script::{Lines, Names, line_count};
 
@@ -22,6 +22,7 @@ const DEFAULT_STATES: u32 = 10_000_000;
 #[derive(Drop)]
 pub(crate) struct Draft {
     offers: Vec<Offered>,
+    takes: Vec<Takes>,
     clock: Option<u64>,
     most: Vec<Most>,
     states: Option<u32>,
@@ -35,6 +36,7 @@ impl Model for Draft {
 
     ghost view = { λ d. record {
       offers = d.offers.items;
+      takes = d.takes.items;
       clock = d.clock;
       most = d.most.items;
       states = d.states;
@@ -55,6 +57,8 @@ fn same_offer(one: Offer, other: Offer) -> bool
 {
     match (one, other) {
         (Offer::Step(one), Offer::Step(other)) => same_step(one, other),
+        (Offer::SendDuring(one, during), Offer::SendDuring(other, while_run)) => one.0 == other.0
+            && during.0 == while_run.0,
         (Offer::Take, Offer::Take) => true,
         (Offer::Wait, Offer::Wait) => true,
         _ => false,
@@ -67,6 +71,19 @@ fn has_offer(offers: &[Offered], offer: Offer) -> bool
     offers
         .iter()
         .any(|offered| same_offer(offered.offer, offer))
+}
+
+/// Whether the time of one call is that of the other, too.
+fn same_calls(one: Takes, other: Takes) -> bool
+    ensures { result ≡ same_calls one other }
+{
+    one.name.0 == other.name.0 && one.call == other.call
+}
+
+fn has_time(takes: &[Takes], new: Takes) -> bool
+    ensures { result ≡ has_time new takes.now }
+{
+    takes.iter().any(|said| same_calls(*said, new))
 }
 
 fn has_bound(most: &[Most], name: Var) -> bool
@@ -82,6 +99,7 @@ impl Draft {
     {
         Draft {
             offers: Vec::new(alloc),
+            takes: Vec::new(alloc),
             clock: None,
             most: Vec::new(alloc),
             states: None,
@@ -97,6 +115,7 @@ impl Draft {
             Part::Offers(offered) => {
                 self.offers.len() < MOST_OFFERS && !has_offer(&self.offers, offered.offer)
             }
+            Part::Takes(takes) => !has_time(&self.takes, takes),
             Part::Clock(_) => self.clock.is_none(),
             Part::Calls(most) => !has_bound(&self.most, most.name),
             Part::States(_) => self.states.is_none(),
@@ -110,6 +129,7 @@ impl Draft {
     {
         match part {
             Part::Offers(offered) => self.offers.push(offered)?,
+            Part::Takes(takes) => self.takes.push(takes)?,
             Part::Clock(ms) => self.clock = Some(ms),
             Part::Calls(most) => self.most.push(most)?,
             Part::States(states) => self.states = Some(states),
@@ -141,6 +161,7 @@ impl Draft {
         let question = self.question?;
         Some(Asking {
             offers: self.offers,
+            takes: self.takes,
             clock: self.clock,
             most: self.most,
             states: self.states.unwrap_or(DEFAULT_STATES),

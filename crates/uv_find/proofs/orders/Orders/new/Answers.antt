@@ -11,4 +11,4 @@ returns-clause-spot g c =
     let steps = c.new.ensures.standing in
     let left = c.in_ok-left.ensures ∙ ap times_of c.deref-2.ensures.value in
     let state : after p c.new.result.standing ≡ fresh p = ap (after p) steps ∙ after-nil p in
-    λ i. record { place = record { state = state i; left = left i; due = 0 }; steps = steps i }
+    λ i. record { place = record { state = state i; left = left i; kept = c.none_kept.ensures i }; steps = steps i }

@@ -1,0 +1,126 @@
+-- What a search keeps beside the loop's state: of the steps that led there.
+use Rattle.std.specs.Prelude.{ℕ, ◌==◌, ◌&&◌, Bool, true, false, is_none, nat_eq, nat_lt, unwrap_or, List, [], ◌∷◌, Option, Some, None, if◌then◌else◌}
+use Rattle.std.specs.Option.{option_eq}
+use Rattle.uv_ids.specs.declared.id.Id.{Id}
+use Rattle.uv_ids.specs.declared.id.Var.{Var}
+use Rattle.uv_ids.specs.declared.phase.Phase.TheVariants as phase
+use Rattle.uv_ids.specs.declared.seen.Callback.{Callback}
+use Rattle.uv_ids.specs.declared.seen.Callback.TheVariants as callback
+use Rattle.uv_ids.specs.declared.seen.Seen.{Seen}
+use Rattle.uv_ids.specs.declared.seen.Seen.TheVariants as seen
+use Rattle.uv_ids.specs.declared.seen.Site.TheVariants as site
+use Rattle.uv_records.specs.Handles.{is_timer}
+use Rattle.uv_records.specs.Names.{count_of}
+use Rattle.uv_records.specs.Slots.{held}
+use Rattle.uv_work.specs.declared.content.Content.{Content}
+use Rattle.uv_work.specs.declared.content.Content.TheVariants as content
+use Rattle.uv_model.specs.declared.place.Place as loop
+use Rattle.uv_model.specs.declared.place.Place.TheVariants.{Main, Running}
+use Rattle.uv_model.specs.State.{State, named}
+use Rattle.uv_asking.specs.declared.asking.Question.{Question}
+use Rattle.uv_asking.specs.declared.asking.Question.TheVariants as asks
+use Rattle.uv_asking.specs.declared.asking.Takes.{Takes}
+use Rattle.uv_find.specs.declared.kept.Kept.{Kept}
+
+-- where a search begins
+abbrev pub none_kept : Kept
+none_kept = record { due = 0; owed = 0; quiet = false }
+
+-- ---- when the timer that is asked about is due
+
+-- when an active timer is due; what is no active timer leaves what was kept
+abbrev pub due_in : Option Content → ℕ → ℕ
+due_in (Some (content.Handle h)) due = if is_timer h.kind && h.active then h.due.at else due
+due_in _ due = due
+
+abbrev pub due_under : State → Option Id → ℕ → ℕ
+due_under s None due = due
+due_under s (Some id) due = due_in (held s.arena.slots id) due
+
+abbrev pub kept_due : Question → State → ℕ → ℕ
+kept_due (asks.Late name ms) s due = due_under s (named s name).id due
+kept_due _ s due = due
+
+-- ---- how long callbacks take
+
+-- the callback in which a line was appended: the one that it begins, or whose op it tells
+abbrev pub caller : Seen → Option (Callback × Var)
+caller (seen.Call v id) = Some (callback.Handle, v)
+caller (seen.Io v id) = Some (callback.Handle, v)
+caller (seen.After digest v id) = Some (callback.After, v)
+caller (seen.Closed v id) = Some (callback.Close, v)
+caller (seen.Op (site.In which v line) answer) = Some (which, v)
+caller l = None
+
+-- no callback is under way
+abbrev pub is_over : loop.Place → Bool
+is_over (Main line) = true
+is_over (Running run) = is_none run.body
+
+-- a time is said of these calls of the name: of one, or of each
+abbrev pub is_of_calls : Var → Option ℕ → Takes → Bool
+is_of_calls v call t = (t.name.0 == v.0) && option_eq nat_eq t.call call
+
+abbrev pub said_time : List Takes → Var → Option ℕ → Option ℕ
+said_time [] v call = None
+said_time (t ∷ ts) v call = if is_of_calls v call t then Some t.ms else said_time ts v call
+
+abbrev pub or_time : Option ℕ → Option ℕ → ℕ
+or_time (Some ms) each = ms
+or_time None each = unwrap_or each 0
+
+-- how long this call takes: as is said of it alone, or of each, or no time
+abbrev pub time_taken : List Takes → Var → ℕ → ℕ
+time_taken takes v call = or_time (said_time takes v (Some call)) (said_time takes v None)
+
+-- the callback of a handle takes time, and that of a request; that of a close takes none
+abbrev pub takes_time : Callback → Bool
+takes_time callback.Handle = true
+takes_time callback.After = true
+takes_time callback.Close = false
+
+-- the time of a callback goes by at its end, in this state
+abbrev pub time_at_end : List Takes → State → Callback × Var → ℕ
+time_at_end takes s b = if takes_time b.0 && is_over s.place then time_taken takes b.1 (count_of b.0 (named s b.1).calls) else 0
+
+abbrev pub owed_in : List Takes → ℕ → State → Option (Callback × Var) → ℕ
+owed_in takes owed s None = owed
+owed_in takes owed s (Some b) = time_at_end takes s b
+
+-- the ms that the callback still takes which has ended, after a step with this line that led to this state: none once the clock has gone on
+abbrev pub owed_by : List Takes → ℕ → State → Seen → ℕ
+owed_by takes owed s (seen.Tick ms) = 0
+owed_by takes owed s l = owed_in takes owed s (caller l)
+
+abbrev pub owed_after : List Takes → ℕ → State → Option Seen → ℕ
+owed_after takes owed s None = owed
+owed_after takes owed s (Some l) = owed_by takes owed s l
+
+-- ---- where a send would come too late for the poll
+
+-- the loop has left its poll, and has called no request and no handle since: the done section has begun, and the check section hasn't
+abbrev pub quiet_by : Bool → Seen → Bool
+quiet_by was (seen.Section phase.Done) = true
+quiet_by was (seen.Section phase.Async) = was
+quiet_by was (seen.Section x) = false
+quiet_by was (seen.Call v id) = false
+quiet_by was (seen.After digest v id) = false
+quiet_by was l = was
+
+abbrev pub quiet_after : Bool → Option Seen → Bool
+quiet_after was None = was
+quiet_after was (Some l) = quiet_by was l
+
+-- ---- the whole
+
+-- what is kept after a step with this line that led to this state
+abbrev pub kept_after : List Takes → Question → Kept → State → Option Seen → Kept
+kept_after takes question k s line = record {
+  due = kept_due question s k.due;
+  owed = owed_after takes k.owed s line;
+  quiet = quiet_after k.quiet line;
+}
+
+-- a callback's time is still to go by
+abbrev pub owes : Kept → Bool
+owes k = nat_lt 0 k.owed

@@ -1,0 +1,205 @@
+//! What a search keeps beside the loop's state.
+ghost use Rattle.std.specs.Prelude.{◌≡◌};
+ghost use Rattle.uv_model.specs.After.{after};
+ghost use Rattle.uv_find.specs.Kept.{none_kept, due_in, kept_due, caller, is_over, is_of_calls, said_time, or_time, time_taken, takes_time, time_at_end, owed_in, owed_by, owed_after, quiet_by, quiet_after, kept_after, owes};
+
+use uv_asking::{Question, Takes};
+use uv_ids::{Callback, Phase, Seen, Site, Var};
+use uv_model::{Machine, Place};
+use uv_work::Content;
+
+/// What a search keeps of the steps that led to where it stands.
+#[derive(Clone, Copy, PartialEq, Eq)]
+pub struct Kept {
+    /// When the timer that is asked about was due, as it was last active.
+    pub due: u64,
+    /// How many ms the callback still takes that has ended.
+    pub owed: u64,
+    /// The loop has left its poll, and has called nobody since.
+    pub quiet: bool,
+}
+
+/// Nothing is kept.
+pub fn none_kept() -> Kept
+    ensures { result ≡ none_kept }
+{
+    Kept {
+        due: 0,
+        owed: 0,
+        quiet: false,
+    }
+}
+
+/// When an active timer is due; what is no active timer leaves what was kept.
+fn due_in(content: Option<Content>, due: u64) -> u64
+    ensures { result ≡ due_in content due }
+{
+    match content {
+        Some(Content::Handle(handle)) => {
+            if handle.is_timer() && handle.active {
+                handle.due.at
+            } else {
+                due
+            }
+        }
+        _ => due,
+    }
+}
+
+/// What is kept of a timer's due time, as the machine stands.
+fn kept_due<M: Machine>(machine: &M, question: Question, due: u64) -> u64
+    ensures { result ≡ kept_due question (after (M.program machine.now) (M.standing machine.now)) due }
+{
+    match question {
+        Question::Late(name, _) => match machine.named(name).id {
+            None => due,
+            Some(id) => due_in(machine.held(id), due),
+        },
+        _ => due,
+    }
+}
+
+/// The callback in which a line was appended.
+fn caller(line: Seen) -> Option<(Callback, Var)>
+    ensures { result ≡ caller line }
+{
+    match line {
+        Seen::Call(name, _) => Some((Callback::Handle, name)),
+        Seen::Io(name, _) => Some((Callback::Handle, name)),
+        Seen::After(_, name, _) => Some((Callback::After, name)),
+        Seen::Closed(name, _) => Some((Callback::Close, name)),
+        Seen::Op(Site::In(callback, name, _), _) => Some((callback, name)),
+        _ => None,
+    }
+}
+
+/// Whether no callback is under way.
+fn is_over(place: Place) -> bool
+    ensures { result ≡ is_over place }
+{
+    match place {
+        Place::Main(_) => true,
+        Place::Running(run) => run.body.is_none(),
+    }
+}
+
+/// Whether a time is said of these calls of a name.
+fn is_of_calls(takes: Takes, name: Var, call: Option<u32>) -> bool
+    ensures { result ≡ is_of_calls name call takes }
+{
+    takes.name.0 == name.0 && takes.call == call
+}
+
+/// The time that is said of these calls of a name.
+fn said_time(takes: &[Takes], name: Var, call: Option<u32>) -> Option<u64>
+    ensures { result ≡ said_time takes.now name call }
+{
+    'times: for time in takes {
+        if is_of_calls(*time, name, call) {
+            return Some(time.ms);
+        }
+    }
+    None
+}
+
+/// The time of one call, or else that of each.
+fn or_time(once: Option<u64>, each: Option<u64>) -> u64
+    ensures { result ≡ or_time once each }
+{
+    match once {
+        Some(ms) => ms,
+        None => each.unwrap_or(0),
+    }
+}
+
+/// How long this call takes.
+fn time_taken(takes: &[Takes], name: Var, call: u32) -> u64
+    ensures { result ≡ time_taken takes.now name call }
+{
+    or_time(
+        said_time(takes, name, Some(call)),
+        said_time(takes, name, None),
+    )
+}
+
+/// Whether a callback takes time.
+fn takes_time(callback: Callback) -> bool
+    ensures { result ≡ takes_time callback }
+{
+    match callback {
+        Callback::Handle => true,
+        Callback::After => true,
+        Callback::Close => false,
+    }
+}
+
+/// The time of a callback, where that is at its end.
+fn time_at_end<M: Machine>(machine: &M, takes: &[Takes], callback: Callback, name: Var) -> u64
+    ensures { result ≡ time_at_end takes.now (after (M.program machine.now) (M.standing machine.now)) (callback, name) }
+{
+    if takes_time(callback) && is_over(machine.place()) {
+        time_taken(takes, name, machine.named(name).calls.of(callback))
+    } else {
+        0
+    }
+}
+
+/// How many ms a callback still takes that has ended, behind a step with this line.
+fn owed_by<M: Machine>(machine: &M, takes: &[Takes], owed: u64, line: Seen) -> u64
+    ensures { result ≡ owed_by takes.now owed (after (M.program machine.now) (M.standing machine.now)) line }
+{
+    match line {
+        Seen::Tick(_) => 0,
+        _ => match caller(line) {
+            None => owed,
+            Some((callback, name)) => time_at_end(machine, takes, callback, name),
+        },
+    }
+}
+
+fn owed_after<M: Machine>(machine: &M, takes: &[Takes], owed: u64, line: Option<Seen>) -> u64
+    ensures { result ≡ owed_after takes.now owed (after (M.program machine.now) (M.standing machine.now)) line }
+{
+    match line {
+        None => owed,
+        Some(line) => owed_by(machine, takes, owed, line),
+    }
+}
+
+/// Whether the loop has left its poll and called nobody since, behind a step with this line.
+fn quiet_after(was: bool, line: Option<Seen>) -> bool
+    ensures { result ≡ quiet_after was line }
+{
+    match line {
+        Some(Seen::Section(Phase::Done)) => true,
+        Some(Seen::Section(Phase::Async)) => was,
+        Some(Seen::Section(_)) => false,
+        Some(Seen::Call(_, _)) => false,
+        Some(Seen::After(_, _, _)) => false,
+        _ => was,
+    }
+}
+
+/// What is kept behind a step with this line, as the machine stands.
+pub fn kept_after<M: Machine>(
+    machine: &M,
+    takes: &[Takes],
+    question: Question,
+    kept: Kept,
+    line: Option<Seen>,
+) -> Kept
+    ensures { result ≡ kept_after takes.now question kept (after (M.program machine.now) (M.standing machine.now)) line }
+{
+    Kept {
+        due: kept_due(machine, question, kept.due),
+        owed: owed_after(machine, takes, kept.owed, line),
+        quiet: quiet_after(kept.quiet, line),
+    }
+}
+
+/// Whether a callback's time is still to go by.
+pub fn owes(kept: Kept) -> bool
+    ensures { result ≡ owes kept }
+{
+    0 < kept.owed
+}
