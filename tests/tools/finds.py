@@ -40,18 +40,34 @@ ANSWERS = {
     "closing-server": Due("found in ", FOUND, "send log = ESTALE"),
     "debounce": Due("never within clock 200: ", NEVER, ""),
 }
+# What recorded programs did, and what none of their orders does, by the recording's name: an echo server whose writes took 35 ms and made a
+# heartbeat late, two signals of three that a timer raised, and a frame that was 39 ms late behind a callback of 50.
+RECORDED = [
+    ("echo", "find on server", FOUND), ("echo", "find on client 7", FOUND), ("echo", "find late heartbeat 25", FOUND), ("echo", "find peer after server", FOUND),
+    ("signals", "find on usr 2", FOUND), ("signals", "find on usr 3", NEVER), ("signals", "find on term", FOUND), ("signals", "find closed poke", FOUND),
+    ("frame", "find late vsync 39", FOUND), ("frame", "find late vsync 52", NEVER), ("frame", "find closed load", FOUND),
+]
+# A timer and an async handle, in one run of which nothing was sent, and in the other one a send closed both.
+MAIN = ["var t", "var a", "main init t timer", "main init a async", "main start t 5 0", "main run default"]
+TO_THE_TIMER = ["loop 20", "tick 5", "loop 20"]
+RUNS = {"quiet": (MAIN, TO_THE_TIMER), "sent": ([*MAIN, "on t now", "on a close t", "on a close a"], [*TO_THE_TIMER, "send a", "loop 100"])}
 # Inputs with a bad line, and what is said of it behind the program's own line.
 BAD_LINES = [
     ("var a\nbegin\nmay fly\nfind stuck\n", 3, "no line says `may fly`: it has the form"),
     ("var a\nbegin\nmay send b 1\nfind stuck\n", 3, "`b` isn't declared before this line"),
     ("io\nvar a\nbegin\nmay io a 1\nmay io b 1\nfind stuck\n", 5, "`b` isn't declared before this line"),
     ("var a\nbegin\nfind a before a\n", 3, "`a` stands on both sides of `before`, which asks for two names"),
+    ("var a\nbegin\nfind a after a\n", 3, "`a` stands on both sides of `after`, which asks for two names"),
+    ("var a\nbegin\nmay send a 1 during a\nfind stuck\n", 3, "`a` stands on both sides of `during`, which asks for two names"),
+    ("var a\nbegin\ntakes a 2 5\nfind stuck\n", 3, "no line says `takes a 2 5`: it has the form `takes NAME MS` or `takes NAME @K MS`"),
+    ("var a\nbegin\ntakes a @0 5\nfind stuck\n", 3, "`0` is out of range: K is 1 to 4294967295"),
+    ("var a\nbegin\ntakes a @2 5\ntakes a 5\ntakes a @2 6\nfind stuck\n", 5, "`takes a @2` stands in line 3 already, and a search has it once at most"),
     ("var a\nbegin\nmay send a 0\nfind stuck\n", 3, "`0` is out of range: N is 1 to 4294967295"),
     ("var a\nbegin\nmay wait\n", 4, "the line is missing that says what to look for: `find ..`"),
     ("var a\nbegin\nmay wait\nmay wait\nfind stuck\n", 4, "`may wait` stands in line 3 already, and a search has it once at most"),
     ("var a\nbegin\nfind stuck\nfind never a\n", 4, "a second question: line 3 has the first, and one is asked at a time"),
     ("var a\nbegin\nfind code EBUZY\n", 3, "`EBUZY` is none of ok, EINVAL"),
-    ("var a\nbegin\nloop\nfind stuck\n", 3, "no line behind `begin` begins with `loop` here: it is may, most or find"),
+    ("var a\nbegin\nloop\nfind stuck\n", 3, "no line behind `begin` begins with `loop` here: it is may, takes, most or find"),
     ("var a\nmain fly a\nbegin\nfind stuck\n", 2, "`fly` is no op"),
     ("begin\n" + "".join(f"may tick {ms} 1\n" for ms in range(1, 258)) + "find stuck\n", 258, "at most 256 lines begin with `may`"),
 ]
@@ -106,8 +122,45 @@ def try_lines(check: Check, folder: str) -> None:
     check("find, no such file", ran.returncode == 70 and "No such file" in ran.stderr and "Traceback" not in ran.stderr, ran)
 
 
+def try_recorded(check: Check) -> None:
+    """Recordings that are asked without a line `may`: what their programs did is found."""
+    for name, question, status in RECORDED:
+        ran = run([str(EXAMPLES / f"{name}.rec"), question])
+        check(f"find, {name}, {question}", ran.returncode == status and "no line says `may`, so what came in the recording may come" in ran.stderr, ran)
+    ran = run([str(EXAMPLES / "echo.rec"), "may wait", "most clock 40", "find on server"])
+    check("find, a recording with a line `may`", ran.returncode == NEVER and "so what came in the recording" not in ran.stderr, ran)
+
+
+def recording_of(script: list[str], commands: list[str]) -> str:
+    lines = debugged("\n".join([*script, "begin", *commands, "record", ""]))
+    return "\n".join([*lines[lines.index("uvt 2"):], ""])
+
+
+def try_joined(check: Check, folder: str) -> None:
+    """Two recordings of one program, as one."""
+    paths = {name: os.path.join(folder, f"{name}.rec") for name in RUNS}
+    for name, (script, commands) in RUNS.items():
+        with open(paths[name], "w", encoding="ascii") as file:
+            file.write(recording_of(script, commands))
+    unknown = "what the callback of a does isn't known"
+    ran = run([paths["quiet"], "find closed t"])
+    check("find, a callback that never ran", ran.returncode == NEVER and unknown in ran.stderr, ran)
+    ran = run([paths["quiet"], paths["sent"], "find closed t"])
+    check("find, two recordings", ran.returncode == FOUND and unknown not in ran.stderr, ran)
+    check("find, where they differ", f"call 1 of `on t`: nothing in {paths['quiet']}, `now` in {paths['sent']}; it is as in {paths['quiet']}" in ran.stderr, ran)
+    ran = run([paths["sent"], paths["quiet"], "find on t", "-o", os.path.join(folder, "both.uvt")])
+    with open(os.path.join(folder, "both.uvt"), encoding="ascii") as file:
+        check("find, the first recording has the word", ran.returncode == FOUND and "on t now\n" in file.read(), ran)
+    ran = run([paths["sent"], str(EXAMPLES / "late-timer.uvt"), "find on t"])
+    check("find, a script among recordings", ran.returncode == 70 and "is no recording, and several files are" in ran.stderr, ran)
+    ran = run([paths["sent"], paths["quiet"]])
+    check("find, recordings that nothing is asked of", ran.returncode == 70 and "no line asks anything" in ran.stderr, ran)
+
+
 def try_find(tries) -> None:
     with tempfile.TemporaryDirectory() as folder:
+        try_recorded(tries.check)
+        try_joined(tries.check, folder)
         for name, due in ANSWERS.items():
             try_example(tries.check, name, due, folder)
         try_lines(tries.check, folder)
