@@ -299,7 +299,9 @@ ASKED = {
     'may': {'send': ['NAME N', 'NAME N during NAME'], 'cancel': ['NAME N'], 'io': ['NAME N'], 'tick': ['MS N'], 'wait': ['']},
     'takes': {'NAME': ['MS', '@K MS']},
     'most': {'clock': ['MS'], 'states': ['N'], 'NAME': ['CALLS']},
-    'find': {'call': ['NAME', 'NAME N'], 'on': ['NAME', 'NAME N'], 'after': ['NAME', 'NAME N'], 'closed': ['NAME', 'NAME N'], 'code': ['CODE', 'CODE of NAME'], 'section': ['WORD'], 'never': ['NAME'], 'stuck': [''], 'late': ['NAME MS'],
+    'find': {'call': ['NAME', 'NAME N'], 'on': ['NAME', 'NAME N'], 'after': ['NAME', 'NAME N'], 'closed': ['NAME', 'NAME N'],
+             'code': ['CODE', 'CODE of NAME'], 'section': ['WORD'], 'never': ['NAME'], 'stuck': [''],
+             'late': ['NAME MS'],
              'NAME': ['before NAME', 'after NAME']},
 }
 ASKED_RANGES = {'N': (1, 4294967295), 'may MS': (1, 2**62), 'MS': (0, 2**62), 'CALLS': (0, 4294967295)}

@@ -92,7 +92,8 @@ def question_of(draw: Random, kinds: Dict[str, str]) -> str:
         return 'late %s %d' % (name, draw.choice([0, 1, 1, 2, 5]))
     if what in ('before', 'behind') and len(kinds) > 1:
         return {'before': '%s before %s', 'behind': '%s after %s'}[what] % tuple(draw.sample(list(kinds), 2))
-    return {'call': 'call ' + name, 'on': 'on ' + name, 'after': 'after %s %d' % (name, draw.choice([1, 1, 2])), 'closed': 'closed ' + name, 'nth call': 'call %s %d' % (name, draw.choice([1, 2, 3])), 'code': 'code ' + draw.choice(CODES),
+    return {'call': 'call ' + name, 'on': 'on ' + name, 'after': 'after %s %d' % (name, draw.choice([1, 1, 2])),
+            'closed': 'closed ' + name, 'nth call': 'call %s %d' % (name, draw.choice([1, 2, 3])), 'code': 'code ' + draw.choice(CODES),
             'code of': 'code %s of %s' % (draw.choice(CODES), name), 'section': 'section ' + draw.choice(SECTIONS), 'never': 'never ' + name,
             'stuck': 'stuck'}.get(what, 'stuck')
 

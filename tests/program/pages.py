@@ -37,11 +37,13 @@ ENDS = {
 STATUS = {'%s %s' % (uvt, words): status for words, status in ENDS.items() for uvt in ('./uvt', 'uvt')}
 # What says something on the errors, and is well.
 SAYS = {'./uvt build': 'uvt: the program is built already, and nothing has changed since\n'}
-BROUGHT = ("uvt find: no line says `may`, so what came in the recording may come at other places: %s; the clock goes to %d ms, and a callback's time goes "
-           "by at its end\nuvt find: each callback does what it did in the recording, also where the program would do something else\n")
+BROUGHT = ("uvt find: no line says `may`, so what came in the recording may come at other places: %s; the clock goes to %d ms, and a "
+           "callback's time goes by at its end\n"
+           "uvt find: each callback does what it did in the recording, also where the program would do something else\n")
 ECHO = BROUGHT % ('14 callbacks of I/O, 1 time that went by in no callback, 3 callbacks that took time', 106)
 FRAME = BROUGHT % ('3 times that went by in no callback, 1 callback that took time', 144)
-SAYS.update({"./uvt find examples/echo.rec 'find late heartbeat 25' -o beat.uvt": ECHO, "./uvt find examples/frame.rec 'find late vsync 51' -o frame.uvt": FRAME,
+SAYS.update({"./uvt find examples/echo.rec 'find late heartbeat 25' -o beat.uvt": ECHO,
+             "./uvt find examples/frame.rec 'find late vsync 51' -o frame.uvt": FRAME,
              "./uvt find examples/frame.rec 'find late vsync 52'": FRAME})
 # The line of a program that was compiled before its proofs.
 NOTICE = re.compile(r'uvt: this is the program before its proofs: .*\n')

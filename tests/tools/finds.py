@@ -43,8 +43,10 @@ ANSWERS = {
 # What recorded programs did, and what none of their orders does, by the recording's name: an echo server whose writes took 35 ms and made a
 # heartbeat late, two signals of three that a timer raised, and a frame that was 39 ms late behind a callback of 50.
 RECORDED = [
-    ("echo", "find on server", FOUND), ("echo", "find on client 7", FOUND), ("echo", "find late heartbeat 25", FOUND), ("echo", "find peer after server", FOUND),
-    ("signals", "find on usr 2", FOUND), ("signals", "find on usr 3", NEVER), ("signals", "find on term", FOUND), ("signals", "find closed poke", FOUND),
+    ("echo", "find on server", FOUND), ("echo", "find on client 7", FOUND), ("echo", "find late heartbeat 25", FOUND),
+    ("echo", "find peer after server", FOUND),
+    ("signals", "find on usr 2", FOUND), ("signals", "find on usr 3", NEVER), ("signals", "find on term", FOUND),
+    ("signals", "find closed poke", FOUND),
     ("frame", "find late vsync 39", FOUND), ("frame", "find late vsync 52", NEVER), ("frame", "find closed load", FOUND),
 ]
 # A timer and an async handle, in one run of which nothing was sent, and in the other one a send closed both.
@@ -61,7 +63,8 @@ BAD_LINES = [
     ("var a\nbegin\nmay send a 1 during a\nfind stuck\n", 3, "`a` stands on both sides of `during`, which asks for two names"),
     ("var a\nbegin\ntakes a 2 5\nfind stuck\n", 3, "no line says `takes a 2 5`: it has the form `takes NAME MS` or `takes NAME @K MS`"),
     ("var a\nbegin\ntakes a @0 5\nfind stuck\n", 3, "`0` is out of range: K is 1 to 4294967295"),
-    ("var a\nbegin\ntakes a @2 5\ntakes a 5\ntakes a @2 6\nfind stuck\n", 5, "`takes a @2` stands in line 3 already, and a search has it once at most"),
+    ("var a\nbegin\ntakes a @2 5\ntakes a 5\ntakes a @2 6\nfind stuck\n", 5,
+     "`takes a @2` stands in line 3 already, and a search has it once at most"),
     ("var a\nbegin\nmay send a 0\nfind stuck\n", 3, "`0` is out of range: N is 1 to 4294967295"),
     ("var a\nbegin\nmay wait\n", 4, "the line is missing that says what to look for: `find ..`"),
     ("var a\nbegin\nmay wait\nmay wait\nfind stuck\n", 4, "`may wait` stands in line 3 already, and a search has it once at most"),
@@ -126,7 +129,8 @@ def try_recorded(check: Check) -> None:
     """Recordings that are asked without a line `may`: what their programs did is found."""
     for name, question, status in RECORDED:
         ran = run([str(EXAMPLES / f"{name}.rec"), question])
-        check(f"find, {name}, {question}", ran.returncode == status and "no line says `may`, so what came in the recording may come" in ran.stderr, ran)
+        check(f"find, {name}, {question}", ran.returncode == status
+              and "no line says `may`, so what came in the recording may come" in ran.stderr, ran)
     ran = run([str(EXAMPLES / "echo.rec"), "may wait", "most clock 40", "find on server"])
     check("find, a recording with a line `may`", ran.returncode == NEVER and "so what came in the recording" not in ran.stderr, ran)
 
@@ -147,7 +151,8 @@ def try_joined(check: Check, folder: str) -> None:
     check("find, a callback that never ran", ran.returncode == NEVER and unknown in ran.stderr, ran)
     ran = run([paths["quiet"], paths["sent"], "find closed t"])
     check("find, two recordings", ran.returncode == FOUND and unknown not in ran.stderr, ran)
-    check("find, where they differ", f"call 1 of `on t`: nothing in {paths['quiet']}, `now` in {paths['sent']}; it is as in {paths['quiet']}" in ran.stderr, ran)
+    check("find, where they differ",
+          f"call 1 of `on t`: nothing in {paths['quiet']}, `now` in {paths['sent']}; it is as in {paths['quiet']}" in ran.stderr, ran)
     ran = run([paths["sent"], paths["quiet"], "find on t", "-o", os.path.join(folder, "both.uvt")])
     with open(os.path.join(folder, "both.uvt"), encoding="ascii") as file:
         check("find, the first recording has the word", ran.returncode == FOUND and "on t now\n" in file.read(), ran)

@@ -187,9 +187,11 @@ named_right names what argument =
 plain_right : (names : List (List ℕ)) (what argument : List ℕ) → Has (IsQuestion names (what ∷ argument ∷ [])) (plain_of names what argument)
 unfolding plain_of
 plain_right names what argument = by (which_named what) (which_right what) where
-  by : (o : Option Which) → Has (λ (w : Which). what ≡ which_word w) o → Has (IsQuestion names (what ∷ argument ∷ [])) (plain_by names what argument o)
+  by : (o : Option Which) → Has (λ (w : Which). what ≡ which_word w) o →
+      Has (IsQuestion names (what ∷ argument ∷ [])) (plain_by names what argument o)
   by None h = named_right names what argument
-  by (Some w) h = mapped (IsDeclared names argument) (IsQuestion names (what ∷ argument ∷ [])) _ (place_of names argument) (place_right names argument)
+  by (Some w) h = mapped (IsDeclared names argument) (IsQuestion names (what ∷ argument ∷ [])) _ (place_of names argument)
+      (place_right names argument)
       (λ v k. is.call w argument v (front _ h) k)
 
 nth_call_right : (names : List (List ℕ)) (which : Which) (what name number : List ℕ) → what ≡ which_word which → IsNoOrder name →

@@ -94,11 +94,13 @@ offer_of : (r : Rules) (p : Place) (number : ℕ) (offered : Offered) (times : O
     → slice_get p.left number ≡ Some times → led r p number
     ≡ placed r p number (leads_on r.most r.program p.state (offered_here r.program r.clock p.state p.kept offered.offer times))
 offer_of r p number offered times here may =
-    let event : offered_by r p (slice_get r.offers number) (slice_get p.left number) ≡ offered_here r.program r.clock p.state p.kept offered.offer times =
+    let event : offered_by r p (slice_get r.offers number) (slice_get p.left number)
+        ≡ offered_here r.program r.clock p.state p.kept offered.offer times =
     rw (here, may) refl in
     ap (λ e. placed r p number (leads_on r.most r.program p.state e)) event
 
-pub takes_one : (E : Type 0) (s t : Shown) (offers : List Offered) (takes : List asking.Takes) (clock : Option ℕ) (most : List Most) (question : Question)
+pub takes_one : (E : Type 0) (s t : Shown) (offers : List Offered) (takes : List asking.Takes)
+    (clock : Option ℕ) (most : List Most) (question : Question)
     (left : List (Option ℕ)) (kept : Kept) (made : List Made) (number : ℕ) (offered : Offered) (times : Option ℕ) (outcome : Outcome)
     → slice_get offers number ≡ Some offered → slice_get left number ≡ Some times
     → TakesOffer {E = E} clock most s kept offered.offer times (Ok (Some outcome)) t
@@ -121,7 +123,8 @@ takes_one E s t offers takes clock most question left kept made number offered t
       ),
     )
 
-pub takes_none : (E : Type 0) (s t : Shown) (offers : List Offered) (takes : List asking.Takes) (clock : Option ℕ) (most : List Most) (question : Question)
+pub takes_none : (E : Type 0) (s t : Shown) (offers : List Offered) (takes : List asking.Takes)
+    (clock : Option ℕ) (most : List Most) (question : Question)
     (left : List (Option ℕ)) (kept : Kept) (made : List Made) (number : ℕ) (offered : Offered) (times : Option ℕ)
     → slice_get offers number ≡ Some offered → slice_get left number ≡ Some times
     → Stands s s.standing t → leads_on most s.program (state_in s) (offered_here s.program clock (state_in s) kept offered.offer times) ≡ None

@@ -14,7 +14,8 @@ invariant_of-self-in-Some g c =
     let made : Made = record { number = c.args.number; left = c.unwrap_or.result; kept = i.kept } in
     rw (c.lessen.ensures, c.push_reserved.ensures.items, c.in_ok-reserve.ensures.items)
     (taken_searched g.M.Machine.BackWantsMemory i.session c.take_offer.new.session i.offers.items i.most.items i.left.items
-    i.made.items c.args.number made AllocError i.clock i.kept c.index.result.now.offer c.index-left.result.now c.in-Some.outcome c.self.invariant goes)
+    i.made.items c.args.number made AllocError i.clock i.kept c.index.result.now.offer c.index-left.result.now c.in-Some.outcome
+    c.self.invariant goes)
 
 pub returns-in-None : goal.returns-in-None
 returns-in-None g c =
@@ -26,7 +27,8 @@ returns-in-None g c =
     (omega (arith, long, below)) c.index-left.ensures in
     let goes = rw (c.in-None.is, c.deref.ensures.value) at c.in_ok-take_offer.ensures in
     rw (← c.self.view_is, c.in_ok-reserve.ensures.items)
-    (takes_none AllocError i.session c.take_offer.new.session i.offers.items i.takes.items i.clock i.most.items i.question i.left.items i.kept i.made.items
+    (takes_none AllocError i.session c.take_offer.new.session i.offers.items i.takes.items i.clock i.most.items i.question i.left.items
+    i.kept i.made.items
     c.args.number
     c.index.result.now c.index-left.result.now offer times goes.0 goes.1)
 
@@ -43,6 +45,7 @@ returns-in-Some g c =
     let state = ap₂ after c.machine.ensures.program c.machine.ensures.steps in
     let kept = c.kept_after-self-inside.ensures ∙ ap₂ (λ ts s. kept_after ts i.question i.kept s c.in-Some.outcome.seen)
     c.deref-in-Some.ensures.value state in
-    let one = takes_one AllocError i.session t i.offers.items i.takes.items i.clock i.most.items i.question i.left.items i.kept i.made.items c.args.number
+    let one = takes_one AllocError i.session t i.offers.items i.takes.items i.clock i.most.items i.question i.left.items i.kept
+    i.made.items c.args.number
     c.index.result.now c.index-left.result.now c.in-Some.outcome offer times goes in
     rw (← c.self.view_is, c.lessen.ensures, c.push_reserved.ensures.items, c.in_ok-reserve.ensures.items, kept, c.unwrap_or.ensures) one
