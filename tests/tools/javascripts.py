@@ -22,7 +22,7 @@ from javascript import fitted  # noqa: E402
 from notes import read_notes  # noqa: E402
 from overview import Overview  # noqa: E402
 from record_log import read_log  # noqa: E402
-from record_run import from_data  # noqa: E402
+from record_run import from_data, name_for  # noqa: E402
 from view import Page  # noqa: E402
 from walk import Walk  # noqa: E402
 from why import why  # noqa: E402
@@ -214,6 +214,15 @@ def try_notes(tries: object, node: str) -> None:
         tries.check(f"javascript {node}: a long callback", any(it[2] == "load (json.js:6)" for it in page["long"]), page["long"])
 
 
+def try_names(tries: object) -> None:
+    """What the files of a recording are called, and that two wishes don't go together."""
+    for words, wanted in ((["node", "json.js"], "json"), (["node", "--no-warnings", "json", "x"], "json"), (["/usr/bin/node", "-e", "1"], "node"),
+                          (["node", "nowhere.js"], "node"), (["./json.js"], "json.js"), (["python3.11", "said.js"], "said"), (["late", "json.js"], "late")):
+        tries.check(f"javascript, the name of {words}", name_for(words) == wanted, name_for(words))
+    ran = subprocess.run([str(ROOT / "tools" / "uvt-record"), "--bare", "--lift", "node", "json.js"], capture_output=True, text=True, timeout=SECONDS)
+    tries.check("javascript, --bare and --lift", ran.returncode == 2 and "--lift takes what --bare leaves out" in ran.stderr, ran)
+
+
 def try_killed(tries: object) -> None:
     """A program that was in a `for (;;)` for some seconds, and was ended by SIGKILL: its looks are there, up to its last second."""
     path = made("forever", (FOLDER / "node20" / "forever.log").read_bytes())
@@ -263,5 +272,6 @@ def try_javascript(tries: object) -> None:
             try_find(tries)
             try_shell(tries)
             try_killed(tries)
+            try_names(tries)
         finally:
             os.chdir(before)

@@ -16,6 +16,7 @@ from __future__ import annotations
 
 import bisect
 import copy
+import itertools
 import re
 from dataclasses import dataclass, field
 
@@ -186,9 +187,9 @@ class Lift:
         ends = self.ends()
         for call, it, which in calls:
             begun = it.at if which == 0 else it.calls[which - 1].at
-            for begin, end, now in ends[bisect.bisect_left(ends, (begun, 0, 0)) :]:
-                if begin >= call.inside:
-                    break
+            # (it may have been started in such a call)
+            first = max(0, bisect.bisect_left(ends, (begun, 0, 0)) - 1)
+            for begin, end, now in itertools.takewhile(lambda it: it[0] < call.inside, itertools.islice(ends, first, None)):
                 call.due = max(call.due, now + 1) if end > begun else call.due
             started, anchor = (begun, 0), (it.id, which)
             due, before, where = last.get(call.inside, (0, (-1, 0), anchor))
