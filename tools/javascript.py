@@ -310,7 +310,7 @@ class JavaScript:
                 alone = len(found) == 1 and who[0] in AT_ONCE
                 mine = 1000 * (last - first) if alone else length([it for it in looks if (it.under.how, it.under.outer) == who])
                 took[who] = took.get(who, 0) + mine
-                about |= {who} if who[0] in AT_ONCE and not alone else set()
+                about |= set() if alone else {who}
         return [self.part_of(who, rows, (took[who], who in about), within) for who, rows in by.items() if took[who] >= 1000 * LEAST]
 
     def part_of(self, who: tuple[str, Place], rows: list[Look], took: tuple[int, bool], within: tuple[int, int]) -> Part:

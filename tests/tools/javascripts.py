@@ -37,18 +37,18 @@ COLUMNS = 120
 # Of each program whom somebody asks about, whom of the loop he would have to ask about without the hook, and what is to be said.
 TIMERS = "environment_runtimers"
 QUESTIONS = {
-    "json": ("beat", TIMERS, r"late by \d+ ms: load \(json\.js:6\) took \d+ ms, nearly all of it at line 8: `const users = JSON\.par.*"
+    "json": ("beat", TIMERS, r"late by \d+ ms: load \(json\.js:6\) took (?:about )?\d+ ms, nearly all of it at line 8: `const users = JSON\.par.*"
              r"load \(json\.js:6\): a timer of 33 ms, started at json\.js:18"),
-    "syncfs": ("poll", TIMERS, r"readConfig \(syncfs\.js:6\) took \d+ ms, nearly all of it in readFileSync, which it calls.*: a timer of 20 ms, started at syncfs\.js:19"),
-    "crypto": ("heartbeat", TIMERS, r"login \(crypto\.js:14\), from an event, took \d+ ms, (?:nearly all|most) of it in check \(crypto\.js:7\), in its call of pbkdf2Sync"),
-    "nested": ("answer", TIMERS, r"refresh \(nested\.js:21\).* took \d+ ms, nearly all of it in score \(nested\.js:5\), at line 8"),
-    "promise": ("beat", TIMERS, r"migrate \(promise\.js:5\), from a promise, took \d+ ms, (?:nearly all|most) of it in convert \(promise\.js:15\), at line 17"),
-    "ticks": ("save", TIMERS, r"drain \(ticks\.js:6\), from process\.nextTick, took \d+ ms"),
-    "server": ("timeout", TIMERS, r"handle \(server\.js:16\), from an event, took \d+ ms, .* of it in render \(server\.js:6\), at line 10"),
-    "immediate": ("save", TIMERS, r"flush \(immediate\.js:6\) took \d+ ms, (?:nearly all|most) of it at line 9.*: an immediate, started at immediate\.js:\d+"),
+    "syncfs": ("poll", TIMERS, r"readConfig \(syncfs\.js:6\) took (?:about )?\d+ ms, nearly all of it in readFileSync, which it calls.*: a timer of 20 ms, started at syncfs\.js:19"),
+    "crypto": ("heartbeat", TIMERS, r"login \(crypto\.js:14\), from an event, took (?:about )?\d+ ms, (?:nearly all|most) of it in check \(crypto\.js:7\), in its call of pbkdf2Sync"),
+    "nested": ("answer", TIMERS, r"refresh \(nested\.js:21\).* took (?:about )?\d+ ms, nearly all of it in score \(nested\.js:5\), at line 8"),
+    "promise": ("beat", TIMERS, r"migrate \(promise\.js:5\), from a promise, took (?:about )?\d+ ms, (?:nearly all|most) of it in convert \(promise\.js:15\), at line 17"),
+    "ticks": ("save", TIMERS, r"drain \(ticks\.js:6\), from process\.nextTick, took (?:about )?\d+ ms"),
+    "server": ("timeout", TIMERS, r"handle \(server\.js:16\), from an event, took (?:about )?\d+ ms, .* of it in render \(server\.js:6\), at line 10"),
+    "immediate": ("save", TIMERS, r"flush \(immediate\.js:6\) took (?:about )?\d+ ms, (?:nearly all|most) of it at line 9.*: an immediate, started at immediate\.js:\d+"),
     "pool": ("fs_stat", "fs_stat", r"ms it waited for a worker.*the workers had \d requests, asked for at pool\.js:8, in hash.*asked for at pool\.js:12, in readSettings"),
     "unref": ("cleanup", TIMERS, r"never called: `unref` at unref\.js:13 "),
-    "drift": ("sample", TIMERS, r"compact \(drift\.js:14\) took \d+ ms.*compact \(drift\.js:14\): an interval of 70 ms, started at drift\.js:22.*drift: call 20 came"),
+    "drift": ("sample", TIMERS, r"compact \(drift\.js:14\) took (?:about )?\d+ ms.*compact \(drift\.js:14\): an interval of 70 ms, started at drift\.js:22.*drift: call 20 came"),
 }
 
 
@@ -95,7 +95,7 @@ def try_said(tries: object, what: str, name: str, said: str, path: Path) -> None
         least, most = late[name, int(call)]
         ms = int(how.split(" ")[2]) if how != "on time" else 0
         tries.check(f"{what}: how late call {call} was", least - ALLOWED <= ms <= most + ALLOWED, (how, least, most))
-    for function, ms in re.findall(r"(\w+) \([^()]*\)(?:, from [a-zA-Z. ]+,)? took (\d+) ms", said):
+    for function, ms in re.findall(r"(\w+) \([^()]*\)(?:, from [a-zA-Z. ]+,)? took (?:about )?(\d+) ms", said):
         rows = took.get(function)
         if rows:
             tries.check(f"{what}: how long {function} took", min(abs(it - int(ms)) for it in rows) <= ALLOWED, (ms, rows))
