@@ -95,7 +95,7 @@ offer_of : (r : Rules) (p : Place) (number : ℕ) (offered : Offered) (times : O
     ≡ placed r p number (leads_on r.most r.program p.state (offered_here r.program r.clock p.state p.kept offered.offer times))
 offer_of r p number offered times here may =
     let event : offered_by r p (slice_get r.offers number) (slice_get p.left number)
-        ≡ offered_here r.program r.clock p.state p.kept offered.offer times =
+    ≡ offered_here r.program r.clock p.state p.kept offered.offer times =
     rw (here, may) refl in
     ap (λ e. placed r p number (leads_on r.most r.program p.state e)) event
 
