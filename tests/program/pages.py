@@ -42,9 +42,9 @@ BROUGHT = ("uvt find: no line says `may`, so what came in the recording may come
            "uvt find: each callback does what it did in the recording, also where the program would do something else\n")
 ECHO = BROUGHT % ('14 callbacks of I/O, 1 time that went by in no callback, 3 callbacks that took time', 106)
 FRAME = BROUGHT % ('3 times that went by in no callback, 1 callback that took time', 144)
-SAYS.update({"./uvt find examples/echo.rec 'find late heartbeat 25' -o beat.uvt": ECHO,
-             "./uvt find examples/frame.rec 'find late vsync 51' -o frame.uvt": FRAME,
-             "./uvt find examples/frame.rec 'find late vsync 52'": FRAME})
+SAYS.update({'%s %s' % (uvt, words): said for uvt in ('./uvt', 'uvt') for words, said in (
+    ("find examples/echo.rec 'find late heartbeat 25' -o beat.uvt", ECHO), ("find examples/frame.rec 'find late vsync 51' -o frame.uvt", FRAME),
+    ("find examples/frame.rec 'find late vsync 52'", FRAME))})
 # The line of a program that was compiled before its proofs.
 NOTICE = re.compile(r'uvt: this is the program before its proofs: .*\n')
 LOG = Path(__file__).resolve().parent.parent / 'tools' / 'logs' / 'late.log'

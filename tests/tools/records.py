@@ -30,6 +30,8 @@ TRUTHS = LOGS.parent / "truths"
 RECORD = str(ROOT / "tools" / "uvt-record")
 WHY = str(ROOT / "tools" / "uvt-why")
 SECONDS = 120
+# How often the program's threads send, by its source.
+SENDS = {"accepted": 2, "taken": 24}
 # (for the program before its proofs, which takes 250 times as long)
 LONG = 1200
 NESTED, CLOSING = "A run in a callback", "Some handles close later"
@@ -43,11 +45,13 @@ NESTED, CLOSING = "A run in a callback", "Some handles close later"
 #   dig      the callback of a datagram that was sent at once comes before the poll, and the async handle has sent to itself
 #   node     the check handle of node's immediates stands between two callbacks of I/O of one poll
 #   accepted a thread sends to `stop` while the callback of `accept` is under way, and both are called in one poll: there are two sends
+#   taken    two threads send twelve times each; once the second one sends when the first send is taken, and its callback hasn't begun
 # node20-http is of a node with libuv 1.46.0 within it.
 WANTED: dict[str, dict[int, tuple[str, str] | None]] = {
     "late": {0: None},
     "threads": {0: None},
     "accepted": {0: None},
+    "taken": {0: None},
     "work": {0: None},
     "starved": {0: None},
     "watchers": {0: None},
@@ -160,8 +164,8 @@ def try_log(check, name: str, folder: str) -> None:
         minor = int(read_log(log.read_bytes()).version.split(".")[1])
         settings = ["order 1.44" if minor < 45 else "order 1.45", *(["io"] if any(map(notes.is_io, notes.names)) else []), "timers heap"]
         lines = path.read_text().splitlines()
-        if name == "accepted":
-            check(f"{what}: no send is made up", sum(it.startswith("send ") for it in lines) == 2, lines)
+        if name in SENDS:
+            check(f"{what}: no send is made up", sum(it.startswith("send ") for it in lines) == SENDS[name], lines)
         check(f"{what}: its version and its settings", lines[: len(settings) + 1] == ["uvt 3", *settings], lines[:6])
 
 

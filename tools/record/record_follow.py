@@ -36,6 +36,8 @@ POLLED = "polled"
 BEHIND = (POLLED, "done", "async")
 # So many sends and finishes may be put off; and what is kept before each.
 CHECKS = 16
+# How many lines about a send are looked at for others of its handle, and for its calls.
+AHEAD = 200
 KEPT = ("where", "clock", "in_call", "queued", "taken", "finished", "taken_at", "ready", "later_on", "after_at", "senders", "sent_late", "kept",
         "kept_at", "trail")
 
@@ -79,6 +81,11 @@ class Outcome:
     outside: set[int] = field(default_factory=set)
     # the line of each step
     lines: list[str] = field(default_factory=list)
+
+
+def sends_to(item: Item, name: str) -> bool:
+    """Is it a send to that one, by the program's loop or by a thread?"""
+    return (isinstance(item, Op) and item.text == f"send {name}") or (isinstance(item, Send) and item.name == name)
 
 
 def section_of(item: Call) -> str:
@@ -314,7 +321,7 @@ class Follower:
         """Does a callback, or another thread, send to that one from this item on before it is called? Where somebody woke the poll, nobody else
         has to."""
         before = itertools.takewhile(lambda it: it is not item, itertools.islice(self.items, at, None))
-        return any((isinstance(it, Op) and it.text == f"send {item.name}") or (isinstance(it, Send) and it.name == item.name) for it in before)
+        return any(sends_to(it, item.name) for it in before)
 
     def group(self, at: int) -> list[Call]:
         """The callbacks of this poll, from this item on, that the loop calls in this order in one iteration; but for those of I/O."""
@@ -540,7 +547,7 @@ class Follower:
 
     def do_send(self, item: Send, at: int) -> None:
         self.senders.add(item.name)
-        if at in self.lazy or self.is_for_later(item.name, at):
+        if at in self.lazy or self.is_for_later(item.name, at) or self.is_behind_call(item.name, at):
             self.sent_late.setdefault(item.name, (item.clock, item.by))
             return
         self.check(item.name, at)
@@ -564,6 +571,30 @@ class Follower:
     def is_for_later(self, name: str, at: int) -> bool:
         """Is what was sent to or is through called by a later poll than this one, which wasn't left yet? Then it has come behind its end."""
         return self.where == "poll" and self.ahead.is_behind_poll(name, at)
+
+    def is_behind_call(self, name: str, at: int) -> bool:
+        """libuv takes a send a moment before its callback's line, and another one may come between. So where a send stands before this one, and more
+        calls than one come with no send between them, this one is what the later call is for."""
+        if not self.is_sent(name, at):
+            return False
+        sends = calls = 0
+        for item in itertools.islice(self.items, at + 1, at + 1 + AHEAD):
+            if isinstance(item, Call) and item.callback == "on" and item.name == name:
+                calls += 1
+            elif sends_to(item, name):
+                if calls:
+                    break
+                sends += 1
+        return sends < calls - 1
+
+    def is_sent(self, name: str, at: int) -> bool:
+        """Did another send to it come since it was called?"""
+        for item in (self.items[it] for it in range(at - 1, max(-1, at - 1 - AHEAD), -1)):
+            if isinstance(item, Call) and item.callback == "on" and item.name == name:
+                return False
+            if sends_to(item, name):
+                return True
+        return False
 
     def check(self, name: str, at: int) -> None:
         """All as it is before a send or a finish."""
