@@ -7,7 +7,7 @@ from dataclasses import dataclass
 from pathlib import Path
 
 from conversation import State
-from javascript import LISTS, JavaScript, Place
+from javascript import LISTS, OUTSIDE, JavaScript, Place
 
 Call = tuple[str, str, int]
 
@@ -30,7 +30,7 @@ class Frame:
 
 def frame_of(place: Place, line: str = "0") -> Frame | None:
     file, _, begins = place.where.rpartition(":")
-    if not file or not begins.isdecimal() or file.startswith("node:"):
+    if not file or not begins.isdecimal() or file.startswith(OUTSIDE):
         return None
     return Frame(place.function, file, int(line) if line != "0" else int(begins), int(begins))
 

@@ -17,7 +17,10 @@ HOW = {
     "timer": "a timer", "immediate": "an immediate", "tick": "process.nextTick", "promise": "a promise", "main": "the main program",
     "event": "an event",
 }
-KINDS = {"timer": "a timer", "interval": "an interval", "immediate": "an immediate", "soon": "a call_soon", "callback": "a callback"}
+KINDS = {"timer": "a timer", "interval": "an interval", "immediate": "an immediate", "soon": "a call_soon", "task": "a step of a task",
+         "callback": "a callback"}
+# What files that are no part of the program begin with: node's own, and those that come with Python.
+OUTSIDE = ("node:", "python:")
 # What node does as soon as a callback of JavaScript is over.
 AT_ONCE = ("tick", "promise")
 # So little isn't told, in ms; and so many parts at the most.
@@ -123,7 +126,8 @@ class Resource:
 
     def asked(self) -> str:
         """Where it was asked for, in words."""
-        return f"started {at(self.at)}" if self.at.where != "-" else "of node's own"
+        own = "of node's own" if self.kind in ("interval", "immediate") or self.kind == "timer" and self.function.where.startswith("node:") else ""
+        return f"started {at(self.at)}" if self.at.where != "-" else own
 
 
 @dataclass
@@ -190,6 +194,7 @@ class JavaScript:
     most: dict[tuple[str, str, int], tuple[int, Under]] = field(default_factory=dict)
     # where the program was started: its files are said from there
     home: str = ""
+    language: str = "JavaScript"
     # the text of a line of the program
     source: dict[str, str] = field(default_factory=dict)
     # by call of the loop
@@ -203,6 +208,7 @@ class JavaScript:
     def lines(self) -> list[str]:
         found = [f"js thread {self.thread}"] if self.thread is not None else []
         found += [f"js home {self.home}"] if self.home else []
+        found += [f"js language {self.language}"] if self.language != "JavaScript" else []
         found += [f"js line {where} {text}" for where, text in self.source.items()]
         for it in self.resources.values():
             found.append(f"js new {it.id} {it.kind} {it.when} {it.delay} {it.function.words()} {it.at.words()}")
@@ -229,6 +235,8 @@ class JavaScript:
                 self.add(Span(int(id), (list, name, int(call)), int(begin), int(end), int(due[0]) if due else None, word == "open"))
             case ["home", *folder]:
                 self.home = " ".join(folder)
+            case ["language", language]:
+                self.language = language
             case ["look", begin, end, *under]:
                 self.looks.append(Look(int(begin), int(end), read_under(under)))
             case ["most", list, name, call, took, *under]:
@@ -268,7 +276,7 @@ class JavaScript:
     def who(self, span: Span) -> Place:
         """The program's function of a span: what was asked for, or else what was found under way most."""
         found = self.resources[span.id].function
-        if found.where != "-" and not found.where.startswith("node:"):
+        if found.where != "-" and not found.where.startswith(OUTSIDE):
             return found
         by: dict[Place, int] = {}
         for under, took in self.under(span.begin, span.end):
@@ -331,7 +339,7 @@ class JavaScript:
         """The functions of the program's timers that are to be called at this time or later, and keep node alive."""
         last = {it.id: it.begin for it in self.spans}
         kept = [it for it in self.resources.values() if it.kind in ("timer", "interval") and it.when <= time and it.referenced
-                and (it.gone is None or it.gone > time) and not it.function.where.startswith("node:")
+                and (it.gone is None or it.gone > time) and not it.function.where.startswith(OUTSIDE)
                 and (it.kind == "interval" or last.get(it.id, time + 1) > time)]
         return list(dict.fromkeys(it.function for it in kept))
 
@@ -420,5 +428,5 @@ class JavaScript:
     def names(self) -> list[str]:
         """The functions of its timers and immediates."""
         found = dict.fromkeys(it.function.function for it in self.resources.values()
-                              if it.kind in KINDS and it.function.where != "-" and not it.function.where.startswith("node:"))
+                              if it.kind in KINDS and it.function.where != "-" and not it.function.where.startswith(OUTSIDE))
         return [it for it in found if it not in ("-", "(anonymous)")]

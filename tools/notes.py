@@ -83,7 +83,7 @@ class Notes:
 
     def in_node(self, name: str, kind: str = "", call: int = 1) -> InNode | None:
         """What this callback of the name is in node, of which the JavaScript is known; None in any other program. Without a kind: any of its."""
-        if not self.javascript or name not in self.names:
+        if not self.javascript or self.javascript.language != "JavaScript" or name not in self.names:
             return None
         kinds = (kind,) if kind else ("on", "after", "closed")
         function = next((found for it in kinds if (found := self.function(it, name, call))), "") or self.names[name][1]

@@ -255,10 +255,11 @@ class Overview:
         return found[:LINES]
 
     def answer(self, ask: str) -> list[str]:
+        language = self.walk.notes.javascript.language
         lines, asked_for = head(self.walk), [it for it in self.walk.script.names() if not self.walk.notes.is_nodes_own(it)]
         for title, rows in (
             ("the longest callbacks", long_callbacks(self.walk)), ("the main program", main_program(self.walk)),
-            ("the latest timers of JavaScript", self.javascript()), ("the latest timers", self.timers()), ("the latest sends", self.sends()),
+            (f"the latest timers of {language}", self.javascript()), ("the latest timers", self.timers()), ("the latest sends", self.sends()),
             ("I/O", self.io()), ("who waited for the next poll", self.unwoken()), ("the longest requests", self.requests()),
             ("the pool was full", self.full()),
             ("what kept the loop alive", self.alive()), ("who spun", self.spins()), ("never called", self.never()),
@@ -268,7 +269,7 @@ class Overview:
         late = max(self.next, default=(0, ""))[1]
         name = self.first or late or next(iter(self.whys), "")
         functions = self.walk.notes.javascript.names()
-        lines += [f"functions of JavaScript: {listed(functions)}"] if functions else []
+        lines += [f"functions of {language}: {listed(functions)}"] if functions else []
         lines += [f"names: {listed(asked_for)}"] if asked_for else []
         lines += [f"ask next: {ask.replace('NAME', name)}"] if name else []
         return [row for line in lines for row in fitted(line)] if self.walk.notes.javascript else lines

@@ -11,6 +11,7 @@ from typing import Callable, Iterator
 
 from came import behind, came
 from conversation import Conversation, Script
+from javascript import OUTSIDE
 from places import MEANT, Place, next_line, read_place
 from waits import Wait
 from walk import Took, Walk
@@ -245,7 +246,7 @@ class Page:
         lanes: dict[str, Lane] = {}
         for span in javascript.spans:
             who, step = javascript.who(span), steps.get(span.call)
-            if step is None or who.where == "-" or who.where.startswith("node:"):
+            if step is None or who.where == "-" or who.where.startswith(OUTSIDE):
                 continue
             name = who.where if who.function == "(anonymous)" else who.function
             if name in self.lanes or name not in lanes and len(lanes) == FUNCTIONS:

@@ -9,7 +9,7 @@ from __future__ import annotations
 import difflib
 
 from conversation import Fault
-from javascript import LEAST, JavaScript, Place, Resource, Span, at, fitted
+from javascript import LEAST, OUTSIDE, JavaScript, Place, Resource, Span, at, fitted
 from walk import Walk
 from why import MANY, Why, few, is_told, times
 from why import told as without
@@ -85,9 +85,13 @@ class WhyJavaScript:
         """Those that are alike: the same function, started at the same line, of as many ms."""
         first = rows[0]
         spans = [(it, resource, number) for resource in rows for number, it in enumerate(self.spans.get(resource.id, []), 1)]
+        if len(spans) <= len(rows):
+            # (timers that are called once each: one is started behind the other)
+            spans = [(it, resource, number) for number, (it, resource, _) in enumerate(sorted(spans, key=lambda it: it[0].begin), 1)]
         count = f", {len(rows)} of them" if len(rows) > 1 else ""
-        lines = [f"{first.function.text()}: {first.what()}{count}, {first.asked()}, {times(len(spans), 'call') if spans else 'never called'}"]
-        if first.kind in ("timer", "interval"):
+        head = [f"{first.function.text()}: {first.what()}{count}", first.asked(), times(len(spans), "call") if spans else "never called"]
+        lines = [", ".join(filter(None, head))]
+        if first.kind in ("timer", "interval", "soon", "task"):
             worst = sorted((it for it in spans if self.late(it[0]) > 1), key=lambda it: -self.late(it[0]))[:MANY]
             for span, resource, number in sorted(worst, key=lambda it: it[0].begin):
                 lines += self.called(span, resource, number)
@@ -123,7 +127,8 @@ class WhyJavaScript:
         most = few([f"{self.late(it)} ms at {it.begin} ms" for it in slow if self.late(it) > 0])
         if lost <= LEAST:
             return []
-        return [f"drift: call {len(spans)} came at {spans[-1].begin} ms, {lost} ms behind {len(spans)} times {resource.delay} ms: node counts an interval"
+        who = "node" if self.js.language == "JavaScript" else "libuv"
+        return [f"drift: call {len(spans)} came at {spans[-1].begin} ms, {lost} ms behind {len(spans)} times {resource.delay} ms: {who} counts an interval"
                 f" from its last call, so what was late stays" + (f" (the most: {most})" if most else "")]
 
     def uncalled(self, resource: Resource) -> list[str]:
@@ -131,7 +136,7 @@ class WhyJavaScript:
         spans = self.spans.get(resource.id, [])
         head = "no further call" if spans else "never called"
         if resource.gone is not None:
-            return [f"{head}: cleared {at(resource.gone_at)}, at {resource.gone} ms"]
+            return [f"{head}: {GONE[self.js.language]} {at(resource.gone_at)}, at {resource.gone} ms"]
         if spans and resource.kind != "interval":
             return []
         due = f"due at {resource.when + resource.delay} ms, and " if resource.kind != "immediate" and not spans else ""
@@ -162,7 +167,7 @@ class WhyJavaScript:
         looks = [it for it in self.js.looks if it.under.outer.is_(name) or it.under.inner.is_(name)]
         if not looks:
             near = difflib.get_close_matches(name, [*self.walk.script.names(), *self.functions()], 1)
-            raise Fault(f"no name `{name}`, and no function or line of JavaScript that was seen" + (f": did you mean `{near[0]}`?" if near else ""))
+            raise Fault(f"no name `{name}`, and no function or line of {self.js.language} that was seen" + (f": did you mean `{near[0]}`?" if near else ""))
         place = next(it for it in (looks[0].under.outer, looks[0].under.inner) if it.is_(name))
         rows = []
         for took in self.walk.tooks:
@@ -172,7 +177,7 @@ class WhyJavaScript:
                 rows.append((round(mine / 1000), took))
         rows.sort(key=lambda it: -it[0])
         whole = round(sum(it.end - it.begin for it in looks) / 1000)
-        lines = [f"{place.text()}: a function of JavaScript, under way for {whole} ms,"
+        lines = [f"{place.text()}: a function of {self.js.language}, under way for {whole} ms,"
                  f" in {times(len(rows), 'callback')} of the loop of {LEAST} ms or more"]
         for mine, took in rows[:MANY]:
             begin, end = took.pieces[0][0], took.pieces[-1][1]
@@ -186,7 +191,7 @@ class WhyJavaScript:
 
     def latest(self, least: int, most: int) -> list[tuple[int, str, str]]:
         found = [it for it in self.js.spans if it.due is not None and self.late(it) >= least and it.id in self.js.resources
-                 and not self.js.resources[it.id].function.where.startswith("node:")]
+                 and not self.js.resources[it.id].function.where.startswith(OUTSIDE)]
         rows = []
         for span in sorted(found, key=self.late, reverse=True)[:most]:
             resource = self.js.resources[span.id]
@@ -197,10 +202,12 @@ class WhyJavaScript:
 
     def never(self) -> list[str]:
         """Those that were never called, though nobody cleared them."""
-        found = [it for it in self.js.resources.values() if it.id not in self.spans and it.gone is None and not it.function.where.startswith("node:")]
-        mine = [it for it in found if not it.at.where.startswith("node:")]
+        found = [it for it in self.js.resources.values() if it.id not in self.spans and it.gone is None and not it.function.where.startswith(OUTSIDE)]
+        mine = [it for it in found if not it.at.where.startswith(OUTSIDE)]
         return [f"{it.function.text()}, {it.what()} {it.asked()}: {self.uncalled(it)[0]}" for it in mine[:MANY]]
 
 
+# What somebody did who wants no call of a timer any more.
+GONE = {"JavaScript": "cleared", "Python": "cancelled", "Lua": "stopped"}
 # So many late calls of an interval are told.
 PART = 3

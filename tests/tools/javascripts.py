@@ -176,13 +176,17 @@ def try_find(tries: object) -> None:
 
 
 def try_one(tries: object, node: str, name: str) -> None:
-    function, handle, wanted = QUESTIONS[name]
-    data, what = (FOLDER / node / f"{name}.log").read_bytes(), f"javascript {node} {name}"
+    try_asked(tries, f"javascript {node} {name}", FOLDER / node / f"{name}.log", *QUESTIONS[name], ".js:")
+
+
+def try_asked(tries: object, what: str, log: Path, function: str, handle: str, wanted: str, source: str, timer: str = "") -> None:
+    """One question about a log, and what its program said of that; `timer` is what it calls the one that is asked about, where that isn't its name."""
+    name, data = log.stem, log.read_bytes()
     path = made(name, data)
     said = answer(path, function)
     tries.check(what, re.search(wanted, unfolded(said)) is not None, said)
     tries.check(f"{what}: in so many columns", max(map(len, said.splitlines())) <= COLUMNS, said)
-    try_said(tries, what, function, said, FOLDER / node / f"{name}.said")
+    try_said(tries, what, timer or function, said, log.with_suffix(".said"))
     steps = path.read_text().split("begin\n")[1]
     # (as a recorder without the hook has it)
     bare = b"".join(it for it in data.splitlines(keepends=True) if not re.match(rb"(-|\d+) J ", it))
@@ -190,7 +194,7 @@ def try_one(tries: object, node: str, name: str) -> None:
         it.unlink()
     path = made(name, bare)
     said = answer(path, handle)
-    tries.check(f"{what}: without the hook nobody knows", re.search(wanted, unfolded(said)) is None and ".js:" not in said, said)
+    tries.check(f"{what}: without the hook nobody knows", re.search(wanted, unfolded(said)) is None and source not in said, said)
     tries.check(f"{what}: the recording is the same", path.read_text().split("begin\n")[1] == steps, "other steps")
     path.unlink()
 

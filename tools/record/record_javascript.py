@@ -4,14 +4,18 @@ from __future__ import annotations
 
 from pathlib import Path
 
-from javascript import NOWHERE, JavaScript, Look, Place, Resource, Span, Under
+from javascript import NOWHERE, OUTSIDE, JavaScript, Look, Place, Resource, Span, Under
 from record_log import Event, Log
 
 # node's functions that call what JavaScript asked for.
 HOWS = {
     "listOnTimeout": "timer", "processImmediate": "immediate", "runMicrotasks": "promise", "runNextTicks": "tick",
     "processTicksAndRejections": "tick", "executeUserEntryPoint": "main", "Module.load": "main",
+    # (of the hook in Python)
+    "uvt_called": "timer", "run_forever": "event",
 }
+# Callbacks of the loop itself in Python, each due as many ms behind what asked for it as it says there.
+LOOPS_OWN = ("timer", "soon", "task")
 BETWEEN = ("tick", "timer", "immediate")
 COLLECTOR = "(garbage_collector)"
 SHOWN = 70
@@ -31,7 +35,7 @@ def place_of(log: Log, number: int) -> Place:
 
 def is_program(place: Place) -> bool:
     """Does this function stand in the program, and not in node, V8 or the recorder's hook?"""
-    return place.where != "-" and not place.where.startswith("node:") and HOOK not in place.where
+    return place.where != "-" and not place.where.startswith(OUTSIDE) and HOOK not in place.where
 
 
 def how_of(frames: list[tuple[Place, int]]) -> str:
@@ -132,7 +136,7 @@ class Reader:
         for id, call, begin, end, start, delay in self.rows:
             if resource := self.found.resources.get(id):
                 # (Python's timers are the loop's own, and no time of node's is said of them)
-                due = start + behind + delay if start is not None else resource.when + resource.delay if resource.kind == "timer" else None
+                due = start + behind + delay if start is not None else resource.when + resource.delay if resource.kind in LOOPS_OWN else None
                 self.found.add(Span(id, call, begin, end, due))
         last: Look | None = None
         for begin, end, number in sorted(self.raw):
@@ -158,10 +162,11 @@ class Reader:
                 last = None
         for id, (call, begin, start, delay) in self.open.items():
             if resource := self.found.resources.get(id):
-                due = start + behind + delay if start is not None else resource.when + resource.delay if resource.kind == "timer" else None
+                due = start + behind + delay if start is not None else resource.when + resource.delay if resource.kind in LOOPS_OWN else None
                 self.found.add(Span(id, call, begin, max(begin, self.found.seen()), due, True))
         self.read_sources()
         self.found.home = self.log.home if self.found else ""
+        self.found.language = self.log.language
         return self.found
 
     def read_sources(self) -> None:

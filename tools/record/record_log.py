@@ -24,6 +24,7 @@ ENDED = re.compile(r"- X (SIG[A-Z0-9]{1,12})")
 UNSEEN = re.compile(r"- U (-|uv_[a-z_0-9]+) (.+)")
 PLACE = re.compile(r"- J place (\d{1,9}) (.*)")
 HOME = re.compile(r"- J home (.*)")
+LANGUAGE = re.compile(r"- J language (Python|Lua)")
 STACK = re.compile(r"- J stack (\d{1,9}) (-1|\d{1,9}) (\d{1,9}) (\d{1,9})")
 NO_CLOCK = -1
 TIMED = "BEFJST"
@@ -49,7 +50,7 @@ WORDS = {
     "V": re.compile(rf"{NUMBER} \d{{1,9}}(?: \d{{1,9}})?"),
     "K": re.compile(rf"all|end|{NUMBER} [a-z_]+ [01] [01] [01] {NUMBER} {NUMBER} {NUMBER}"),
     "J": re.compile(
-        rf"new {NUMBER} (?:timer|interval|immediate|soon|callback) (?:-1|{NUMBER}) (?:-1|{NUMBER}) {NUMBER}|run {NUMBER}(?: {NUMBER} {NUMBER}(?: [123])?)?|ran {NUMBER}"
+        rf"new {NUMBER} (?:timer|interval|immediate|soon|task|callback) (?:-1|{NUMBER}) (?:-1|{NUMBER}) {NUMBER}|run {NUMBER}(?: {NUMBER} {NUMBER}(?: [123])?)?|ran {NUMBER}"
         rf"|gone {NUMBER} (?:-1|{NUMBER})|ref {NUMBER} [01] (?:-1|{NUMBER})|by {NUMBER} {NUMBER}|busy {NUMBER} {NUMBER} {NUMBER}|thread {NUMBER}"
     ),
     "Q": re.compile(rf"{NUMBER} {NUMBER}"),
@@ -108,6 +109,7 @@ class Log:
     addresses: dict[int, Address] = field(default_factory=dict)
     # of JavaScript: a function, or where it was, and its file and line; and of a stack the one below it, the place and its line
     home: str = ""
+    language: str = "JavaScript"
     places: dict[int, str] = field(default_factory=dict)
     stacks: dict[int, tuple[int, int, int]] = field(default_factory=dict)
     lines: int = 0
@@ -163,6 +165,8 @@ def read_log(data: bytes) -> Log:
         log.lines = number
         if home := HOME.fullmatch(text):
             log.home = home[1]
+        elif language := LANGUAGE.fullmatch(text):
+            log.language = language[1]
         elif event := read_event(text, number):
             log.loops.setdefault(event[0], []).append(event[1])
         elif address := ADDRESS.fullmatch(text):

@@ -258,7 +258,7 @@ def whose(program: Program, is_node: bool) -> str:
     if program.javascript.thread:
         return f"the JavaScript of worker {program.javascript.thread}"
     if program.javascript or WITH_JAVASCRIPT in functions:
-        return "the program's JavaScript"
+        return f"the program's {program.javascript.language}"
     return next((said for word, said in OWN.items() if word in functions), "node's own: it has no JavaScript")
 
 
@@ -333,7 +333,9 @@ def from_data(data: bytes, log: Log, name: str, part: Part = Part(), lifts: bool
         put(path, loop, it, log)
         lines += told(it, loop, path, log.note, whose(it.program, first is not None))
         whole &= it.is_whole()
-        if lifts and it.program.javascript:
+        if lifts and it.program.javascript.language != "JavaScript":
+            lines.append("--lift is for programs in node: there is no second recording")
+        elif lifts and it.program.javascript:
             more, well = lifted(log, loop, path.with_suffix(".lift.rec"), part)
             lines += more
             whole &= well

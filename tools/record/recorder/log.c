@@ -234,7 +234,11 @@ void write_line(struct loop *loop, char type, const char *format, ...) {
         add_sign(&line, ' ');
     }
     if (loop && strchr("BEFJST", type)) {
-        add_number(&line, clock_now() - loop->base, 10);
+        uint64_t clock = clock_now();
+        struct times *times = &loop->times[loop->begun % TIMES];
+        if (type == 'B') *times = (struct times){.begun = loop->begun, .begin = clock};
+        if (type == 'E' && times->begun == loop->begun && !times->end) times->end = clock;
+        add_number(&line, clock - loop->base, 10);
         add_sign(&line, ' ');
     }
     va_start(words, format);

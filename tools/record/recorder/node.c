@@ -10,10 +10,11 @@
 enum { WORDS = 4, TEXT = 1000 };
 
 __thread napi_env env_here;
+__thread int asking_here = -1;
 
 void note_javascript(struct loop *loop, int id) {
-    if (!env_here || !loop) return;
-    int place = place_now(env_here);
+    if (!loop || (!env_here && asking_here < 0)) return;
+    int place = env_here ? place_now(env_here) : asking_here;
     if (place >= 0) write_line(loop, 'J', "by %d %d", id, place);
 }
 

@@ -83,6 +83,7 @@ static void note_poll(struct loop *loop, int timeout) {
         if (timeout == 0 && loop->mode == UV_RUN_DEFAULT) timeout = CALL(uv_backend_timeout)(loop->uv);
     }
     write_line(loop, again ? 'p' : 'P', "%d", timeout);
+    loop->waiting = true;
     loop->poll = (struct poll){.begun = loop->begun, .away = loop->away, .timeout = timeout};
     unlock();
 }
@@ -95,6 +96,7 @@ static bool is_for_somebody(const uv_loop_t *uv, const struct epoll_event *event
 
 static int note_events(struct loop *loop, const struct epoll_event *events, int got) {
     if (!loop) return got;
+    loop->waiting = false;
     bool in_vain = true;
     for (int at = 0; at < got && in_vain; at++) in_vain = !is_for_somebody(loop->uv, &events[at]);
     loop->poll.got = got;

@@ -15,16 +15,24 @@
 
 /* ---- a loop, and a handle or a request (objects.c) */
 
+/* Of so many callbacks that were the last ones it is known when they began and ended. */
+enum { TIMES = 64 };
+
 struct loop {
     uv_loop_t *uv; /* NULL once it is closed */
     int number;
     uint64_t base; /* the loop's time as it was first seen: times in the log count from there */
     pthread_t thread; /* that of the last uv_run, or of its init */
     int running; /* how many uv_run are under way */
+    bool waiting; /* for events, in a poll */
     struct object *unsettled; /* watchers whose callback has just ended: see settle() */
     long lines, counted; /* of it in the log; and how many there were as all of it was last written down */
     uv_run_mode mode; /* of the uv_run that is under way */
     long begun, away; /* how many callbacks and runs have begun, and how many of them in no poll */
+    struct times {
+        long begun; /* which it is */
+        uint64_t begin, end; /* by the clock; 0: not yet */
+    } times[TIMES];
     struct poll {
         long begun, away; /* the same as libuv asked for events */
         int timeout, got; /* how long it waits, and how many events it got; negative where it was interrupted */
@@ -197,6 +205,8 @@ int new_place_number(void);
 
 /* A line that says where JavaScript asked for this object of the loop, if it is under way in this thread. */
 void note_javascript(struct loop *loop, int id);
+/* The line of a program in Lua that asks for requests of the pool just now, -1: none. */
+extern __thread int asking_here;
 
 /* How long the loop may wait, in ms, before the looks of this thread are to be written; -1: there are none, or no new ones. */
 int wait_before_looks(struct loop *loop);
