@@ -128,8 +128,8 @@ class WhyJavaScript:
         if lost <= LEAST:
             return []
         who = "node" if self.js.language == "JavaScript" else "libuv"
-        return [f"drift: call {len(spans)} came at {spans[-1].begin} ms, {lost} ms behind {len(spans)} times {resource.delay} ms: {who} counts an interval"
-                f" from its last call, so what was late stays" + (f" (the most: {most})" if most else "")]
+        return [f"drift: call {len(spans)} came at {spans[-1].begin} ms, {lost} ms behind {len(spans)} times {resource.delay} ms:"
+                f" {who} counts an interval from its last call, so what was late stays" + (f" (the most: {most})" if most else "")]
 
     def uncalled(self, resource: Resource) -> list[str]:
         """Why it isn't called, or not any more, where it isn't."""
@@ -167,7 +167,8 @@ class WhyJavaScript:
         looks = [it for it in self.js.looks if it.under.outer.is_(name) or it.under.inner.is_(name)]
         if not looks:
             near = difflib.get_close_matches(name, [*self.walk.script.names(), *self.functions()], 1)
-            raise Fault(f"no name `{name}`, and no function or line of {self.js.language} that was seen" + (f": did you mean `{near[0]}`?" if near else ""))
+            seen = f"no function or line of {self.js.language} that was seen"
+            raise Fault(f"no name `{name}`, and {seen}" + (f": did you mean `{near[0]}`?" if near else ""))
         place = next(it for it in (looks[0].under.outer, looks[0].under.inner) if it.is_(name))
         rows = []
         for took in self.walk.tooks:

@@ -20,36 +20,74 @@ FOLDER = Path(__file__).resolve().parent
 # Of each program whom somebody asks about, whom of the loop he would have to ask about without the hook, what is to be said, what the program
 # itself calls that timer, where it is another name, and how many times of the answer the program has printed, at the least.
 PYTHON = {
-    "timer": ("beat", "timer_3", r"call 2: late by \d+ ms: load \(timer\.py:13\) took \d+ ms, (?:nearly all|most) of it in loads, which it calls.*"
-              r"load \(timer\.py:13\): a timer of 33 ms, started at timer\.py:34", "", 2),
-    "coroutine": ("coroutine.py:25", "timer_3", r"beat \(coroutine\.py:20\): a timer of 20 ms.*late by \d+ ms: import_all \(coroutine\.py:13\) took \d+ ms, "
-                  r"nearly all of it in score \(coroutine\.py:9\), at line 10: `return sum\(.*import_all \(coroutine\.py:13\): a step of a task", "beat", 2),
-    "sleep": ("remind", "timer", r"late by \d+ ms: refresh \(sleep\.py:15\) took \d+ ms, nearly all of it in fetch \(sleep\.py:10\), at line 11: `time\.sleep\(0\.06\)`.*"
-              r"refresh \(sleep\.py:15\): a step of a task, started at sleep\.py:29", "", 2),
-    "server": ("timeout", "timer", r"late by \d+ ms: Pages\.data_received \(server\.py:17\), from an event, took about \d+ ms, nearly all of it in render \(server\.py:9\), "
-               r"at line 10", "", 2),
-    "soon": ("save", "timer", r"late by \d+ ms: flush \(soon\.py:11\) took \d+ ms, nearly all of it at line 14.*"
-             r"flush \(soon\.py:11\): a call_soon, started at soon\.py:30", "", 2),
+    "timer": (
+        "beat", "timer_3",
+        r"call 2: late by \d+ ms: load \(timer\.py:13\) took \d+ ms, (?:nearly all|most) of it in loads, which it calls"
+        r".*load \(timer\.py:13\): a timer of 33 ms, started at timer\.py:34", "", 2,
+    ),
+    "coroutine": (
+        "coroutine.py:25", "timer_3",
+        r"beat \(coroutine\.py:20\): a timer of 20 ms.*late by \d+ ms: import_all \(coroutine\.py:13\) took \d+ ms, nearly all of it in"
+        r" score \(coroutine\.py:9\), at line 10: `return sum\(.*import_all \(coroutine\.py:13\): a step of a task", "beat", 2,
+    ),
+    "sleep": (
+        "remind", "timer",
+        r"late by \d+ ms: refresh \(sleep\.py:15\) took \d+ ms, nearly all of it in fetch \(sleep\.py:10\), at line 11: `time\.sleep\(0\.06\)`"
+        r".*refresh \(sleep\.py:15\): a step of a task, started at sleep\.py:29", "", 2,
+    ),
+    "server": (
+        "timeout", "timer",
+        r"late by \d+ ms: Pages\.data_received \(server\.py:17\), from an event, took about \d+ ms,"
+        r" nearly all of it in render \(server\.py:9\), at line 10", "", 2,
+    ),
+    "soon": (
+        "save", "timer",
+        r"late by \d+ ms: flush \(soon\.py:11\) took \d+ ms, nearly all of it at line 14"
+        r".*flush \(soon\.py:11\): a call_soon, started at soon\.py:30", "", 2,
+    ),
     "cancelled": ("remind", "timer", r"never called: cancelled at cancelled\.py:15, in answered, at \d+ ms", "", 0),
-    "thread": ("through", "async", r"a call_soon, started at thread\.py:24, in work.*late by \d+ ms: index \(thread\.py:16\) took \d+ ms, .*at line 18: `sorted\(rows.*"
-               r"index \(thread\.py:16\): a timer of 30 ms, started at thread\.py:31", "", 2),
+    "thread": (
+        "through", "async",
+        r"a call_soon, started at thread\.py:24, in work.*late by \d+ ms: index \(thread\.py:16\) took \d+ ms, .*at line 18: `sorted\(rows"
+        r".*index \(thread\.py:16\): a timer of 30 ms, started at thread\.py:31", "", 2,
+    ),
 }
 LUA = {
-    "timer": ("beat", "timer", r"call 2: late by \d+ ms: sort \(timer\.lua:6\) took \d+ ms.*sort \(timer\.lua:6\): a timer of 33 ms, started at timer\.lua:19.*"
-              r"drift: call 8 .*no further call: stopped at timer\.lua:14, in beat", "", 2),
-    "idle": ("save", "timer", r"late by \d+ ms: index \(idle\.lua:6\) took \d+ ms.*index \(idle\.lua:6\): a callback, started at idle\.lua:18", "", 2),
-    "pool": ("fs_stat", "fs_stat", r"ms it waited for a worker.*the workers had \d requests, asked for at pool\.lua:15, in fill.*asked for at pool\.lua:19, in read_settings", "", 1),
+    "timer": (
+        "beat", "timer",
+        r"call 2: late by \d+ ms: sort \(timer\.lua:6\) took \d+ ms.*sort \(timer\.lua:6\): a timer of 33 ms, started at timer\.lua:19"
+        r".*drift: call 8 .*no further call: stopped at timer\.lua:14, in beat", "", 2,
+    ),
+    "idle": (
+        "save", "timer",
+        r"late by \d+ ms: index \(idle\.lua:6\) took \d+ ms.*index \(idle\.lua:6\): a callback, started at idle\.lua:18", "", 2,
+    ),
+    "pool": (
+        "fs_stat", "fs_stat",
+        r"ms it waited for a worker.*the workers had \d requests, asked for at pool\.lua:15, in fill"
+        r".*asked for at pool\.lua:19, in read_settings", "", 1,
+    ),
     "async": ("async", "async", r"for the send at step \d+, \d+ ms later: .*: render \(async\.lua:6\) took \d+ ms", "", 1),
-    "server": ("timeout", "timer", r"late by \d+ ms: on_request \(server\.lua:16\) took \d+ ms.*on_request \(server\.lua:16\): a callback, started at server\.lua:21, in connected", "", 2),
+    "server": (
+        "timeout", "timer",
+        r"late by \d+ ms: on_request \(server\.lua:16\) took \d+ ms"
+        r".*on_request \(server\.lua:16\): a callback, started at server\.lua:21, in connected", "", 2,
+    ),
     "unref": ("cleanup", "timer", r"never called: `unref` at unref\.lua:14, ", "", 0),
     "stopped": ("remind", "timer", r"never called: stopped at stopped\.lua:13, in answered, at \d+ ms", "", 0),
+}
+# Of each language its programs, how their files end, which timer was the latest one of `timer`, and functions that have a lane there.
+LANGUAGES = {
+    "python": (PYTHON, ".py", "beat (timer.py:18)", {"beat", "load"}),
+    "lua": (LUA, ".lua", "beat (timer.lua:13)", {"beat", "sort"}),
 }
 
 
 def try_one(tries: object, language: str, name: str) -> None:
-    function, handle, wanted, timer, least = (PYTHON if language == "python" else LUA)[name]
+    questions, suffix, _, _ = LANGUAGES[language]
+    function, handle, wanted, timer, least = questions[name]
     what, before = f"{language} {name}", tries.count
-    try_asked(tries, what, FOLDER / language / f"{name}.log", function, handle, wanted, ".py:" if language == "python" else ".lua:", timer)
+    try_asked(tries, what, FOLDER / language / f"{name}.log", function, handle, wanted, f"{suffix}:", timer)
     # (four things beside the times are tried)
     tries.check(f"{what}: times that the program printed, too", tries.count - before >= 4 + least, tries.count - before)
 
@@ -71,11 +109,11 @@ def try_notes(tries: object, language: str, latest: str, functions: set[str]) ->
 
 def try_interpreters(tries: object) -> None:
     before = os.getcwd()
-    for language, questions, latest, functions in (("python", PYTHON, "beat (timer.py:18)", {"beat", "load"}), ("lua", LUA, "beat (timer.lua:13)", {"beat", "sort"})):
+    for language, (questions, suffix, latest, functions) in LANGUAGES.items():
         with tempfile.TemporaryDirectory() as folder:
             os.chdir(folder)
             try:
-                for source in (FOLDER / language).glob("*.py" if language == "python" else "*.lua"):
+                for source in (FOLDER / language).glob(f"*{suffix}"):
                     # (the lines of the program are read from its files, as they lie where it was started)
                     Path(source.name).write_bytes(source.read_bytes())
                 for name in questions:

@@ -180,7 +180,7 @@ def try_one(tries: object, node: str, name: str) -> None:
 
 
 def try_asked(tries: object, what: str, log: Path, function: str, handle: str, wanted: str, source: str, timer: str = "") -> None:
-    """One question about a log, and what its program said of that; `timer` is what it calls the one that is asked about, where that isn't its name."""
+    """One question about a log, and what its program said of that; `timer` is its name there, where that is another one."""
     name, data = log.stem, log.read_bytes()
     path = made(name, data)
     said = answer(path, function)

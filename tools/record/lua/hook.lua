@@ -111,21 +111,22 @@ end
 
 local function start_timer(words)
   local handle, delay, rep, func = words[1], words[2], words[3], words[4]
-  if type(func) ~= 'function' or type(delay) ~= 'number' or type(rep) ~= 'number' then return end
+  if type(handle) ~= 'userdata' or type(func) ~= 'function' or type(delay) ~= 'number' or type(rep) ~= 'number' then return end
+  delay, rep = math.floor(delay), math.floor(rep)
   local timer = { start = uv.now(), delay = delay, rep = rep, even = rep > 0 and rep == delay }
   words[4] = called(func, timer.even and 'interval' or 'timer', timer)
   started[handle] = timer
 end
 
 local function end_timer(words)
-  local timer = started[words[1]]
+  local timer = words[1] ~= nil and started[words[1]]
   if timer and not timer.over then note(('gone %d %d'):format(timer.id, asked_at())) end
-  started[words[1]] = nil
+  if timer then started[words[1]] = nil end
 end
 
 local function refer(is)
   return function(words)
-    local timer = started[words[1]]
+    local timer = words[1] ~= nil and started[words[1]]
     if timer and not timer.over then note(('ref %d %d %d'):format(timer.id, is, asked_at())) end
   end
 end
@@ -139,7 +140,7 @@ local function watched(word, real)
   local special, first = SPECIAL[word], ELSEWHERE[word] or 0
   local pooled = POOL[word] or word:match('^fs_') ~= nil
   local function done(...)
-    asking(-1)
+    asking('-1')
     return ...
   end
   return function(...)
@@ -151,7 +152,7 @@ local function watched(word, real)
       end
     end
     if not pooled then return real(unpack(words, 1, words.n)) end
-    asking(asked_at())
+    asking(tostring(asked_at()))
     return done(real(unpack(words, 1, words.n)))
   end
 end

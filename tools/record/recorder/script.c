@@ -87,15 +87,18 @@ static void write_found(struct watch *watch) {
     watch->from = watch->to;
 }
 
-/* What is found counts from the look before on: in between the interpreter let nobody look. */
+/* What is found counts from the look before on: in between the interpreter let nobody look. Where nothing is under way any more, what was found
+ * before has just ended. */
 static void look(struct watch *watch) {
     int stack = watch->look();
     lock();
     if (watch->loop->begun == watch->begun && !watch->loop->waiting) {
-        if (stack != watch->stack) write_found(watch);
-        watch->stack = stack;
+        bool ended = stack < 0;
+        if (stack != watch->stack && !ended) write_found(watch);
+        if (!ended) watch->stack = stack;
         watch->to = microseconds();
-        if (watch->to - watch->from >= WRITTEN) write_found(watch);
+        if (ended || watch->to - watch->from >= WRITTEN) write_found(watch);
+        if (ended) watch->stack = -1;
     }
     unlock();
 }
@@ -153,7 +156,6 @@ void uvt_unwatch(struct watch *watch) {
 /* ---- the same for Lua, which calls them by package.loadlib. Its functions are missing in any other program. */
 __attribute__((weak)) extern const char *lua_tolstring(void *, int, size_t *);
 __attribute__((weak)) extern void lua_pushnumber(void *, double);
-__attribute__((weak)) extern double lua_tonumber(void *, int);
 
 int uvt_lua_language(void *state) {
     if (lua_tolstring) uvt_language(lua_tolstring(state, 1, NULL));
@@ -162,7 +164,8 @@ int uvt_lua_language(void *state) {
 
 /* From here on this line asks for requests of the pool; -1: none. */
 int uvt_lua_asking(void *state) {
-    asking_here = lua_tonumber ? (int)lua_tonumber(state, 1) : -1;
+    const char *place = lua_tolstring ? lua_tolstring(state, 1, NULL) : NULL;
+    asking_here = place ? atoi(place) : -1;
     return 0;
 }
 
