@@ -212,6 +212,9 @@ class Finder(importlib.abc.MetaPathFinder):
             return None
         sys.meta_path.remove(self)
         spec = importlib.util.find_spec(name)
+        if spec is None or spec.loader is None:
+            # (it isn't there, and that is said as ever)
+            return None
         real = spec.loader.exec_module
 
         def exec_module(module):
