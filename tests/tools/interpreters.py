@@ -6,17 +6,20 @@ javascripts.py holds the answers against that and against what the program print
 from __future__ import annotations
 
 import os
+import re
 import tempfile
 from pathlib import Path
 
 from conversation import read_input
-from javascripts import made, try_asked, unfolded
+from javascripts import ALLOWED, answer, made, try_asked, unfolded
 from notes import read_notes
 from overview import Overview
 from view import Page
 from walk import Walk
 
 FOLDER = Path(__file__).resolve().parent
+# Looks at Python are written when they have found the same for a tenth of a second, in ms, and it may wait for the next one.
+WRITTEN = 110
 # Of each program whom somebody asks about, whom of the loop he would have to ask about without the hook, what is to be said, what the program
 # itself calls that timer, where it is another name, and how many times of the answer the program has printed, at the least.
 PYTHON = {
@@ -107,6 +110,16 @@ def try_notes(tries: object, language: str, latest: str, functions: set[str]) ->
         tries.check(f"{language}: lanes", functions <= lanes, lanes)
 
 
+def try_killed(tries: object) -> None:
+    """A program in Python that was in a `while True` as SIGKILL ended it: what was looked at is there, up to its last tenth of a second."""
+    path, truth = made("forever", (FOLDER / "python" / "forever.log").read_bytes()), (FOLDER / "python" / "forever.said").read_text()
+    said = unfolded(answer(path, "spin"))
+    found = re.search(r"never ended: it was under way for (\d+) ms as the log ends, nearly all of it at lines? (\d+): `(?:while True:|pass)`", said)
+    tries.check("python, killed: what never ended", found is not None and found[2] in ("17", "18"), said)
+    took = float(truth.split()[2])
+    tries.check("python, killed: how long", found is not None and took - WRITTEN <= int(found[1]) <= took + ALLOWED, (said, truth))
+
+
 def try_interpreters(tries: object) -> None:
     before = os.getcwd()
     for language, (questions, suffix, latest, functions) in LANGUAGES.items():
@@ -119,5 +132,7 @@ def try_interpreters(tries: object) -> None:
                 for name in questions:
                     try_one(tries, language, name)
                 try_notes(tries, language, latest, functions)
+                if language == "python":
+                    try_killed(tries)
             finally:
                 os.chdir(before)
