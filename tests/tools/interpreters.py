@@ -14,6 +14,8 @@ from conversation import read_input
 from javascripts import ALLOWED, answer, made, try_asked, unfolded
 from notes import read_notes
 from overview import Overview
+from record_log import read_log
+from record_run import from_data
 from view import Page
 from walk import Walk
 
@@ -108,6 +110,10 @@ def try_notes(tries: object, language: str, latest: str, functions: set[str]) ->
         tries.check(f"{language}: no word of another language", "JavaScript" not in told and "node" not in told, told)
         lanes = {it["name"] for it in Page(walk).values()["lanes"]}
         tries.check(f"{language}: lanes", functions <= lanes, lanes)
+    data = (FOLDER / language / "timer.log").read_bytes()
+    lines, whole = from_data(data, read_log(data), "timer", lifts=True)
+    lifted = Path("timer.lift.rec").exists()
+    tries.check(f"{language}: --lift is for node", whole and not lifted and lines[-1].startswith("--lift is for programs in node"), lines)
 
 
 def try_killed(tries: object) -> None:
