@@ -15,7 +15,7 @@ import sys
 import threading
 from dataclasses import dataclass, field
 from pathlib import Path
-from typing import BinaryIO, Iterator
+from typing import BinaryIO, Callable, Iterator
 
 from notes import Notes, harmless, path_of, read_notes
 
@@ -249,6 +249,17 @@ def built_program() -> str:
     return asked.stdout.rstrip("\n")
 
 
+def started(work: Callable[..., None], *words: object) -> threading.Thread:
+    """A thread that does this. An interrupt waits until it has begun: the locks with which Python begins a thread don't bear one."""
+    thread = threading.Thread(target=work, args=words, daemon=True)
+    before = signal.pthread_sigmask(signal.SIG_BLOCK, [signal.SIGINT])
+    try:
+        thread.start()
+    finally:
+        signal.pthread_sigmask(signal.SIG_SETMASK, before)
+    return thread
+
+
 class Conversation:
     """A running `uvt debug`, with its script read. One command is asked at a time."""
 
@@ -327,10 +338,8 @@ class Conversation:
         """
         text = "".join(f"{it}\nback 0\n" for it in commands)
         # (a pipe holds only so much: who writes all before reading would wait for a reader who waits)
-        writer = threading.Thread(target=self.send_quietly, args=(text,), daemon=True) if len(text) > PIPE else None
-        if writer:
-            writer.start()
-        else:
+        writer = started(self.send_quietly, text) if len(text) > PIPE else None
+        if not writer:
             self.send_quietly(text)
         for _ in commands:
             lines = []
@@ -343,8 +352,7 @@ class Conversation:
 
     def ask_all(self, commands: list[str]) -> list[str]:
         """Asks many commands that do steps, and answers all their lines, without saying which are whose."""
-        writer = threading.Thread(target=self.send_quietly, args=("\n".join([*commands, "back 0", ""]),), daemon=True)
-        writer.start()
+        writer = started(self.send_quietly, "\n".join([*commands, "back 0", ""]))
         # (no line of theirs begins so but the last one)
         lines = self.lines_until(b"at ")
         writer.join()
@@ -397,8 +405,7 @@ class Conversation:
         for length in lengths:
             moves.append(f"forward {length - here}" if length > here else f"back {here - length}")
             here = length
-        writer = threading.Thread(target=self.send_quietly, args=("".join(f"{it}\nstate\n" for it in moves),), daemon=True)
-        writer.start()
+        writer = started(self.send_quietly, "".join(f"{it}\nstate\n" for it in moves))
         for move in moves:
             yield self.read_state_behind(move)
         writer.join()
