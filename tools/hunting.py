@@ -80,6 +80,8 @@ class Recorded:
         asked += [f"code ECANCELED of {it}" for it in requests] if any(" cancel " in line for line in self.lines) else []
         asked += self.pairs(requests)
         asked += self.pairs(timers + sent + requests)
+        # (an order that is found has the fewest steps: so the one is called as soon behind the other as may be)
+        asked += [f"{it} after {other}" for it in sent[:PAIRS] for other in (timers + requests)[:PAIRS]]
         asked += [f"never {it}" for it in timers + sent + requests] + ["stuck"]
         return list(dict.fromkeys(f"find {it}" for it in asked + [f"call {it} 2" for it in timers + sent]))
 
