@@ -94,16 +94,20 @@ def try_slow(check, folder: str) -> None:
     check("force, a callback of four seconds", status == WELL and is_whole(said) and "heard 0\n" in said, f"{status} {said}")
 
 
+# What is said where the loop joins a thread that has sends left.
+JOINED = "the session has no send there: the program waits for that thread"
+
+
 def try_own(check, folder: str) -> None:
     """Programs in the order of their own recordings."""
     for name in ("late", "mixed", "threads", "starved", "zero"):
         program = compiled(name, folder, "-luv")
-        # (where the machine is busy the loop of threads.c may join its senders before they are through, and a join lets them through: then it
-        # departs, as HUNT says. So it is recorded anew, twice at the most)
+        # (on a busy machine the loop of threads.c may join its senders before they are through: then the recording lacks their last sends, and
+        # that is said. For that reason alone it is recorded anew, twice at the most)
         for _ in range(3):
             tool("record", ["-o", name, program], folder)
             status, said = forced(["-o", f"{name}.forced", f"{name}.rec", program], folder)
-            if status == WELL or name != "threads":
+            if JOINED not in said:
                 break
         check(f"force, {name}: its own recording", status == WELL and is_whole(said), f"{status} {said}")
 
