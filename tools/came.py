@@ -12,11 +12,9 @@ from dataclasses import dataclass
 from conversation import State
 from notes import Notes
 from waits import Wait
-from walk import LeftByIo, Walk
+from walk import WAKES, LeftByIo, Walk
 
 LEFT, BEHIND, PENDING = "left", "behind", "pending"
-# How the lines begin behind which a request may be done, or an async handle sent to.
-WAKES = ("send ", "out send ", "cancel ", "out cancel ", "out finish ")
 
 
 @dataclass

@@ -184,23 +184,6 @@ class Slot:
     outcome: str = ""
 
 
-@dataclass
-class State:
-    """What `state` prints, by its words."""
-
-    numbers: dict[str, int]
-    place: str
-    bound: dict[str, str | None]
-    counts: dict[str, tuple[int, int, int]]
-    slots: list[Slot]
-    lists: dict[str, list[str]]
-
-    def slot_of(self, name: str) -> Slot | None:
-        """The slot that the name's id holds still."""
-        id = self.bound.get(name)
-        return next((it for it in self.slots if it.id == id and it.name == name), None)
-
-
 SLOT_VALUES = {"ref", "active", "closing", "begun", "due", "start", "repeat", "pending"}
 
 
@@ -215,26 +198,58 @@ def read_slot(words: list[str]) -> Slot:
     return Slot(id, kind, words[3], {a: b for a, b in zip(rest[::2], rest[1::2]) if a in SLOT_VALUES})
 
 
-def read_state(lines: list[str]) -> State:
-    """Cuts the text of `state`."""
-    state = State({}, "", {}, {}, [], {})
-    for line in lines:
-        words = line.split(" ")
-        match words[0]:
-            case "steps":
-                state.numbers = {a: int(b) for a, b in zip(words[::2], words[1::2])}
-            case "place":
-                state.place = line[len("place ") :]
-            case "name":
-                state.bound[words[1]] = None if words[2] == "none" else words[2]
-                state.counts[words[1]] = (int(words[3]), int(words[4]), int(words[5]))
-            case "slot":
-                state.slots.append(read_slot(words))
-            case "unused":
-                state.numbers["unused"] = int(words[1])
-            case word:
-                state.lists[word] = words[1:]
-    return state
+class State:
+    """What `state` prints, by its words. (It may have many thousand lines: what of it somebody asks for is cut into values then.)"""
+
+    def __init__(self, lines: list[str]) -> None:
+        self.lines = lines
+
+    @functools.cached_property
+    def numbers(self) -> dict[str, int]:
+        words = self.lines[0].split(" ")
+        found = {a: int(b) for a, b in zip(words[::2], words[1::2])}
+        return found | {"unused": int(it.split(" ")[1]) for it in self.lines if it.startswith("unused ")}
+
+    @property
+    def place(self) -> str:
+        return self.lines[1].removeprefix("place ")
+
+    @functools.cached_property
+    def names(self) -> list[list[str]]:
+        return [it.split(" ") for it in self.lines if it.startswith("name ")]
+
+    @functools.cached_property
+    def bound(self) -> dict[str, str | None]:
+        """Which id each name has."""
+        return {it[1]: None if it[2] == "none" else it[2] for it in self.names}
+
+    @functools.cached_property
+    def counts(self) -> dict[str, tuple[int, int, int]]:
+        """How many callbacks, after callbacks and close callbacks each name had."""
+        return {it[1]: (int(it[3]), int(it[4]), int(it[5])) for it in self.names}
+
+    @functools.cached_property
+    def rows(self) -> dict[str, str]:
+        """The line of each slot, by its id."""
+        return {it.split(" ", 2)[1]: it for it in self.lines if it.startswith("slot ")}
+
+    @functools.cached_property
+    def slots(self) -> list[Slot]:
+        return [read_slot(it.split(" ")) for it in self.rows.values()]
+
+    @functools.cached_property
+    def lists(self) -> dict[str, list[str]]:
+        found = (it.split(" ") for it in self.lines[2:] if not it.startswith(("name ", "slot ", "unused ")))
+        return {it[0]: it[1:] for it in found}
+
+    def slot_at(self, id: str | None) -> Slot | None:
+        row = self.rows.get(id)
+        return read_slot(row.split(" ")) if row else None
+
+    def slot_of(self, name: str) -> Slot | None:
+        """The slot that the name's id holds still."""
+        slot = self.slot_at(self.bound.get(name))
+        return slot if slot and slot.name == name else None
 
 
 @functools.lru_cache(maxsize=None)
@@ -247,6 +262,12 @@ def built_program() -> str:
     if asked.returncode:
         raise Fault("there is no program to talk with")
     return asked.stdout.rstrip("\n")
+
+
+def is_proved() -> bool:
+    """Is the program that a call would start a proved one, as far as is known without starting or building it?"""
+    named = os.environ.get("UVT")
+    return INSTALLED or ("unproved" not in named if named else (OUT / "uvt" / "uvt").is_file() and not (OUT / "uvt" / "unproved").is_dir())
 
 
 def started(work: Callable[..., None], *words: object) -> threading.Thread:
@@ -341,14 +362,27 @@ class Conversation:
         writer = started(self.send_quietly, text) if len(text) > PIPE else None
         if not writer:
             self.send_quietly(text)
-        for _ in commands:
-            lines = []
-            while not ((line := self.read_line()).startswith("at ") and (at := AT.match(line))):
-                lines.append(line)
-            self.length = int(at[1])
-            yield lines
+        yield from self.answers(len(commands))
         if writer:
             writer.join()
+
+    def answers(self, count: int) -> Iterator[list[str]]:
+        """The lines of so many answers, each up to the line of its `back 0`."""
+        lines, rest = [], b""
+        while count:
+            part = self.process.stdout.read1(1 << 16)
+            if not part:
+                self.ended()
+            rows = (rest + part).split(b"\n")
+            rest = rows.pop()
+            for row in rows:
+                if row.startswith(b"at "):
+                    self.length = int(row[3:])
+                    count -= 1
+                    yield lines
+                    lines = []
+                else:
+                    lines.append(row.decode("ascii", "replace"))
 
     def ask_all(self, commands: list[str]) -> list[str]:
         """Asks many commands that do steps, and answers all their lines, without saying which are whose."""
@@ -378,7 +412,7 @@ class Conversation:
             pass
 
     def state(self) -> State:
-        return read_state(self.ask("state"))
+        return State(self.ask("state"))
 
     def state_at(self, length: int) -> State:
         """Goes to where so many steps stand, by those that stand or that were taken back, and answers the state there."""
@@ -391,13 +425,15 @@ class Conversation:
         """The answer to a move, and the state behind it."""
         said = self.read_line()
         # (the line `done-yet` is a state's last one)
-        lines = [self.read_line()]
-        while not lines[-1].startswith("done-yet"):
-            lines.append(self.read_line())
+        read, lines = self.process.stdout.readline, []
+        while not lines or not lines[-1].startswith(b"done-yet"):
+            lines.append(read())
+            if not lines[-1].endswith(b"\n"):
+                self.ended()
         if not (at := AT.match(said)):
             raise Fault(f"the program answers `{said}` to `{move}`")
         self.length = int(at[1])
-        return read_state(lines)
+        return State(b"".join(lines).decode("ascii", "replace").split("\n")[:-1])
 
     def states_at(self, lengths: list[int]) -> Iterator[State]:
         """The same of many, asked all at once. All have to be read."""

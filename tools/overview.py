@@ -11,7 +11,7 @@ from came import LEFT, behind, came, waited
 from javascript import LEAST, at, fitted
 from node_names import IMMEDIATES
 from places import read_place
-from waits import Wait
+from waits import Wait, follow
 from walk import Took, Walk
 from why import FIFTH, KINDS, MANY, Why, few, in_javascript, named, sentence, times
 from why_javascript import WhyJavaScript
@@ -75,7 +75,8 @@ class Overview:
 
     def __init__(self, walk: Walk) -> None:
         self.walk = walk
-        self.whys = {name: Why(walk, name) for name in walk.script.names() if name in walk.of_name and not walk.notes.is_nodes_own(name)}
+        names = [it for it in walk.script.names() if it in walk.of_name and not walk.notes.is_nodes_own(it)]
+        self.whys = {name: Why(walk, name, history) for name, history in follow(walk, names).items()}
         self.least = 2 if walk.notes.names else 1
         self.next: list[tuple[int, str]] = []
         # the latest timer of JavaScript: who has that asks about it first
@@ -96,7 +97,7 @@ class Overview:
 
     def told(self, late: Late, kind: str) -> str:
         """Its answer's first line, as `why` has it."""
-        return f"{late.name}, {self.whys[late.name].one(late.wait)[0]}{kind}"
+        return f"{late.name}, {self.whys[late.name].first_line(late.wait)}{kind}"
 
     def timers(self) -> list[str]:
         late = [Late(name, self.walk.clock(it.ended) - it.due, it) for name, it in self.called("timer")]

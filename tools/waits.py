@@ -4,17 +4,18 @@ from __future__ import annotations
 
 import collections
 from dataclasses import dataclass, field
+from typing import Iterator
 
 from conversation import Slot
 from said import REFUSED
-from walk import Walk
+from walk import Look, Walk
 
 WATCHERS = ("idle", "prepare", "check")
 # What is called again and again while it is active, from its start on.
 STARTED = (*WATCHERS, "io")
 
 
-@dataclass
+@dataclass(slots=True)
 class Wait:
     """A callback that was asked for, and what became of that."""
 
@@ -78,7 +79,8 @@ def kind_of_call(what: str) -> str:
 
 
 class Follower:
-    """Goes along the lines of a session, and keeps what they say of a name."""
+    """Goes along the lines of a session, and keeps what they say of a name: at first which slots are wanted where, and then, when these are known,
+    the rest."""
 
     def __init__(self, walk: Walk, name: str) -> None:
         self.walk = walk
@@ -86,17 +88,33 @@ class Follower:
         self.history = History(name)
         self.id = ""
         self.kind = ""
-        self.slots: dict[int, list[Slot]] = {}
+        # of a timer: by its ops
+        self.repeat = "0"
+        self.slots: dict[int, Slot | None] = {}
         # what is asked for and didn't come yet: the handle's or request's callback, and a close callback
         self.open: Wait | None = None
         self.closing: Wait | None = None
 
-    def follow(self) -> History:
+    def looks(self) -> Iterator[Look]:
+        """The slots that are wanted: of a timer that starts, or that repeats as it is called; of what may be called again and isn't."""
         found = self.walk.of_name.get(self.name, [])
-        looks = [step for step, words in found if words[0] in ("call", "start", "again", "send")]
-        # (what is looked at in the states behind these steps: they are asked for together)
-        self.slots = {step: state.slots for step, state in self.walk.states_at(looks)}
-        for step, words in found:
+        id = kind = ""
+        repeat = "0"
+        for at, (step, words) in enumerate(found):
+            if words[0] in ("init", "queue") and words[-1] not in REFUSED:
+                id, kind, repeat = words[-1], words[2], "0"
+            repeat = repeat_of(words, repeat)
+            behind = found[at + 1] if at + 1 < len(found) else (self.walk.length + 1, [""])
+            if kind == "timer" and (words[0] in ("start", "again") and words[-1] == "ok" or words[0] == "call" and repeat != "0"):
+                # (its section may set it aside to be called, in a step without a line)
+                yield Look(self.name, id, step, max(step, min(behind[0], self.walk.next_line("timers", step)) - 1))
+            elif kind in STARTED and words[0] == "call" and behind[1][0] != "call":
+                yield Look(self.name, id, step, behind[0] - 1)
+
+    def follow(self, slots: dict[int, Slot | None]) -> History:
+        """The slots are those that were wanted, by their steps."""
+        self.slots = slots
+        for step, words in self.walk.of_name.get(self.name, []):
             self.see(step, words)
         return self.history
 
@@ -119,16 +137,12 @@ class Follower:
 
     # ---- what begins and ends
 
-    def slot(self, length: int) -> Slot | None:
-        slots = self.slots.get(length) or self.walk.state(length).slots
-        return next((it for it in slots if it.id == self.id and it.name == self.name), None)
-
-    def is_active(self, length: int) -> bool:
-        slot = self.slot(length)
-        return slot is not None and slot.values.get("active") == "1"
+    def is_active(self, step: int) -> bool:
+        slot = self.slots[step]
+        return slot is not None and slot.name == self.name and slot.values.get("active") == "1"
 
     def begin(self, step: int, what: str) -> None:
-        due = int(self.slot(step).values["due"]) if what == "timer" else None
+        due = int(self.slots[step].values["due"]) if what == "timer" else None
         self.open = Wait(what, self.id, step, due)
         self.history.waits.append(self.open)
 
@@ -145,8 +159,11 @@ class Follower:
             self.closing = None
 
     def called(self, step: int) -> None:
+        """(A timer that doesn't repeat isn't active behind its call. What else is called once more, and nobody started it in between, stayed active.)"""
         self.end(step, "called")
-        if self.kind != "async" and self.is_active(step):
+        if self.kind == "timer" and self.repeat != "0" and self.is_active(step):
+            self.begin(step, self.kind)
+        elif self.kind in STARTED and (step not in self.slots or self.is_active(step)):
             self.begin(step, self.kind)
 
     # ---- ops
@@ -155,9 +172,10 @@ class Follower:
         if answer in REFUSED:
             self.history.refusals.append(Refusal(step, " ".join(words), answer))
             return
+        self.repeat = repeat_of([*words, answer], self.repeat)
         match words[0]:
             case "init" | "queue":
-                self.id, self.kind = answer, words[2] if words[0] == "init" else "work"
+                self.id, self.kind, self.repeat = answer, words[2] if words[0] == "init" else "work", "0"
                 self.history.made.append((step, answer, self.kind))
                 if self.kind == "work":
                     self.begin(step, "work")
@@ -193,5 +211,18 @@ class Follower:
             self.begin(step, "timer")
 
 
-def follow(walk: Walk, name: str) -> History:
-    return Follower(walk, name).follow()
+def repeat_of(words: list[str], before: str) -> str:
+    """A timer's repeat behind this op."""
+    match words:
+        case ["start", _, _, repeat, *_, "ok"] | ["repeat", _, repeat, *_, "ok"]:
+            return repeat
+    return before
+
+
+def follow(walk: Walk, names: list[str]) -> dict[str, History]:
+    """What became of each callback of these names."""
+    followers = {name: Follower(walk, name) for name in names}
+    slots: dict[str, dict[int, Slot | None]] = collections.defaultdict(dict)
+    for look, slot in walk.slots_at([look for it in followers.values() for look in it.looks()]):
+        slots[look.name][look.first] = slot
+    return {name: it.follow(slots[name]) for name, it in followers.items()}

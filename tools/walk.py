@@ -2,13 +2,14 @@
 
 from __future__ import annotations
 
+import array
 import bisect
 import collections
 import functools
 from dataclasses import dataclass, field
 from typing import Callable, Iterator
 
-from conversation import Conversation, Fault, Script, State
+from conversation import Conversation, Fault, Script, Slot, State
 from node_names import InNode
 from places import Place, next_line, read_place
 from pool import Pool
@@ -22,7 +23,11 @@ LISTS = {"call": "on", "after": "after", "closed": "closed"}
 WORDS = {"on": "the callback", "after": "the after callback", "closed": "the close callback"}
 POLL = "the poll"
 MANY_STEPS = 10000
+# So many lines of states are kept, and so many are asked for without waiting.
+MANY_LINES = 1_000_000
 AT_ONCE = 200
+# How the lines begin behind which a request may be done, or an async handle sent to.
+WAKES = ("send ", "out send ", "cancel ", "out cancel ", "out finish ")
 
 
 @dataclass
@@ -34,6 +39,16 @@ class LeftByIo:
     call: int
     # whether a request was done by then, or an async handle was sent to
     woken: bool
+
+
+@dataclass(slots=True)
+class Look:
+    """A slot that is wanted as it is where so many steps stand. It is the same up to another length: nothing of it is done on the way."""
+
+    name: str
+    id: str
+    first: int
+    last: int
 
 
 @dataclass
@@ -75,6 +90,7 @@ class Walk:
         # (a step has no line where the program prints none; there is no step 0)
         self.lines = [""]
         self.states: dict[int, State] = {}
+        self.kept_lines = 0
         try:
             self.go_through(steps, tell)
         except BaseException:
@@ -82,10 +98,13 @@ class Walk:
             raise
 
     def go_through(self, steps: list[str], tell: Callable[[int, int], None] | None) -> None:
+        # (of lines and steps that are alike one is kept)
+        same: dict[str, str] = {}
         for at, (step, answer) in enumerate(zip(steps, self.talk.ask_each(steps))):
             if self.talk.length == len(self.lines):
-                self.steps.append(step)
-                self.lines.append(answer[0] if answer else "")
+                self.steps.append(same.setdefault(step, step))
+                line = answer[0] if answer else ""
+                self.lines.append(same.setdefault(line, line))
             elif self.script.is_recorded():
                 raise Fault(f"step {len(self.lines)} of the recording is `{step}`, and the program answers `{answer[-1]}`")
             if tell and at % MANY_STEPS == 0:
@@ -108,9 +127,12 @@ class Walk:
     def state(self, length: int) -> State:
         """The state where so many steps stand."""
         if length not in self.states:
-            if len(self.states) >= MANY_STEPS:
+            state = self.talk.state_at(length)
+            self.kept_lines += len(state.lines)
+            if self.kept_lines > MANY_LINES:
                 self.states.clear()
-            self.states[length] = self.talk.state_at(length)
+                self.kept_lines = len(state.lines)
+            self.states[length] = state
         return self.states[length]
 
     def states_at(self, lengths: list[int]) -> Iterator[tuple[int, State]]:
@@ -118,11 +140,27 @@ class Walk:
         for at in range(0, len(lengths), AT_ONCE):
             yield from zip(lengths[at : at + AT_ONCE], self.talk.states_at(lengths[at : at + AT_ONCE]))
 
-    def all_clocks(self) -> list[int]:
+    def slots_at(self, looks: list[Look]) -> Iterator[tuple[Look, Slot | None]]:
+        """All these slots, by as few states as there can be: one serves all looks whose lengths it lies between."""
+        looks = sorted(looks, key=lambda it: it.last)
+        lengths: list[int] = []
+        for it in looks:
+            if not lengths or it.first > lengths[-1]:
+                lengths.append(it.last)
+        at = 0
+        for length, state in self.states_at(lengths):
+            while at < len(looks) and looks[at].first <= length:
+                yield looks[at], state.slot_at(looks[at].id)
+                at += 1
+
+    def all_clocks(self) -> array.array:
         """The clock at each length: a line `out tick MS` says that it went on."""
-        found = [self.state(0).numbers["clock"]]
+        clock = self.state(0).numbers["clock"]
+        found = array.array("q", [clock])
         for line in self.lines[1:]:
-            found.append(found[-1] + (int(line.removeprefix("out tick ")) if line.startswith("out tick ") else 0))
+            if line.startswith("out tick "):
+                clock += int(line[9:])
+            found.append(clock)
         return found
 
     def clock(self, length: int) -> int:
@@ -140,12 +178,13 @@ class Walk:
     def look_through(self) -> None:
         """Which callback each step is in, where each tick is, and at which steps a line begins with a word."""
         # the step that begins the callback in which a step is done, or behind whose last op it comes; 0 where there is none
-        self.inside = [0] * (self.length + 1)
+        self.inside = array.array("i", bytes(4 * (self.length + 1)))
         # by that step: the last op; and which call of its list and name it is
         self.last_op: dict[int, int] = {}
         self.calls: dict[int, tuple[str, str, int]] = {}
-        # the callbacks of I/O that left a poll, each with the step that began that
+        # the callbacks of I/O that left a poll, each with the step that began that; and the step that left each poll
         self.leaving: dict[int, int] = {}
+        self.left_by_step: dict[int, int] = {}
         self.words: dict[str, list[int]] = {}
         self.tooks: list[Took] = []
         self.took_at: dict[int, Took] = {}
@@ -157,7 +196,7 @@ class Walk:
             self.words.setdefault(word, []).append(step)
             if kind := LISTS.get(word):
                 if poll:
-                    self.leaving[step] = poll
+                    self.leaving[step], self.left_by_step[poll] = poll, step
                 first, poll, name = step, 0, line.split(" ", 2)[1]
                 counts[kind, name] += 1
                 self.calls[step] = kind, name, counts[kind, name]
@@ -166,6 +205,8 @@ class Walk:
                 if " = " in line:
                     self.last_op[first] = step
                 else:
+                    if poll:
+                        self.left_by_step[poll] = step
                     first, poll, runs = 0, step if word == "poll" else 0, word != "end" and (runs or word == "run")
             elif word == "out" and self.clocks[step] > self.clocks[step - 1]:
                 self.note_tick(step, first, poll, runs)
@@ -217,9 +258,15 @@ class Walk:
         found = [rows[at - 1] for it in words if (rows := self.words.get(it)) and (at := bisect.bisect_right(rows, length))]
         return max(found, default=None)
 
+    def next_line(self, word: str, step: int) -> int:
+        """The next step behind this one whose line begins with this word, or the one behind the last of all."""
+        rows = self.words.get(word, [])
+        at = bisect.bisect_right(rows, step)
+        return rows[at] if at < len(rows) else self.length + 1
+
     def left_at(self, poll: int) -> int:
         """The step that left the poll which began at this one: the loop's, or a callback of I/O."""
-        return next((at for at in range(poll + 1, self.length + 1) if self.steps[at - 1] == "loop" or at in self.leaving), self.length)
+        return self.left_by_step.get(poll, self.length)
 
     def left(self, poll: int) -> int:
         """The clock where the poll that began at this step was left."""
@@ -227,21 +274,70 @@ class Walk:
 
     @functools.cached_property
     def left_by_io(self) -> list[LeftByIo]:
-        """The polls that callbacks of I/O left, in order."""
-        found = self.states_at(list(self.leaving))
-        return [LeftByIo(self.leaving[step], step, " polled woken" in state.place) for step, state in found]
+        """The polls that callbacks of I/O left, in order. Where the lines show nobody who waits for one, nobody had woken it; else the state says it."""
+        found = [LeftByIo(poll, step, False) for step, poll in self.leaving.items()]
+        asked = [it for it, waits in zip(found, self.someone_waits([it.call for it in found])) if waits]
+        for it, (_, state) in zip(asked, self.states_at([it.call for it in asked])):
+            it.woken = " polled woken" in state.place
+        return found
+
+    def someone_waits(self, steps: list[int]) -> Iterator[bool]:
+        """At each of these steps, in order: may there be somebody who was sent to, or a request that is done, and wasn't called yet?"""
+        waiting: set[str] = set()
+        at = 1
+        for step in steps:
+            for line in self.lines[at:step]:
+                if line.startswith(WAKES):
+                    words = line.split(" ")
+                    waiting.add(words[3] if words[1] == "finish" else words[2] if words[0] == "out" else words[1])
+                elif waiting and line.startswith(("call ", "after ", "close ")):
+                    waiting.discard(line.split(" ", 2)[1])
+            at = step
+            yield bool(waiting)
 
     @functools.cached_property
     def of_name(self) -> dict[str, list[tuple[int, list[str]]]]:
         """Of each name the steps whose line has it, with that line's words."""
         names, found = set(self.script.names()), {}
+        known: dict[str, tuple[str, list[str]] | None] = {}
         for step, line in enumerate(self.lines):
-            words = line.split(" ")
-            for word in words[1:4]:
-                if word in names:
-                    found.setdefault(word, []).append((step, words))
-                    break
+            if line not in known:
+                words = line.split(" ")
+                name = next((it for it in words[1:4] if it in names), None)
+                known[line] = (name, words) if name else None
+            if row := known[line]:
+                found.setdefault(row[0], []).append((step, row[1]))
         return found
+
+    @functools.cached_property
+    def unblocking(self) -> dict[str, list[tuple[int, int, str]]]:
+        """Since whom a poll doesn't wait: from which step, up to which other one, and the name. Idle handles that are active, and handles that close."""
+        found: dict[str, list[tuple[int, int, str]]] = {"idle": [], "closing": []}
+        for name, rows in self.of_name.items():
+            kind, active, closing = "", 0, 0
+            for step, words in rows:
+                match words:
+                    case ["init", _, made, "=", id] if "." in id:
+                        kind = made
+                    case ["start", _, "=", "ok"] if kind == "idle":
+                        active = active or step
+                    case ["stop" | "close", _, "=", "ok"]:
+                        found["idle"] += [(active, step, name)] if active else []
+                        active, closing = 0, step if words[0] == "close" else closing
+                    case ["closed", *_]:
+                        found["closing"].append((closing, step, name))
+                        closing = 0
+            found["idle"] += [(active, self.length + 1, name)] if active else []
+            found["closing"] += [(closing, self.length + 1, name)] if closing else []
+        return found
+
+    def unblocked(self, spans: list[tuple[int, int, str]], first: int, last: int) -> Iterator[tuple[str, list[int]]]:
+        """Of each of these the polls from one step to another that didn't wait."""
+        rows = self.words.get("poll", [])
+        for begin, end, name in spans:
+            a, b = max(begin, first), min(end - 1, last)
+            if a <= b and (steps := [it for it in rows[bisect.bisect_left(rows, a) : bisect.bisect_right(rows, b)] if self.lines[it] == "poll 0"]):
+                yield name, steps
 
     @functools.cached_property
     def pool(self) -> Pool:

@@ -18,8 +18,10 @@ KINDS = {"timer": "a timer", "idle": "an idle handle", "prepare": "a prepare han
 CALLS = {"call": "call", "after": "after callback", "closed": "close callback"}
 ASKED = {"timer": "started", "async": "sent to", "work": "queued", "close": "closed"}
 SECTIONS = {"work": "done", "close": "closing", "async": "async", "timer": "timers"}
-# How many names or steps a sentence has at the most.
-MANY = 8
+# How many names or steps a sentence has at the most, and how many sentences that say the same of others.
+MANY, FEW = 8, 3
+# Why a poll doesn't wait, of one and of several.
+WERE = {"idle": ("was an active idle handle", "were active idle handles"), "closing": ("was closing", "were closing")}
 
 
 def few(words: list[object]) -> str:
@@ -80,10 +82,10 @@ def sentence(walk: Walk, took: Took, begin: int, end: int) -> str:
 class Why:
     """The answers about one name of a session."""
 
-    def __init__(self, walk: Walk, name: str) -> None:
+    def __init__(self, walk: Walk, name: str, history: History | None = None) -> None:
         self.walk = walk
         self.name = name
-        self.history: History = follow(walk, name)
+        self.history = history or follow(walk, [name])[name]
         self.end = walk.length
         self.notes = walk.notes
 
@@ -180,25 +182,33 @@ class Why:
     def one(self, wait: Wait) -> list[str]:
         if wait.how != "called":
             return self.not_called(wait)
-        kind = kind_of_call(wait.what)
         answers = {"timer": self.timer, "async": self.sent, "io": self.io, "work": self.request, "close": self.close}
         causes, details = answers.get(wait.what, self.watcher)(wait)
         details += [*self.ends_between(wait), self.asked(wait), *self.by_javascript(wait)]
-        return [f"step {wait.ended}, {CALLS[kind]} {wait.call}: {causes}", *(f"    {it}" for it in details)]
+        return [self.headed(wait, causes), *(f"    {it}" for it in details)]
+
+    def headed(self, wait: Wait, causes: str) -> str:
+        return f"step {wait.ended}, {CALLS[kind_of_call(wait.what)]} {wait.call}: {causes}"
+
+    def first_line(self, wait: Wait) -> str:
+        """The first line of the same, of a callback that came."""
+        return self.headed(wait, self.lateness(wait)) if wait.what == "timer" else self.one(wait)[0]
 
     def asked(self, wait: Wait) -> str:
         """Who asked for it, and when. (What nobody saw come is put where it needs to be.)"""
         if wait.what == "async" and wait.asked in self.notes.guessed:
             return f"in the recording that is the send at step {wait.asked}"
-        line = self.walk.lines[wait.asked]
-        state = self.walk.state(wait.asked)
-        now, clock = state.numbers["now"], state.numbers["clock"]
-        if line.startswith("call "):
+        if self.walk.lines[wait.asked].startswith("call "):
             how = "it repeats, and was started again" if wait.what == "timer" else "it stayed active"
             return f"{how} by the call at step {wait.asked}"
-        behind = f" (the clock was at {clock} ms already)" if wait.what == "timer" and now != clock else ""
-        at = f", when the loop's time was {now} ms{behind}," if wait.what == "timer" else ""
+        at = self.loops_time(wait) if wait.what == "timer" else ""
         return f"{ASKED.get(wait.what, 'started')} at step {wait.asked}{at} {self.walk.by(wait.asked)}"
+
+    def loops_time(self, wait: Wait) -> str:
+        """The loop's time as a timer was started."""
+        numbers = self.walk.state(wait.asked).numbers
+        now, clock = numbers["now"], numbers["clock"]
+        return f", when the loop's time was {now} ms{f' (the clock was at {clock} ms already)' if now != clock else ''},"
 
     def by_javascript(self, wait: Wait) -> list[str]:
         """Which line of JavaScript asked for a request."""
@@ -261,18 +271,31 @@ class Why:
             more = f" and {missed - MANY} more" if missed > MANY else ""
             details.append(f"fell behind: {times(missed, 'repeat')} lost ({', '.join(map(str, lost))}{more} ms), next due at {slot.values['due']} ms")
         details += self.polls(wait)
-        late = clock - wait.due
-        return (f"late by {late} ms: {self.delay(wait.due, clock)}" if late > 0 else "on time"), details
+        return self.lateness(wait), details
+
+    def lateness(self, wait: Wait) -> str:
+        """How late a timer was, and why."""
+        clock = self.walk.clock(wait.ended)
+        return f"late by {clock - wait.due} ms: {self.delay(wait.due, clock)}" if clock > wait.due else "on time"
 
     def polls(self, wait: Wait) -> list[str]:
         """The polls that didn't wait for a timer that wasn't due, since somebody else was active or closed."""
-        found: dict[str, list[int]] = {}
-        for at in self.walk.steps_between("poll", wait.asked + 1, wait.ended or self.end):
-            state = self.walk.state(at) if self.walk.lines[at] == "poll 0" else None
-            for word, what in (("idle", "an active idle handle"), ("closing", "closing")) if state and state.numbers["now"] < wait.due else ():
-                for name in state.lists[word]:
-                    found.setdefault(f"{name} was {what}", []).append(at)
-        return [f"the poll didn't wait, at {steps_of(at)}: {why}" for why, at in found.items()]
+        rows = []
+        for what, spans in self.walk.unblocking.items():
+            found: dict[tuple[int, ...], list[str]] = {}
+            for name, steps in self.walk.unblocked(spans, wait.asked + 1, wait.ended or self.end):
+                if before_due := tuple(it for it in steps if self.is_before_due(it, wait.due)):
+                    found.setdefault(before_due, []).append(name)
+            if len(found) > FEW:
+                steps, names = {it for row in found for it in row}, dict.fromkeys(it for row in found.values() for it in row)
+                rows.append(f"the poll didn't wait, at {steps_of(sorted(steps))}: each time one or more of {few(list(names))} {WERE[what][1]}")
+            else:
+                rows += [f"the poll didn't wait, at {steps_of(list(steps))}: {few(names)} {WERE[what][len(names) > 1]}" for steps, names in found.items()]
+        return rows
+
+    def is_before_due(self, step: int, due: int) -> bool:
+        """Was a timer not due there, by the loop's time? (That isn't ahead of the clock.)"""
+        return self.walk.clock(step) < due or self.walk.state(step).numbers["now"] < due
 
     def watcher(self, wait: Wait) -> tuple[str, list[str]]:
         details = [f"started again meanwhile at {steps_of(wait.more)}, which changed nothing"] if wait.more else []

@@ -205,6 +205,7 @@ class Tried:
         path.write_text(changed(draw, text, draw.randrange(1, 4)), "latin-1", newline="\n", errors="replace")
         for left in self.folder.glob("made*"):
             left.unlink()
+        yield "why", [str(path)], ""
         yield "record", ["-o", str(self.folder / "made"), "--log", str(path)], ""
         for made in sorted(self.folder.glob("made*.rec"))[:1]:
             yield from self.asked(draw, made)

@@ -410,8 +410,8 @@ def try_unseen(check, folder: str) -> None:
 CALLS_OF_LONG = 50_000
 
 
-def long_log(calls: int) -> bytes:
-    """A timer of 1 ms that is called so often, and works 3 ms each thousandth time; all that there is, written down each 5,000 calls."""
+def long_log(calls: int, stall: int = 0) -> bytes:
+    """A timer of 1 ms that is called so often, and works 3 ms each thousandth time, and once 70; all that there is, written down each 5,000 calls."""
     lines = ["uvt-log 1 1.44.2 7 4 /home/user/long", "0 O 0 init %0 timer = ok", "0 O 0 start %0 1 1 = ok", "0 R 0 default"]
     now, clock = 0, 0
     for call in range(1, calls + 1):
@@ -419,7 +419,7 @@ def long_log(calls: int) -> bytes:
         lines.append(f"0 P {now} 1")
         clock += 1
         now = clock
-        clock += 3 if call % 1000 == 0 else 0
+        clock += STALL if call == stall else 3 if call % 1000 == 0 else 0
         lines.append(f"0 B {now} {now} on 0 timer")
         lines += [f"0 O {now} close %0 = ok"] if call == calls else []
         lines.append(f"0 E {now} {clock} 0")
@@ -466,6 +466,39 @@ def try_talk(check, folder: str) -> None:
     check("record, a part of a long talk: its callbacks", part.count("\ncall tcp ") == READS - 6000 + 1, part.count("\ncall tcp "))
 
 
+    try_early(check, Path(folder))
+
+
+def try_early(check, folder: Path) -> None:
+    """Before the build a long recording's log is told first: by a program of this path, which `why` takes for the one before its proofs."""
+    program = folder / "unproved" / "uvt"
+    program.parent.mkdir()
+    program.symlink_to(built_program())
+    for uvt, early in ((str(program), True), (built_program(), "unproved" in built_program())):
+        ran = subprocess.run([WHY, "talk.rec"], cwd=folder, capture_output=True, text=True, timeout=LONG, env=dict(os.environ, UVT=uvt))
+        told = re.match(r"before the loop is led through its \d+ steps:\n\d+ callbacks, \d+ ms, by the log alone\n", ran.stdout)
+        check("why, a long recording before the build", bool(told) == early and "\nask next: " in ran.stdout, ran.stdout[:2000])
+    ran = subprocess.run([WHY, "talk.log"], cwd=folder, capture_output=True, text=True, timeout=LONG, env=os.environ)
+    check("why, a log", re.match(r"\d+ callbacks, \d+ ms, by the log alone\n", ran.stdout) and "record --log talk.log" in ran.stdout, ran)
+
+
+STALL_AT, STALL = 30_500, 70
+
+
+def try_worst(check, folder: str) -> None:
+    """A long log of which the part with the longest callback is taken."""
+    (Path(folder) / "stall.log").write_bytes(long_log(CALLS_OF_LONG, STALL_AT))
+    ran = recorded(["--log", "stall.log", "--most", "2000", "--worst"], folder, LONG)
+    check("record --worst", f"the longest of {CALLS_OF_LONG + 1} callbacks took {STALL} ms at " in ran.stdout.split("\n")[0] and "same" in ran.stdout, ran)
+    path = Path(folder) / "stall.rec"
+    check("record --worst: replay", verdict(path, LONG) == "same")
+    check("record --worst: its notes", "around the longest one were taken" in read_notes(path, path.read_bytes()).part)
+    told = subprocess.run([WHY, "stall.rec"], cwd=folder, capture_output=True, text=True, timeout=LONG, env=os.environ).stdout
+    check("why of the part with the longest", f"\n    {STALL} ms: the callback of timer, from step " in told, told)
+    ran = recorded(["-o", "first", "--log", "stall.log", "--most", "2000"], folder, LONG)
+    check("record --most takes the first", "and the first 2000 were taken" in ran.stdout, ran)
+
+
 def try_long(check, folder: str) -> None:
     (Path(folder) / "long.log").write_bytes(long_log(CALLS_OF_LONG))
     ran = recorded(["--log", "long.log"], folder, LONG)
@@ -492,8 +525,8 @@ def try_whys_of_parts(check, folder: str) -> None:
         ran = subprocess.run([str(ROOT / "tools" / words[0]), *words[1:]], cwd=folder, capture_output=True, text=True, timeout=SECONDS,
                              env=os.environ, input="")
         check(f"{' '.join(words)} of a beginning", "THE RECORDING IS A PART: it has the first" in ran.stdout, ran.stdout[-500:] + ran.stderr)
-    for tool in ("uvt-why", "uvt-shell", "uvt-view"):
-        ran = subprocess.run([str(ROOT / "tools" / tool), str(LOGS / "zero.log")], capture_output=True, text=True, timeout=SECONDS, env=os.environ)
+    for tool, *words in (("uvt-why", "tick"), ("uvt-shell",), ("uvt-view",)):
+        ran = subprocess.run([str(ROOT / "tools" / tool), *words, str(LOGS / "zero.log")], capture_output=True, text=True, timeout=SECONDS, env=os.environ)
         check(f"{tool} of a log", ran.returncode == 1 and "this is a log of a program" in ran.stderr and "Traceback" not in ran.stderr, ran.stderr)
 
 
@@ -565,6 +598,7 @@ def try_records(tries) -> None:
         try_faults(check, folder)
         try_unseen(check, folder)
         try_long(check, folder)
+        try_worst(check, folder)
         try_talk(check, folder)
         try_whys_of_parts(check, folder)
         if has_libuv():

@@ -15,6 +15,7 @@ from pathlib import Path
 ROOT = Path(__file__).resolve().parent.parent.parent
 sys.path[:0] = [str(ROOT / "tools"), str(ROOT / "tools" / "record")]
 
+import glance  # noqa: E402
 from conversation import read_input  # noqa: E402
 from overview import Overview  # noqa: E402
 from record_log import read_log  # noqa: E402
@@ -130,6 +131,31 @@ def untrue(answer: str, said: dict[str, list[int]]) -> list[str]:
     return found
 
 
+# What the log alone says at once, of a callback and of a timer that waited.
+LONG = re.compile(r"^ +(\d+) ms: [^,]*, of ([a-z_0-9]+(?:\[\d+\])?), at", re.MULTILINE)
+WAITED = re.compile(r"^ +(\d+) ms behind \d+ ms, when it was due: [^,]*, of ([a-z_0-9]+(?:\[\d+\])?),", re.MULTILINE)
+AT_ONCE = {
+    "blocked": [r"200 ms: on_blocker \(blocked\.c:6\), of blocker", r"when it was sent to: on_inbox .*: 1\d\d ms of them in on_blocker",
+                r"when it was through: done .*, of job, .*: 1\d\d ms of them in on_blocker"],
+    "behind": [r"4\d ms behind \d+ ms, when it was due: on_sample .*, of sample, .* ms of them in on_flush \(behind\.c:6\)"],
+    "conns": [r"90 ms: on_request \(conns\.c:16\)", r"81 ms behind 50 ms, when it was due: on_idle \(conns\.c:9\), .*: 70 ms of them in on_request"],
+}
+
+
+def try_glance(check, program: str, walk: Walk) -> None:
+    """What the log says by itself, beside what the program printed, and beside what `why` says of the late timers."""
+    told = "\n".join(glance.told((TRUTHS / f"{program}.log").read_bytes()))
+    said = said_of(program)
+    for took, name in LONG.findall(told):
+        known = said.get(re.sub(r"\[(\d+)\]", r"_\1", name), [])
+        check(f"truths, {program}: {name} by the log alone", not known or any(abs(int(took) - it) <= ALLOWED for it in known), (took, known))
+    for took, name in WAITED.findall(told) if "loop 1:" not in told else []:
+        answer = "\n".join(why(walk, re.sub(r"\[(\d+)\]", r"_\1", name)))
+        check(f"truths, {program}: how late {name} was by the log alone", f"late by {took} ms" in answer, (took, answer))
+    missing = [it for it in AT_ONCE.get(program, []) if not re.search(it, told)]
+    check(f"truths, {program}: by the log alone", not missing, f"{missing} isn't in\n{told}")
+
+
 def recorded(check, program: str, folder: Path) -> Walk:
     data = (TRUTHS / f"{program}.log").read_bytes()
     lines, whole = from_data(data, read_log(data), str(folder / program))
@@ -157,6 +183,7 @@ def try_truths(tries) -> None:
             check(f"truths, {it.program} {it.name}: nothing false is said", not wrong, f"{wrong} is in\n{answer}")
         for program, walk in walks.items():
             answer = "\n".join("\n".join(why(walk, name)) for name in walk.script.names()) + "\n".join(Overview(walk).answer("why NAME"))
+            try_glance(check, program, walk)
             check(f"truths, {program}: times", not (found := untrue(answer, said_of(program))), found)
             walk.close()
     check("truths, how many answers give the true cause", right >= 0.93 * len(QUESTIONS), (right, len(QUESTIONS)))

@@ -287,6 +287,17 @@ def io_session(draw: random.Random) -> tuple[list[str], list[str]]:
     return lines, ["loop 30", *draw.choices(steps, k=draw.randint(40, 120))]
 
 
+def unblocking_differences(slow: SlowWhy, walk: Walk) -> list[str]:
+    """And of who was an active idle handle, or closed, at each poll."""
+    found = []
+    for step in walk.words.get("poll", []):
+        for word, spans in walk.unblocking.items():
+            ours = {name for begin, end, name in spans if begin <= step < end}
+            if ours != (theirs := set(slow.looks[step].rows[word])):
+                found.append(f"poll at {step}, {word}: {ours} and {theirs}")
+    return found
+
+
 def try_random(check, session: Callable[[random.Random], tuple[list[str], list[str]]], first: int, count: int) -> tuple[int, int, int]:
     """Recordings of random sessions, each name of each: how many callbacks that were asked for were compared, how many of I/O that were called,
     and behind how many polls somebody waited since nobody had woken them."""
@@ -305,14 +316,50 @@ def try_random(check, session: Callable[[random.Random], tuple[list[str], list[s
                 called += sum(it.what == "io" and it.call > 0 for it in answers.history.waits)
                 check(f"why {name} of random session {seed}", not wrong and told, wrong)
             check(f"polls that I/O left, of random session {seed}", not (wrong := left_differences(slow, walk)), wrong)
+            check(f"polls that didn't wait, of random session {seed}", not (wrong := unblocking_differences(slow, walk)), wrong)
             late += sum(bool(it.waited) for it in slow.left_by_io())
     return compared, called, late
+
+
+# ---- many names
+
+MANY_TIMERS = 400
+FEWEST = 30
+
+
+def many_timers() -> Script:
+    """Timers that are due from 1 to 40 ms and close themselves, one of which takes 25 ms; and one that repeats."""
+    names = [f"t{at}" for at in range(MANY_TIMERS)]
+    lines = [*(f"var {it}" for it in [*names, "beat"]), *(f"main init {it} timer" for it in [*names, "beat"])]
+    lines += [f"main start {it} {1 + at % 40} 0" for at, it in enumerate(names)] + ["main start beat 10 10", "main run default"]
+    return Script(lines + [f"on {it} close {it}" for it in names] + ["on beat @4 close beat"])
+
+
+def try_many(check) -> None:
+    """What is asked of many names takes few states."""
+    script = many_timers()
+    with Walk(script, longest_way(script, ["loop 1300", *["tick 1", "loop 200"] * 10, "tick 25", *["loop 1000", "tick 1"] * 60])) as walk:
+        asked: list[int] = []
+        state_at, states_at = walk.talk.state_at, walk.talk.states_at
+        walk.talk.state_at = lambda it: asked.append(it) or state_at(it)
+        walk.talk.states_at = lambda rows: asked.extend(rows) or states_at(rows)
+        told = "\n".join(Overview(walk).answer("why NAME"))
+        check("many timers, how many states are asked for", len(asked) < FEWEST, len(asked))
+        check("many timers, what stands out", f"{2 * MANY_TIMERS + 5} callbacks, " in told and "late by 2" in told, told)
+        # (10 ms by the first ticks, and then 25 in the poll: t14 is due at 15, `beat` at 20 for the second time)
+        rows = why(walk, "t14")
+        check("many timers, one of them", any("late by 20 ms: 25 ms went by in the poll" in it for it in rows), rows)
+        check("many timers, who closed meanwhile in one line", sum("the poll didn't wait" in it for it in rows) == 1, rows)
+        beat = why(walk, "beat")
+        wanted = ("late by 15 ms: 25 ms went by in the poll", "fell behind: 1 repeat lost (30 ms), next due at 45 ms")
+        check("many timers, one that repeats", all(any(text in it for it in beat) for text in wanted), beat)
 
 
 def try_whys(tries) -> None:
     try_examples(tries.check)
     try_io(tries.check)
     try_command(tries.check)
+    try_many(tries.check)
     compared, _, _ = try_random(tries.check, sessions.session, 1, 50)
     tries.check("the random sessions ask for callbacks", compared > 200, compared)
     _, called, late = try_random(tries.check, io_session, 1, 40)

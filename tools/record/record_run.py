@@ -25,6 +25,7 @@ from record_names import name_addresses, named_log
 from record_polls import Polls, compare
 from record_script import Call, Done, End, Program, program_of
 from record_window import NoPart, window
+from record_worst import around
 from tell import Teller
 
 RECORDER = Path(__file__).resolve().parent / "recorder"
@@ -87,8 +88,9 @@ class Part:
     # in ms of the loop's time: from there on, or the last ones
     begin: int | None = None
     last: int | None = None
-    # how many callbacks at the most
+    # how many callbacks at the most; and whether, of more than these, the ones around the longest are taken
     most: int = MOST
+    worst: bool = False
 
 
 def followed(program: Program, workers: int) -> Outcome:
@@ -112,12 +114,14 @@ def followed(program: Program, workers: int) -> Outcome:
         workers = MANY_WORKERS
 
 
-def chosen(events: list[Event], part: Part, form: int) -> tuple[list[Event], str, str]:
+def chosen(log: Log, events: list[Event], part: Part) -> tuple[list[Event], str, str]:
     """The part of a loop's events that is asked for; where it begins and where it is cut, in a sentence each."""
     began = cut = ""
+    if part.worst and sum(it.type == "B" for it in events) > part.most:
+        return around(log, events, part.most)
     time = part.begin if part.last is None else max(0, events[-1].now - part.last)
     if time is not None:
-        events, now = window(events, time, form)
+        events, now = window(events, time, log.form)
         began = f"it begins at {now} ms of the loop's time, with what there was then, and its times count from there"
     calls = [at for at, it in enumerate(events) if it.type == "B"]
     if len(calls) > part.most:
@@ -131,7 +135,7 @@ def make(log: Log, loop: int, part: Part = Part()) -> Made | None:
     """The recording of a loop. None if it has no callback."""
     if not any(it.type == "B" for it in log.loops[loop]):
         return None
-    events, began, cut = chosen(log.loops[loop], part, log.form)
+    events, began, cut = chosen(log, log.loops[loop], part)
     program = program_of(log, events)
     program.began = began
     program.stopped = program.stopped or cut
