@@ -102,14 +102,15 @@ def try_own(check, folder: str) -> None:
     """Programs in the order of their own recordings."""
     for name in ("late", "mixed", "threads", "starved", "zero"):
         program = compiled(name, folder, "-luv")
-        # (a recording of threads.c may lack sends, where its loop joins the senders before they are through, which is said; or have one too many,
-        # where threads send at a callback's end, which its notes say: a fault that is known. For these reasons alone it is recorded anew, twice
-        # at the most)
+        # (the loop of threads.c may join its senders before they are through: then its recording lacks sends, which is said. For this reason alone it
+        # is recorded anew, twice at the most)
         for _ in range(3):
             tool("record", ["-o", name, program], folder)
             status, said = forced(["-o", f"{name}.forced", f"{name}.rec", program], folder)
-            if JOINED not in said and "\nunseen " not in Path(folder, f"{name}.notes").read_text():
+            if JOINED not in said:
                 break
+        sends = [len(re.findall(pattern, Path(folder, f"{name}.{end}").read_text(), re.M)) for pattern, end in ((r"^0 S ", "log"), ("^send ", "rec"))]
+        check(f"force, {name}: its recording has the sends of its threads", name != "threads" or sends[0] == sends[1] > 0, sends)
         check(f"force, {name}: its own recording", status == WELL and is_whole(said), f"{status} {said}")
 
 

@@ -31,7 +31,7 @@ RECORD = str(ROOT / "tools" / "uvt-record")
 WHY = str(ROOT / "tools" / "uvt-why")
 SECONDS = 120
 # How often the program's threads send, by its source.
-SENDS = {"accepted": 2, "taken": 24}
+SENDS = {"accepted": 2, "taken": 24, "learnt": 24, "later": 24}
 # (for the program before its proofs, which takes 250 times as long)
 LONG = 1200
 NESTED, CLOSING = "A run in a callback", "Some handles close later"
@@ -46,12 +46,16 @@ NESTED, CLOSING = "A run in a callback", "Some handles close later"
 #   node     the check handle of node's immediates stands between two callbacks of I/O of one poll
 #   accepted a thread sends to `stop` while the callback of `accept` is under way, and both are called in one poll: there are two sends
 #   taken    two threads send twelve times each; once the second one sends when the first send is taken, and its callback hasn't begun
+#   learnt   the same program: a send is called in the next poll alone, and its steps must not be taken for those of a callback whose send was seen
+#   later    the same: two sends, one behind the other, are each called a poll later, and neither is forgotten for the other
 # node20-http is of a node with libuv 1.46.0 within it.
 WANTED: dict[str, dict[int, tuple[str, str] | None]] = {
     "late": {0: None},
     "threads": {0: None},
     "accepted": {0: None},
     "taken": {0: None},
+    "learnt": {0: None},
+    "later": {0: None},
     "work": {0: None},
     "starved": {0: None},
     "watchers": {0: None},
@@ -166,6 +170,7 @@ def try_log(check, name: str, folder: str) -> None:
         lines = path.read_text().splitlines()
         if name in SENDS:
             check(f"{what}: no send is made up", sum(it.startswith("send ") for it in lines) == SENDS[name], lines)
+            check(f"{what}: nor one that nobody saw", not notes.guessed, notes.guessed)
         check(f"{what}: its version and its settings", lines[: len(settings) + 1] == ["uvt 3", *settings], lines[:6])
 
 

@@ -21,6 +21,7 @@ class Ahead:
         self.afters = [it.name for it in items if isinstance(it, Call) and it.callback == "after"]
         # requests whose work begins and ends by a line of its own; what becomes of the others, and when, nobody sees
         self.seen = {it.name for it in items if isinstance(it, Finish)}
+        self.items = items
         # of each name its callbacks that have to be made ready
         self.calls: dict[str, list[int]] = collections.defaultdict(list)
         for at, it in enumerate(items):
@@ -42,3 +43,9 @@ class Ahead:
         """Does a callback of that name come from one item on, up to another one?"""
         calls = self.calls[name]
         return bisect.bisect_left(calls, first) < bisect.bisect_left(calls, last)
+
+    def number_of_call(self, name: str, at: int) -> int:
+        """Which of the name's callbacks comes next from that item on, by its number; 0 where none does."""
+        calls = self.calls[name]
+        found = bisect.bisect_left(calls, at)
+        return self.items[calls[found]].number if found < len(calls) else 0

@@ -13,7 +13,7 @@ from dataclasses import dataclass
 from typing import TYPE_CHECKING
 
 from conversation import BAD
-from record_script import Call, Done, End, Item, Op, Poll, Run
+from record_script import Call, Done, End, Item, Op, Poll, Run, Send
 
 if TYPE_CHECKING:
     from record_follow import Follower
@@ -51,6 +51,8 @@ class Way:
     parts: list[Tick | Step]
     where: str
     wakes: int
+    # to whom is sent on it in a thread's place
+    sends: set[str]
 
 
 @dataclass
@@ -85,6 +87,21 @@ def alike(line: str) -> str:
     return line.rsplit(" = ", 1)[0] + " = " if words[0] == "init" else line
 
 
+def first_sends(items: list[Item]) -> list[int]:
+    """Of each callback, but for those of I/O, the first send to its handle since that was called last; where there is none, behind all items."""
+    sent: dict[str, int] = {}
+    found = []
+    for at, item in enumerate(items):
+        match item:
+            case Send():
+                sent.setdefault(item.name, at)
+            case Op() if item.text.startswith("send "):
+                sent.setdefault(item.text.split(" ")[1], at)
+            case Call() if not item.is_io():
+                found.append(sent.pop(item.name, len(items)) if item.callback == "on" else len(items))
+    return found
+
+
 def happens(item: Item) -> tuple:
     """What of an item has to be the same."""
     match item:
@@ -104,6 +121,8 @@ class Ways:
         self.ends = [at for at, it in enumerate(self.items) if isinstance(it, (Poll, Run, End))]
         self.calls = [it for it in self.items if isinstance(it, Call) and not it.is_io()]
         self.called = [at for at, it in enumerate(self.items) if isinstance(it, Call) and not it.is_io()]
+        # of each of these the first send to it since it was called last
+        self.first_sends = first_sends(self.items)
         self.ways: dict[tuple, Way] = {}
         self.many = 4
         # a unit that went otherwise than the last time
@@ -130,20 +149,32 @@ class Ways:
         return 0
 
     def key(self, at: int, end: int, where: str) -> tuple:
-        """What happens in a unit, and who is called behind it before the next poll."""
-        return (where, *map(happens, self.items[at:end]), *(it.name for it in self.ahead(end)))
+        """What happens in a unit, who is called behind it before the next poll, and whom of all these somebody has sent to as it begins."""
+        return (where, *map(happens, self.items[at:end]), *(it.name for it in self.ahead(end)), tuple(self.sent(at, end)))
 
     def ahead(self, at: int) -> list[Call]:
         """The callbacks from this item on up to the next poll, but for those of I/O, which need nothing."""
-        end = bisect.bisect_left(self.ends, at)
-        last = self.ends[end] if end < len(self.ends) else len(self.items)
-        return self.calls[bisect.bisect_left(self.called, at) : bisect.bisect_left(self.called, last)]
+        return self.calls[self.places(at, at)]
+
+    def places(self, at: int, end: int) -> slice:
+        """Which of the callbacks come from this item on, up to the first poll behind that one."""
+        behind = bisect.bisect_left(self.ends, end)
+        last = self.ends[behind] if behind < len(self.ends) else len(self.items)
+        return slice(bisect.bisect_left(self.called, at), bisect.bisect_left(self.called, last))
+
+    def sent(self, at: int, end: int) -> list[str]:
+        """To whom somebody has sent as the unit begins, of those that are called in it, and behind it before the next poll."""
+        places = self.places(at, end)
+        return [call.name for call, first in zip(self.calls[places], self.first_sends[places]) if first < at]
 
     # ---- a way is learnt
 
-    def learn(self, at: int, end: int, key: tuple, length: int) -> None:
-        """Keeps how the follower came through this unit, from so many steps on."""
+    def learn(self, at: int, end: int, key: tuple, length: int, late: int) -> None:
+        """Keeps how the follower came through this unit, from so many steps on, where so many sends had come late. (A send that came late
+        belongs to this time alone.)"""
         follower = self.follower
+        if follower.came_late > late:
+            return
         ticks, parts, wakes = iter(follower.trail), [], 0
         tick = next(ticks, None)
         for step in range(length, follower.talk.length + 1):
@@ -153,8 +184,9 @@ class Ways:
             if step < follower.talk.length and not follower.did[step].startswith("tick "):
                 parts.append(Step(follower.did[step], alike(follower.said[step])))
                 wakes += follower.did[step] == "send wake"
+        sends = {it.command.split(" ")[1] for it in parts if isinstance(it, Step) and it.command.startswith("send ")}
         if all(0 <= it.item < end - at for it in parts if isinstance(it, Tick)):
-            self.ways[key] = Way(parts, follower.where, wakes)
+            self.ways[key] = Way(parts, follower.where, wakes, sends)
 
     # ---- and gone again
 
@@ -167,8 +199,11 @@ class Ways:
         return at
 
     def known(self, at: int) -> list[tuple[int, Way]]:
-        units, where = [], self.follower.where
+        units, where, late = [], self.follower.where, self.follower.sent_late.keys()
         while len(units) < self.many and (end := self.end_of(at)) and (way := self.ways.get(self.key(at, end, where))):
+            # (where a send waits for its call, that is the one that comes)
+            if not way.sends.isdisjoint(late):
+                break
             units.append((end, way))
             at, where = end, way.where
         return units

@@ -134,7 +134,10 @@ class Follower:
         # sends and finishes before which all was kept; those that are to come only where what they call does, and the clock of such sends
         self.checks: collections.deque[tuple[str, int, int, dict[str, object]]] = collections.deque(maxlen=CHECKS)
         self.lazy: set[int] = set()
-        self.sent_late: dict[str, tuple[int, str]] = {}
+        # (of each name, with the call before which they come)
+        self.sent_late: dict[str, tuple[tuple[int, int, str], ...]] = {}
+        # how many of these have come
+        self.came_late = 0
 
     # ---- the conversation
 
@@ -309,13 +312,30 @@ class Follower:
         for item in self.group(at):
             if item.callback == "after":
                 self.finish(item.name)
+            elif self.send_late(item):
+                pass
             elif ready and self.sends_before(item, at):
                 continue
             elif item.name not in self.senders or self.talk.state().slot_of(item.name).values.get("pending") == "0":
                 self.later(f"send {item.name}", f"out send {item.name} = ok")
-                if item.name in self.sent_late:
-                    self.know(self.talk.length + len(self.queue), *self.sent_late.pop(item.name))
             ready = True
+
+    def put_off(self, item: Send, at: int, calls: int) -> None:
+        """The send comes later: before the next call, or so many behind that one."""
+        number = self.ahead.number_of_call(item.name, at) + calls
+        self.sent_late[item.name] = (*self.sent_late.get(item.name, ()), (number, item.clock, item.by))
+
+    def send_late(self, item: Call) -> bool:
+        """The sends that were put off until this call come. False where there are none."""
+        waiting = self.sent_late.pop(item.name, ())
+        for number, clock, by in waiting:
+            if number <= item.number:
+                self.later(f"send {item.name}", f"out send {item.name} = ok")
+                self.know(self.talk.length + len(self.queue), clock, by)
+                self.came_late += 1
+        if left := tuple(it for it in waiting if it[0] > item.number):
+            self.sent_late[item.name] = left
+        return len(left) < len(waiting)
 
     def sends_before(self, item: Call, at: int) -> bool:
         """Does a callback, or another thread, send to that one from this item on before it is called? Where somebody woke the poll, nobody else
@@ -547,8 +567,9 @@ class Follower:
 
     def do_send(self, item: Send, at: int) -> None:
         self.senders.add(item.name)
-        if at in self.lazy or self.is_for_later(item.name, at) or self.is_behind_call(item.name, at):
-            self.sent_late.setdefault(item.name, (item.clock, item.by))
+        is_next = at in self.lazy or self.is_for_later(item.name, at)
+        if is_next or self.is_behind_call(item.name, at):
+            self.put_off(item, at, 0 if is_next else 1)
             return
         self.check(item.name, at)
         self.tick_within(item, at)
@@ -657,14 +678,14 @@ class Follower:
                 if (behind := ways.run(at)) > at:
                     at = self.kept_at = behind
                     continue
-            begin, key, self.trail = self.talk.length, ways.key(at, end, self.where), []
+            begin, key, late, self.trail = self.talk.length, ways.key(at, end, self.where), self.came_late, []
             for self.at in range(at, end or at + 1):
                 self.do(self.items[self.at], self.at)
                 if not self.queue:
                     self.kept, self.kept_at = self.talk.length, self.at + 1
             if end:
                 self.flush()
-                ways.learn(at, end, key, begin)
+                ways.learn(at, end, key, begin, late)
             at = end or at + 1
 
     def record(self) -> None:
