@@ -1,0 +1,202 @@
+"""The recorder never harms its program: each ends as it does without it, and the recorder itself touches no memory that isn't its own.
+
+In tests/tools/run the programs of tools/record/programs and of truths/ run under a recorder that is built with AddressSanitizer and
+UndefinedBehaviorSanitizer, and those of the first folder under valgrind, where these are installed. By hand, and much more of it:
+
+    tests/tools/unharmed.py --libuv FOLDER    libuv's own tests, of the sources in this folder (Debian: apt-get source libuv1)
+    tests/tools/unharmed.py --node 100        so many starts of node, four at a time
+
+Status 1 if a program ends otherwise with the recorder, or something is reported.
+"""
+
+from __future__ import annotations
+
+import argparse
+import concurrent.futures
+import os
+import shutil
+import subprocess
+import sys
+import tempfile
+from pathlib import Path
+
+sys.dont_write_bytecode = True
+ROOT = Path(__file__).resolve().parent.parent.parent
+sys.path[:0] = [str(ROOT / "tools"), str(ROOT / "tools" / "record")]
+
+from record_run import HOOKS, RECORDER, recorder  # noqa: E402
+from records import has_libuv  # noqa: E402
+
+PROGRAMS = (ROOT / "tools" / "record" / "programs", Path(__file__).resolve().parent / "truths")
+SECONDS = 100
+# How a program ends that valgrind or a sanitizer reports.
+REPORTED = 97
+# What ends by itself in a way that a sanitizer would take for a fault of its own.
+QUIET = "detect_leaks=0:handle_segv=0:handle_abort=0:allow_user_segv_handler=1"
+
+
+def runtimes() -> list[str]:
+    """The sanitizers' libraries, in front of all others; none where `cc` has none."""
+    found = [subprocess.run(["cc", f"-print-file-name=lib{it}.so"], capture_output=True, text=True).stdout.strip() for it in ("asan", "ubsan")]
+    return found if all(Path(it).is_absolute() and Path(it).exists() for it in found) else []
+
+
+def sanitized(folder: Path) -> Path:
+    """The recorder, built with the sanitizers."""
+    built = folder / "sanitized.so"
+    sources = [str(it) for it in sorted(RECORDER.glob("*.c")) if not it.name.startswith("force")]
+    words = ["-g", "-O1", "-fPIC", "-shared", "-fno-optimize-sibling-calls", "-fsanitize=address,undefined"]
+    subprocess.run(["cc", *words, "-o", str(built), *sources, "-ldl", "-lpthread"], check=True, capture_output=True)
+    return built
+
+
+class Room:
+    """A folder for programs, logs and reports."""
+
+    def __init__(self, folder: Path) -> None:
+        self.folder = folder
+
+    def status(self, words: list[str], more: dict[str, str] | None = None) -> int:
+        environment = dict(os.environ, UV_RUN_AS_ROOT="1") | (more or {})
+        try:
+            ran = subprocess.run(words, cwd=self.folder, env=environment, capture_output=True, timeout=SECONDS)
+        except subprocess.TimeoutExpired:
+            return 124
+        finally:
+            for log in self.folder.glob("log.*.log"):
+                log.unlink()
+        return ran.returncode
+
+    def preloaded(self, *libraries: object) -> dict[str, str]:
+        return {"UVT_LOG": str(self.folder / "log"), "LD_PRELOAD": " ".join(map(str, libraries))}
+
+    def watched(self, libraries: list[object]) -> dict[str, str]:
+        """The same, with what a sanitizer finds in a file each."""
+        reports = f"log_path={self.folder}/report"
+        return self.preloaded(*libraries) | {"ASAN_OPTIONS": f"{QUIET}:{reports}", "UBSAN_OPTIONS": f"print_stacktrace=1:{reports}"}
+
+    def reports(self) -> str:
+        """What was reported since it was asked last."""
+        found = ""
+        for it in sorted(self.folder.glob("report.*")):
+            found += it.read_text(errors="replace")
+            it.unlink()
+        return found
+
+
+def compiled(source: Path, folder: Path) -> str:
+    program = folder / source.stem
+    subprocess.run(["cc", "-O1", "-g", "-w", str(source), "-o", str(program), "-luv", "-lpthread"], check=True)
+    return str(program)
+
+
+def try_sanitized(check, room: Room, programs: dict[str, str], plain: dict[str, int]) -> None:
+    libraries = runtimes()
+    if not libraries:
+        print("tools: the recorder under sanitizers: not tried, since `cc` has none", flush=True)
+        return
+    libraries.append(str(sanitized(room.folder)))
+    for name, program in programs.items():
+        status = room.status([program], room.watched(libraries))
+        check(f"unharmed, {name}: its status under a recorder with sanitizers", status == plain[name], (status, plain[name]))
+        check(f"unharmed, {name}: what they report of the recorder", not (found := room.reports()), found)
+
+
+def try_valgrind(check, room: Room, programs: dict[str, str], plain: dict[str, int]) -> None:
+    if not shutil.which("valgrind"):
+        print("tools: the recorder under valgrind: not tried, since it isn't installed", flush=True)
+        return
+    words = ["valgrind", "-q", "--leak-check=no", f"--error-exitcode={REPORTED}"]
+    for name, program in programs.items():
+        # (valgrind has reports of its own on a program that a signal ends)
+        if plain[name] < 0:
+            continue
+        status = room.status([*words, program], room.preloaded(recorder()))
+        check(f"unharmed, {name}: its status under valgrind", status == plain[name], (status, plain[name]))
+
+
+def try_unharmed(tries) -> None:
+    if not has_libuv():
+        print("tools: programs under the recorder: not tried, since there is no C compiler `cc` with libuv's header", flush=True)
+        return
+    with tempfile.TemporaryDirectory() as name:
+        room = Room(Path(name))
+        programs = {it.stem: compiled(it, room.folder) for folder in PROGRAMS for it in sorted(folder.glob("*.c"))}
+        plain = {it: room.status([program]) for it, program in programs.items()}
+        for it, program in programs.items():
+            status = room.status([program], room.preloaded(recorder()))
+            tries.check(f"unharmed, {it}: its status", status == plain[it], (status, plain[it]))
+        try_sanitized(tries.check, room, programs, plain)
+        first = {it.stem: programs[it.stem] for it in PROGRAMS[0].glob("*.c")}
+        try_valgrind(tries.check, room, first, plain)
+
+
+# ---- by hand
+
+
+def try_node(check, room: Room, starts: int) -> None:
+    """Starts of node, with the hook as `./uvt record` has it."""
+    server = str(PROGRAMS[0] / "http.js")
+    environment = room.preloaded(recorder()) | {"UVT_RECORDER": str(recorder()), "NODE_OPTIONS": f"--require {HOOKS / 'node' / 'hook.js'}"}
+
+    def start(number: int) -> tuple[int, bytes]:
+        more = dict(os.environ) | environment | {"UVT_LOG": str(room.folder / f"node{number}")}
+        ran = subprocess.run(["node", server, "100", "10"], env=more, capture_output=True, timeout=SECONDS)
+        return ran.returncode, ran.stdout
+
+    with concurrent.futures.ThreadPoolExecutor(4) as several:
+        for number, found in enumerate(several.map(start, range(starts)), 1):
+            check(f"unharmed, start {number} of node", found == (0, b"100 answers\n"), found)
+
+
+def try_libuv(check, room: Room, libuv: Path) -> None:
+    """libuv's own tests, under the recorder and under one with sanitizers."""
+    sources = [str(it) for it in sorted((libuv / "test").glob("*.c")) if "benchmark" not in it.name and "win" not in it.name]
+    words = ["cc", "-O1", "-w", "-D_GNU_SOURCE", *(f"-I{libuv / it}" for it in ("include", "src", "test"))]
+    program = str(room.folder / "uv_run_tests")
+    subprocess.run([*words, *sources, "-o", program, "-luv", "-ldl", "-lutil", "-lpthread"], check=True)
+    (room.folder / "test").symlink_to((libuv / "test").resolve())
+    tests = subprocess.run([program, "--list"], capture_output=True, text=True).stdout.split()
+    libraries = runtimes()
+    watched = [*libraries, str(sanitized(room.folder))] if libraries else []
+    for test in tests:
+        plain = room.status([program, test])
+        status = room.status([program, test], room.preloaded(recorder()))
+        check(f"unharmed, libuv's {test}: its status", status == plain, (status, plain))
+        if watched:
+            status = room.status([program, test], room.watched(watched))
+            check(f"unharmed, libuv's {test}: its status under sanitizers", status == plain, (status, plain))
+            check(f"unharmed, libuv's {test}: what they report", not (found := room.reports()), found)
+
+
+class Tries:
+    """What was tried by hand."""
+
+    count = failed = 0
+
+    def check(self, what: str, holds: bool, why: object = "") -> None:
+        self.count += 1
+        if not holds:
+            self.failed += 1
+            print(f"tools: {what}: {why}", flush=True)
+
+
+def main() -> int:
+    reader = argparse.ArgumentParser(description=__doc__, formatter_class=argparse.RawDescriptionHelpFormatter)
+    reader.add_argument("--libuv", type=Path, metavar="FOLDER", help="the sources of libuv")
+    reader.add_argument("--node", type=int, metavar="N", help="so many starts of node")
+    asked, tries = reader.parse_args(), Tries()
+    with tempfile.TemporaryDirectory() as name:
+        room = Room(Path(name))
+        if asked.libuv:
+            try_libuv(tries.check, room, asked.libuv.resolve())
+        if asked.node:
+            try_node(tries.check, room, asked.node)
+    if not asked.libuv and not asked.node:
+        try_unharmed(tries)
+    print(f"{tries.count} tried, {tries.failed} failed")
+    return 1 if tries.failed else 0
+
+
+if __name__ == "__main__":
+    sys.exit(main())
