@@ -47,6 +47,28 @@ SIGNS = {
 
 
 @dataclass
+class Request:
+    """A request of a stream, or a datagram that is sent."""
+
+    stream: str
+    # write, connect, shutdown or send
+    what: str
+    bytes: int
+    # when it was asked for, behind which step, and where in the program: the number of the place, -1 where nobody knows
+    asked: int
+    asked_step: int
+    place: int
+    # when it was called back, at which step, and what libuv said then (`ok`, or an error); -1, 0 and `-` where that never came
+    done: int = -1
+    done_step: int = 0
+    status: str = "-"
+
+    def line(self) -> str:
+        numbers = (self.bytes, self.asked, self.asked_step, self.place, self.done, self.done_step)
+        return f"request {self.stream} {self.what} {' '.join(map(str, numbers))} {self.status}"
+
+
+@dataclass
 class Notes:
     """Empty where there are none."""
 
@@ -78,8 +100,21 @@ class Notes:
     javascript: JavaScript = field(default_factory=JavaScript)
     # the requests that were queued again while they were under way
     again: list[str] = field(default_factory=list)
-    # which loop of the program it is: 0 is the first one
+    # which loop of the program it is: 0 is the first one; and how much later than that one's its times begin, in ms
     loop: int = 0
+    behind: int = 0
+    # how long a callback or work (as in `functions`, with its call) was on the processor, in ms
+    processor: dict[tuple[str, str, int], int] = field(default_factory=dict)
+    # places in the program, in words (`churn.c:14, in rearm`); and of each step that such a place asked for, which it is
+    places: list[str] = field(default_factory=list)
+    asked_at: dict[int, int] = field(default_factory=dict)
+    # the requests of streams, in the order in which they were asked for
+    requests: list[Request] = field(default_factory=list)
+
+    def place(self, step: int) -> str:
+        """Where in the program this step was asked for, `` where nobody knows."""
+        at = self.asked_at.get(step, -1)
+        return self.places[at] if 0 <= at < len(self.places) else ""
 
     def in_node(self, name: str, kind: str = "", call: int = 1) -> InNode | None:
         """What this callback of the name is in node, of which the JavaScript is known; None in any other program. Without a kind: any of its."""
@@ -130,6 +165,7 @@ class Notes:
         lines += [f"polls {self.polls}"] if self.polls else []
         lines += [f"ended {self.ended}"] if self.ended else []
         lines += [f"loop {self.loop}"] if self.loop else []
+        lines += [f"behind {self.behind}"] if self.behind else []
         for name, (kind, origin) in self.names.items():
             lines.append(f"name {name} {kind} {origin}")
             for list in ("work", "on", "after", "closed"):
@@ -138,12 +174,25 @@ class Notes:
         lines += self.javascript.lines()
         lines += [f"thread {line} {function}" for line, function in sorted(self.foreign.items())]
         lines += [f"again {name}" for name in self.again]
+        lines += [f"cpu {list} {name} {call} {ms}" for (list, name, call), ms in sorted(self.processor.items())]
+        lines += self.place_lines()
+        lines += [it.line() for it in self.requests]
         lines += [f"by {step} {text}" for step, text in sorted(self.by.items())]
         lines += [f"clock {step} {clock}" for step, clock in sorted(self.times.items())]
         for word, found in (("unseen", self.guessed), ("outside", self.outside)):
             steps = sorted(found)
             lines += [f"{word} " + " ".join(map(str, steps[at : at + IN_A_LINE])) for at in range(0, len(steps), IN_A_LINE)]
         return "\n".join(lines) + "\n"
+
+    def place_lines(self) -> list[str]:
+        """The places, and behind each the steps that it asked for."""
+        lines = [f"place {text}" for text in self.places]
+        steps: dict[int, list[int]] = {}
+        for step, place in sorted(self.asked_at.items()):
+            steps.setdefault(place, []).append(step)
+        for place, found in sorted(steps.items()):
+            lines += [f"at {place} " + " ".join(map(str, found[at : at + IN_A_LINE])) for at in range(0, len(found), IN_A_LINE)]
+        return lines
 
 
 def harmless(text: str) -> str:
@@ -222,6 +271,16 @@ def take(notes: Notes, line: str) -> None:
                 notes.by[int(words[1])] = " ".join(words[2:])
             case "loop":
                 notes.loop = int(words[1])
+            case "behind":
+                notes.behind = int(words[1])
+            case "cpu":
+                notes.processor[words[1], words[2], int(words[3])] = int(words[4])
+            case "place":
+                notes.places.append(line.removeprefix("place "))
+            case "at":
+                notes.asked_at.update((int(it), int(words[1])) for it in words[2:])
+            case "request":
+                notes.requests.append(Request(words[1], words[2], *map(int, words[3:9]), words[9]))
             case "again":
                 notes.again.append(words[1])
             case "ended":

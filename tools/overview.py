@@ -15,6 +15,7 @@ from waits import Wait, follow
 from walk import Took, Walk
 from why import FIFTH, KINDS, MANY, Why, few, in_javascript, named, sentence, times
 from why_javascript import WhyJavaScript
+from why_requests import longest
 
 # How many lines each part has at the most.
 LINES = 5
@@ -43,7 +44,7 @@ def long_callbacks(walk: Walk) -> list[str]:
     if walk.notes.javascript:
         return in_node(walk, found)
     found = found[:LINES]
-    return [f"{it.took()} ms: {named(it).rstrip(',')}, from step {it.first} to {it.last}, at {it.pieces[0][0]} ms"
+    return [f"{it.took()} ms{it.on_processor()}: {named(it).rstrip(',')}, from step {it.first} to {it.last}, at {it.pieces[0][0]} ms"
             + in_javascript(walk, it, it.pieces[0][0], it.pieces[-1][1]) for it in found]
 
 
@@ -262,6 +263,7 @@ class Overview:
             ("the longest callbacks", long_callbacks(self.walk)), ("the main program", main_program(self.walk)),
             (f"the latest timers of {language}", self.javascript()), ("the latest timers", self.timers()), ("the latest sends", self.sends()),
             ("I/O", self.io()), ("who waited for the next poll", self.unwoken()), ("the longest requests", self.requests()),
+            ("the longest writes, connects and shutdowns", longest(self.walk)),
             ("the pool was full", self.full()),
             ("what kept the loop alive", self.alive()), ("who spun", self.spins()), ("never called", self.never()),
             ("the loop was not closed", self.busy()),

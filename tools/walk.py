@@ -51,6 +51,15 @@ class Look:
     last: int
 
 
+# The clock has whole ms, and what is known of the processor's time may be one ms more: so less than that is no difference.
+DIFFERENCE = 3
+
+
+def processor_told(processor: int, took: int) -> str:
+    """How much of a time, in ms, a thread was on the processor, where it isn't all of it: it waited, or others had the processor."""
+    return f", {processor or 'none'} of them on the processor" if 0 <= processor <= took - DIFFERENCE else ""
+
+
 @dataclass
 class Took:
     """Where the clock went on: in a callback, or elsewhere, from one step to another, and by which pieces of it."""
@@ -62,6 +71,12 @@ class Took:
     # of a callback the program's function, where that is known; and of one of node's what it is in node
     function: str = ""
     node: InNode | None = None
+    # how long its thread was on the processor, in ms; -1 where nobody knows
+    processor: int = -1
+
+    def on_processor(self) -> str:
+        """How much of it that was, where it isn't all of it."""
+        return processor_told(self.processor, self.took())
 
     def is_callback(self) -> bool:
         return " of " in self.what
@@ -222,7 +237,8 @@ class Walk:
         elif first:
             kind, name, call = self.calls[first]
             function, node = self.notes.function(kind, name, call), self.notes.in_node(name, kind, call)
-            new = Took(f"{WORDS[kind]} of {name}", first, step, function=function, node=node)
+            processor = self.notes.processor.get((kind, name, call), -1)
+            new = Took(f"{WORDS[kind]} of {name}", first, step, function=function, node=node, processor=processor)
         elif not runs:
             new = Took("the main program", step, step)
         elif poll:
@@ -251,6 +267,9 @@ class Walk:
             return f"by ANOTHER THREAD, with {function}, while the loop ran; in the recording it stands in {line}"
         inside = self.calls.get(self.inside[step])
         told = self.notes.function(*inside) if inside else ""
+        if place := self.notes.place(step):
+            # (a place says its function: that of the callback is told where it is another one)
+            return f"by {line}, at {place}" + (f", in the callback {told}" if told and told.split(" ")[0] not in place.split(" ") else "")
         return f"by {line}" + (f", in {told}" if told else "")
 
     def last_line(self, words: tuple[str, ...], length: int) -> int | None:

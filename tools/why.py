@@ -11,7 +11,8 @@ from conversation import State
 from javascript import at
 from places import read_place
 from waits import WATCHERS, History, Refusal, Wait, follow, kind_of_call
-from walk import LeftByIo, Took, Walk
+from walk import LeftByIo, Took, Walk, processor_told
+from why_requests import of_stream
 
 KINDS = {"timer": "a timer", "idle": "an idle handle", "prepare": "a prepare handle", "check": "a check handle", "async": "an async handle",
          "io": "a handle of I/O", "work": "a request"}
@@ -50,7 +51,7 @@ def told(took: Took) -> str:
     """Where the clock went on, in a sentence: which, how long, from which step to which."""
     steps = f"from step {took.first} to {took.last}" if took.first < took.last else f"at step {took.first}"
     if took.is_callback():
-        return f"{named(took)} took {took.took()} ms, {steps}"
+        return f"{named(took)} took {took.took()} ms{took.on_processor()}, {steps}"
     return f"{took.took()} ms went by in {took.what}, {steps}"
 
 
@@ -97,7 +98,7 @@ class Why:
             items.append((run[0].ended or self.end + 1, self.several(run) if len(run) > 1 else self.one(run[0])))
         items += [(it.step, self.refused(it)) for it in self.history.refusals]
         items.sort(key=lambda it: it[0])
-        return [self.head(), *self.known(), *self.never_asked(), *(line for _, lines in items for line in lines)]
+        return [self.head(), *self.known(), *of_stream(self.walk, self.name), *self.never_asked(), *(line for _, lines in items for line in lines)]
 
     def known(self) -> list[str]:
         """What the recording's notes say of the name, and of all of it."""
@@ -455,7 +456,8 @@ class Why:
         if step in self.notes.guessed:
             return f"it was through at step {wait.finished}"
         ran = self.walk.happened(wait.finished) - self.walk.happened(step)
-        return f"worker {worker} ran it{called} from step {step} to {wait.finished}, {ran} ms"
+        processor = processor_told(self.notes.processor.get(("work", self.name, wait.call), -1), ran)
+        return f"worker {worker} ran it{called} from step {step} to {wait.finished}, {ran} ms{processor}"
 
     def handed(self, wait: Wait) -> str:
         before = self.before(self.walk.state(wait.finished).lists["done"])

@@ -541,6 +541,7 @@ def try_whys_of_parts(check, folder: str) -> None:
 PAGES = (
     ("README.md", "late", "./uvt record ./late", "late.rec"),
     ("docs/RECORD.md", "late", "./uvt record ./late", "late.rec"),
+    ("docs/RECORD.md", "../truths/hangup", "./uvt record ./hangup", "hangup.rec"),
     ("docs/NODE.md", "node-server", "./uvt record --bare -o server node server.js", "server."),
     ("docs/NODE.md", "../javascript/node20/app", "./uvt record node app.js", "app.rec"),
 )

@@ -98,16 +98,74 @@ QUESTIONS = [
                               r"worker \d ran it from step \d+ to \d+, 0 ms"], ["nobody knows"]),
     Question("fifo", ALL, [r"the pool was full\n    2\d\d ms: .*opening_0, opening_1, opening_2, opening_3"]),
     Question("fault", ALL, [r"THE PROGRAM WAS ENDED BY SIGSEGV: this loop was in the callback of reply_3, on_reply \(fault\.c:5\)"]),
-    Question("busy", ALL, [r"the loop was not closed\n    step \d+: uv_loop_close answers EBUSY, for once \(timer\), leak \(async\) and look \(check\) are there"]),
-    Question("winner", "news", [r"call 1: for the send at step \d+, in the same millisecond\n .* after quick send news, in done"], [r"\d sends", "nobody saw"]),
+    Question("busy", ALL,
+             [r"the loop was not closed\n    step \d+: uv_loop_close answers EBUSY, for once \(timer\), leak \(async\) and look \(check\) "
+             r"are there"]),
+    Question("winner", "news", [r"call 1: for the send at step \d+, in the same millisecond\n .* after quick send news, in done"], [r"\d sends",
+             "nobody saw"]),
     Question("watched", "ping", [r"sent to at step \d+ by loop 1, in on_beat \(watched\.c:13\)"], ["from outside"]),
     Question("child", "kill_it", [r"call 1: (on time|late by \d ms: the poll, .* the system ended it)"], ["callback of output"]),
+    # ---- requests of streams
+    Question("chat", "peer", [r"its requests: 1 write, 8388608 bytes",
+             r"a write of 8388608 bytes, .* at chat\.c:17, in broadcast, called at chat\.c:22, in on_connection, "
+                              r"was done 1\d\d ms later, at step \d+: for 1\d\d of these ms the loop waited in the poll, and the system had "
+                              r"no room"]),
+    Question("chat", ALL, [r"the longest writes, connects and shutdowns\n    1\d\d ms: peer, a write of 8388608 bytes"]),
+    Question("hangup", "line", [r"a write of 8388608 bytes, .*, was cancelled [56]\d ms later, at step \d+: the close at step \d+ cancelled it, "
+                                r"by line \d+: on patience close line, at hangup\.c:12, in hang_up, called at hangup\.c:14, in on_patience",
+                                r"a write of 5 bytes, .*, was cancelled"], ["was done"]),
+    Question("refused", "client",
+             [r"a connect, .* at refused\.c:9, in dial, called at refused\.c:19, in main, failed \d+ ms later, .* with ECONNREFUSED"]),
+    Question("datagram", "sender", ["its requests: 3 datagrams, 70350 bytes", r"a datagram of 70000 bytes, .*, failed \d ms later, .* with EMSGSIZE",
+                                    r"a datagram of 250 bytes, asked for at \d ms, at datagram\.c:16, in announce, .*was done"]),
+    Question("goodbye", "out",
+             [r"a shutdown, .* at goodbye\.c:23, in say_goodbye, .*was done 9\d ms later, .*: for [89]\d of these ms the loop waited in the poll, "
+                                "and what was written before wasn't done"]),
+    Question("backlog", "out", [r"a write of 5 bytes, .* at backlog\.c:14, in on_ask, was done 5\d ms later, .*: the callback of hog, "
+                                r"on_hog \(backlog\.c:16\), took 5\d of them"], ["no room"]),
+    # ---- the processor's time
+    Question("sleeper", "beat", [r"the callback of flush, on_flush \(sleeper\.c:4\), took 6\d ms, none of them on the processor"]),
+    Question("locked", ALL,
+             [r"the longest callbacks\n    \d+ ms, none of them on the processor: the callback of report, on_report \(locked\.c:13\)"]),
+    Question("halves", "beat", [r"the callback of convert, on_convert \(halves\.c:4\), took \d+ ms, 3\d of them on the processor"]),
+    Question("slowdisk", "load", [r"worker \d ran it, work_load \(slowdisk\.c:4\), from step \d+ to \d+, 7\d ms, none of them on the processor"]),
+    # ---- who asked: lines, and the callers of functions that stand between
+    Question("slowdisk", "load", [r"queued at step \d+ by .*, at slowdisk\.c:10, in load_it"]),
+    Question("churn", "idle_out",
+             [r"started at step \d+, .* by line \d+: on second start idle_out 30 0, at churn\.c:6, in rearm, in the callback on_second",
+                                   r"started again by .* at churn\.c:6, in rearm, in the callback on_first"]),
+    Question("wrapper", "retry", [r"started at step \d+, .*, at wrapper\.c:6, in start_in, called at wrapper\.c:9, in plan"]),
+    Question("lambda", ALL,
+             [r"the longest callbacks\n    3\d ms(, \d+ of them on the processor)?: the callback of main_server_0, a lambda of Server::run "
+             r"\(lambda\.cc:13\)"], ["_FUN", "zz4"]),
+    Question("lambda", "main_server_1", [r"late by \d+ ms: the callback of main_server_0, a lambda of Server::run \(lambda\.cc:13\), took 3\d ms",
+                                         r"started at step \d+, .*, at lambda\.cc:19, in Server::run"]),
+    Question("watchdog", "watchdog",
+             [r"sent to at step \d+ by loop 1, in on_feed \(watchdog\.c:8\), 7\d ms after that began, at watchdog\.c:10, in on_feed"],
+             ["from outside"]),
+    Question("producer", "ready", [r"sent to at step \d+ by another thread, at producer\.c:7, in produce"], ["from outside"]),
+    Question("progress", "half", [r"sent to at step \d+ by another thread, at progress\.c:5, in tell_half, called at progress\.c:9, in work_pack"]),
+    Question("disarm", "alarm_clock", [r"no call: stopped by .*, at disarm\.c:6, in disarm, called at disarm\.c:15, in on_event"]),
+    Question("disarm", "background",
+             [r"background is unreferenced since step \d+, by .* at disarm\.c:9, in to_background, called at disarm\.c:16, in on_event"]),
+    Question("disarm", "session", [r"no call: closed by .* at disarm\.c:12, in end_session, called at disarm\.c:17, in on_event"]),
+    Question("giveup", "jobs_7", [r"cancelled at step \d+ by .*, at giveup\.c:11, in give_up, called at giveup\.c:13, in on_limit",
+                                  r"queued at step \d+ by .*, at giveup\.c:8, in submit"]),
+    # ---- ends
+    Question("aborts", ALL, [r"THE PROGRAM WAS ENDED BY SIGABRT: this loop was in the callback of replies_2, on_reply \(aborts\.c:7\)"]),
+    Question("becomes", ALL,
+             [r"the longest callbacks\n    3\d ms(, \d+ of them on the processor)?: the callback of prepare_it, on_prepare \(becomes\.c:4\)"]),
 ]
 SAID = re.compile(r"(.+) took (\d+) ms")
 TOOK = re.compile(r"the callback of ([a-z_0-9]+)(?:, [^;]*?,)? took (\d+) ms")
-RAN = re.compile(r"worker \d ran it, work_([a-z_]+) .*?, (\d+) ms$", re.MULTILINE)
+RAN = re.compile(r"worker \d ran it, work_([a-z_]+) .*?, (\d+) ms(?:, \w+ of them on the processor)?$", re.MULTILINE)
 # (a name of an object is that of its variable, and what it says of itself may be shorter)
 SAYS = {"on_request_3": "request 3"}
+# How long a request of a stream was under way, and a callback or work on the processor: what is told, and what the program said.
+WAITED = re.compile(r"a (write|connect|shutdown|datagram)(?: of \d+ bytes?)?, asked for .*?, was (?:done|cancelled) (\d+) ms later")
+SAID_WAITED = re.compile(r"(.+): (\w+) waited (\d+) ms")
+RAN_FOR = re.compile(r"(?:the callback of ([a-z_0-9]+)|work_([a-z_]+))[^;]*? (\d+) ms, (\d+|none) of them on the processor")
+SAID_RAN = re.compile(r"(.+) was on the processor for (\d+) ms")
 
 
 def said_of(program: str) -> dict[str, list[int]]:
@@ -156,6 +214,24 @@ def try_glance(check, program: str, walk: Walk) -> None:
     check(f"truths, {program}: by the log alone", not missing, f"{missing} isn't in\n{told}")
 
 
+def untrue_of_requests(answer: str, program: str, name: str) -> list[str]:
+    """The same of the requests of this stream. (Small ones that waited for nobody say nothing.)"""
+    said = [it.groups() for it in map(SAID_WAITED.fullmatch, (TRUTHS / f"{program}.said").read_text().splitlines()) if it and it[1] == name]
+    return [
+        f"a {what} waited {ms} ms, and the program said {said}" for what, ms in WAITED.findall(answer)
+        if int(ms) > ALLOWED and not any(what == other and abs(int(ms) - int(known)) <= ALLOWED for _, other, known in said)
+    ]
+
+
+def untrue_of_processor(answer: str, program: str) -> list[str]:
+    """The same of the processor's time. (A program says it where that is what it is about.)"""
+    said: dict[str, list[int]] = {}
+    for it in filter(None, map(SAID_RAN.fullmatch, (TRUTHS / f"{program}.said").read_text().splitlines())):
+        said.setdefault(it[1], []).append(int(it[2]))
+    found = [(callback or work, 0 if ran == "none" else int(ran)) for callback, work, _, ran in RAN_FOR.findall(answer)]
+    return [f"{name} {ran}, and said {said[name]}" for name, ran in found if name in said and not any(abs(ran - it) <= ALLOWED for it in said[name])]
+
+
 def recorded(check, program: str, folder: Path) -> Walk:
     data = (TRUTHS / f"{program}.log").read_bytes()
     lines, whole = from_data(data, read_log(data), str(folder / program))
@@ -181,6 +257,10 @@ def try_truths(tries) -> None:
             right += not missing
             check(f"truths, {it.program} {it.name}: what is said", not missing, f"{missing} isn't in\n{answer}")
             check(f"truths, {it.program} {it.name}: nothing false is said", not wrong, f"{wrong} is in\n{answer}")
+            wrong = untrue_of_requests(answer, it.program, it.name) if it.name else []
+            check(f"truths, {it.program} {it.name}: how long its requests waited", not wrong, wrong)
+            wrong = untrue_of_processor(answer, it.program)
+            check(f"truths, {it.program} {it.name}: the processor's time", not wrong, wrong)
         for program, walk in walks.items():
             answer = "\n".join("\n".join(why(walk, name)) for name in walk.script.names()) + "\n".join(Overview(walk).answer("why NAME"))
             try_glance(check, program, walk)

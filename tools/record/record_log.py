@@ -27,7 +27,10 @@ HOME = re.compile(r"- J home (.*)")
 LANGUAGE = re.compile(r"- J language (Python|Lua)")
 STACK = re.compile(r"- J stack (\d{1,9}) (-1|\d{1,9}) (\d{1,9}) (\d{1,9})")
 NO_CLOCK = -1
-TIMED = "BEFJST"
+TIMED = "BEFGJST"
+# Of these the place in the program stands at the end of the line, that called libuv there.
+CALLED = "GOS"
+FROM = re.compile(r"(.*) @(0|[1-9]\d{0,8})")
 NO_ROOM = "- ! no room"
 CODE = r"(?:ok|E[A-Z0-9_]+)"
 WORDS = {
@@ -37,14 +40,16 @@ WORDS = {
         rf"|start %{NUMBER}(?: \d{{1,20}} \d{{1,20}})? = {CODE}|repeat %{NUMBER} \d{{1,20}} = {CODE}"
         rf"|(?:stop|again|close|ref|unref|send|cancel) %{NUMBER} = {CODE}|(?:closeloop|stoploop|updatetime) = {CODE}"
     ),
-    "E": re.compile(rf"{NUMBER}(?: \+)?"),
-    "B": re.compile(rf"on {NUMBER} [a-z_]+(?: [A-Za-z0-9_-]+){{0,2}}|after {NUMBER} (?:ok|ECANCELED)|closed {NUMBER}"),
+    "E": re.compile(rf"{NUMBER}(?: \+)?(?: cpu {NUMBER})?"),
+    "B": re.compile(rf"on {NUMBER} [a-z_]+(?: [A-Za-z0-9_-]+){{0,2}}(?: %{NUMBER})?|after {NUMBER} (?:ok|ECANCELED)|closed {NUMBER}"),
     "R": re.compile(r"(?:default|once|nowait)(?: \+)?"),
     "r": re.compile("[01]"),
     "P": re.compile(r"-?\d{1,10}"),
     "p": re.compile(r"-?\d{1,10}"),
     "T": re.compile(NUMBER),
-    "F": re.compile(NUMBER),
+    "F": re.compile(rf"{NUMBER}(?: cpu {NUMBER})?"),
+    "G": re.compile(rf"{NUMBER} {NUMBER} (?:write|connect|shutdown|send) \d{{1,20}}"),
+    "L": re.compile(r"-?\d{1,10}"),
     "S": re.compile(rf"{NUMBER} \d{{1,20}}(?: {NUMBER})?"),
     "C": re.compile(rf"{NUMBER} \d{{1,9}}(?: [a-z_]+)?"),
     "V": re.compile(rf"{NUMBER} \d{{1,9}}(?: \d{{1,9}})?"),
@@ -68,6 +73,8 @@ class Event:
     clock: int
     words: str
     line: int
+    # of an op, a send and a request of a stream: the number of the place in the program that called libuv; -1 where nobody knows
+    place: int = -1
 
     def when(self) -> tuple[int, int, int]:
         return self.now, self.clock, self.line
@@ -90,6 +97,15 @@ class Address:
     def source(self) -> str:
         """Where a function's source stands, `` where nobody knows."""
         return self.symbol.partition("@")[2]
+
+    def called_from(self) -> str:
+        """Of a place that calls, in words: `churn.c:14, in rearm`. Where its function is a part of another one, that too, as `called at ..`."""
+        told = []
+        for one in self.symbol.split("<"):
+            name, _, source = one.partition("@")
+            function = f"in {in_words(name)}" if name != "-" else f"in {self.file.rsplit('/', 1)[-1]}, which has no symbols"
+            told.append(f"{source}, {function}" if source else function)
+        return ", called at ".join(told)
 
     def within(self) -> tuple[int, int]:
         """How far behind a variable's start it lies, and how large that is; (0, 0) where the log doesn't say."""
@@ -115,10 +131,33 @@ class Log:
     lines: int = 0
     # why it ends before its program did, or hasn't all of it, in a sentence
     note: str = ""
+    # of each loop but the first how much later its times begin, in ms
+    later: dict[int, int] = field(default_factory=dict)
     # the signal that ended the program, `` where none did
     ended: str = ""
     # why nothing of the program's libuv can be seen, in a sentence
     blind: str = ""
+
+    def behind(self, loop: int) -> int:
+        """How much later than those of the first loop its times begin, in ms."""
+        return self.later.get(loop, 0)
+
+    def is_one_clock(self) -> bool:
+        """Is that known of each loop?"""
+        return len(self.later) >= len(self.loops) - 1
+
+    def callers(self) -> set[int]:
+        """The numbers of the places that call libuv."""
+        return {it.place for events in self.loops.values() for it in events} - {-1}
+
+
+LAMBDA = re.compile(r"(.*?)(?:::)?\{lambda#\d+\}(?:::(?:call|_FUN|__invoke))?")
+
+
+def in_words(function: str) -> str:
+    """A function's name; of a lambda the one in which that stands."""
+    found = LAMBDA.fullmatch(function)
+    return f"a lambda of {found[1]}" if found and found[1] else function
 
 
 def is_number(text: str) -> bool:
@@ -134,15 +173,17 @@ def read_event(text: str, line: int) -> tuple[int, Event] | None:
     parts = text.split(" ", 3)
     if len(parts) != 4 or parts[1] not in WORDS or not is_number(parts[0]) or not is_number(parts[2]):
         return None
-    loop, type, now, words = int(parts[0]), parts[1], int(parts[2]), parts[3]
+    loop, type, now, words, place = int(parts[0]), parts[1], int(parts[2]), parts[3], -1
+    if type in CALLED and (called := FROM.fullmatch(words)):
+        words, place = called[1], int(called[2])
     if type in TIMED:
         clock, _, rest = words.partition(" ")
         if is_number(clock) and is_good(type, rest):
-            return loop, Event(type, now, int(clock), rest, line)
+            return loop, Event(type, now, int(clock), rest, line, place)
         # (logs of earlier recorders have a clock at a callback's end alone)
         if type == "E":
             return None
-    return (loop, Event(type, now, NO_CLOCK, words, line)) if is_good(type, words) else None
+    return (loop, Event(type, now, NO_CLOCK, words, line, place)) if is_good(type, words) else None
 
 
 def within(workers: int) -> int:
@@ -169,6 +210,8 @@ def read_log(data: bytes) -> Log:
             log.language = language[1]
         elif event := read_event(text, number):
             log.loops.setdefault(event[0], []).append(event[1])
+            if event[1].type == "L":
+                log.later[event[0]] = int(event[1].words)
         elif address := ADDRESS.fullmatch(text):
             log.addresses[int(address[1])] = Address(int(address[2], 16), address[3], address[4])
         elif place := PLACE.fullmatch(text):

@@ -9,9 +9,13 @@ import bisect
 import re
 import subprocess
 
-from record_log import Address, Log
+from record_log import Address, Log, in_words  # noqa: F401 (for those who tell names)
 
 ROOM = 26
+# So many functions are told of a place, of which each is a part of the next one.
+CHAIN = 2
+# What C++ has among the variables.
+OF_THE_COMPILER = ("guard variable ", "vtable ", "VTT ", "typeinfo ", "construction vtable ")
 
 
 def listed(file: str, words: list[str]) -> list[list[str]]:
@@ -27,16 +31,26 @@ class Symbols:
     """The functions and variables of a file."""
 
     def __init__(self, file: str) -> None:
+        # by where it begins; and where that ends
         self.functions: dict[int, str] = {}
+        self.ends: dict[int, int] = {}
         self.variables: list[tuple[int, int, str]] = []
         for words in ([], ["-D"]):
-            for row in listed(file, ["-C", *words]):
+            for row in listed(file, ["-C", "-S", *words]):
+                if len(row) == 4 and row[2] in "bBdDvV" and not row[3].startswith(OF_THE_COMPILER):
+                    self.variables.append((int(row[0], 16), int(row[1], 16), plain(row[3])))
+                # (its size is left out where that is 0)
+                size = int(row.pop(1), 16) if len(row) == 4 and re.fullmatch("[0-9a-f]{8,16}", row[1]) else 0
                 if len(row) >= 3 and row[1] in "tTwWiu" and re.fullmatch("[0-9a-f]+", row[0]):
                     self.functions.setdefault(int(row[0], 16), " ".join(row[2:]))
-            for row in listed(file, ["-S", *words]):
-                if len(row) == 4 and row[2] in "bBdDvV" and int(row[1], 16):
-                    self.variables.append((int(row[0], 16), int(row[1], 16), row[3]))
+                    self.ends[int(row[0], 16)] = max(size + int(row[0], 16), self.ends.get(int(row[0], 16), 0))
         self.variables.sort()
+        self.begins = sorted(self.functions)
+
+    def function_around(self, offset: int) -> str:
+        """The function in which that is."""
+        at = bisect.bisect_right(self.begins, offset) - 1
+        return self.functions[self.begins[at]] if at >= 0 and offset < self.ends[self.begins[at]] else "-"
 
     def name_at(self, offset: int) -> str:
         """A function that begins there, or a variable that lies there, with how far behind its start, and how large that is."""
@@ -72,12 +86,43 @@ def sources(file: str, offsets: list[int]) -> list[str]:
     return known if len(known) == len(offsets) else [""] * len(offsets)
 
 
+def chains(file: str, offsets: list[int]) -> list[list[tuple[str, str]]]:
+    """Of each place the function that it is in, as the compiler has it, and its FILE:LINE; and behind it those of which that is a part. None where
+    there is no debug information."""
+    words = ["addr2line", "-afiC", "-e", file, *(f"{it:x}" for it in offsets)]
+    try:
+        ran = subprocess.run(words, capture_output=True, text=True, errors="replace", timeout=60)
+    except (OSError, ValueError, subprocess.TimeoutExpired):
+        return [[] for _ in offsets]
+    parts = re.split(r"^0x[0-9a-f]+\n", ran.stdout, flags=re.MULTILINE)[1:]
+    if len(parts) != len(offsets):
+        return [[] for _ in offsets]
+    found = []
+    for part in parts:
+        lines = part.splitlines()
+        rows = [(function, line.split(" ")[0].rsplit("/", 1)[-1]) for function, line in zip(lines[::2], lines[1::2])]
+        found.append([(plain(function), line) for function, line in rows if re.fullmatch(r"[^\s?+@<]+:[1-9]\d*", line)])
+    return found
+
+
+def name_callers(symbols: Symbols, file: str, addresses: list[Address]) -> None:
+    """Gives places that call libuv the function and the line of the call, which ends there."""
+    # (each a byte before: that is in the call still)
+    for address, chain in zip(addresses, chains(file, [it.offset - 1 for it in addresses])):
+        rows = [(re.sub("[+@<]", "_", name), line) for name, line in chain if name not in ("-", "??")][:CHAIN]
+        address.symbol = "<".join(f"{name}@{line}" for name, line in rows)
+        address.symbol = address.symbol or re.sub("[+@<]", "_", plain(symbols.function_around(address.offset - 1))) or "-"
+
+
 def name_addresses(log: Log) -> None:
     """Gives the addresses of a fresh log their symbols."""
+    callers = log.callers()
     for file in sorted({it.file for it in log.addresses.values()}):
         symbols = Symbols(file)
         functions = []
-        for address in (it for it in log.addresses.values() if it.file == file):
+        here = [number for number, it in log.addresses.items() if it.file == file]
+        name_callers(symbols, file, [log.addresses[it] for it in here if it in callers])
+        for address in (log.addresses[it] for it in here if it not in callers):
             found = symbols.name_at(address.offset)
             if address.offset in symbols.functions:
                 address.symbol = re.sub("[+@]", "_", plain(found))

@@ -24,6 +24,7 @@ from record_log import NO_CLOCK, Event, Log, read_log
 from record_names import name_addresses, named_log
 from record_polls import Polls, compare
 from record_script import Call, Done, End, Program, program_of
+from record_steps import Steps
 from record_window import NoPart, window
 from record_worst import around
 from tell import Teller
@@ -136,7 +137,7 @@ def make(log: Log, loop: int, part: Part = Part()) -> Made | None:
     if not any(it.type == "B" for it in log.loops[loop]):
         return None
     events, began, cut = chosen(log, log.loops[loop], part)
-    program = program_of(log, events)
+    program = program_of(log, events, loop)
     program.began = began
     program.stopped = program.stopped or cut
     if not program.callbacks():
@@ -209,11 +210,14 @@ def notes_of(made: Made, note: str, ended: str = "") -> Notes:
     """What is known of a recording beside its steps."""
     steps = made.outcome.recording[made.outcome.recording.index("begin") + 1 : made.outcome.recording.index("calls")]
     outside = {at for at, it in enumerate(steps, 1) if it.split(" ")[0] in ("send", "take", "finish")}
+    stand = Steps(made.program, made.outcome.lines)
+    places, number = stand.places()
     return Notes(
         part_of(made, note), {it.name: (it.kind, it.text) for it in made.program.origins}, made.program.functions,
         outside - made.outcome.known, foreign_lines(made), made.outcome.outside, made.outcome.times, made.program.came, made.polls.said(),
         where_it_ended(made, ended), made.outcome.by, made.program.javascript,
-        [name for _, name in made.program.again],
+        [name for _, name in made.program.again], behind=made.program.behind, processor=dict(made.program.processor), places=places,
+        asked_at={step: number[it] for step, it in stand.asked_at.items() if it in number}, requests=stand.requests(number),
     )
 
 

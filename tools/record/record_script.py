@@ -13,7 +13,7 @@ from dataclasses import dataclass, field
 from javascript import JavaScript
 from record_javascript import Reader
 from record_log import NO_CLOCK, TIMER_OWN, WATCHERS, Address, Event, Log
-from record_names import base_name, element
+from record_names import base_name, element, in_words
 from record_where import LOOKED, NEW, Where
 
 SCRIPT_LINES = 1048575
@@ -42,6 +42,8 @@ class Did:
 class Op(Did):
     text: str
     answer: str
+    # the number of the place in the program that asked for it; -1 where nobody knows
+    place: int = -1
 
 
 @dataclass(slots=True)
@@ -112,6 +114,28 @@ class Send(Did):
     by: str = ""
 
 
+# Of a callback, an after callback or work: `on`, `after`, `closed` or `work`, its name, and the how-manieth.
+Key = tuple[str, str, int]
+
+
+@dataclass(slots=True)
+class Request:
+    """A request of a stream, or a datagram that is sent."""
+
+    stream: str
+    # write, connect, shutdown or send
+    what: str
+    bytes: int
+    # when it was asked for, at which place, and in which callback: None in the main program
+    asked: int
+    place: int
+    within: Key | None
+    # when it was called back and what libuv said then, and the callback that this is a part of
+    done: int = NO_CLOCK
+    status: str = ""
+    by: Key | None = None
+
+
 Item = Op | Run | End | Poll | Call | Done | Take | Finish | Send
 
 
@@ -166,6 +190,14 @@ class Program:
     foreign: list[Foreign] = field(default_factory=list)
     # the ops of these, by callback, name, call and place in the body, each with its function
     foreign_ops: dict[tuple[str, str, int, int], str] = field(default_factory=dict)
+    # how long callbacks and works were on the processor, in ms, of those that took long enough
+    processor: collections.Counter[Key] = field(default_factory=collections.Counter)
+    # the requests of streams, in the order in which they were asked for
+    requests: list[Request] = field(default_factory=list)
+    # of each place by its number: where it is in the program, in words
+    places: dict[int, str] = field(default_factory=dict)
+    # how much later than the first loop's its times begin, in ms
+    behind: int = 0
     # the requests that were queued again while they were under way, with the line of the log
     again: list[tuple[int, str]] = field(default_factory=list)
     notes: collections.Counter[str] = field(default_factory=collections.Counter)
@@ -220,8 +252,8 @@ class Program:
 class Maker:
     """Reads the events of a loop one after another."""
 
-    def __init__(self, log: Log, has_polls: bool) -> None:
-        self.log = log
+    def __init__(self, log: Log, loop: int, has_polls: bool) -> None:
+        self.log, self.loop = log, loop
         self.program = Program(version=log.version, form=log.form)
         self.items = self.program.items
         self.bound: dict[int, Bound] = {}
@@ -243,6 +275,7 @@ class Maker:
         # ops outside of callbacks, each with the function by which another thread did it
         self.stray: list[tuple[Op, str]] = []
         self.runs = 0
+        self.under_way: dict[int, Request] = {}
         self.where = Where(has_polls, log.form > 1)
         self.javascript = Reader(log)
 
@@ -264,7 +297,7 @@ class Maker:
     @staticmethod
     def told(address: Address) -> str:
         """A function, with its source where that is known."""
-        return f"{address.name()} ({address.source()})" if address.source() else address.name()
+        return f"{in_words(address.name())} ({address.source()})" if address.source() else in_words(address.name())
 
     def bind(self, id: int, kind: str, line: int) -> Bound:
         base, origin, is_variable = self.base_of(id, kind)
@@ -296,7 +329,7 @@ class Maker:
 
     def add_op(self, event: Event, text: str, answer: str, foreign: str = "", settles: bool = False) -> None:
         """An op of the callback under way, or of the main program."""
-        op = Op(*event.when(), text, answer)
+        op = Op(*event.when(), text, answer, event.place)
         if self.call:
             self.keep_op(self.call, text, foreign)
         elif self.runs and settles and not foreign and self.settle(op):
@@ -393,7 +426,14 @@ class Maker:
 
     def read_begin(self, event: Event) -> bool:
         words = event.words.split(" ")
+        request = self.under_way.pop(int(words.pop()[1:]), None) if words[-1].startswith("%") else None
         callback, id, what, known = words[0], int(words[1]), words[2] if len(words) > 2 else "", " ".join(words[3:])
+        begun = self.begin(event, callback, id, what, known)
+        if begun and request and self.call:
+            request.done, request.status, request.by = event.clock, known, (self.call.callback, self.call.name, self.call.number)
+        return begun
+
+    def begin(self, event: Event, callback: str, id: int, what: str, known: str) -> bool:
         bound = self.bound.get(id)
         if not bound:
             # (its close callback has begun with an earlier one)
@@ -406,7 +446,7 @@ class Maker:
             self.program.notes["callbacks that came in another one, as part of it"] += 1
             self.depth += 1
             return True
-        of_closing = callback == "on" and bound.kind in WATCHERS and bound.closing
+        begins, of_closing = callback, callback == "on" and bound.kind in WATCHERS and bound.closing
         joined = self.joined(bound) if of_closing else None
         if of_closing and not joined:
             callback, what = "closed", f"early {id}"
@@ -414,7 +454,7 @@ class Maker:
         self.call = joined or self.begin_call(event, bound, callback, what)
         if self.call.is_io():
             self.keep_known(self.call, what, known)
-        self.keep_function(id, what if callback == "on" else words[0])
+        self.keep_function(id, what if begins == "on" else begins)
         return True
 
     def keep_known(self, call: Call, what: str, known: str) -> None:
@@ -442,7 +482,13 @@ class Maker:
             known.append((call, told))
 
     def sender(self, event: Event) -> str:
-        """Who sends, where another loop of the program does so: its number, and the function of its callback that is under way."""
+        """Who sends, in words, as far as that is known: another thread, and where in the program; or another loop of it."""
+        place = self.log.addresses.get(event.place)
+        at = f", at {place.called_from()}" if place else ""
+        return f"{by}{at}" if (by := self.by_loop(event)) else f"another thread{at}" if at else ""
+
+    def by_loop(self, event: Event) -> str:
+        """Which other loop sends: its number, the function of its callback that is under way, and since when that is."""
         words = event.words.split(" ")
         if len(words) < 3 or not (events := self.log.loops.get(int(words[2]))):
             return ""
@@ -461,7 +507,9 @@ class Maker:
         callback, id, *what = last.words.split(" ")
         address = self.log.addresses.get(places.get((int(id), what[0] if callback == "on" else callback), -1))
         told = self.told(address) if address and address.symbol != "-" else ""
-        return f"loop {loop}, in {told}" if told else f"loop {loop}, in a callback"
+        ran = event.clock + self.log.behind(self.loop) - last.clock - self.log.behind(loop)
+        since = f", {ran} ms after that began" if ran > 0 and NO_CLOCK not in (event.clock, last.clock) and self.log.is_one_clock() else ""
+        return f"loop {loop}, in {told or 'a callback'}{since}"
 
     def joined(self, bound: Bound) -> Call | None:
         """What libuv calls of a watcher that its own callback has closed, in a row with that one, is a part of it."""
@@ -497,7 +545,10 @@ class Maker:
         if not self.depth or not self.call:
             return False
         self.depth -= 1
-        self.where.see_put_off(event.words.endswith("+"))
+        words = event.words.split(" ")
+        self.where.see_put_off("+" in words)
+        if "cpu" in words and self.depth == 0:
+            self.program.processor[self.call.callback, self.call.name, self.call.number] += int(words[-1])
         # (a close callback that began early goes on with the one that libuv calls last)
         if self.depth == 0:
             self.items.append(Done(*event.when(), self.call))
@@ -536,8 +587,15 @@ class Maker:
                     self.items.append(Take(*event.when(), bound.name))
                     self.functions_of("work", bound.name, len(self.program.bodies["after", bound.name]) + 1, self.function(bound.id, "work"))
             case "F":
-                if bound := self.bound.get(int(event.words)):
+                id, _, *processor = event.words.split(" ") + [""] * (" " not in event.words)
+                if bound := self.bound.get(int(id)):
                     self.items.append(Finish(*event.when(), bound.name))
+                    if processor:
+                        self.program.processor["work", bound.name, len(self.program.bodies["after", bound.name]) + 1] += int(processor[0])
+            case "G":
+                self.read_request(event)
+            case "L":
+                self.program.behind = int(event.words)
             case "S":
                 if event.clock != NO_CLOCK and (bound := self.bound.get(int(event.words.split(" ")[0]))) and not bound.closing:
                     self.items.append(Send(*event.when(), bound.name, self.sender(event)))
@@ -555,6 +613,13 @@ class Maker:
                 for it in what:
                     self.callback[int(id), it] = int(place)
         return True
+
+    def read_request(self, event: Event) -> None:
+        id, stream, what, bytes = event.words.split(" ")
+        if bound := self.bound.get(int(stream)):
+            within = (self.call.callback, self.call.name, self.call.number) if self.call else None
+            request = self.under_way[int(id)] = Request(bound.name, what, int(bytes), event.clock, event.place, within)
+            self.program.requests.append(request)
 
     def read_javascript(self, event: Event) -> None:
         call = self.call
@@ -596,9 +661,9 @@ def without_looks(events: list[Event]) -> list[Event]:
     return kept
 
 
-def make_program(log: Log, events: list[Event]) -> Program:
+def make_program(log: Log, events: list[Event], loop: int = 0) -> Program:
     """The script of a loop's events, up to the first that a script can't say."""
-    maker = Maker(log, any(it.type == "P" for it in events))
+    maker = Maker(log, loop, any(it.type == "P" for it in events))
     for event in events:
         if event.type in "CV":
             maker.read_place(event)
@@ -616,6 +681,9 @@ def make_program(log: Log, events: list[Event]) -> Program:
             maker.program.stopped = f"at line {event.line} of the log the program has more than {NAMES} handles and requests at a time{FULL}"
             break
     maker.name_last()
+    for number in {*(it.place for it in maker.items if isinstance(it, Op)), *(it.place for it in maker.program.requests)}:
+        if address := log.addresses.get(number):
+            maker.program.places[number] = address.called_from()
     maker.program.javascript = maker.javascript.done()
     for it in maker.items if maker.program.javascript else ():
         if isinstance(it, Done) and NO_CLOCK not in (it.clock, it.call.clock):
@@ -623,14 +691,14 @@ def make_program(log: Log, events: list[Event]) -> Program:
     return maker.program
 
 
-def program_of(log: Log, events: list[Event]) -> Program:
+def program_of(log: Log, events: list[Event], loop: int = 0) -> Program:
     """The same, of as many events as a script has room for."""
-    program = make_program(log, events)
+    program = make_program(log, events, loop)
     count = len(events)
     while (size := len(program.script(1, True))) > SCRIPT_LINES:
         count = min(count - 1, count * SCRIPT_LINES // size)
         line = events[count].line
-        program = make_program(log, events[:count])
+        program = make_program(log, events[:count], loop)
         program.stopped = f"a script has at most {SCRIPT_LINES} lines, and those of this program are full at line {line} of the log{FULL}"
     if len(program.names) > NAMES - 1:
         program.stopped = program.stopped or f"there is no name left{FULL}"

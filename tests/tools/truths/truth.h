@@ -2,6 +2,7 @@
 #include <stdio.h>
 #include <stdlib.h>
 #include <string.h>
+#include <time.h>
 #include <unistd.h>
 #include <uv.h>
 
@@ -18,4 +19,22 @@ static inline void works(const char *who, unsigned ms) {
 
 static inline void says(const char *who, const char *what) {
     printf("%s %s\n", who, what);
+}
+
+/* How long this thread was on the processor, in ns. */
+static inline uint64_t processor_ns(void) {
+    struct timespec time;
+    clock_gettime(CLOCK_THREAD_CPUTIME_ID, &time);
+    return (uint64_t)time.tv_sec * 1000000000 + (uint64_t)time.tv_nsec;
+}
+
+/* What took from `begin` on, by the clock and by the processor. */
+static inline void ended(const char *who, uint64_t begin, uint64_t processor) {
+    unsigned long long took = (uv_hrtime() - begin + 500000) / 1000000, ran = (processor_ns() - processor + 500000) / 1000000;
+    printf("%s took %llu ms\n%s was on the processor for %llu ms\n", who, took, who, ran);
+}
+
+/* A request that was asked for then is done. */
+static inline void waited(const char *who, const char *what, uint64_t since) {
+    printf("%s: %s waited %llu ms\n", who, what, (unsigned long long)((uv_hrtime() - since + 500000) / 1000000));
 }

@@ -51,6 +51,7 @@ void write_end(struct loop *loop, int id) {
 /* The handle may be gone by now, and another one have its address. */
 void leave(struct loop *loop, void *handle, int id) {
     lock();
+    called_from = NULL;
     struct object *object = find(handle);
     if (object && object->id != id) object = NULL;
     if (object) settle(object);
@@ -91,6 +92,7 @@ void settle(struct object *watcher) {
 /* libuv stops some watchers after their callback: before the loop's next event they are looked at once more. (One whose callback begins
  * is looked at as that ends.) */
 void settle_all(struct loop *loop, const struct object *but) {
+    called_from = NULL;
     while (loop->unsettled) {
         struct object *watcher = loop->unsettled;
         loop->unsettled = watcher->next_unsettled;

@@ -22,6 +22,7 @@ enum { WINDOW = 1 << 20, NOTE = 64, LINE = 4096 };
 bool off = true;
 __thread int inside;
 __thread const char *called;
+__thread const void *called_from;
 static __thread int locked;
 static pthread_mutex_t mutex = PTHREAD_RECURSIVE_MUTEX_INITIALIZER_NP;
 static char prefix[3072];
@@ -171,14 +172,28 @@ static inline void add_text(struct line *line, const char *text) {
     while (*text) add_sign(line, *text++);
 }
 
-static void add_number(struct line *line, uint64_t number, unsigned base) {
-    char digits[24];
-    int count = 0;
-    do {
-        digits[count++] = "0123456789abcdef"[base == 10 ? number % 10 : number % 16];
-        number = base == 10 ? number / 10 : number / 16;
-    } while (number);
-    while (count) add_sign(line, digits[--count]);
+static inline void add_digits(struct line *line, const char *digits, size_t length) {
+    if (line->length + length >= LINE - 2) return;
+    memcpy(line->text + line->length, digits, length);
+    line->length += length;
+}
+
+enum { DIGITS = 20 };
+
+static void add_number(struct line *line, uint64_t number) {
+    char digits[DIGITS];
+    int at = DIGITS;
+    do digits[--at] = (char)('0' + number % 10);
+    while (number /= 10);
+    add_digits(line, digits + at, (size_t)(DIGITS - at));
+}
+
+static void add_address(struct line *line, uint64_t number) {
+    char digits[DIGITS];
+    int at = DIGITS;
+    do digits[--at] = "0123456789abcdef"[number & 15];
+    while (number >>= 4);
+    add_digits(line, digits + at, (size_t)(DIGITS - at));
 }
 
 static void add_format(struct line *line, const char *format, va_list words) {
@@ -189,17 +204,36 @@ static void add_format(struct line *line, const char *format, va_list words) {
         }
         switch (*++format) {
         case 's': add_text(line, va_arg(words, const char *)); break;
-        case 'u': add_number(line, va_arg(words, uint64_t), 10); break;
-        case 'x': add_number(line, va_arg(words, uint64_t), 16); break;
+        case 'u': add_number(line, va_arg(words, uint64_t)); break;
+        case 'x': add_address(line, va_arg(words, uint64_t)); break;
         case 'd': {
             int number = va_arg(words, int);
             if (number < 0) add_sign(line, '-');
-            add_number(line, (uint64_t)(number < 0 ? -(int64_t)number : number), 10);
+            add_number(line, (uint64_t)(number < 0 ? -(int64_t)number : number));
             break;
         }
         default: add_sign(line, '%'); /* of an id */
         }
     }
+}
+
+/* The processor's time of this thread, as it was read last, and the clock then, in ms. While that is the same nothing is read, since it is a call
+ * of the system: so what is kept is less than a millisecond old. And of the work that it does. */
+static __thread struct {
+    uint64_t clock, processor; /* in ms; in ns */
+    uint64_t work_clock, work_processor;
+} here;
+
+/* A callback or work that took less isn't told. */
+enum { SHORT = 2 };
+
+static uint64_t processor_time(uint64_t clock, bool anew) {
+    struct timespec time;
+    if (forces()) return 0;
+    if (here.clock == clock && here.processor && !anew) return here.processor;
+    clock_gettime(CLOCK_THREAD_CPUTIME_ID, &time);
+    here.clock = clock;
+    return here.processor = (uint64_t)time.tv_sec * 1000000000 + (uint64_t)time.tv_nsec;
 }
 
 static uint64_t clock_now(void) {
@@ -209,11 +243,33 @@ static uint64_t clock_now(void) {
     return (uint64_t)time.tv_sec * 1000 + (uint64_t)time.tv_nsec / 1000000;
 }
 
+/* How long this thread was on the processor since then, in ms; -1 where that was too short, or isn't known. */
+static int on_processor(uint64_t clock, uint64_t begin, uint64_t processor) {
+    if (!begin || clock < begin + SHORT || forces()) return -1;
+    uint64_t ms = (processor_time(clock, true) - processor + 500000) / 1000000;
+    return (int)(ms < clock - begin ? ms : clock - begin);
+}
+
+/* A callback or work begins or ends, by this clock. Answers how long it was on the processor as it ends, or -1. */
+static int note_time(struct loop *loop, char type, uint64_t clock) {
+    struct times *times = &loop->times[loop->begun % TIMES];
+    bool ends = type == 'E' && times->begun == loop->begun && !times->end;
+    if (type == 'B') *times = (struct times){.begun = loop->begun, .begin = clock, .processor = processor_time(clock, false)};
+    if (type == 'T') here.work_clock = clock, here.work_processor = processor_time(clock, false);
+    if (ends) times->end = clock;
+    if (ends) return on_processor(clock, times->begin, times->processor);
+    return type == 'F' ? on_processor(clock, here.work_clock, here.work_processor) : -1;
+}
+
 void write_line(struct loop *loop, char type, const char *format, ...) {
     struct line line;
+    int processor = -1;
+    /* (where a place is new that has a line of its own, in front of this one) */
+    int from = loop && called_from && !off && strchr("GOS", type) ? address_number(called_from) : -1;
+    if (loop && !loop->lines && loop->number && type != 'L') write_line(loop, 'L', "%d", loop->behind);
     if (off || (loop && !loop->uv) || !open_log()) return;
     va_list words;
-    if (loop && forces() && !strchr("CVTFSWKJQ", type)) {
+    if (loop && forces() && !strchr("CGLVTFSWKJQ", type)) {
         /* (what is forced there has lines of its own, in front of this one, and moves the clock) */
         line.length = 0;
         va_start(words, format);
@@ -224,26 +280,32 @@ void write_line(struct loop *loop, char type, const char *format, ...) {
         if (off || !loop->uv) return;
     }
     line.length = 0;
-    if (loop) add_number(&line, (uint64_t)loop->number, 10);
+    if (loop) add_number(&line, (uint64_t)loop->number);
     else add_sign(&line, '-');
     add_sign(&line, ' ');
     add_sign(&line, type);
     add_sign(&line, ' ');
     if (loop) {
-        add_number(&line, CALL(uv_now)(loop->uv) - loop->base, 10);
+        add_number(&line, CALL(uv_now)(loop->uv) - loop->base);
         add_sign(&line, ' ');
     }
-    if (loop && strchr("BEFJST", type)) {
+    if (loop && strchr("BEFGJST", type)) {
         uint64_t clock = clock_now();
-        struct times *times = &loop->times[loop->begun % TIMES];
-        if (type == 'B') *times = (struct times){.begun = loop->begun, .begin = clock};
-        if (type == 'E' && times->begun == loop->begun && !times->end) times->end = clock;
-        add_number(&line, clock - loop->base, 10);
+        processor = note_time(loop, type, clock);
+        add_number(&line, clock - loop->base);
         add_sign(&line, ' ');
     }
     va_start(words, format);
     add_format(&line, format, words);
     va_end(words);
+    if (processor >= 0) {
+        add_text(&line, " cpu ");
+        add_number(&line, (uint64_t)processor);
+    }
+    if (from >= 0) {
+        add_text(&line, " @");
+        add_number(&line, (uint64_t)from);
+    }
     line.text[line.length++] = '\n';
     if (loop) loop->lines++;
     write_text(line.text, line.length);
@@ -327,6 +389,7 @@ bool is_inside(const void *caller, const char *function) {
     if (is_from_libuv(caller)) return true;
     see_caller(caller);
     called = function;
+    called_from = caller;
     if (forces()) force_before(function);
     return false;
 }

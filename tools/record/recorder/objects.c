@@ -31,6 +31,7 @@ static struct loop *add_loop(uv_loop_t *uv) {
     struct loop *loop = calloc(1, sizeof *loop);
     if (!loop) return NULL;
     *loop = (struct loop){.uv = uv, .number = loop_count, .base = CALL(uv_now)(uv), .thread = pthread_self()};
+    loop->behind = (int)((int64_t)loop->base - (int64_t)(loop_count ? loops[0]->base : loop->base));
     loops[loop_count++] = loop;
     force_loop(loop);
     return loop;
@@ -181,15 +182,15 @@ int object_total(void) {
 
 /* ---- where they and their callbacks lie */
 
-enum { PLACES = 1024 };
+enum { PLACES = 4096, TRIES = 8 };
 
-/* The number of an address in a program's file: the first time a line says where it is, as the file's own symbols count. -1 for memory that
- * is in none. */
-static int place_of(const void *address) {
+/* (a place that has no room gets another number the next time; the file's own symbols count from where it was loaded) */
+int address_number(const void *address) {
     static struct { const void *address; int number; } places[PLACES];
     static int count;
     size_t at = ((uintptr_t)address * 0x9E3779B97F4A7C15u >> 40) % PLACES;
-    if (places[at].address == address) return places[at].number;
+    for (int tries = 0; tries < TRIES && places[at].address; tries++, at = (at + 1) % PLACES)
+        if (places[at].address == address) return places[at].number;
     Dl_info info;
     struct link_map *map;
     if (!dladdr1(address, &info, (void **)&map, RTLD_DL_LINKMAP) || !info.dli_fname || !map) return -1;
@@ -211,14 +212,14 @@ void name_place(struct object *object) {
     if (!object) return;
     uintptr_t page = (uintptr_t)object->address >> 12;
     if (elsewhere[page % PLACES] == page) return;
-    int place = place_of(object->address);
+    int place = address_number(object->address);
     if (place >= 0) write_line(object->loop, 'V', "%d %d %d", object->id, place, object->size);
     else elsewhere[page % PLACES] = page;
 }
 
 void name_callback(struct object *object, void *callback, enum role role, const char *what) {
     if (!object || !callback || object->named[role] == callback) return;
-    int place = place_of(callback);
+    int place = address_number(callback);
     object->named[role] = callback;
     if (place >= 0) write_line(object->loop, 'C', "%d %d %s", object->id, place, what);
 }

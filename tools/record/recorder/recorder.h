@@ -22,6 +22,7 @@ struct loop {
     uv_loop_t *uv; /* NULL once it is closed */
     int number;
     uint64_t base; /* the loop's time as it was first seen: times in the log count from there */
+    int behind; /* how much later than that of the first loop, in ms */
     pthread_t thread; /* that of the last uv_run, or of its init */
     int running; /* how many uv_run are under way */
     bool waiting; /* for events, in a poll */
@@ -32,6 +33,7 @@ struct loop {
     struct times {
         long begun; /* which it is */
         uint64_t begin, end; /* by the clock; 0: not yet */
+        uint64_t processor; /* of its thread, in ns, as it begins */
     } times[TIMES];
     struct poll {
         long begun, away; /* the same as libuv asked for events */
@@ -57,6 +59,7 @@ struct object {
     int size; /* of its type: elements of an array lie so far apart */
     void *named[ROLES]; /* the callbacks that the log has of it */
     int requests; /* of a watcher: writes, connects, .. that are under way */
+    uint64_t bytes; /* of such a request */
     void *callback;
     void *second; /* of a request: its work; of a stream: its connection callback */
     bool pooled, taken, through; /* a request that the pool has; a worker has taken it; and its work is done */
@@ -84,6 +87,8 @@ struct object *put(struct loop *loop, void *address);
 void drop(struct object *object);
 void each(struct loop *loop, void (*tell)(struct object *));
 int object_total(void);
+/* The number of an address in a program's file: the first time a line says where it is. -1 for memory that is in none. */
+int address_number(const void *address);
 /* The lines that say where it lies, and which its callback is: `what` as in the line at which that begins. */
 void name_place(struct object *object);
 void name_callback(struct object *object, void *callback, enum role role, const char *what);
@@ -96,7 +101,9 @@ extern bool off; /* nothing is recorded: no UVT_LOG, no room, or a child after f
 void lock(void);
 void unlock(void);
 bool is_locked_here(void);
-/* `LOOP TYPE NOW ..`, and behind NOW the clock where a callback or work begins or ends, or somebody sends (types B, E, T, F and S).
+/* `LOOP TYPE NOW ..`, and behind NOW the clock where a callback or work begins or ends, somebody sends, or a request of a stream
+ * begins (types B, E, T, F, S and G). At the end of an op, a send and a request stands the place that called it, and at that of a callback or
+ * work that took long enough how long its thread was on the processor.
  * The format knows %d, %u (64 bits), %x (64 bits) and %s. */
 void write_line(struct loop *loop, char type, const char *format, ...);
 /* How many workers the pool has, by the environment as it is now; the line that says so where that isn't what the first line has. */
@@ -117,6 +124,8 @@ bool is_text_of_libuv(const void *caller);
 bool is_inside(const void *caller, const char *function);
 extern __thread int inside;
 extern __thread const char *called;
+/* Where it was called; NULL from where a callback ends on. Lines of ops that follow say so. */
+extern __thread const void *called_from;
 
 /* More of libuv's text; and is any known? */
 void add_text_of_libuv(uintptr_t from, uintptr_t to);

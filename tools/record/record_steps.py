@@ -1,0 +1,43 @@
+"""At which step of a recording what the log has stands."""
+
+from __future__ import annotations
+
+from notes import Request
+from record_script import Call, Op, Program
+
+LINES = {"on": "call", "after": "after", "closed": "closed"}
+
+
+class Steps:
+    """Of a program's ops and callbacks, by the lines of a recording's steps: they stand there in the same order."""
+
+    def __init__(self, program: Program, lines: list[str]) -> None:
+        self.program = program
+        # of each op's step the place that asked for it; and the step of each callback
+        self.asked_at: dict[int, int] = {}
+        self.calls: dict[tuple[str, str, int], int] = {}
+        found = enumerate(lines, 1)
+        for item in program.items:
+            match item:
+                case Op():
+                    step = next((at for at, line in found if line.startswith(f"{item.text} = ")), 0)
+                    if step and item.place >= 0:
+                        self.asked_at[step] = item.place
+                case Call():
+                    step = next((at for at, line in found if line.startswith(f"{LINES[item.callback]} {item.name} ")), 0)
+                    if step:
+                        self.calls[item.callback, item.name, item.number] = step
+
+    def places(self) -> tuple[list[str], dict[int, int]]:
+        """The places in words, each once; and by its number in the log which of these each is."""
+        texts = list(dict.fromkeys(self.program.places.values()))
+        number = {at: texts.index(text) for at, text in self.program.places.items()}
+        return texts, number
+
+    def requests(self, number: dict[int, int]) -> list[Request]:
+        """The requests of streams, with their steps: that of the callback in which each was asked for, and that of its own."""
+        return [
+            Request(it.stream, it.what, it.bytes, it.asked, self.calls.get(it.within, 0) if it.within else 0, number.get(it.place, -1), it.done,
+                    self.calls.get(it.by, 0) if it.by else 0, it.status or "-")
+            for it in self.program.requests
+        ]
