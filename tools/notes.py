@@ -105,11 +105,13 @@ class Notes:
     behind: int = 0
     # how long a callback or work (as in `functions`, with its call) was on the processor, in ms
     processor: dict[tuple[str, str, int], int] = field(default_factory=dict)
-    # places in the program, in words (`churn.c:14, in rearm`); and of each step that such a place asked for, which it is
+    # places in the program, in words (`at churn.c:14, in rearm`); and of each step that such a place asked for, which it is
     places: list[str] = field(default_factory=list)
     asked_at: dict[int, int] = field(default_factory=dict)
     # the requests of streams, in the order in which they were asked for
     requests: list[Request] = field(default_factory=list)
+    # the calls that changed nothing: of which name, the function, the step of the callback in which it was (0: of none), and its place
+    nothings: list[tuple[str, str, int, int]] = field(default_factory=list)
 
     def place(self, step: int) -> str:
         """Where in the program this step was asked for, `` where nobody knows."""
@@ -177,6 +179,7 @@ class Notes:
         lines += [f"cpu {list} {name} {call} {ms}" for (list, name, call), ms in sorted(self.processor.items())]
         lines += self.place_lines()
         lines += [it.line() for it in self.requests]
+        lines += [f"nothing {name} {function} {step} {place}" for name, function, step, place in self.nothings]
         lines += [f"by {step} {text}" for step, text in sorted(self.by.items())]
         lines += [f"clock {step} {clock}" for step, clock in sorted(self.times.items())]
         for word, found in (("unseen", self.guessed), ("outside", self.outside)):
@@ -279,6 +282,8 @@ def take(notes: Notes, line: str) -> None:
                 notes.places.append(line.removeprefix("place "))
             case "at":
                 notes.asked_at.update((int(it), int(words[1])) for it in words[2:])
+            case "nothing":
+                notes.nothings.append((words[1], words[2], int(words[3]), int(words[4])))
             case "request":
                 notes.requests.append(Request(words[1], words[2], *map(int, words[3:9]), words[9]))
             case "again":

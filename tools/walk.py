@@ -269,7 +269,7 @@ class Walk:
         told = self.notes.function(*inside) if inside else ""
         if place := self.notes.place(step):
             # (a place says its function: that of the callback is told where it is another one)
-            return f"by {line}, at {place}" + (f", in the callback {told}" if told and told.split(" ")[0] not in place.split(" ") else "")
+            return f"by {line}, {place}" + (f", in the callback {told}" if told and told.split(" ")[0] not in place.split(" ") else "")
         return f"by {line}" + (f", in {told}" if told else "")
 
     def last_line(self, words: tuple[str, ...], length: int) -> int | None:

@@ -12,7 +12,7 @@ from javascript import at
 from places import read_place
 from waits import WATCHERS, History, Refusal, Wait, follow, kind_of_call
 from walk import LeftByIo, Took, Walk, processor_told
-from why_requests import of_stream
+from why_requests import nothings, of_stream
 
 KINDS = {"timer": "a timer", "idle": "an idle handle", "prepare": "a prepare handle", "check": "a check handle", "async": "an async handle",
          "io": "a handle of I/O", "work": "a request"}
@@ -98,7 +98,8 @@ class Why:
             items.append((run[0].ended or self.end + 1, self.several(run) if len(run) > 1 else self.one(run[0])))
         items += [(it.step, self.refused(it)) for it in self.history.refusals]
         items.sort(key=lambda it: it[0])
-        return [self.head(), *self.known(), *of_stream(self.walk, self.name), *self.never_asked(), *(line for _, lines in items for line in lines)]
+        noted = [*of_stream(self.walk, self.name), *nothings(self.walk, self.name)]
+        return [self.head(), *self.known(), *noted, *self.never_asked(), *(line for _, lines in items for line in lines)]
 
     def known(self) -> list[str]:
         """What the recording's notes say of the name, and of all of it."""

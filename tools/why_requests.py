@@ -1,11 +1,12 @@
-"""What became of a stream's requests: writes, connects, shutdowns, and datagrams that are sent, by the notes of a recording.
+"""What became of a stream's requests, and which calls changed nothing, by the notes of a recording. The requests are writes, connects, shutdowns,
+and datagrams that are sent.
 
 Each was asked for at a place and a time, and libuv called it back, or hasn't yet. What is said of the time between rests on where the clock went on.
 """
 
 from __future__ import annotations
 
-from notes import Request
+from notes import Request, listed
 from walk import Walk
 
 # So many of a stream are told one by one; and so many of all.
@@ -42,7 +43,7 @@ def thing(it: Request) -> str:
 def asked(walk: Walk, it: Request) -> str:
     """When it was asked for, and where."""
     places = walk.notes.places
-    place = f", at {places[it.place]}" if 0 <= it.place < len(places) else ""
+    place = f", {places[it.place]}" if 0 <= it.place < len(places) else ""
     inside = walk.calls.get(it.asked_step)
     function = walk.notes.function(*inside) if inside else ""
     # (a place says its function: that of the callback is told where it is another one)
@@ -100,6 +101,27 @@ def of_stream(walk: Walk, name: str) -> list[str]:
             counts.append(f"{len(these)} {word}{'s' * (len(these) != 1)}{size}")
     told = [it for it in worst(walk, found) if len(found) <= EACH or not is_done(it) or it.status != "ok" or away(walk, it) >= LEAST][:EACH]
     return [f"    its requests: {'; '.join(counts)}", *(f"        {sentence(walk, it)}" for it in told)]
+
+
+# Why a function changes nothing, and says that all is well.
+NOTHING = {"uv_timer_again": "the timer doesn't repeat"}
+
+
+def nothings(walk: Walk, name: str) -> list[str]:
+    """The calls of this name that changed nothing."""
+    found: dict[tuple[str, int], list[int]] = {}
+    for other, function, step, place in walk.notes.nothings:
+        if other == name:
+            found.setdefault((function, place), []).append(step)
+    lines = []
+    for (function, place), steps in found.items():
+        where = f" {walk.notes.places[place]}," if 0 <= place < len(walk.notes.places) else ""
+        inside = [f"step {it}" for it in steps if it]
+        more = [f"{len(inside) - EACH} more"] if len(inside) > EACH else []
+        within = f", in the callback of {listed([*inside[:EACH], *more])}" if inside else ""
+        times = f", {len(steps)} times" if len(steps) > 1 else ""
+        lines.append(f"    {function}{where} did nothing{times}{within}: {NOTHING.get(function, 'nobody knows why')}")
+    return lines
 
 
 def longest(walk: Walk) -> list[str]:

@@ -60,6 +60,8 @@ QUESTIONS = [
     Question("coalesce", "news", ["for the send at step", r"4 sends, and one call", r"\d+ ms later: the callback of news, .* took 2\d ms"]),
     Question("again", "inactivity", [r"inactivity: a timer, 1 call", r"call 1: (on time|late by [12] ms)", "due at 50 ms"],
              ["never called", "stopped by", "no call"]),
+    Question("again", "inactivity", [r"uv_timer_again at again\.c:7, in on_traffic, did nothing, 4 times, in the callback of step \d+, step \d+, step \d+ "
+                                     r"and step \d+: the timer doesn't repeat"]),
     Question("behind", "sample", [r"late by \d\d ms: the callback of flush, on_flush \(behind\.c:6\), took 4\d ms", r"\d repeats lost"]),
     Question("unrefd", "retry", ["retry: a timer, never called", r"nothing kept the loop alive, for retry is unreferenced since step \d+, by line"]),
     Question("unrefd", "jobs_5", ["cancelled before a worker took it", "on abort_all cancel jobs_5, in on_abort"]),
@@ -151,6 +153,8 @@ QUESTIONS = [
     Question("disarm", "session", [r"no call: closed by .* at disarm\.c:12, in end_session, called at disarm\.c:17, in on_event"]),
     Question("giveup", "jobs_7", [r"cancelled at step \d+ by .*, at giveup\.c:11, in give_up, called at giveup\.c:13, in on_limit",
                                   r"queued at step \d+ by .*, at giveup\.c:8, in submit"]),
+    Question("stripped", "timer_2", [r"late by \d+ ms: the callback of timer, a function of stripped, took \d+ ms",
+                                     r"closed at step \d+ by .*, in a function of stripped that has no symbol"]),
     # ---- ends
     Question("aborts", ALL, [r"THE PROGRAM WAS ENDED BY SIGABRT: this loop was in the callback of replies_2, on_reply \(aborts\.c:7\)"]),
     Question("becomes", ALL,

@@ -430,8 +430,10 @@ class Follower:
         self.later("loop", f"{item.text} = ", item)
 
     def do_run(self, item: Run, at: int) -> None:
-        """A default run looks at the clock as it begins."""
+        """A default run looks at the clock as it begins. What the clock says then has gone by in the main program."""
         self.tick(item.now)
+        if item.clock != NO_CLOCK:
+            self.tick(min(item.clock, next((it.now for it in self.items[at + 1 : at + FAR] if isinstance(it, (Call, Poll, End))), item.now)))
         if item.mode == "default":
             self.tick(next((it.now for it in self.items[at + 1 : at + FAR] if isinstance(it, (Call, Poll, End))), item.now))
         self.later("loop", f"run {item.mode}")

@@ -27,9 +27,9 @@ HOME = re.compile(r"- J home (.*)")
 LANGUAGE = re.compile(r"- J language (Python|Lua)")
 STACK = re.compile(r"- J stack (\d{1,9}) (-1|\d{1,9}) (\d{1,9}) (\d{1,9})")
 NO_CLOCK = -1
-TIMED = "BEFGJST"
+TIMED = "BEFGJRST"
 # Of these the place in the program stands at the end of the line, that called libuv there.
-CALLED = "GOS"
+CALLED = "GIOS"
 FROM = re.compile(r"(.*) @(0|[1-9]\d{0,8})")
 NO_ROOM = "- ! no room"
 CODE = r"(?:ok|E[A-Z0-9_]+)"
@@ -49,6 +49,7 @@ WORDS = {
     "T": re.compile(NUMBER),
     "F": re.compile(rf"{NUMBER}(?: cpu {NUMBER})?"),
     "G": re.compile(rf"{NUMBER} {NUMBER} (?:write|connect|shutdown|send) \d{{1,20}}"),
+    "I": re.compile(rf"{NUMBER} uv_[a-z_]+"),
     "L": re.compile(r"-?\d{1,10}"),
     "S": re.compile(rf"{NUMBER} \d{{1,20}}(?: {NUMBER})?"),
     "C": re.compile(rf"{NUMBER} \d{{1,9}}(?: [a-z_]+)?"),
@@ -98,14 +99,18 @@ class Address:
         """Where a function's source stands, `` where nobody knows."""
         return self.symbol.partition("@")[2]
 
+    def within_file(self) -> str:
+        """The program or library in which it is, without its folder."""
+        return self.file.rsplit("/", 1)[-1]
+
     def called_from(self) -> str:
-        """Of a place that calls, in words: `churn.c:14, in rearm`. Where its function is a part of another one, that too, as `called at ..`."""
+        """Of a place that calls, in words: `at churn.c:14, in rearm`. Where its function is a part of another one, that too, as `called at ..`."""
         told = []
         for one in self.symbol.split("<"):
             name, _, source = one.partition("@")
-            function = f"in {in_words(name)}" if name != "-" else f"in {self.file.rsplit('/', 1)[-1]}, which has no symbols"
-            told.append(f"{source}, {function}" if source else function)
-        return ", called at ".join(told)
+            function = f"in {in_words(name)}" if name != "-" else f"in a function of {self.within_file()} that has no symbol"
+            told.append(f"at {source}, {function}" if source else function)
+        return ", called ".join(told)
 
     def within(self) -> tuple[int, int]:
         """How far behind a variable's start it lies, and how large that is; (0, 0) where the log doesn't say."""

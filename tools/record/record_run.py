@@ -218,6 +218,7 @@ def notes_of(made: Made, note: str, ended: str = "") -> Notes:
         where_it_ended(made, ended), made.outcome.by, made.program.javascript,
         [name for _, name in made.program.again], behind=made.program.behind, processor=dict(made.program.processor), places=places,
         asked_at={step: number[it] for step, it in stand.asked_at.items() if it in number}, requests=stand.requests(number),
+        nothings=stand.nothings(number),
     )
 
 

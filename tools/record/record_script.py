@@ -136,6 +136,16 @@ class Request:
     by: Key | None = None
 
 
+@dataclass(slots=True)
+class Nothing:
+    """A call that changed nothing."""
+
+    name: str
+    function: str
+    place: int
+    within: Key | None
+
+
 Item = Op | Run | End | Poll | Call | Done | Take | Finish | Send
 
 
@@ -194,6 +204,7 @@ class Program:
     processor: collections.Counter[Key] = field(default_factory=collections.Counter)
     # the requests of streams, in the order in which they were asked for
     requests: list[Request] = field(default_factory=list)
+    nothings: list[Nothing] = field(default_factory=list)
     # of each place by its number: where it is in the program, in words
     places: dict[int, str] = field(default_factory=dict)
     # how much later than the first loop's its times begin, in ms
@@ -297,6 +308,8 @@ class Maker:
     @staticmethod
     def told(address: Address) -> str:
         """A function, with its source where that is known."""
+        if address.symbol == "-":
+            return f"a function of {address.within_file()}"
         return f"{in_words(address.name())} ({address.source()})" if address.source() else in_words(address.name())
 
     def bind(self, id: int, kind: str, line: int) -> Bound:
@@ -430,7 +443,7 @@ class Maker:
         callback, id, what, known = words[0], int(words[1]), words[2] if len(words) > 2 else "", " ".join(words[3:])
         begun = self.begin(event, callback, id, what, known)
         if begun and request and self.call:
-            request.done, request.status, request.by = event.clock, known, (self.call.callback, self.call.name, self.call.number)
+            request.done, request.status, request.by = event.clock, known, self.here()
         return begun
 
     def begin(self, event: Event, callback: str, id: int, what: str, known: str) -> bool:
@@ -470,8 +483,9 @@ class Maker:
             self.functions.append(told)
 
     def function(self, id: int, what: str) -> str:
+        """Its name, with its source where that is known; of one without a symbol its file."""
         address = self.log.addresses.get(self.callback.get((id, what), -1))
-        return self.told(address) if address and address.symbol != "-" else ""
+        return self.told(address) if address else ""
 
     def functions_of(self, callback: str, name: str, call: int, told: str) -> None:
         """From this call on that is the function."""
@@ -484,7 +498,7 @@ class Maker:
     def sender(self, event: Event) -> str:
         """Who sends, in words, as far as that is known: another thread, and where in the program; or another loop of it."""
         place = self.log.addresses.get(event.place)
-        at = f", at {place.called_from()}" if place else ""
+        at = f", {place.called_from()}" if place else ""
         return f"{by}{at}" if (by := self.by_loop(event)) else f"another thread{at}" if at else ""
 
     def by_loop(self, event: Event) -> str:
@@ -506,7 +520,7 @@ class Maker:
             return f"loop {loop}"
         callback, id, *what = last.words.split(" ")
         address = self.log.addresses.get(places.get((int(id), what[0] if callback == "on" else callback), -1))
-        told = self.told(address) if address and address.symbol != "-" else ""
+        told = self.told(address) if address else ""
         ran = event.clock + self.log.behind(self.loop) - last.clock - self.log.behind(loop)
         since = f", {ran} ms after that began" if ran > 0 and NO_CLOCK not in (event.clock, last.clock) and self.log.is_one_clock() else ""
         return f"loop {loop}, in {told or 'a callback'}{since}"
@@ -545,10 +559,10 @@ class Maker:
         if not self.depth or not self.call:
             return False
         self.depth -= 1
-        words = event.words.split(" ")
-        self.where.see_put_off("+" in words)
-        if "cpu" in words and self.depth == 0:
-            self.program.processor[self.call.callback, self.call.name, self.call.number] += int(words[-1])
+        words, _, processor = event.words.partition(" cpu ")
+        self.where.see_put_off(words.endswith("+"))
+        if processor and self.depth == 0:
+            self.program.processor[self.call.callback, self.call.name, self.call.number] += int(processor)
         # (a close callback that began early goes on with the one that libuv calls last)
         if self.depth == 0:
             self.items.append(Done(*event.when(), self.call))
@@ -587,13 +601,16 @@ class Maker:
                     self.items.append(Take(*event.when(), bound.name))
                     self.functions_of("work", bound.name, len(self.program.bodies["after", bound.name]) + 1, self.function(bound.id, "work"))
             case "F":
-                id, _, *processor = event.words.split(" ") + [""] * (" " not in event.words)
+                id, _, processor = event.words.partition(" cpu ")
                 if bound := self.bound.get(int(id)):
                     self.items.append(Finish(*event.when(), bound.name))
                     if processor:
-                        self.program.processor["work", bound.name, len(self.program.bodies["after", bound.name]) + 1] += int(processor[0])
+                        self.program.processor["work", bound.name, len(self.program.bodies["after", bound.name]) + 1] += int(processor)
             case "G":
                 self.read_request(event)
+            case "I":
+                if bound := self.bound.get(int(event.words.split(" ")[0])):
+                    self.program.nothings.append(Nothing(bound.name, event.words.split(" ")[1], event.place, self.here()))
             case "L":
                 self.program.behind = int(event.words)
             case "S":
@@ -614,11 +631,14 @@ class Maker:
                     self.callback[int(id), it] = int(place)
         return True
 
+    def here(self) -> Key | None:
+        """The callback that is under way."""
+        return (self.call.callback, self.call.name, self.call.number) if self.call else None
+
     def read_request(self, event: Event) -> None:
         id, stream, what, bytes = event.words.split(" ")
         if bound := self.bound.get(int(stream)):
-            within = (self.call.callback, self.call.name, self.call.number) if self.call else None
-            request = self.under_way[int(id)] = Request(bound.name, what, int(bytes), event.clock, event.place, within)
+            request = self.under_way[int(id)] = Request(bound.name, what, int(bytes), event.clock, event.place, self.here())
             self.program.requests.append(request)
 
     def read_javascript(self, event: Event) -> None:
@@ -681,7 +701,8 @@ def make_program(log: Log, events: list[Event], loop: int = 0) -> Program:
             maker.program.stopped = f"at line {event.line} of the log the program has more than {NAMES} handles and requests at a time{FULL}"
             break
     maker.name_last()
-    for number in {*(it.place for it in maker.items if isinstance(it, Op)), *(it.place for it in maker.program.requests)}:
+    asked = [*(it for it in maker.items if isinstance(it, Op)), *maker.program.requests, *maker.program.nothings]
+    for number in {it.place for it in asked}:
         if address := log.addresses.get(number):
             maker.program.places[number] = address.called_from()
     maker.program.javascript = maker.javascript.done()

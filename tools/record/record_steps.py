@@ -34,6 +34,10 @@ class Steps:
         number = {at: texts.index(text) for at, text in self.program.places.items()}
         return texts, number
 
+    def nothings(self, number: dict[int, int]) -> list[tuple[str, str, int, int]]:
+        """The calls that changed nothing: the name, the function, the step of the callback in which each was, and its place."""
+        return [(it.name, it.function, self.calls.get(it.within, 0) if it.within else 0, number.get(it.place, -1)) for it in self.program.nothings]
+
     def requests(self, number: dict[int, int]) -> list[Request]:
         """The requests of streams, with their steps: that of the callback in which each was asked for, and that of its own."""
         return [

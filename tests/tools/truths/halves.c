@@ -5,7 +5,7 @@ static void on_convert(uv_timer_t *timer) {
     uint64_t begin = uv_hrtime(), processor = processor_ns();
     while (processor_ns() - processor < 30000000) continue;
     if (system("sleep 0.04") != 0) puts("no child");
-    ended("convert", begin, processor);
+    all_of_it("convert", begin, processor);
 }
 static void on_beat(uv_timer_t *timer) { uv_close((uv_handle_t *)timer, NULL); }
 int main(void) {

@@ -14,7 +14,7 @@ static void on_report(uv_timer_t *timer) {
     uint64_t begin = uv_hrtime(), processor = processor_ns();
     uv_mutex_lock(&lock);
     uv_mutex_unlock(&lock);
-    ended("report", begin, processor);
+    all_of_it("report", begin, processor);
 }
 static void on_beat(uv_timer_t *timer) { uv_close((uv_handle_t *)timer, NULL); }
 int main(void) {

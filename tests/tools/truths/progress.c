@@ -8,7 +8,7 @@ static void work_pack(uv_work_t *request) {
     usleep(15000);
     tell_half();
     usleep(15000);
-    ended("pack", begin, processor);
+    all_of_it("pack", begin, processor);
 }
 static void on_half(uv_async_t *handle) { says("half", "called"); }
 static void on_packed(uv_work_t *request, int status) { uv_close((uv_handle_t *)&half, NULL); }

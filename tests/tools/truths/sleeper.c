@@ -4,7 +4,7 @@ static uv_timer_t flush, beat;
 static void on_flush(uv_timer_t *timer) {
     uint64_t begin = uv_hrtime(), processor = processor_ns();
     usleep(60000);
-    ended("flush", begin, processor);
+    all_of_it("flush", begin, processor);
 }
 static void on_beat(uv_timer_t *timer) { uv_close((uv_handle_t *)timer, NULL); }
 int main(void) {

@@ -4,7 +4,7 @@ static uv_work_t load;
 static void work_load(uv_work_t *request) {
     uint64_t begin = uv_hrtime(), processor = processor_ns();
     usleep(70000);
-    ended("load", begin, processor);
+    all_of_it("load", begin, processor);
 }
 static void on_loaded(uv_work_t *request, int status) {}
 static void load_it(uv_loop_t *loop) { uv_queue_work(loop, &load, work_load, on_loaded); }

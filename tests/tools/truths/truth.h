@@ -29,7 +29,7 @@ static inline uint64_t processor_ns(void) {
 }
 
 /* What took from `begin` on, by the clock and by the processor. */
-static inline void ended(const char *who, uint64_t begin, uint64_t processor) {
+static inline void all_of_it(const char *who, uint64_t begin, uint64_t processor) {
     unsigned long long took = (uv_hrtime() - begin + 500000) / 1000000, ran = (processor_ns() - processor + 500000) / 1000000;
     printf("%s took %llu ms\n%s was on the processor for %llu ms\n", who, took, who, ran);
 }

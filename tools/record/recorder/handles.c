@@ -348,14 +348,16 @@ OP(uv_timer_stop, uv_timer_t, "stop")
 REAL(uv_timer_again)
 REAL(uv_timer_get_repeat)
 
-/* Of a timer that doesn't repeat libuv changes nothing, and says ok: no op, since here it would stop the timer. */
+/* Of a timer that doesn't repeat libuv changes nothing, and says ok: no op, since here it would stop the timer, but a line of its own. */
 int uv_timer_again(uv_timer_t *handle) {
     if (INSIDE()) return CALL(uv_timer_again)(handle);
     touch(handle);
     lock();
     bool nothing = CALL(uv_timer_get_repeat)(handle) == 0;
     int answer = REALLY(CALL(uv_timer_again)(handle));
-    if (answer != 0 || !nothing) write_op(asked(handle), "again", "", answer);
+    struct object *object = asked(handle);
+    if (answer != 0 || !nothing) write_op(object, "again", "", answer);
+    else if (object) write_line(object->loop, 'I', "%d %s", object->id, __func__);
     unlock();
     return answer;
 }

@@ -265,11 +265,11 @@ void write_line(struct loop *loop, char type, const char *format, ...) {
     struct line line;
     int processor = -1;
     /* (where a place is new that has a line of its own, in front of this one) */
-    int from = loop && called_from && !off && strchr("GOS", type) ? address_number(called_from) : -1;
+    int from = loop && called_from && !off && strchr("GIOS", type) ? address_number(called_from) : -1;
     if (loop && !loop->lines && loop->number && type != 'L') write_line(loop, 'L', "%d", loop->behind);
     if (off || (loop && !loop->uv) || !open_log()) return;
     va_list words;
-    if (loop && forces() && !strchr("CGLVTFSWKJQ", type)) {
+    if (loop && forces() && !strchr("CGILVTFSWKJQ", type)) {
         /* (what is forced there has lines of its own, in front of this one, and moves the clock) */
         line.length = 0;
         va_start(words, format);
@@ -289,7 +289,7 @@ void write_line(struct loop *loop, char type, const char *format, ...) {
         add_number(&line, CALL(uv_now)(loop->uv) - loop->base);
         add_sign(&line, ' ');
     }
-    if (loop && strchr("BEFGJST", type)) {
+    if (loop && strchr("BEFGJRST", type)) {
         uint64_t clock = clock_now();
         processor = note_time(loop, type, clock);
         add_number(&line, clock - loop->base);

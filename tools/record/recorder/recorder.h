@@ -101,8 +101,8 @@ extern bool off; /* nothing is recorded: no UVT_LOG, no room, or a child after f
 void lock(void);
 void unlock(void);
 bool is_locked_here(void);
-/* `LOOP TYPE NOW ..`, and behind NOW the clock where a callback or work begins or ends, somebody sends, or a request of a stream
- * begins (types B, E, T, F, S and G). At the end of an op, a send and a request stands the place that called it, and at that of a callback or
+/* `LOOP TYPE NOW ..`, and behind NOW the clock where a callback, a run or work begins or ends, somebody sends, or a request of a
+ * stream begins (types B, E, R, T, F, S and G). At the end of an op, a send and a request stands the place that called it, and at that of a callback or
  * work that took long enough how long its thread was on the processor.
  * The format knows %d, %u (64 bits), %x (64 bits) and %s. */
 void write_line(struct loop *loop, char type, const char *format, ...);
