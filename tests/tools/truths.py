@@ -166,7 +166,7 @@ RAN = re.compile(r"worker \d ran it, work_([a-z_]+) .*?, (\d+) ms(?:, \w+ of the
 # (a name of an object is that of its variable, and what it says of itself may be shorter)
 SAYS = {"on_request_3": "request 3"}
 # How long a request of a stream was under way, and a callback or work on the processor: what is told, and what the program said.
-WAITED = re.compile(r"a (write|connect|shutdown|datagram)(?: of \d+ bytes?)?, asked for .*?, was (?:done|cancelled) (\d+) ms later")
+UNDER_WAY = re.compile(r"a (write|connect|shutdown|datagram)(?: of \d+ bytes?)?, asked for .*?, was (?:done|cancelled) (\d+) ms later")
 SAID_WAITED = re.compile(r"(.+): (\w+) waited (\d+) ms")
 RAN_FOR = re.compile(r"(?:the callback of ([a-z_0-9]+)|work_([a-z_]+))[^;]*? (\d+) ms, (\d+|none) of them on the processor")
 SAID_RAN = re.compile(r"(.+) was on the processor for (\d+) ms")
@@ -222,7 +222,7 @@ def untrue_of_requests(answer: str, program: str, name: str) -> list[str]:
     """The same of the requests of this stream. (Small ones that waited for nobody say nothing.)"""
     said = [it.groups() for it in map(SAID_WAITED.fullmatch, (TRUTHS / f"{program}.said").read_text().splitlines()) if it and it[1] == name]
     return [
-        f"a {what} waited {ms} ms, and the program said {said}" for what, ms in WAITED.findall(answer)
+        f"a {what} waited {ms} ms, and the program said {said}" for what, ms in UNDER_WAY.findall(answer)
         if int(ms) > ALLOWED and not any(what == other and abs(int(ms) - int(known)) <= ALLOWED for _, other, known in said)
     ]
 
