@@ -5,6 +5,7 @@ UndefinedBehaviorSanitizer, and those of the first folder under valgrind, where 
 
     tests/tools/unharmed.py --libuv FOLDER    libuv's own tests, of the sources in this folder (Debian: apt-get source libuv1)
     tests/tools/unharmed.py --node 100        so many starts of node, four at a time
+    tests/tools/unharmed.py --costs           instructions of a callback without the recorder and with it, by valgrind
 
 Status 1 if a program ends otherwise with the recorder, or something is reported.
 """
@@ -14,6 +15,7 @@ from __future__ import annotations
 import argparse
 import concurrent.futures
 import os
+import re
 import shutil
 import subprocess
 import sys
@@ -171,6 +173,28 @@ def try_libuv(check, room: Room, libuv: Path) -> None:
             check(f"unharmed, libuv's {test}: what they report", not (found := room.reports()), found)
 
 
+COSTS = ("idle", "timer", "write")
+FEW, MANY = 2_000, 12_000
+
+
+def instructions(room: Room, words: list[str], more: dict[str, str]) -> int:
+    """What valgrind counts."""
+    counted = ["valgrind", "--tool=callgrind", "--callgrind-out-file=/dev/null", *words]
+    ran = subprocess.run(counted, cwd=room.folder, env=dict(os.environ) | more, capture_output=True, text=True, timeout=SECONDS)
+    return int(re.search(r"Collected : (\d+)", ran.stderr)[1])
+
+
+def tell_costs(room: Room) -> None:
+    """Of a callback, by as many as there are more in a longer run."""
+    program = compiled(Path(__file__).resolve().parent / "recorded.c", room.folder)
+    for kind in COSTS:
+        told = []
+        for more in ({}, room.preloaded(recorder())):
+            few, many = (instructions(room, [program, kind, str(count)], more) for count in (FEW, MANY))
+            told.append((many - few) // (MANY - FEW))
+        print(f"{kind}: {told[0]} instructions, recorded {told[1]}", flush=True)
+
+
 class Tries:
     """What was tried by hand."""
 
@@ -187,6 +211,7 @@ def main() -> int:
     reader = argparse.ArgumentParser(description=__doc__, formatter_class=argparse.RawDescriptionHelpFormatter)
     reader.add_argument("--libuv", type=Path, metavar="FOLDER", help="the sources of libuv")
     reader.add_argument("--node", type=int, metavar="N", help="so many starts of node")
+    reader.add_argument("--costs", action="store_true", help="what a callback costs")
     asked, tries = reader.parse_args(), Tries()
     with tempfile.TemporaryDirectory() as name:
         room = Room(Path(name))
@@ -194,7 +219,9 @@ def main() -> int:
             try_libuv(tries.check, room, asked.libuv.resolve())
         if asked.node:
             try_node(tries.check, room, asked.node)
-    if not asked.libuv and not asked.node:
+        if asked.costs:
+            tell_costs(room)
+    if not asked.libuv and not asked.node and not asked.costs:
         try_unharmed(tries)
     print(f"{tries.count} tried, {tries.failed} failed")
     return 1 if tries.failed else 0

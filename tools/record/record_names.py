@@ -67,11 +67,14 @@ class Symbols:
 
 
 def plain(symbol: str) -> str:
-    """A symbol of C++ without its parameters and templates."""
+    """A symbol of C++ without its parameters, templates and what it returns."""
     symbol = symbol.replace("(anonymous namespace)", "").replace("operator()", "call")
     while (shorter := re.sub(r"<[^<>]*>|\([^()]*\)", "", symbol)) != symbol:
         symbol = shorter
-    return re.sub(r"\(.*|<.*|\s.*", "", symbol) or "-"
+    # (a template's function has what it returns in front; a thunk what it is for behind)
+    words = re.sub(r"^(?:non-)?virtual thunk to | (?:const|volatile|&&?)(?= |$)| \[clone [^\]]*\]", "", symbol).split(" ")
+    named = words[-1] if "operator" not in symbol else words[0]
+    return re.sub(r"\(.*|<.*|\s.*", "", named) or "-"
 
 
 def sources(file: str, offsets: list[int]) -> list[str]:
