@@ -63,7 +63,7 @@ class Glance:
                 self.due.pop(int(id[1:]), None)
             case "S", [clock, id, *_]:
                 self.since.setdefault(int(id), (int(clock), "it was sent to"))
-            case "F", [clock, id]:
+            case "F", [clock, id, *_]:
                 self.since[int(id)] = int(clock), "it was through"
 
     def start_again(self, id: int, now: int) -> None:
@@ -164,6 +164,9 @@ class Names:
 def take(loop: Glance, words: list[str], number: int) -> None:
     """A line of this loop."""
     type = words[1]
+    # (where the program called libuv stands behind what it asked)
+    if type in "OS" and words[-1].startswith("@"):
+        words = words[:-1]
     if type == "B":
         what = words[6] if words[4] == "on" and len(words) > 6 else words[4]
         loop.begin(int(words[2]), int(words[3]), int(words[5]), what, number)
