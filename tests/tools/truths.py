@@ -60,8 +60,9 @@ QUESTIONS = [
     Question("coalesce", "news", ["for the send at step", r"4 sends, and one call", r"\d+ ms later: the callback of news, .* took 2\d ms"]),
     Question("again", "inactivity", [r"inactivity: a timer, 1 call", r"call 1: (on time|late by [12] ms)", "due at 50 ms"],
              ["never called", "stopped by", "no call"]),
-    Question("again", "inactivity", [r"uv_timer_again at again\.c:7, in on_traffic, did nothing, 4 times, in the callback of step \d+, step \d+, step \d+ "
-                                     r"and step \d+: the timer doesn't repeat"]),
+    Question("again", "inactivity",
+             [r"uv_timer_again at again\.c:7, in on_traffic, did nothing, 4 times, in the callback of step \d+, step \d+, step \d+ and step \d+: "
+              "the timer doesn't repeat"]),
     Question("behind", "sample", [r"late by \d\d ms: the callback of flush, on_flush \(behind\.c:6\), took 4\d ms", r"\d repeats lost"]),
     Question("unrefd", "retry", ["retry: a timer, never called", r"nothing kept the loop alive, for retry is unreferenced since step \d+, by line"]),
     Question("unrefd", "jobs_5", ["cancelled before a worker took it", "on abort_all cancel jobs_5, in on_abort"]),
@@ -134,8 +135,8 @@ QUESTIONS = [
     # ---- who asked: lines, and the callers of functions that stand between
     Question("slowdisk", "load", [r"queued at step \d+ by .*, at slowdisk\.c:10, in load_it"]),
     Question("churn", "idle_out",
-             [r"started at step \d+, .* by line \d+: on second start idle_out 30 0, at churn\.c:6, in rearm, in the callback on_second",
-                                   r"started again by .* at churn\.c:6, in rearm, in the callback on_first"]),
+             [r"started at step \d+, .* by line \d+: on second start idle_out 30 0, at churn\.c:6, in rearm, called at churn\.c:10, in on_second",
+              r"started again by .* at churn\.c:6, in rearm, called at churn\.c:8, in on_first", r", in rearm, called at churn\.c:19, in main"]),
     Question("wrapper", "retry", [r"started at step \d+, .*, at wrapper\.c:6, in start_in, called at wrapper\.c:9, in plan"]),
     Question("lambda", ALL,
              [r"the longest callbacks\n    3\d ms(, \d+ of them on the processor)?: the callback of main_server_0, a lambda of Server::run "

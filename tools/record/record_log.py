@@ -27,10 +27,12 @@ HOME = re.compile(r"- J home (.*)")
 LANGUAGE = re.compile(r"- J language (Python|Lua)")
 STACK = re.compile(r"- J stack (\d{1,9}) (-1|\d{1,9}) (\d{1,9}) (\d{1,9})")
 NO_CLOCK = -1
+# So many functions are told of a place, each of which was called by the next one.
+CHAIN = 2
 TIMED = "BEFGJRST"
-# Of these the place in the program stands at the end of the line, that called libuv there.
+# Of these the place in the program stands at the end of the line, that called libuv there; behind `<` the one that called that function.
 CALLED = "GIOS"
-FROM = re.compile(r"(.*) @(0|[1-9]\d{0,8})")
+FROM = re.compile(r"(.*) @((?:0|[1-9]\d{0,8})(?:<(?:0|[1-9]\d{0,8}))?)")
 NO_ROOM = "- ! no room"
 CODE = r"(?:ok|E[A-Z0-9_]+)"
 WORDS = {
@@ -74,8 +76,9 @@ class Event:
     clock: int
     words: str
     line: int
-    # of an op, a send and a request of a stream: the number of the place in the program that called libuv; -1 where nobody knows
-    place: int = -1
+    # of an op, a send and a request of a stream: the place in the program that called libuv, by its number, and behind `<` the one that called that
+    # function; `` where nobody knows
+    place: str = ""
 
     def when(self) -> tuple[int, int, int]:
         return self.now, self.clock, self.line
@@ -103,14 +106,14 @@ class Address:
         """The program or library in which it is, without its folder."""
         return self.file.rsplit("/", 1)[-1]
 
-    def called_from(self) -> str:
-        """Of a place that calls, in words: `at churn.c:14, in rearm`. Where its function is a part of another one, that too, as `called at ..`."""
+    def called_from(self) -> list[str]:
+        """Of a place that calls, in words: `at churn.c:14, in rearm`; and where its function is a part of another one, that too."""
         told = []
         for one in self.symbol.split("<"):
             name, _, source = one.partition("@")
             function = f"in {in_words(name)}" if name != "-" else f"in a function of {self.within_file()} that has no symbol"
             told.append(f"at {source}, {function}" if source else function)
-        return ", called ".join(told)
+        return told
 
     def within(self) -> tuple[int, int]:
         """How far behind a variable's start it lies, and how large that is; (0, 0) where the log doesn't say."""
@@ -152,8 +155,14 @@ class Log:
         return len(self.later) >= len(self.loops) - 1
 
     def callers(self) -> set[int]:
-        """The numbers of the places that call libuv."""
-        return {it.place for events in self.loops.values() for it in events} - {-1}
+        """The numbers of the places that call libuv, and of those that call these functions."""
+        places = {it.place for events in self.loops.values() for it in events if it.place}
+        return {int(number) for place in places for number in place.split("<")}
+
+    def place(self, place: str) -> str:
+        """A place in words, with who called its function: two functions at the most."""
+        told = [it for number in place.split("<") if number and (address := self.addresses.get(int(number))) for it in address.called_from()]
+        return ", called ".join(told[:CHAIN])
 
 
 LAMBDA = re.compile(r"(.*?)(?:::)?\{lambda#\d+\}(?:::(?:call|_FUN|__invoke))?")
@@ -178,9 +187,9 @@ def read_event(text: str, line: int) -> tuple[int, Event] | None:
     parts = text.split(" ", 3)
     if len(parts) != 4 or parts[1] not in WORDS or not is_number(parts[0]) or not is_number(parts[2]):
         return None
-    loop, type, now, words, place = int(parts[0]), parts[1], int(parts[2]), parts[3], -1
+    loop, type, now, words, place = int(parts[0]), parts[1], int(parts[2]), parts[3], ""
     if type in CALLED and (called := FROM.fullmatch(words)):
-        words, place = called[1], int(called[2])
+        words, place = called[1], called[2]
     if type in TIMED:
         clock, _, rest = words.partition(" ")
         if is_number(clock) and is_good(type, rest):

@@ -9,11 +9,9 @@ import bisect
 import re
 import subprocess
 
-from record_log import Address, Log, in_words  # noqa: F401 (for those who tell names)
+from record_log import CHAIN, Address, Log, in_words  # noqa: F401 (for those who tell names)
 
 ROOM = 26
-# So many functions are told of a place, of which each is a part of the next one.
-CHAIN = 2
 # What C++ has among the variables.
 OF_THE_COMPILER = ("guard variable ", "vtable ", "VTT ", "typeinfo ", "construction vtable ")
 

@@ -42,8 +42,8 @@ class Did:
 class Op(Did):
     text: str
     answer: str
-    # the number of the place in the program that asked for it; -1 where nobody knows
-    place: int = -1
+    # the place in the program that asked for it, as the log has it; `` where nobody knows
+    place: str = ""
 
 
 @dataclass(slots=True)
@@ -128,7 +128,7 @@ class Request:
     bytes: int
     # when it was asked for, at which place, and in which callback: None in the main program
     asked: int
-    place: int
+    place: str
     within: Key | None
     # when it was called back and what libuv said then, and the callback that this is a part of
     done: int = NO_CLOCK
@@ -142,7 +142,7 @@ class Nothing:
 
     name: str
     function: str
-    place: int
+    place: str
     within: Key | None
 
 
@@ -205,8 +205,8 @@ class Program:
     # the requests of streams, in the order in which they were asked for
     requests: list[Request] = field(default_factory=list)
     nothings: list[Nothing] = field(default_factory=list)
-    # of each place by its number: where it is in the program, in words
-    places: dict[int, str] = field(default_factory=dict)
+    # of each place, as the log has it: where it is in the program, in words
+    places: dict[str, str] = field(default_factory=dict)
     # how much later than the first loop's its times begin, in ms
     behind: int = 0
     # the requests that were queued again while they were under way, with the line of the log
@@ -497,8 +497,7 @@ class Maker:
 
     def sender(self, event: Event) -> str:
         """Who sends, in words, as far as that is known: another thread, and where in the program; or another loop of it."""
-        place = self.log.addresses.get(event.place)
-        at = f", {place.called_from()}" if place else ""
+        at = f", {place}" if (place := self.log.place(event.place)) else ""
         return f"{by}{at}" if (by := self.by_loop(event)) else f"another thread{at}" if at else ""
 
     def by_loop(self, event: Event) -> str:
@@ -702,9 +701,7 @@ def make_program(log: Log, events: list[Event], loop: int = 0) -> Program:
             break
     maker.name_last()
     asked = [*(it for it in maker.items if isinstance(it, Op)), *maker.program.requests, *maker.program.nothings]
-    for number in {it.place for it in asked}:
-        if address := log.addresses.get(number):
-            maker.program.places[number] = address.called_from()
+    maker.program.places = {place: told for place in {it.place for it in asked} if (told := log.place(place))}
     maker.program.javascript = maker.javascript.done()
     for it in maker.items if maker.program.javascript else ():
         if isinstance(it, Done) and NO_CLOCK not in (it.clock, it.call.clock):

@@ -14,31 +14,32 @@ class Steps:
     def __init__(self, program: Program, lines: list[str]) -> None:
         self.program = program
         # of each op's step the place that asked for it; and the step of each callback
-        self.asked_at: dict[int, int] = {}
+        self.asked_at: dict[int, str] = {}
         self.calls: dict[tuple[str, str, int], int] = {}
         found = enumerate(lines, 1)
         for item in program.items:
             match item:
                 case Op():
                     step = next((at for at, line in found if line.startswith(f"{item.text} = ")), 0)
-                    if step and item.place >= 0:
+                    if step and item.place:
                         self.asked_at[step] = item.place
                 case Call():
                     step = next((at for at, line in found if line.startswith(f"{LINES[item.callback]} {item.name} ")), 0)
                     if step:
                         self.calls[item.callback, item.name, item.number] = step
 
-    def places(self) -> tuple[list[str], dict[int, int]]:
-        """The places in words, each once; and by its number in the log which of these each is."""
+    def places(self) -> tuple[list[str], dict[str, int]]:
+        """The places in words, each once; and by how the log has it which of these each is."""
         texts = list(dict.fromkeys(self.program.places.values()))
-        number = {at: texts.index(text) for at, text in self.program.places.items()}
+        order = {text: at for at, text in enumerate(texts)}
+        number = {place: order[text] for place, text in self.program.places.items()}
         return texts, number
 
-    def nothings(self, number: dict[int, int]) -> list[tuple[str, str, int, int]]:
+    def nothings(self, number: dict[str, int]) -> list[tuple[str, str, int, int]]:
         """The calls that changed nothing: the name, the function, the step of the callback in which each was, and its place."""
         return [(it.name, it.function, self.calls.get(it.within, 0) if it.within else 0, number.get(it.place, -1)) for it in self.program.nothings]
 
-    def requests(self, number: dict[int, int]) -> list[Request]:
+    def requests(self, number: dict[str, int]) -> list[Request]:
         """The requests of streams, with their steps: that of the callback in which each was asked for, and that of its own."""
         return [
             Request(it.stream, it.what, it.bytes, it.asked, self.calls.get(it.within, 0) if it.within else 0, number.get(it.place, -1), it.done,

@@ -266,6 +266,7 @@ void write_line(struct loop *loop, char type, const char *format, ...) {
     int processor = -1;
     /* (where a place is new that has a line of its own, in front of this one) */
     int from = loop && called_from && !off && strchr("GIOS", type) ? address_number(called_from) : -1;
+    int caller = from >= 0 ? caller_number(from, called_from) : -1;
     if (loop && !loop->lines && loop->number && type != 'L') write_line(loop, 'L', "%d", loop->behind);
     if (off || (loop && !loop->uv) || !open_log()) return;
     va_list words;
@@ -305,6 +306,10 @@ void write_line(struct loop *loop, char type, const char *format, ...) {
     if (from >= 0) {
         add_text(&line, " @");
         add_number(&line, (uint64_t)from);
+    }
+    if (caller >= 0) {
+        add_sign(&line, '<');
+        add_number(&line, (uint64_t)caller);
     }
     line.text[line.length++] = '\n';
     if (loop) loop->lines++;

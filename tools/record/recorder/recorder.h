@@ -89,6 +89,9 @@ void each(struct loop *loop, void (*tell)(struct object *));
 int object_total(void);
 /* The number of an address in a program's file: the first time a line says where it is. -1 for memory that is in none. */
 int address_number(const void *address);
+/* Of the place with this number, from which libuv was called now: the number of the one that called its function; -1 where nobody knows, or that is
+ * none of the program's (callers.c). */
+int caller_number(int place, const void *from);
 /* The lines that say where it lies, and which its callback is: `what` as in the line at which that begins. */
 void name_place(struct object *object);
 void name_callback(struct object *object, void *callback, enum role role, const char *what);
