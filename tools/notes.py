@@ -100,9 +100,8 @@ class Notes:
     javascript: JavaScript = field(default_factory=JavaScript)
     # the requests that were queued again while they were under way
     again: list[str] = field(default_factory=list)
-    # which loop of the program it is: 0 is the first one; and how much later than that one's its times begin, in ms
+    # which loop of the program it is: 0 is the first one
     loop: int = 0
-    behind: int = 0
     # how long a callback or work (as in `functions`, with its call) was on the processor, in ms
     processor: dict[tuple[str, str, int], int] = field(default_factory=dict)
     # places in the program, in words (`at churn.c:14, in rearm`); and of each step that such a place asked for, which it is
@@ -167,7 +166,6 @@ class Notes:
         lines += [f"polls {self.polls}"] if self.polls else []
         lines += [f"ended {self.ended}"] if self.ended else []
         lines += [f"loop {self.loop}"] if self.loop else []
-        lines += [f"behind {self.behind}"] if self.behind else []
         for name, (kind, origin) in self.names.items():
             lines.append(f"name {name} {kind} {origin}")
             for list in ("work", "on", "after", "closed"):
@@ -274,8 +272,6 @@ def take(notes: Notes, line: str) -> None:
                 notes.by[int(words[1])] = " ".join(words[2:])
             case "loop":
                 notes.loop = int(words[1])
-            case "behind":
-                notes.behind = int(words[1])
             case "cpu":
                 notes.processor[words[1], words[2], int(words[3])] = int(words[4])
             case "place":

@@ -432,10 +432,10 @@ class Follower:
     def do_run(self, item: Run, at: int) -> None:
         """A default run looks at the clock as it begins. What the clock says then has gone by in the main program."""
         self.tick(item.now)
-        if item.clock != NO_CLOCK:
-            self.tick(min(item.clock, next((it.now for it in self.items[at + 1 : at + FAR] if isinstance(it, (Call, Poll, End))), item.now)))
+        begun = next((it.now for it in self.items[at + 1 : at + FAR] if isinstance(it, (Call, Poll, End))), item.now)
+        self.tick(min(item.clock, begun))
         if item.mode == "default":
-            self.tick(next((it.now for it in self.items[at + 1 : at + FAR] if isinstance(it, (Call, Poll, End))), item.now))
+            self.tick(begun)
         self.later("loop", f"run {item.mode}")
         self.where = "entry"
 

@@ -216,7 +216,7 @@ def notes_of(made: Made, note: str, ended: str = "") -> Notes:
         part_of(made, note), {it.name: (it.kind, it.text) for it in made.program.origins}, made.program.functions,
         outside - made.outcome.known, foreign_lines(made), made.outcome.outside, made.outcome.times, made.program.came, made.polls.said(),
         where_it_ended(made, ended), made.outcome.by, made.program.javascript,
-        [name for _, name in made.program.again], behind=made.program.behind, processor=dict(made.program.processor), places=places,
+        [name for _, name in made.program.again], processor=dict(made.program.processor), places=places,
         asked_at={step: number[it] for step, it in stand.asked_at.items() if it in number}, requests=stand.requests(number),
         nothings=stand.nothings(number),
     )

@@ -207,8 +207,6 @@ class Program:
     nothings: list[Nothing] = field(default_factory=list)
     # of each place, as the log has it: where it is in the program, in words
     places: dict[str, str] = field(default_factory=dict)
-    # how much later than the first loop's its times begin, in ms
-    behind: int = 0
     # the requests that were queued again while they were under way, with the line of the log
     again: list[tuple[int, str]] = field(default_factory=list)
     notes: collections.Counter[str] = field(default_factory=collections.Counter)
@@ -520,8 +518,11 @@ class Maker:
         callback, id, *what = last.words.split(" ")
         address = self.log.addresses.get(places.get((int(id), what[0] if callback == "on" else callback), -1))
         told = self.told(address) if address else ""
-        ran = event.clock + self.log.behind(self.loop) - last.clock - self.log.behind(loop)
-        since = f", {ran} ms after that began" if ran > 0 and NO_CLOCK not in (event.clock, last.clock) and self.log.is_one_clock() else ""
+        # (the times of a part of a log count from where that begins: its line has the log's own)
+        mine = self.log.loops[self.loop]
+        clock = mine[bisect.bisect_left(mine, event.line, key=lambda it: it.line)].clock
+        ran = clock + self.log.behind(self.loop) - last.clock - self.log.behind(loop)
+        since = f", {ran} ms after that began" if ran > 0 and NO_CLOCK not in (clock, last.clock) and self.log.is_one_clock() else ""
         return f"loop {loop}, in {told or 'a callback'}{since}"
 
     def joined(self, bound: Bound) -> Call | None:
@@ -610,8 +611,6 @@ class Maker:
             case "I":
                 if bound := self.bound.get(int(event.words.split(" ")[0])):
                     self.program.nothings.append(Nothing(bound.name, event.words.split(" ")[1], event.place, self.here()))
-            case "L":
-                self.program.behind = int(event.words)
             case "S":
                 if event.clock != NO_CLOCK and (bound := self.bound.get(int(event.words.split(" ")[0]))) and not bound.closing:
                     self.items.append(Send(*event.when(), bound.name, self.sender(event)))
@@ -622,7 +621,7 @@ class Maker:
                     self.program.again.append((event.line, bound.name))
             case "J":
                 self.read_javascript(event)
-            case "K":
+            case "K" | "L":
                 pass
             case "C":
                 id, place, *what = event.words.split(" ")
