@@ -6,9 +6,12 @@ states there are, and that the answers are right, is tried by tests/find."""
 from __future__ import annotations
 
 import os
+import re
+import signal
 import subprocess
 import sys
 import tempfile
+import time
 from pathlib import Path
 from typing import Callable, NamedTuple
 
@@ -20,7 +23,12 @@ sys.path.insert(0, str(ROOT / "tools"))
 import reasons  # noqa: E402
 
 SECONDS = 300
-FOUND, NEVER, BAD, UNSETTLED = 0, 1, 2, 3
+FOUND, NEVER, BAD, UNSETTLED, INTERRUPTED = 0, 1, 2, 3, 130
+# A pool of eight with eight requests, whose orders no search settles within some seconds.
+ENDLESS = "\n".join(["workers 8", *(f"var r{at}" for at in range(8)), *(f"main queue r{at} 1" for at in range(8)), "main run default", "begin",
+                     "find code EBUSY", ""])
+# So many seconds behind its start a search is interrupted: it has passed a thousand states by then, also before its proofs.
+INTERRUPTED_AFTER = 10
 Check = Callable[..., None]
 
 
@@ -119,6 +127,14 @@ def try_lines(check: Check, folder: str) -> None:
         said = ran.stderr.splitlines()
         check(f"find, a bad line: {why}", (ran.returncode, ran.stdout) == (BAD, "") and f"uvt: bad script line {line}" in said
               and any(it.startswith(f"uvt: {why}") for it in said), ran)
+    path = os.path.join(folder, "endless")
+    Path(path).write_text(ENDLESS, encoding="ascii")
+    search = subprocess.Popen([TOOL, path], stdout=subprocess.PIPE, stderr=subprocess.PIPE, text=True)
+    time.sleep(INTERRUPTED_AFTER)
+    search.send_signal(signal.SIGINT)
+    out, errors = search.communicate(timeout=SECONDS)
+    check("find, interrupted", search.returncode == INTERRUPTED and re.fullmatch(r"not settled within 10+ states: interrupted\n", out) is not None,
+          (search.returncode, out, errors))
     rows = {reasons.why("find", text.encode().split(b"\n")[:-1], line).row for text, line, _ in BAD_LINES}
     check("find, each row of the table of reasons is tried", not set(reasons.ASKED_REASONS) - rows, set(reasons.ASKED_REASONS) - rows)
     ran = run([os.path.join(folder, "nowhere")])

@@ -3,7 +3,9 @@
 use std::alloc::Global;
 use std::test::Fail;
 use uv_ids::{Event, Fault, Var};
-use uv_inquiry::{Inquiry, found_text, never_text, no_end_text, too_deep_text, unsettled_text};
+use uv_inquiry::{
+    Inquiry, found_text, never_text, no_end_text, out_of_memory_text, too_deep_text, unsettled_text,
+};
 
 /// An answer, and its text.
 #[derive(Clone, Copy)]
@@ -12,6 +14,7 @@ enum Answer {
     Never(u64),
     Unsettled(u64),
     TooDeep,
+    OutOfMemory(u64),
 }
 
 const BOUNDED: &[u8] =
@@ -30,7 +33,7 @@ const STEPS: &[Event] = &[
     Event::Send(Var(0)),
 ];
 
-const TEXTS: [(&[u8], Answer, &[u8]); 7] = [
+const TEXTS: [(&[u8], Answer, &[u8]); 8] = [
     (
         FREE,
         Answer::Found(STEPS, 58),
@@ -63,6 +66,11 @@ const TEXTS: [(&[u8], Answer, &[u8]); 7] = [
         Answer::TooDeep,
         b"not settled within 16777216 steps\n",
     ),
+    (
+        FREE,
+        Answer::OutOfMemory(1),
+        b"not settled within 1 state: out of memory\n",
+    ),
 ];
 
 const NO_END: &[u8] = b"no bound is given, and the script repeats: there may be no end of states\n";
@@ -73,6 +81,7 @@ fn text_of(alloc: Global, inquiry: &Inquiry, answer: Answer) -> Result<Vec<u8>, 
         Answer::Never(states) => never_text(alloc, inquiry, states),
         Answer::Unsettled(states) => unsettled_text(alloc, states),
         Answer::TooDeep => too_deep_text(alloc),
+        Answer::OutOfMemory(states) => out_of_memory_text(alloc, states),
     }
 }
 

@@ -74,6 +74,15 @@ module _ (r : Rules) (s : Spot) where
         more = (way.0, w.1.place, way.1.0, w.3);
       }
 
+  pub found_no_memory : (limit number : ℕ) (t : Spot) → number ≤ limit → (keys : List (List ℕ)) × AreKeys number keys
+      → Finds r s limit (answer.OutOfMemory number) t
+  found_no_memory limit number t few keys = (few, (keys.0, reached number keys.0 keys.1))
+
+  -- memory was refused before anything was kept
+  pub found_none : (limit : ℕ) → (t : Spot) → Finds r s limit (answer.OutOfMemory 0) t
+  unfolding IsDistinct
+  found_none limit t = (omega arith, ([], record { count = refl; distinct = tt; each = λ k has. absurd cc }))
+
   pub found_deep : (limit : ℕ) (t u : Spot) → settled.IsTooDeep (λ _. length r.offers) (next_spot r) spot_code IsDeep s u
       → Finds r s limit answer.TooDeep t
   found_deep limit t u d =

@@ -41,6 +41,7 @@ Finds r s limit (answer.Found number) t =
     × ((keys : List (List ℕ)) × AreReached r s.place number keys)
 Finds r s limit (answer.Never number) t = (number ≤ limit) × IsNever r s.place number
 Finds r s limit answer.Unsettled t = IsMore r s.place limit
+Finds r s limit (answer.OutOfMemory number) t = (number ≤ limit) × ((keys : List (List ℕ)) × AreReached r s.place number keys)
 Finds r s limit answer.TooDeep t = (u : Spot) × (es : List Event) × (u.steps ≡ s.steps ++ es) × Course r s.place es u.place × IsDeep u
 
 -- the key of a place tells which one it is, of those that events lead to

@@ -1,10 +1,10 @@
 //! A search through all orders.
-ghost use Rattle.std.specs.Prelude.{◌≡◌, false, IfOk};
+ghost use Rattle.std.specs.Prelude.{◌≡◌, false};
 ghost use Rattle.uv_find.specs.Found.{Finds, KeysTell};
 ghost use Rattle.uv_find.specs.Questions.{place_answers};
 
 use crate::orders::Orders;
-use std::alloc::{AllocError, Global};
+use std::alloc::Global;
 use uv_model::{Machine, STEPS};
 use uv_search::{Found, Reached, go_back, search, shortest};
 
@@ -22,48 +22,45 @@ pub enum Answer {
     Unsettled,
     /// Steps lead to where no more of them may be taken.
     TooDeep,
+    /// Memory was refused. Steps lead to so many places that were kept until then.
+    OutOfMemory(usize),
 }
 
 /// Searches from where the orders stand, and keeps so many places at most. Of the steps that are found, each is left out, with those
 /// that aren't accepted without it, as long as the rest still answers: those from outside first.
-pub fn find<M: Machine>(
-    alloc: Global,
-    orders: &mut Orders<M>,
-    limit: usize,
-) -> Result<Answer, AllocError>
-    ensures found { IfOk result (λ answer. Finds orders.old.rules orders.old.spot limit answer orders.new.spot) }
+pub fn find<M: Machine>(alloc: Global, orders: &mut Orders<M>, limit: usize) -> Answer
+    ensures found { Finds orders.old.rules orders.old.spot limit result orders.new.spot }
     ensures rules { orders.new.rules ≡ orders.old.rules }
 {
     if orders.step_count() >= STEPS - 1 {
-        return Ok(Answer::TooDeep);
+        return Answer::TooDeep;
     }
-    if orders.place_answers()? {
-        return Ok(Answer::Found(0));
+    match orders.place_answers() {
+        Ok(true) => Answer::Found(0),
+        Ok(false) => find_behind(alloc, orders, limit),
+        Err(_) => Answer::OutOfMemory(0),
     }
-    find_behind(alloc, orders, limit)
 }
 
 /// The same, where the place from which it searches doesn't answer.
-fn find_behind<M: Machine>(
-    alloc: Global,
-    orders: &mut Orders<M>,
-    limit: usize,
-) -> Result<Answer, AllocError>
+fn find_behind<M: Machine>(alloc: Global, orders: &mut Orders<M>, limit: usize) -> Answer
     requires here { place_answers orders.old.rules orders.old.spot.place orders.old.rules.question ≡ false }
-    ensures found { IfOk result (λ answer. Finds orders.old.rules orders.old.spot limit answer orders.new.spot) }
+    ensures found { Finds orders.old.rules orders.old.spot limit result orders.new.spot }
     ensures rules { orders.new.rules ≡ orders.old.rules }
 {
-    match search(alloc, orders, limit)? {
+    match search(alloc, orders, limit) {
         Found::Way(Reached { way, keys }) => {
             go_back(orders, way.len());
-            match shortest(alloc, orders, way, EFFORT)? {
-                Some(_) => Ok(Answer::Found(keys)),
-                None => Ok(Answer::TooDeep),
+            match shortest(alloc, orders, way, EFFORT) {
+                Ok(Some(_)) => Answer::Found(keys),
+                Ok(None) => Answer::TooDeep,
+                Err(_) => Answer::OutOfMemory(keys),
             }
         }
-        Found::Never(places) => Ok(Answer::Never(places)),
-        Found::Unsettled => Ok(Answer::Unsettled),
-        Found::TooDeep => Ok(Answer::TooDeep),
+        Found::Never(places) => Answer::Never(places),
+        Found::Unsettled => Answer::Unsettled,
+        Found::TooDeep => Answer::TooDeep,
+        Found::OutOfMemory(places) => Answer::OutOfMemory(places),
     }
 }
 

@@ -51,6 +51,10 @@ never_text p a states = codes "never" ++ within_text p.names a.clock a.most ++ c
 unfoldable pub unsettled_text : ℕ → List ℕ
 unsettled_text states = codes "not settled within " ++ states_text states ++ codes "\n"
 
+-- memory was refused, and so many states were seen until then
+unfoldable pub out_of_memory_text : ℕ → List ℕ
+out_of_memory_text states = codes "not settled within " ++ states_text states ++ codes ": out of memory\n"
+
 -- an order of steps has more of them than a session holds
 abbrev pub too_deep_text : List ℕ
 too_deep_text = codes "not settled within 16777216 steps\n"

@@ -2,7 +2,7 @@
 ghost use Rattle.std.specs.Prelude.{◌≡◌, ◌++◌, None, IfOk, IfErr, OnOk};
 ghost use Rattle.uv_ids.specs.declared.fault.Fault.TheVariants.{Memory};
 ghost use Rattle.uv_asking.specs.Asked.{asked_in};
-ghost use Rattle.uv_inquiry.specs.Texts.{steps_text, states_text, calls_text, found_text, bound_text, more_bound, more_bounds, within_text, never_text, unsettled_text, too_deep_text, no_end_text};
+ghost use Rattle.uv_inquiry.specs.Texts.{steps_text, states_text, calls_text, found_text, bound_text, more_bound, more_bounds, within_text, never_text, unsettled_text, out_of_memory_text, too_deep_text, no_end_text};
 
 use crate::inquiry::Inquiry;
 use crate::session::push_session;
@@ -85,6 +85,27 @@ pub fn push_unsettled(text: &mut Vec<u8>, states: u64) -> Result<(), AllocError>
     text.extend_from_slice(b"not settled within ")?;
     push_states(text, states)?;
     text.extend_from_slice(b"\n")?;
+    Ok(())
+}
+
+/// That memory was refused, and how many states were seen until then.
+pub fn out_of_memory_text(alloc: Global, states: u64) -> Result<Vec<u8>, Fault>
+    ensures text { IfOk result (λ text. text.items ≡ out_of_memory_text states) }
+    ensures err { IfErr result (λ fault. fault ≡ Memory) }
+{
+    let mut text = Vec::new(alloc);
+    push_out_of_memory(&mut text, states)?;
+    Ok(text)
+}
+
+/// Puts that memory was refused behind a text.
+#[tactic(auto, unfolding(crate::specs::Texts::out_of_memory_text))]
+pub fn push_out_of_memory(text: &mut Vec<u8>, states: u64) -> Result<(), AllocError>
+    ensures { OnOk result (text.new.items ≡ text.old.items ++ out_of_memory_text states) }
+{
+    text.extend_from_slice(b"not settled within ")?;
+    push_states(text, states)?;
+    text.extend_from_slice(b": out of memory\n")?;
     Ok(())
 }
 

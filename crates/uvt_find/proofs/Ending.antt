@@ -12,8 +12,8 @@ use Rattle.uv_find.specs.Orders.{Rules}
 use Rattle.uv_find.specs.Found.{Finds}
 use Rattle.uv_find.specs.Spots.{Spot, rules_of, first_spot}
 use Rattle.uv_inquiry.specs.Grammar.{ReadsInquiry}
-use Rattle.uv_inquiry.specs.Texts.{found_text, never_text, unsettled_text, too_deep_text}
-use Rattle.uvt_find.specs.Status.{Answers, found, never, unsettled, too_deep, Ran, bad_line, nothing_read, status_of}
+use Rattle.uv_inquiry.specs.Texts.{found_text, never_text, unsettled_text, too_deep_text, out_of_memory_text}
+use Rattle.uvt_find.specs.Status.{Answers, found, never, unsettled, too_deep, out_of_memory, Ran, bad_line, nothing_read, status_of}
 
 module _ (p : Program) (a : Asked) (r : Rules) (s t : Spot) (rules : r ≡ rules_of p a) (spot : s ≡ first_spot r) where
   begun : (x : Answer) → Finds r s a.states x t → Finds (rules_of p a) (first_spot (rules_of p a)) a.states x t
@@ -35,6 +35,9 @@ module _ (p : Program) (a : Asked) (r : Rules) (s t : Spot) (rules : r ≡ rules
   tells_deep f =
       let g = begun answer.TooDeep f in
       too_deep (g.1, g.0.place, g.3, subst (λ (es : List Event). STEPS ≤ length es + 1) g.2 g.4)
+
+  pub tells_no_memory : (n : ℕ) → Finds r s a.states (answer.OutOfMemory n) t → Answers p a (out_of_memory_text n) 3
+  tells_no_memory n f = let g = begun (answer.OutOfMemory n) f in out_of_memory n g.1.0 g.1.1 g.0
 
 -- what is read that asks nothing
 pub unread : (input old : List ℕ) (f : Fault) → ReadsInquiry input (Err f) → Ran input old old (status_of f)

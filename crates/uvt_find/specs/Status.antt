@@ -9,10 +9,10 @@ use Rattle.uv_engine.specs.Sink.{CutShort}
 use Rattle.uv_asking.specs.Asked.{Asked}
 use Rattle.uv_find.specs.Orders.{Place, beginning}
 use Rattle.uv_find.specs.Courses.{IsAnswer}
-use Rattle.uv_find.specs.Found.{IsNever, IsMore, IsDeepest}
+use Rattle.uv_find.specs.Found.{AreReached, IsNever, IsMore, IsDeepest}
 use Rattle.uv_find.specs.Spots.{rules_of}
 use Rattle.uv_inquiry.specs.Grammar.{IsInquiry, IsBadInput}
-use Rattle.uv_inquiry.specs.Texts.{found_text, never_text, unsettled_text, too_deep_text}
+use Rattle.uv_inquiry.specs.Texts.{found_text, never_text, unsettled_text, too_deep_text, out_of_memory_text}
 
 -- the text that answers what is asked of a script, and its status
 pub data Answers (p : Program) (a : Asked) : List ℕ → ℕ → Type 0 where
@@ -25,6 +25,9 @@ pub data Answers (p : Program) (a : Asked) : List ℕ → ℕ → Type 0 where
   unsettled : IsMore (rules_of p a) (beginning (rules_of p a)) a.states → Answers p a (unsettled_text a.states) 3
   -- events lead to where no more of them may be taken
   too_deep : IsDeepest (rules_of p a) (beginning (rules_of p a)) → Answers p a too_deep_text 3
+  -- memory was refused, and events lead to so many places that were kept until then
+  out_of_memory : (states : ℕ) (keys : List (List ℕ)) → AreReached (rules_of p a) (beginning (rules_of p a)) states keys → states ≤ a.states →
+      Answers p a (out_of_memory_text states) 3
 
 -- the status of a fault
 abbrev pub status_of : Fault → ℕ

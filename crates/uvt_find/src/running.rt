@@ -13,8 +13,8 @@ use uv_engine::{Sink, Source, write_text};
 use uv_find::{Answer, Orders, find};
 use uv_ids::Fault;
 use uv_inquiry::{
-    Inquiry, found_text, may_never_end, never_text, no_end_text, read_inquiry, too_deep_text,
-    unsettled_text,
+    Inquiry, found_text, may_never_end, never_text, no_end_text, out_of_memory_text, read_inquiry,
+    too_deep_text, unsettled_text,
 };
 use uv_model::Machine;
 use uv_script::Script;
@@ -47,7 +47,7 @@ fn search<M: Machine>(
     ensures err { IfErr result (λ fault. fault ≡ Memory) }
 {
     let states = inquiry.asking.states;
-    match find(alloc, orders, states as usize)? {
+    match find(alloc, orders, states as usize) {
         Answer::Found(states) => Ok(Told {
             text: found_text(alloc, &inquiry.script, orders.steps(), states as u64)?,
             status: 0,
@@ -62,6 +62,10 @@ fn search<M: Machine>(
         }),
         Answer::TooDeep => Ok(Told {
             text: too_deep_text(alloc)?,
+            status: 3,
+        }),
+        Answer::OutOfMemory(states) => Ok(Told {
+            text: out_of_memory_text(alloc, states as u64)?,
             status: 3,
         }),
     }
@@ -132,7 +136,7 @@ fn respond<M: Machine, W: Sink, E: Write>(
 }
 
 /// Reads what is asked, answers it, and gives the exit status: 0 where steps are found that answer the question, 1 where none do, 3
-/// where that isn't settled, 2 for a bad line, 4 for any other fault. A fault is a line on the errors, `uvt: ` and its text. So is a
+/// where that isn't settled, also since the search was out of memory, 2 for a bad line, 4 for any other fault. A fault is a line on the errors, `uvt: ` and its text. So is a
 /// warning, before the search, where there may be no end of states.
 pub fn run<M: Machine, R: Source, W: Sink, E: Write>(
     alloc: Global,
