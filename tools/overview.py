@@ -19,8 +19,13 @@ from why_requests import longest
 
 # How many lines each part has at the most.
 LINES = 5
+# Of so many calls that were late it is looked at who was in the way.
+GROUPED = 20_000
 # So many polls in a row that don't wait are a spin.
 ROUNDS = 10
+# A callback of so many ms is long; and what stays there when it was told: an event of a poll handle, a change of a file.
+LONG = 2
+STAYS = ("poll", "fs_event", "fs_poll")
 # So many names are listed at the most.
 NAMES = 40
 
@@ -101,8 +106,27 @@ class Overview:
         return f"{late.name}, {self.whys[late.name].first_line(late.wait)}{kind}"
 
     def timers(self) -> list[str]:
-        late = [Late(name, self.walk.clock(it.ended) - it.due, it) for name, it in self.called("timer")]
-        return [self.told(it, "") for it in self.worst(late)]
+        late = [Late(name, took, it) for name, it in self.called("timer") if (took := self.walk.clock(it.ended) - it.due) >= self.least]
+        if len(late) <= LINES:
+            return [self.told(it, "") for it in self.worst(late)]
+        groups: dict[tuple[str, int], list[Late]] = {}
+        for it in sorted(late, key=lambda it: it.took, reverse=True)[:GROUPED]:
+            groups.setdefault(self.culprit(it), []).append(it)
+        self.worst(late)
+        least = "at least " if len(late) > GROUPED else ""
+        return [self.told(it[0], "") + self.others(it[1:], least) for it in list(groups.values())[:LINES]]
+
+    def culprit(self, late: Late) -> tuple[str, int]:
+        """Where most of the time went by that a timer was late."""
+        begin, end = late.wait.due, self.walk.clock(late.wait.ended)
+        took = max(self.walk.causes(begin, end), key=lambda it: it.between(begin, end))
+        return took.what, took.first
+
+    def others(self, late: list[Late], least: str) -> str:
+        """The other calls that are late by the same."""
+        names = list(dict.fromkeys(it.name for it in late))
+        by = f"{late[-1].took} ms" if late[-1:] and late[-1].took == late[0].took else f"{late[-1].took} to {late[0].took} ms" if late else ""
+        return f"; by the same {least}{times(len(late), 'more call')} by {by}: {few(names)}" if late else ""
 
     def javascript(self) -> list[str]:
         """Those that JavaScript started, of which node has many on one timer of the loop."""
@@ -211,11 +235,38 @@ class Overview:
             if step and step not in waits:
                 row.append(step)
                 continue
-            if len(row) >= ROUNDS:
+            if len(row) >= ROUNDS and self.is_spin(row):
                 found.append(row)
             row = []
         found.sort(key=len, reverse=True)
         return [self.spin(it) for it in found[:LINES]]
+
+    def is_spin(self, row: list[int]) -> bool:
+        """In a recording: did nothing come that had to be done in most of these rounds, and is the time more than the work, that of long callbacks?"""
+        if not self.walk.notes.names:
+            return True
+        left = self.idled(row)
+        if left < self.least or 2 * left <= self.time_of(row):
+            return False
+        bounds = [*row, self.walk.next_line("poll", row[-1])]
+        return 2 * sum(self.has_work(*it) for it in zip(bounds, bounds[1:])) < len(row)
+
+    def time_of(self, row: list[int]) -> int:
+        return self.walk.clock(row[-1]) - self.walk.clock(row[0])
+
+    def idled(self, row: list[int]) -> int:
+        """How much of the time of these rounds was in no long callback, in ms."""
+        begin, end = self.walk.clock(row[0]), self.walk.clock(row[-1])
+        long = (it.between(begin, end) for it in self.walk.causes(begin, end) if it.is_callback() and it.took() >= LONG)
+        return end - begin - sum(long)
+
+    def has_work(self, poll: int, behind: int) -> bool:
+        """Did something come in this round that is over when it is done: bytes, a connection, a signal, a request, a send of somebody else?"""
+        walk = self.walk
+        if walk.steps_between("after", poll, behind - 1) or any(walk.lines[it].startswith("out send ") for it in walk.steps_between("out", poll, behind - 1)):
+            return True
+        calls = (walk.calls[it] for it in walk.steps_between("call", poll, behind - 1) if walk.steps[it - 1].startswith("io "))
+        return any(walk.notes.what.get(name, {}).get(call, "").split(":")[0] not in STAYS for _, name, call in calls)
 
     def spin(self, row: list[int]) -> str:
         counts: dict[str, int] = {}
@@ -228,9 +279,8 @@ class Overview:
         why = f"{few(who)} {'was' if len(who) == 1 else 'were'} called in each of these rounds or most" if who else "nobody was called each time"
         are = "is an active idle handle" if len(idle) == 1 else "are active idle handles"
         active = f"; {few(idle)} {are}, so the poll doesn't wait" if idle else ""
-        self.next += [(len(row), who[0])] if who and who[0] in self.whys else []
-        begin, end = self.walk.clock(row[0]), self.walk.clock(row[-1])
-        return f"{len(row)} polls in a row didn't wait, from step {row[0]} to {row[-1]}, {end - begin} ms: {why}{active}"
+        self.next += [(self.idled(row), who[0])] if who and who[0] in self.whys else []
+        return f"{len(row)} polls in a row didn't wait, from step {row[0]} to {row[-1]}, {self.time_of(row)} ms: {why}{active}"
 
     def who_is(self, kind: str, name: str, call: int) -> str:
         """A name, or what its callback is in node; `` where that tells nothing of the program."""

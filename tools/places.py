@@ -14,6 +14,12 @@ MEANT = {
     "polled woken": "a callback of I/O left the poll, which was woken",
     "done unwoken": "nobody had woken the poll, so it calls nobody",
 }
+# Where a loop is, by the first word of its place, for people: whose turn it is.
+TURNS = {
+    "entry": "the beginning of its run", "timers": "its timers", "pending": "the callbacks that it had put off", "idle": "its idle handles",
+    "prepare": "its prepare handles", "poll": "its poll", "polled": "the callbacks of its poll", "done": "the after callbacks",
+    "async": "its async handles", "check": "its check handles", "closing": "the close callbacks",
+}
 RUN = re.compile(r"(?P<mode>default|once|nowait) (?P<main>\d+) (?P<where>.*)$")
 
 
@@ -30,6 +36,10 @@ class Place:
 
     def is_in_callback(self) -> bool:
         return self.callback is not None
+
+    def turn(self) -> str:
+        """Whose turn it is, in a run."""
+        return TURNS.get(self.where.split(" ")[0], self.where)
 
     def words(self) -> str:
         if self.mode is None:

@@ -262,36 +262,3 @@ def html(walk: Walk, tell: Callable[[int, int], None] = lambda *_: None) -> str:
     # (`<` could end the element that the values stand in)
     values = json.dumps(Page(walk, tell).values(), separators=(",", ":")).replace("<", "\\u003c")
     return TEMPLATE.read_text().replace("/*VALUES*/null", values)
-
-
-# ---- for Perfetto and chrome://tracing
-
-
-def trace_events(walk: Walk) -> dict[str, object]:
-    """The run in the trace event format. A step takes a microsecond, and a millisecond of the clock as long as it says."""
-    page = Page(walk)
-    events: list[dict[str, object]] = []
-    for thread, lane in enumerate(page.all_lanes(), 1):
-        events.append({"ph": "M", "pid": 1, "tid": thread, "name": "thread_name", "args": {"name": lane.name}})
-        for (length, what), (end, _) in zip(lane.parts, [*lane.parts[1:], (walk.length, "")]):
-            if what in ("", "nothing", "inactive"):
-                continue
-            begin, until = time_of(walk, length), time_of(walk, end)
-            events.append({"ph": "X", "pid": 1, "tid": thread, "name": what, "ts": begin, "dur": until - begin, "args": {"step": length}})
-    javascript = walk.notes.javascript
-    for span in javascript.spans:
-        resource = javascript.resources[span.id]
-        events.append({"ph": "X", "pid": 2, "tid": 1, "name": javascript.who(span).text(), "ts": span.begin * 1000, "dur": max(1, span.end - span.begin) * 1000,
-                       "args": {"what": f"{resource.what()} {resource.asked()}"}})
-    for look in javascript.looks:
-        events.append({"ph": "X", "pid": 2, "tid": 2, "name": look.under.inner.text(), "ts": look.begin, "dur": look.end - look.begin})
-    for step in range(1, walk.length + 1):
-        what = walk.lines[step] if SEND.fullmatch(walk.lines[step]) else walk.steps[step - 1] if walk.steps[step - 1].startswith("io ") else ""
-        if what:
-            events.append({"ph": "i", "pid": 1, "tid": 1, "s": "p", "name": what, "ts": time_of(walk, step), "args": {"step": step}})
-    return {"traceEvents": events, "displayTimeUnit": "ms"}
-
-
-def time_of(walk: Walk, length: int) -> int:
-    """In microseconds: the clock, and one more for each step."""
-    return walk.clock(length) * 1000 + length

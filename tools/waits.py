@@ -59,6 +59,8 @@ class History:
     refusals: list[Refusal] = field(default_factory=list)
     # the steps of `unref` and `ref`
     refs: list[tuple[int, str]] = field(default_factory=list)
+    # the steps of `again` of a timer that wasn't active and doesn't repeat
+    nothing: list[int] = field(default_factory=list)
 
     def kind(self) -> str | None:
         return self.made[-1][2] if self.made else None
@@ -206,6 +208,8 @@ class Follower:
     def restart(self, step: int) -> None:
         """A start of a timer, or `again`, which only stops one that doesn't repeat."""
         active = self.is_active(step)
+        if not active and not self.open:
+            self.history.nothing.append(step)
         self.end(step, "started again" if active else "stopped")
         if active:
             self.begin(step, "timer")

@@ -21,6 +21,7 @@ MOVES = ("back", "rback", "forward")
 SHOWS = ("state", "image", "trace", "record")
 LISTS = {"call": "on", "after": "after", "closed": "closed"}
 WORDS = {"on": "the callback", "after": "the after callback", "closed": "the close callback"}
+CALLBACKS = tuple(f"{it} of " for it in WORDS.values())
 POLL = "the poll"
 MANY_STEPS = 10000
 # So many lines of states are kept, and so many are asked for without waiting.
@@ -79,7 +80,7 @@ class Took:
         return processor_told(self.processor, self.took())
 
     def is_callback(self) -> bool:
-        return " of " in self.what
+        return self.what.startswith(CALLBACKS)
 
     def is_poll(self) -> bool:
         return self.what == POLL
@@ -244,7 +245,10 @@ class Walk:
         elif poll:
             new = Took(POLL, poll, step)
         else:
-            new = Took(f"the run at `{self.place(step - 1).where}`", step, step)
+            place = self.place(step - 1)
+            # (of a real program nobody knows when its run began, only when that looked at the clock first)
+            before = place.where == "entry" and self.notes.names
+            new = Took("the program, before its run looked at the clock" if before else f"the loop, at {place.turn()}", step, step)
         if not self.tooks or (self.tooks[-1].what, self.tooks[-1].first) != (new.what, new.first):
             self.tooks.append(new)
         took = self.took_at[step] = self.tooks[-1]

@@ -9,7 +9,7 @@ from __future__ import annotations
 from came import BEHIND, LEFT, Came, behind, called_between, came, left_by, unwoken_between, waited
 from conversation import State
 from javascript import at
-from places import read_place
+from places import Place, read_place
 from waits import WATCHERS, History, Refusal, Wait, follow, kind_of_call
 from walk import LeftByIo, Took, Walk, processor_told
 from why_requests import nothings, of_stream
@@ -95,8 +95,11 @@ class Why:
     def answer(self) -> list[str]:
         items: list[tuple[int, list[str]]] = []
         for run in self.runs():
-            items.append((run[0].ended or self.end + 1, self.several(run) if len(run) > 1 else self.one(run[0])))
+            together = len(run) > (FEW if self.is_pushed(run[0]) else 1)
+            items += [(run[0].ended or self.end + 1, self.several(run))] if together else [(it.ended or self.end + 1, self.one(it)) for it in run]
         items += [(it.step, self.refused(it)) for it in self.history.refusals]
+        items += [(it, [f"step {it}: `again {self.name}` did nothing: it has no repeat, and wasn't active", f"    {self.walk.by(it)}"])
+                  for it in self.history.nothing]
         items.sort(key=lambda it: it[0])
         noted = [*of_stream(self.walk, self.name), *nothings(self.walk, self.name)]
         return [self.head(), *self.known(), *noted, *self.never_asked(), *(line for _, lines in items for line in lines)]
@@ -141,11 +144,27 @@ class Why:
         for wait in self.history.waits:
             last = rows[-1][-1] if rows else None
             alike = last and self.is_plain(wait) and self.is_plain(last) and self.is_again(wait) == self.is_again(last)
-            if alike and last.ended == self.begun_by(wait):
+            if alike and last.ended == self.begun_by(wait) or last and self.is_pushed(wait) and self.is_pushed(last) and last.ended == wait.asked:
                 rows[-1].append(wait)
             else:
                 rows.append([wait])
         return rows
+
+    def is_pushed(self, wait: Wait) -> bool:
+        """Was a timer started again before it was due?"""
+        return wait.how == "started again" and self.walk.clock(wait.ended) < wait.due
+
+    def pushed(self, run: list[Wait]) -> list[str]:
+        """A timer that was started again and again before it was due."""
+        asked: dict[tuple[tuple[str, str], str], list[int]] = {}
+        for it in run:
+            who = self.walk.calls.get(self.walk.inside[it.ended], ("", "", 0))[:2] if self.walk.steps[it.ended - 1] == "loop" else ("", "")
+            asked.setdefault((who, self.walk.lines[it.ended]), []).append(it.ended)
+        first, last = run[0], run[-1]
+        return [f"steps {first.ended} to {last.ended}: {len(run)} times no call: each time started again before it was due",
+                f"    due from {first.due} ms to {last.due} ms, started again from {self.walk.clock(first.ended)} ms to {self.walk.clock(last.ended)} ms",
+                *(f"    at {steps_of(steps)}{', the first time' if len(steps) > 1 else ''} {self.walk.by(steps[0])}" for steps in list(asked.values())[:MANY]),
+                f"    {self.asked(first)}"]
 
     def is_plain(self, wait: Wait) -> bool:
         """Was it asked for by a callback of its own, and called in its time? In a recording that is within a millisecond."""
@@ -171,9 +190,11 @@ class Why:
 
     def several(self, run: list[Wait]) -> list[str]:
         first, last = run[0], run[-1]
+        if self.is_pushed(first):
+            return self.pushed(run)
         late = max(self.walk.clock(it.ended) - it.due for it in run) if first.due is not None else 0
         on_time = "each on time" if late <= 0 else f"each on time, or late by {late} ms"
-        how = f"due from {first.due} ms to {last.due} ms, {on_time}" if first.due is not None else "each in its section, as it stays active"
+        how = f"due from {first.due} ms to {last.due} ms, {on_time}" if first.due is not None else "each in its turn, as it stays active"
         if first.what == "io":
             how = "each as something came"
         if not self.is_again(last):
@@ -304,9 +325,9 @@ class Why:
         if not self.is_again(wait) and self.walk.place(wait.asked).where == wait.what and self.walk.place(wait.asked).mode:
             begun = self.walk.last_line((wait.what,), wait.asked)
             next_one = self.walk.last_line((wait.what,), wait.ended)
-            return f"an iteration later: it was started in its own section `{wait.what}`, which had begun at step {begun}", [
-                *details, f"the next one began at step {next_one}"]
-        return f"in the section `{wait.what}` that began at step {self.walk.last_line((wait.what,), wait.ended)}", details
+            return f"an iteration later: it was started in the turn of the {wait.what} handles, which had begun at step {begun}", [
+                *details, f"their next turn began at step {next_one}"]
+        return f"in the turn of the {wait.what} handles that began at step {self.walk.last_line((wait.what,), wait.ended)}", details
 
     def between(self, wait: Wait, first: int) -> str:
         begin, end = self.walk.happened(first), self.walk.clock(wait.ended)
@@ -392,14 +413,14 @@ class Why:
     def left_unwoken(self, it: LeftByIo, section: str) -> str:
         name = self.walk.calls[it.call][1]
         return (f"the callback of {name} left the poll of step {it.poll} at step {it.call}, and nobody had woken it by then:"
-                f" so its section `{section}` calls nobody")
+                f" so {'no after callback' if section == 'done' else 'no async handle'} was called behind it")
 
     def close(self, wait: Wait) -> tuple[str, list[str]]:
         details = []
         busy = [at for at in self.walk.steps_between("closeloop", wait.asked, wait.ended - 1) if self.walk.lines[at] == "closeloop = EBUSY"]
         if busy:
             details.append(f"until then the loop had it: `closeloop` at {steps_of(busy)} answers EBUSY")
-        return f"it was closed at step {wait.asked}, and the section `closing` came at step {self.walk.last_line(('closing',), wait.ended)}", details
+        return f"it was closed at step {wait.asked}, and the turn of the close callbacks came at step {self.walk.last_line(('closing',), wait.ended)}", details
 
     def request(self, wait: Wait) -> tuple[str, list[str]]:
         if wait.cancelled:
@@ -464,7 +485,7 @@ class Why:
         before = self.before(self.walk.state(wait.finished).lists["done"])
         behind = f", behind {few(before)}" if before else ""
         begun = self.walk.last_line(("done",), wait.ended)
-        return f"the section `done` came at step {begun}{behind}"
+        return f"the turn of the after callbacks came at step {begun}{behind}"
 
     def before(self, names: list[str]) -> list[str]:
         return names[: names.index(self.name)] if self.name in names else []
@@ -585,8 +606,9 @@ class Why:
             case "not due":
                 return "it isn't due yet, and the session ends"
         if wait.what == "io":
-            return f"nothing came for it, and the session ends (it stands at `{place.where}`)"
-        return f"the session ends before the section `{SECTIONS.get(wait.what, wait.what)}` comes to it (it stands at `{place.where}`)"
+            return f"nothing came for it, and the session ends (the loop is at {place.turn()})"
+        turn = Place(0, where=SECTIONS.get(wait.what, wait.what)).turn()
+        return f"the session ends before the loop comes to it, among {turn} (it is at {place.turn()})"
 
     def who_works(self, state: State) -> str:
         before = self.before(state.lists["waiting"])

@@ -107,6 +107,11 @@ QUESTIONS = [
     Question("winner", "news", [r"call 1: for the send at step \d+, in the same millisecond\n .* after quick send news, in done"], [r"\d sends",
              "nobody saw"]),
     Question("watched", "ping", [r"sent to at step \d+ by loop 1, in on_beat \(watched\.c:13\)"], ["from outside"]),
+    Question("pushed", "inactivity", [r"steps \d+ to \d+: 20 times no call: each time started again before it was due",
+                                     r"the first time by line \d+: on request @1 start inactivity 40 0, in on_request \(pushed\.c:9\)",
+                                     r"call 1: (on time|late by \d ms)"], ["no call: started again by"]),
+    Question("chatter", ALL, [r"\d\d\d callbacks"], ["who spun"]),
+    Question("idling", ALL, [r"who spun\n    \d+ polls in a row didn't wait, .*: once was called in each of .*; once is an active idle handle"]),
     Question("child", "kill_it", [r"call 1: (on time|late by \d ms: the poll, .* the system ended it)"], ["callback of output"]),
     # ---- requests of streams
     Question("chat", "peer", [r"its requests: 1 write, 8388608 bytes",

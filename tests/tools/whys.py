@@ -44,9 +44,9 @@ WANTED: list[tuple[str, str, str | None, list[str]]] = [
     ("run-ends-early.uvt", "beat", None, ["meanwhile the run ended at step 20: nothing kept the loop alive", "step 37, call 1: on time",
                                           "for beat is unreferenced since step 4, by line 12: main unref beat"]),
     ("run-ends-early.uvt", "beat", "tick 5", ["the end, at 11: no call: the loop waits in the poll, since step 11 and until 5 ms", "due at 10 ms"]),
-    ("watcher-waits.uvt", "late", None, ["step 23, call 1: an iteration later: it was started in its own section `idle`, which had begun at step 7",
+    ("watcher-waits.uvt", "late", None, ["step 23, call 1: an iteration later: it was started in the turn of the idle handles, which had begun at step 7",
                                          "started at step 9 by line 17: on starter @1 start late"]),
-    ("watcher-waits.uvt", "soon", None, ["step 12, call 1: in the section `prepare` that began at step 11"]),
+    ("watcher-waits.uvt", "soon", None, ["step 12, call 1: in the turn of the prepare handles that began at step 11"]),
     ("poll-does-not-block.uvt", "t", None, ["the poll didn't wait, at step 12: busy was an active idle handle", "due at 50 ms, called at 50 ms"]),
     ("poll-does-not-block.uvt", "t", "back 4", ["the loop waits in the poll", "until 50 ms",
                                                 "the poll didn't wait, at step 12: busy was an active idle handle"]),
@@ -62,7 +62,7 @@ WANTED: list[tuple[str, str, str | None, list[str]]] = [
                                   "`send a` answers EINVAL", "`send a` answers ESTALE"]),
     ("stale-name.uvt", "w", None, ["step 33: `stop w` answers ESTALE: it is gone, since step 14",
                                    "its slot has n now (0.1)", "by line 16: on t stop w"]),
-    ("stale-name.uvt", "n", None, ["in the section `check`", "started at step 16 by line 15: closed w start n"]),
+    ("stale-name.uvt", "n", None, ["in the turn of the check handles", "started at step 16 by line 15: closed w start n"]),
     ("break-at-a-code.uvt", "t", None, ["step 33: `active t` answers ESTALE: it is gone, since step 28",
                                         "it was closed at step 21, by line 12: on i @2 close t"]),
     ("what-it-waits-for.uvt", "fast", "tick 8", ["the loop waits in the poll", "until 8 ms", "due at 8 ms, and the session ends at 0 ms"]),
@@ -78,7 +78,7 @@ WANTED: list[tuple[str, str, str | None, list[str]]] = [
     ("loop-is-busy.uvt", "t", None, ["until then the loop had it: `closeloop` at step 3 answers EBUSY", "step 13, close callback 1"]),
     ("io-before-sends.uvt", "wake", None, [
         "step 23, call 1: an iteration later, for the send at step 11, in the same millisecond",
-        "the callback of reply left the poll of step 9 at step 10, and nobody had woken it by then: so its section `async` calls nobody",
+        "the callback of reply left the poll of step 9 at step 10, and nobody had woken it by then: so no async handle was called behind it",
         "sent to at step 11 by line 12: on reply @1 send wake"]),
     ("io-before-sends.uvt", "reply", None, ["step 10, call 1: it left the poll", "nobody had woken that poll, so wake waited for the next one",
                                             "closed by line 14: on wake close reply"]),
@@ -100,9 +100,9 @@ WANTED_OF_IO: list[tuple[str, str, list[str]]] = [
         "step 15: no further call: stopped by line 9: on s @2 stop s"]),
     ("what-comes-behind-a-callback-of-i-o-that-left-the-poll-is-for-the-next-one", "a", [
         "step 28, call 1: an iteration later, for the send at step 14, in the same millisecond",
-        "the callback of r left the poll of step 10 at step 12, and nobody had woken it by then: so its section `async` calls nobody"]),
+        "the callback of r left the poll of step 10 at step 12, and nobody had woken it by then: so no async handle was called behind it"]),
     ("what-comes-behind-a-callback-of-i-o-that-left-the-poll-is-for-the-next-one", "w", [
-        "after callback 1: done at step 13", "nobody had woken it by then: so its section `done` calls nobody"]),
+        "after callback 1: done at step 13", "nobody had woken it by then: so no after callback was called behind it"]),
     ("what-comes-behind-a-callback-of-i-o-that-left-the-poll-is-for-the-next-one", "r", [
         "nobody had woken that poll, so w and a waited for the next one", "step 26: no further call: closed by line 12: after w close r"]),
     ("what-comes-behind-a-callback-of-i-o-that-left-the-poll-is-for-the-next-one", "", [
@@ -116,7 +116,7 @@ WANTED_OF_IO: list[tuple[str, str, list[str]]] = [
         "step 11: no call: closed by line 13: main close r", "step 12: `start r` answers EINVAL: it closes, since step 11"]),
     ("where-a-callback-of-i-o-may-come-and-where-none-may", "r", [
         "step 13, call 1: it left the poll: something came, and when nobody knows", "steps 15 to 22, calls 2 to 4: each as something came",
-        "at steps 15, 17 and 22", "the end, at 22: no further call: nothing came for it, and the session ends (it stands at `pending`)",
+        "at steps 15, 17 and 22", "the end, at 22: no further call: nothing came for it, and the session ends (the loop is at the callbacks that it had put off)",
         "it keeps the loop alive: it is active from its start on"]),
 ]
 # A callback that comes behind another one of the same poll, and one in `pending`. By hand: steps 1 to 12 lead to the poll, 13 is the tick, 14
@@ -151,6 +151,11 @@ loop 3
 io fast
 loop 2
 """
+# A timer that doesn't repeat, and isn't active: `again` does nothing. By hand: steps 1 and 2 make and start it, 3 is `again`, which stops it, 4 does
+# nothing.
+NOTHING = "var t\nmain init t timer\nmain start t 5 0\nmain again t\nmain again t\nbegin\nloop 4\n"
+WANTED_NOTHING = [("t", ["step 3: no call: stopped by line 4: main again t",
+                         "step 4: `again t` did nothing: it has no repeat, and wasn't active\n    by line 5: main again t"])]
 WANTED_BEHIND = [
     ("fast", ["step 17, call 1: something came, and it was called 30 ms behind the end of the poll, at step 14: the callback of slow took 30 ms,"
               " from step 14 to 16",
@@ -181,7 +186,9 @@ def try_examples(check) -> None:
 
 def try_io(check) -> None:
     rows = [((CONVERSATIONS / f"{file}.uvt").read_text(), file, name, wanted) for file, name, wanted in WANTED_OF_IO]
-    for text, what, name, wanted in [*rows, *((BEHIND, "one behind another", name, wanted) for name, wanted in WANTED_BEHIND)]:
+    rows += [(BEHIND, "one behind another", name, wanted) for name, wanted in WANTED_BEHIND]
+    rows += [(NOTHING, "a timer that doesn't repeat", name, wanted) for name, wanted in WANTED_NOTHING]
+    for text, what, name, wanted in rows:
         script, commands = read_text(text)
         with Walk(script, longest_way(script, commands)) as walk:
             out = "\n".join(why(walk, name) if name else Overview(walk).answer("why NAME"))
