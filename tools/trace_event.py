@@ -148,7 +148,7 @@ class Trace:
                 if it.what == "work":
                     end = self.times.begin(it.ended) if it.ended else last
                     self.span("request", name, self.times.begin(it.asked), end, step=it.asked, outcome="cancelled" if it.cancelled else it.how)
-        for it in self.walk.notes.requests if hasattr(self.walk.notes, "requests") else ():
+        for it in self.walk.notes.requests:
             end = 1000.0 * it.done if it.done >= 0 else last
             self.span("stream", f"{it.what} of {it.stream}", 1000.0 * it.asked, end, bytes=it.bytes, status=it.status)
 

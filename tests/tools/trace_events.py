@@ -170,7 +170,7 @@ def try_trace_events(tries) -> None:
         check(f"trace events of {path.name}", events and not wrong, wrong[:5])
     try_known(check)
     with tempfile.TemporaryDirectory() as folder:
-        for log in (HERE / "truths" / "pool.log", HERE / "truths" / "watched.log", HERE / "truths" / "starve.log", HERE / "logs" / "threads.log",
+        for log in (HERE / "truths" / "pool.log", HERE / "truths" / "watched.log", HERE / "truths" / "starve.log", HERE / "truths" / "chat.log", HERE / "logs" / "threads.log",
                     HERE / "logs" / "node-late.log", HERE / "logs" / "uvloop-echo.log", HERE / "logs" / "starved.log"):
             data = log.read_bytes()
             from_data(data, read_log(data), str(Path(folder) / log.stem))
