@@ -1,6 +1,6 @@
 """Proves and builds the program: tools/build.py ROOT KEPT CRATE..
 
-The crates are those that the program stands on, each after those that it stands on itself, and the program last: uvt, or uvt_find. The libraries
+The crates are those that the program depends on, each after those that it depends on itself, and the program last: uvt, or uvt_find. The libraries
 are proved side by side, in copies of the repository beside it (tools/lanes.py). Then the program is built in the repository
 itself, where the kit's command takes over what was proved in the copies: so what was proved stands in crates/*/out
 afterwards, for the next build and for `rt check`. Where the build is stopped or fails, the copies stay, and the next one

@@ -1,4 +1,4 @@
-"""The claims of the program, the clauses that say them, and the definitions that these stand on, as they are in the sources.
+"""The claims of the program, the clauses that say them, and the definitions that these depend on, as they are in the sources.
 
 A definition is a top line of a file of specs/ with what belongs to it. Which others it names is read off its words and the file's `use`
 lines; so is which definitions a clause names, by the `ghost use` lines of its file.
@@ -243,7 +243,7 @@ class Specs:
         self.names[file] = names
 
     def needs(self, roots: list[tuple[str, str]]) -> list[Definition]:
-        """These definitions and all that they stand on, each behind those."""
+        """These definitions and all that they depend on, each behind those."""
         ordered: list[Definition] = []
         seen: set[tuple[str, str]] = set()
         stack: list[tuple[tuple[str, str], bool]] = [(root, False) for root in reversed(roots)]
@@ -376,7 +376,7 @@ Each claim, the clause of a public call that says it, and on how many definition
 """
 TABLE = """
 
-## What they stand on
+## What they depend on
 
 The files of definitions in an order in which they can be read: each behind those that it brings in. Who believes a claim reads of each file the definitions that are counted here; comments are among the lines, `use` lines are not.
 

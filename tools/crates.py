@@ -1,4 +1,4 @@
-"""The crates that the program stands on, as crates.txt names them."""
+"""The crates that the program depends on, as crates.txt names them."""
 import os
 from typing import Dict, List, NamedTuple
 
@@ -13,7 +13,7 @@ MEASURED = {
 }
 # The last two go by the clock, whatever processors they have: their modules wait for one another.
 IN_A_ROW = ('uv_cli', 'uvt')
-# How much of that time the others take by the clock with so many processes, of which each reads what the crate stands on for itself.
+# How much of that time the others take in wall-clock time with so many processes, of which each reads what the crate depends on for itself.
 BY_JOBS = {1: 1.0, 2: 0.62, 3: 0.5, 4: 0.44}
 
 

@@ -129,7 +129,7 @@ def called(lines: list[str]) -> list[tuple[str, ...]]:
 
 
 def agreement(session: list[str], recording: Path) -> str:
-    """Are the callbacks of the session the first ones of the recording, but for their names? `same`, or where they aren't."""
+    """Are the callbacks of the session the first ones of the recording, except for their names? `same`, or where they aren't."""
     if not recording.exists():
         return "nothing was recorded"
     text = recording.read_text(errors="replace").splitlines()

@@ -51,7 +51,7 @@ class Recorded:
         return [it.split(" ")[1] for it in self.lines if it.startswith("var ")]
 
     def kinds(self) -> dict[str, str]:
-        """The handles, each with its kind, but for `wake`, which the program doesn't have."""
+        """The handles, each with its kind, except for `wake`, which the program doesn't have."""
         found = {it[1]: it[2] for line in self.lines if (it := re.search(r" init (\S+) (\S+)$", line))}
         return {name: kind for name, kind in found.items() if name != "wake"}
 

@@ -91,7 +91,7 @@ end_lists() {
     stats | cmp -s - "$kept/stats.$$" || true >"$kept/sums.$$"
 }
 
-# Sets $crates to the crates of crates.txt that the program stands on, each after those that it stands on
+# Sets $crates to the crates of crates.txt that the program depends on, each after those that it depends on
 # itself, and the program last.
 find_crates() {
     crates=$(awk '

@@ -1,6 +1,6 @@
 """Crates are proved side by side, each by the kit's own command in a copy of the repository.
 
-The kit lets one command at a time work in a crate and in all that the crate stands on, and all crates stand on one. So each
+The kit lets one command at a time work in a crate and in all that the crate depends on, and all crates depend on one. So each
 lane is a copy of its own. A library that is built in one lane is given to the others and to the repository, with the stamp by which the
 kit knows of which sources it is: so it is proved once. (It is the same bytes wherever it is built.)"""
 import contextlib
@@ -103,7 +103,7 @@ class Lanes:
         self.lanes: List[str] = []
 
     def build(self, names: List[str]) -> None:
-        """Builds the libraries of these crates, which stand on one another and on nothing else."""
+        """Builds the libraries of these crates, which depend on one another and on nothing else."""
         for number in range(min(self.processors, len(names))):
             lane = os.path.join(self.room, 'lane-%d' % number)
             copy_sources(self.root, lane, self.crates)
@@ -122,13 +122,13 @@ class Lanes:
                 command.end()
 
     def share(self, name: str, lane: str) -> None:
-        """Gives a library that was built in a lane to all who may stand on it."""
+        """Gives a library that was built in a lane to all who may depend on it."""
         place = os.path.join('crates', name, 'out', 'rlib')
         for folder in self.lanes + [self.root]:
             give(os.path.join(lane, place), os.path.join(folder, place))
 
     def start_ready(self, left: List[str]) -> None:
-        """Starts those that only stand on what is done, as `chosen` has them."""
+        """Starts those that only depend on what is done, as `chosen` has them."""
         running = {name: jobs for name, (_, _, jobs) in self.running.items()}
         for name, jobs in chosen(self.crates, self.progress.done, running, left, self.processors)[:len(self.free)]:
             lane = self.lane_for(name)
@@ -174,7 +174,7 @@ def hear(command: Command, line: str, progress: Progress) -> None:
 
 
 def chosen(crates: Dict[str, Crate], done: Container[str], running: Dict[str, int], left: List[str], processors: int) -> List[Tuple[str, int]]:
-    """The crates to be started now, each with its number of processors: those of `left` that only stand on what is done, in the order of
+    """The crates to be started now, each with its number of processors: those of `left` that only depend on what is done, in the order of
     `left`. A crate gets the processors that no other one waits for, four at most. One that takes long gets two where there are two, also
     if another one has to wait then: those above it, of which some are on the longest chain, would wait longer."""
     ready = [name for name in left if all(below in done for below in crates[name].below)]

@@ -33,7 +33,7 @@ class Offered:
     clock: int = 0
 
     def lines(self, given: list[str]) -> list[str]:
-        """The lines that say it, but for what these lines say already."""
+        """The lines that say it, except for what these lines say already."""
         said = [f"may {word} {name} {times}" for (word, name), times in sorted(self.came.items())]
         said += ["may wait"] + [f"may tick {ms} {times}" for ms, times in sorted(self.ticks.items())]
         if not any(it.startswith("takes ") for it in given):

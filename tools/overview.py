@@ -303,7 +303,7 @@ class Overview:
             if self.walk.lines[step] == "closeloop = EBUSY":
                 left = [(it.name, it.values.get("closing") == "1", self.kind(it.name, it.kind)) for it in self.walk.state(step).slots if it.name]
                 said = [f"{name} ({kind}{', closed, and its close callback is to come' if closing else ''})" for name, closing, kind in left]
-                found.append(f"step {step}: uv_loop_close answers EBUSY, for {few(said)} {'is' if len(said) == 1 else 'are'} there still")
+                found.append(f"step {step}: uv_loop_close returns EBUSY, for {few(said)} {'is' if len(said) == 1 else 'are'} there still")
         return found[:LINES]
 
     def answer(self, ask: str) -> list[str]:

@@ -19,7 +19,7 @@ class Progress:
         self.done: Dict[str, int] = {}  # how many functions each has that is done
         self.running: Dict[str, float] = {}  # when each began
         self.far: Dict[str, 'tuple[int, int]'] = {}  # of how many functions how many are checked
-        # A crate whose proof took as long as was thought, so that the first estimates stand on something.
+        # A crate whose proof took as long as was thought, so that the first estimates rest on something.
         self.taken, self.thought = 60.0, 60.0
         self.rewrites = sys.stderr.isatty()
         self.shown = self.started
@@ -43,7 +43,7 @@ class Progress:
         self.tell(now=not self.rewrites)
 
     def left(self) -> float:
-        """An estimate of the seconds that are left: by what is left to do, or by the longest chain of crates that stand on
+        """An estimate of the seconds that are left: by what is left to do, or by the longest chain of crates that depend on
         one another. One that takes longer than was thought is taken to have a fifth before it."""
         pace, now = self.taken / self.thought, time.monotonic()
         work, chain = 0.0, 0.0

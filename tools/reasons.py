@@ -54,7 +54,7 @@ ASKED_REASONS = {
     'question': 'a second question: line {0} has the first, and one is asked at a time',
     'offers': 'at most 256 lines begin with `may`',
     'find': 'the line is missing that says what to look for: `find ..`',
-    'two': '`{0}` stands on both sides of `{1}`, which asks for two names',
+    'two': '`{0}` is on both sides of `{1}`, which asks for two names',
 }
 
 # What stands behind each op. NAME is declared, KIND and MODE are words, and the others are numbers.

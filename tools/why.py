@@ -419,7 +419,7 @@ class Why:
         details = []
         busy = [at for at in self.walk.steps_between("closeloop", wait.asked, wait.ended - 1) if self.walk.lines[at] == "closeloop = EBUSY"]
         if busy:
-            details.append(f"until then the loop had it: `closeloop` at {steps_of(busy)} answers EBUSY")
+            details.append(f"until then the loop had it: `closeloop` at {steps_of(busy)} returns EBUSY")
         return f"it was closed at step {wait.asked}, and the turn of the close callbacks came at step {self.walk.last_line(('closing',), wait.ended)}", details
 
     def request(self, wait: Wait) -> tuple[str, list[str]]:
@@ -627,7 +627,7 @@ class Why:
     # ---- what was refused, and what nobody asked for
 
     def refused(self, it: Refusal) -> list[str]:
-        return [f"step {it.step}: `{it.op}` answers {it.code}: {self.why_refused(it)}", f"    {self.walk.by(it.step)}"]
+        return [f"step {it.step}: `{it.op}` returns {it.code}: {self.why_refused(it)}", f"    {self.walk.by(it.step)}"]
 
     def why_refused(self, it: Refusal) -> str:
         state = self.walk.state(it.step - 1)

@@ -93,7 +93,7 @@ def try_recordings(check: Check, uvt: str, folder: str) -> None:
 
 
 def at_terminal(words: List[str], typed: List[bytes]) -> 'tuple[int, bytes, bytes]':
-    """What is printed, and what stands on the errors, where these lines are typed at a terminal."""
+    """What is printed, and what is written to standard error, where these lines are typed at a terminal."""
     ours, theirs = pty.openpty()
     with tempfile.TemporaryFile() as output, tempfile.TemporaryFile() as errors:
         call = subprocess.Popen(words, stdin=theirs, stdout=output, stderr=errors, start_new_session=True)
@@ -108,7 +108,7 @@ def at_terminal(words: List[str], typed: List[bytes]) -> 'tuple[int, bytes, byte
 
 
 def interrupted(words: List[str], typed: bytes) -> 'tuple[int, bytes]':
-    """The status where Ctrl-C is typed behind this, and what stands on the terminal then."""
+    """The status where Ctrl-C is typed behind this, and what the terminal shows then."""
     child, terminal = pty.fork()
     if child == 0:
         # (what is started in the background may have interrupts ignored)
@@ -421,7 +421,7 @@ def try_first_call(check: Check, kit: StandIn) -> None:
 
 
 def order_faults(log: List[List[str]], below: 'dict[str, List[str]]') -> List[str]:
-    """The crates that began before one that they stand on had ended, or began twice."""
+    """The crates that began before one that they depend on had ended, or began twice."""
     ended, begun, faults = set(), set(), []
     for what, crate in log:
         if what == 'begins':
@@ -440,7 +440,7 @@ def crates_below(kit: StandIn) -> 'dict[str, List[str]]':
 
 
 def needed(below: 'dict[str, List[str]]') -> List[str]:
-    """The crates that the program stands on, and itself."""
+    """The crates that the program depends on, and itself."""
     found, left = set(), ['uvt']
     while left:
         name = left.pop()
@@ -504,7 +504,7 @@ def begin_anew(kit: StandIn) -> None:
 
 
 def try_order(check: Check, kit: StandIn) -> None:
-    """Crates side by side, each after those that it stands on; the line at a terminal is rewritten."""
+    """Crates side by side, each after those that it depends on; the line at a terminal is rewritten."""
     begin_anew(kit)
     kit.write('took', '0.1')
     ours, theirs = pty.openpty()
@@ -526,7 +526,7 @@ def try_order(check: Check, kit: StandIn) -> None:
     first = re.search(rb'of (\d+) crates, 4 at a time: about (\d+) minutes from nothing', said)
     check('its first line says how long it will be', first and int(first[1]) == len(needed(crates_below(kit))) and 15 < int(first[2]) < 60,
           'got %r' % said[:300])
-    same(check, 'each crate after those that it stands on', order_faults(kit.log(), crates_below(kit)), [])
+    same(check, 'each crate after those that it depends on', order_faults(kit.log(), crates_below(kit)), [])
     same(check, 'the crates that it needs, and no other', sorted(crate for what, crate in kit.log() if what == 'ends'), needed(crates_below(kit)))
     check('several at a time', 3 <= most_at_once(kit.log()) <= 4, 'most %d' % most_at_once(kit.log()))
 

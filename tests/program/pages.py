@@ -5,7 +5,7 @@ status 0 (or the one of STATUS) and with nothing on the errors, and the block be
 lines `..` parts of it. What is not run as it stands:
 
   apt-get     isn't run: where no compiler with libuv's header is there, the commands behind it that need one are left out, and that is said
-  real runs   of ./late and ./upload, and what stands on their recordings: the figures differ from run to run, so numbers count as equal. Where the page goes
+  real runs   of ./late and ./upload, and what is said of their recordings: the figures differ from run to run, so numbers count as equal. Where the page goes
               on in another way by its own figures (a `tick`), the recording is that of its own run, whose log is kept (tests/tools/logs)
   packages    `tools/package` and what is done with its files, where the program isn't a proved one: it refuses to pack that
 

@@ -66,7 +66,7 @@ QUESTIONS = [
     Question("behind", "sample", [r"late by \d\d ms: the callback of flush, on_flush \(behind\.c:6\), took 4\d ms", r"\d repeats lost"]),
     Question("unrefd", "retry", ["retry: a timer, never called", r"nothing kept the loop alive, for retry is unreferenced since step \d+, by line"]),
     Question("unrefd", "jobs_5", ["cancelled before a worker took it", "on abort_all cancel jobs_5, in on_abort"]),
-    Question("unrefd", "jobs_1", [r"`cancel jobs_1` answers EBUSY: too late: worker \d took it", r"worker \d ran it, work_job .*, 6\d ms"]),
+    Question("unrefd", "jobs_1", [r"`cancel jobs_1` returns EBUSY: too late: worker \d took it", r"worker \d ran it, work_job .*, 6\d ms"]),
     Question("blocked", "job",
              [r"done at step \d+, 1\d\d ms later: the callback of blocker, on_blocker \(blocked\.c:6\), took 20\d ms",
               r"worker \d ran it, work_job \(blocked\.c:7\), from step \d+ to \d+, [23]\d ms"], ["same millisecond", r" 2\d\d ms;"]),
@@ -102,7 +102,7 @@ QUESTIONS = [
     Question("fifo", ALL, [r"the pool was full\n    2\d\d ms: .*opening_0, opening_1, opening_2, opening_3"]),
     Question("fault", ALL, [r"THE PROGRAM WAS ENDED BY SIGSEGV: this loop was in the callback of reply_3, on_reply \(fault\.c:5\)"]),
     Question("busy", ALL,
-             [r"the loop was not closed\n    step \d+: uv_loop_close answers EBUSY, for once \(timer\), leak \(async\) and look \(check\) "
+             [r"the loop was not closed\n    step \d+: uv_loop_close returns EBUSY, for once \(timer\), leak \(async\) and look \(check\) "
              r"are there"]),
     Question("winner", "news", [r"call 1: for the send at step \d+, in the same millisecond\n .* after quick send news, in done"], [r"\d sends",
              "nobody saw"]),

@@ -1,4 +1,4 @@
-"""What the page of uvt-view is given, set beside the program's own states; and what stands on the pages about the tools."""
+"""What the page of uvt-view is given, set beside the program's own states; and what the pages about the tools say."""
 
 from __future__ import annotations
 

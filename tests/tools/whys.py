@@ -54,28 +54,28 @@ WANTED: list[tuple[str, str, str | None, list[str]]] = [
                                         "due at 45 ms, called at 45 ms", "stopped by line 11: on beat @2 stop beat"]),
     ("who-keeps-it-alive.uvt", "wake", None, ["nobody sends to it", "it keeps the loop alive", "the poll waits since step"]),
     ("sends-are-one.uvt", "a", None, ["3 sends, and one call: those at steps 2, 3 and 4", "an async handle, 1 call"]),
-    ("closed-handle.uvt", "t", None, ["`start t 5 0` answers EINVAL: it closes, since step 2, by line 7: main close t",
-                                      "step 19: `start t 5 0` answers ESTALE: it is gone, since step 15"]),
-    ("closed-twice.uvt", "t", None, ["step 4: `close t` answers EINVAL: it closes, since step 3", "step 15, close callback 1",
+    ("closed-handle.uvt", "t", None, ["`start t 5 0` returns EINVAL: it closes, since step 2, by line 7: main close t",
+                                      "step 19: `start t 5 0` returns ESTALE: it is gone, since step 15"]),
+    ("closed-twice.uvt", "t", None, ["step 4: `close t` returns EINVAL: it closes, since step 3", "step 15, close callback 1",
                                      "a timer, 1 close callback"]),
     ("lost-send.uvt", "a", None, ["no call: closed by line 8: main close a", "the send at step 2 is lost",
-                                  "`send a` answers EINVAL", "`send a` answers ESTALE"]),
-    ("stale-name.uvt", "w", None, ["step 33: `stop w` answers ESTALE: it is gone, since step 14",
+                                  "`send a` returns EINVAL", "`send a` returns ESTALE"]),
+    ("stale-name.uvt", "w", None, ["step 33: `stop w` returns ESTALE: it is gone, since step 14",
                                    "its slot has n now (0.1)", "by line 16: on t stop w"]),
     ("stale-name.uvt", "n", None, ["in the turn of the check handles", "started at step 16 by line 15: closed w start n"]),
-    ("break-at-a-code.uvt", "t", None, ["step 33: `active t` answers ESTALE: it is gone, since step 28",
+    ("break-at-a-code.uvt", "t", None, ["step 33: `active t` returns ESTALE: it is gone, since step 28",
                                         "it was closed at step 21, by line 12: on i @2 close t"]),
     ("what-it-waits-for.uvt", "fast", "tick 8", ["the loop waits in the poll", "until 8 ms", "due at 8 ms, and the session ends at 0 ms"]),
     ("what-it-waits-for.uvt", "slow", None, ["until 20 ms", "due at 20 ms, and the session ends at 8 ms"]),
     ("done-out-of-order.uvt", "long", None, ["behind short, queued later and done earlier", "worker 0 ran it from step 4 to 7"]),
-    ("cancel-in-time.uvt", "first", None, ["`cancel first` answers EBUSY: too late: worker 0 took it at step 3"]),
+    ("cancel-in-time.uvt", "first", None, ["`cancel first` returns EBUSY: too late: worker 0 took it at step 3"]),
     ("cancel-in-time.uvt", "second", None, ["cancelled before a worker took it", "cancelled at step 5 from outside",
                                             "it is cancelled already, since step 5"]),
     ("tenth-waits.uvt", "j", None, ["it waits behind f, g, h and i", "e (worker 0), b (worker 1), c (worker 2) and d (worker 3)"]),
     ("next-job.uvt", "job", None, ["2 after callbacks", "queued at step 12 by line 9: after job @1 queue job 1 two"]),
     ("live-run-back.uvt", "p", "back 10", ["behind q, queued later and done earlier", "worker 1 ran it from step 9 to 12", "after callback 1"]),
     ("live-run-back.uvt", "q", None, ["behind p"]),
-    ("loop-is-busy.uvt", "t", None, ["until then the loop had it: `closeloop` at step 3 answers EBUSY", "step 13, close callback 1"]),
+    ("loop-is-busy.uvt", "t", None, ["until then the loop had it: `closeloop` at step 3 returns EBUSY", "step 13, close callback 1"]),
     ("io-before-sends.uvt", "wake", None, [
         "step 23, call 1: an iteration later, for the send at step 11, in the same millisecond",
         "the callback of reply left the poll of step 9 at step 10, and nobody had woken it by then: so no async handle was called behind it",
@@ -87,7 +87,7 @@ WANTED: list[tuple[str, str, str | None, list[str]]] = [
     ("io-behind-a-callback.uvt", "upload", None, [
         "it left the poll: something came while the loop waited in the poll, 7 ms went by there, from step 10"]),
     ("image-heap.uvt", "b", None, ["no call: stopped by line", "not due yet"]),
-    ("sent-session.rec", "job", None, ["`cancel job` answers EBUSY: it is done already, since step 9", "by line 13: on early cancel job"]),
+    ("sent-session.rec", "job", None, ["`cancel job` returns EBUSY: it is done already, since step 9", "by line 13: on early cancel job"]),
 ]
 
 
@@ -112,8 +112,8 @@ WANTED_OF_IO: list[tuple[str, str, list[str]]] = [
     ("a-callback-of-i-o-in-pending-and-none-within-a-callback-of-who-closes-or-out-of-a-run", "q", [
         "step 7, call 1: something came, and it was called in `pending`, before any poll"]),
     ("what-the-ops-answer-of-a-handle-of-i-o", "r", [
-        "step 1: `start r` answers ESTALE: no step had made r yet", "step 4: `start r 1 0` answers EKIND: r is a handle of I/O",
-        "step 11: no call: closed by line 13: main close r", "step 12: `start r` answers EINVAL: it closes, since step 11"]),
+        "step 1: `start r` returns ESTALE: no step had made r yet", "step 4: `start r 1 0` returns EKIND: r is a handle of I/O",
+        "step 11: no call: closed by line 13: main close r", "step 12: `start r` returns EINVAL: it closes, since step 11"]),
     ("where-a-callback-of-i-o-may-come-and-where-none-may", "r", [
         "step 13, call 1: it left the poll: something came, and when nobody knows", "steps 15 to 22, calls 2 to 4: each as something came",
         "at steps 15, 17 and 22", "the end, at 22: no further call: nothing came for it, and the session ends (the loop is at the callbacks that it had put off)",

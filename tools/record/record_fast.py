@@ -88,7 +88,7 @@ def alike(line: str) -> str:
 
 
 def first_sends(items: list[Item]) -> list[int]:
-    """Of each callback, but for those of I/O, the first send to its handle since that was called last; where there is none, behind all items."""
+    """Of each callback, except for those of I/O, the first send to its handle since that was called last; where there is none, behind all items."""
     sent: dict[str, int] = {}
     found = []
     for at, item in enumerate(items):
@@ -153,7 +153,7 @@ class Ways:
         return (where, *map(happens, self.items[at:end]), *(it.name for it in self.ahead(end)), tuple(self.sent(at, end)))
 
     def ahead(self, at: int) -> list[Call]:
-        """The callbacks from this item on up to the next poll, but for those of I/O, which need nothing."""
+        """The callbacks from this item on up to the next poll, except for those of I/O, which need nothing."""
         return self.calls[self.places(at, at)]
 
     def places(self, at: int, end: int) -> slice:

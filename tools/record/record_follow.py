@@ -171,7 +171,7 @@ class Follower:
     def compare(self, item: Op, answer: str) -> None:
         """The answer of an op beside that of the log."""
         if item.answer != "id" and answer != item.answer and item.answer:
-            self.outcome.answers.append(f"`{item.text}` answers {answer} here, and {item.answer} in the program (line {item.line} of the log)")
+            self.outcome.answers.append(f"`{item.text}` returns {answer} here, and {item.answer} in the program (line {item.line} of the log)")
 
     def flush(self) -> None:
         if self.queue:
@@ -344,7 +344,7 @@ class Follower:
         return any(sends_to(it, item.name) for it in before)
 
     def group(self, at: int) -> list[Call]:
-        """The callbacks of this poll, from this item on, that the loop calls in this order in one iteration; but for those of I/O."""
+        """The callbacks of this poll, from this item on, that the loop calls in this order in one iteration; except for those of I/O."""
         chosen, last, places = [], -1, None
         for item in (self.items[it] for it in range(at, len(self.items))):
             if isinstance(item, (Poll, Run, End)):

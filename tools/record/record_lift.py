@@ -64,7 +64,7 @@ class Asked:
     unseen_unref: bool = False
 
     def keeps_nothing(self) -> bool:
-        """Is it unreferenced from its start on? (Of node's own, but for those of promises, that is taken to be so where nobody saw it.)"""
+        """Is it unreferenced from its start on? (Of node's own, except for those of promises, that is taken to be so where nobody saw it.)"""
         own = self.key[1].startswith("node:") and not self.key[1].startswith("node:timers/promises")
         return not self.told and (self.unseen_unref or own and not self.calls)
 

@@ -52,7 +52,7 @@ class Error:
 
     @property
     def is_own(self) -> bool:
-        """Whether it is of its lemma itself, and not of one that it stands on."""
+        """Whether it is of its lemma itself, and not of one that it depends on."""
         return " that depend" not in self.what
 
     @property

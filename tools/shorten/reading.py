@@ -162,7 +162,7 @@ def words_of(text: str) -> list[str]:
 
 
 def cited(text: str, known: set[str], name: str) -> list[str]:
-    """The known lemmas that a text names, but for the one that it is of."""
+    """The known lemmas that a text names, except for the one that it is of."""
     return [it for it in words_of(text) if it in known and it != name and it not in NO_NAMES]
 
 

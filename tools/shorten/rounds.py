@@ -105,7 +105,7 @@ class Rounds:
                 return
 
     def write(self, chosen: list[Made]) -> tuple[list[Made], Said]:
-        """Writes what is chosen, but for what the crate's own check refuses."""
+        """Writes what is chosen, except for what the crate's own check refuses."""
         texts = self.proofs.texts()
         before, live = {it.lemma.path: texts[it.lemma.path] for it in chosen}, list(chosen)
         while True:

@@ -26,7 +26,7 @@ def watch(uvloop):
     import sysconfig
     import threading
 
-    # (a call of these keeps the interpreter's lock, but for the one that waits for the thread that looks)
+    # (a call of these keeps the interpreter's lock, except for the one that waits for the thread that looks)
     library, waiting = ctypes.PyDLL(None), ctypes.CDLL(None)
     LOOK = ctypes.CFUNCTYPE(ctypes.c_int)
     library.uvt_loop.restype = library.uvt_watch.restype = ctypes.c_void_p

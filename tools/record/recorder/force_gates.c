@@ -55,7 +55,7 @@ void take_nap(void) {
 /* ---- gates: one mutex, one condition
  *
  * Who waits, waits in naps of 10 ms. On a busy machine a thread may get no processor for long: so a nap counts only where no thread of the
- * program runs, but for those at gates. (A debugger that stops all threads stops who counts, too.) */
+ * program runs, except for those at gates. (A debugger that stops all threads stops who counts, too.) */
 
 pthread_mutex_t gate = PTHREAD_MUTEX_INITIALIZER;
 pthread_cond_t changed = PTHREAD_COND_INITIALIZER;

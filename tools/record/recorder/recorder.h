@@ -208,7 +208,7 @@ struct loop *running_here(void);
 struct object *made(uv_loop_t *loop, void *handle, const char *kind, bool watcher);
 /* Says whether a watcher is active, and whether it is referenced, where that has changed. */
 void settle(struct object *watcher);
-/* The same of all whose callback has just ended, but for the one whose next callback begins (NULL: for none). */
+/* The same of all whose callback has just ended, except for the one whose next callback begins (NULL: for none). */
 void settle_all(struct loop *loop, const struct object *but);
 
 /* ---- interpreters (node.c, places.c, looks.c, script.c) */
