@@ -36,6 +36,8 @@ for _folder in (TOOLS, TOOLS / "record"):
 
 KINDS = ("recording", "notes", "log", "script", "message")
 LOGS = ("late", "starved", "mixed", "threads", "accepted", "datagrams", "luv", "node-late", "ctest", "watchers")
+# Of truths/: with places, requests of streams and the processor's time.
+TRUTHS = ("hangup", "giveup", "watchdog", "again", "chat")
 SCRIPTS = ("late-timer", "never-called", "two-timers", "live-run-back", "sends-are-one")
 # How long one input may take, in seconds: what takes longer hangs.
 PATIENCE = 60
@@ -43,6 +45,10 @@ PATIENCE = 60
 STEERS = re.compile(r"[\x00-\x08\x0b-\x1f\x7f-\x9f]")
 ODD = ("", "-1", "0", "01", "1e9", "999999999999999999999", "18446744073709551616", "4294967296", "\x1b[31m", "\x1b]0;X\x07", "\x9b2J", "\x00", "\xff",
        "\u202e", "\r", "\t", "..", "/", "__proto__", "constructor", "%s", "{}", "`", "'", '"', "é", "a" * 300)
+
+
+def log_of(name: str) -> Path:
+    return HERE / ("truths" if name in TRUTHS else "logs") / f"{name}.log"
 
 
 class Hung(Exception):
@@ -170,8 +176,8 @@ class Tried:
         self.folder = folder
         self.tools = {name: tool(f"uvt-{name}") for name in ("why", "view", "shell", "find", "record")}
         self.recordings: list[tuple[str, str]] = []
-        for name in LOGS:
-            run(self.tools["record"], ["-o", str(folder / name), "--log", str(HERE / "logs" / f"{name}.log")])
+        for name in LOGS + TRUTHS:
+            run(self.tools["record"], ["-o", str(folder / name), "--log", str(log_of(name))])
             for path in sorted(folder.glob(f"{name}*.rec")):
                 notes = path.with_suffix(".notes")
                 self.recordings.append((path.read_text("latin-1"), notes.read_text("latin-1") if notes.is_file() else ""))
@@ -201,7 +207,7 @@ class Tried:
 
     def log(self, draw: random.Random) -> Iterator[tuple[str, list[str], str]]:
         path = self.folder / "any.log"
-        text = (HERE / "logs" / f"{draw.choice(LOGS)}.log").read_text("latin-1")
+        text = log_of(draw.choice(LOGS + TRUTHS)).read_text("latin-1")
         path.write_text(changed(draw, text, draw.randrange(1, 4)), "latin-1", newline="\n", errors="replace")
         for left in self.folder.glob("made*"):
             left.unlink()

@@ -209,7 +209,8 @@ def changes(text: bytes) -> list[bytes]:
 
 def try_changed(check, folder: str) -> None:
     """A log that is cut anywhere, or has another byte: a sentence and a status, and what is written is `same`."""
-    for log in (LOGS / "work.log", LOGS / "watchers.log", LOGS / "datagrams.log", TRUTHS / "wrongthread.log", TRUTHS / "starve.log"):
+    kept = (LOGS / "work.log", LOGS / "watchers.log", LOGS / "datagrams.log", *(TRUTHS / f"{it}.log" for it in ("wrongthread", "starve", "hangup")))
+    for log in kept:
         name = log.stem
         for number, data in enumerate(changes(log.read_bytes())):
             what, said = f"record, {name} changed, {number}", []
