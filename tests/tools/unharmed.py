@@ -30,7 +30,7 @@ from record_run import HOOKS, RECORDER, recorder  # noqa: E402
 from records import has_libuv  # noqa: E402
 
 PROGRAMS = (ROOT / "tools" / "record" / "programs", Path(__file__).resolve().parent / "truths")
-SECONDS = 100
+SECONDS = 300
 # How a program ends that valgrind or a sanitizer reports.
 REPORTED = 97
 # What ends by itself in a way that a sanitizer would take for a fault of its own.
