@@ -199,6 +199,8 @@ class Ways:
         return at
 
     def known(self, at: int) -> list[tuple[int, Way]]:
+        if self.follower.uncalled:
+            return []
         units, where, late = [], self.follower.where, self.follower.sent_late.keys()
         while len(units) < self.many and (end := self.end_of(at)) and (way := self.ways.get(self.key(at, end, where))):
             # (where a send waits for its call, that is the one that comes)

@@ -38,7 +38,7 @@ BEHIND = (POLLED, "done", "async")
 CHECKS = 16
 # How many lines about a send are looked at for others of its handle, and for its calls.
 AHEAD = 200
-KEPT = ("where", "clock", "in_call", "queued", "taken", "finished", "taken_at", "ready", "later_on", "after_at", "senders", "sent_late", "kept",
+KEPT = ("where", "clock", "in_call", "queued", "taken", "finished", "taken_at", "ready", "later_on", "after_at", "senders", "sent_late", "uncalled", "kept",
         "kept_at", "trail")
 
 
@@ -138,6 +138,8 @@ class Follower:
         self.sent_late: dict[str, tuple[tuple[int, int, str], ...]] = {}
         # how many of these have come
         self.came_late = 0
+        # sends that nothing is called for any more, and that came when the poll was left already: so behind the begin of the next callback
+        self.uncalled: tuple[tuple[str, int, str], ...] = ()
 
     # ---- the conversation
 
@@ -323,7 +325,18 @@ class Follower:
     def put_off(self, item: Send, at: int, calls: int) -> None:
         """The send comes later: before the next call, or so many behind that one."""
         number = self.ahead.number_of_call(item.name, at) + calls
+        if not number:
+            self.uncalled = (*self.uncalled, (item.name, item.clock, item.by))
+            return
         self.sent_late[item.name] = (*self.sent_late.get(item.name, ()), (number, item.clock, item.by))
+
+    def send_uncalled(self) -> None:
+        """A callback has begun."""
+        for name, clock, by in self.uncalled:
+            self.later(f"send {name}", f"out send {name} = ok")
+            self.know(self.talk.length + len(self.queue), clock, by)
+            self.came_late += 1
+        self.uncalled = ()
 
     def send_late(self, item: Call) -> bool:
         """The sends that were put off until this call come. False where there are none."""
@@ -550,8 +563,10 @@ class Follower:
                 raise Stopped("hasn't polled there")
             case Call() if item.is_io():
                 self.do_io(item, at)
+                self.send_uncalled()
             case Call():
                 self.do_call(item, at)
+                self.send_uncalled()
             case Done():
                 self.tick_to(at, END)
                 self.in_call = False

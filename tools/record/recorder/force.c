@@ -346,7 +346,7 @@ static void began_callback(const char *words) {
     if (strncmp(words, "on ", 3) == 0) id = atoi(words + 3);
     else if (strncmp(words, "after ", 6) == 0) id = atoi(words + 6), type = CALL_AFTER;
     else if (strncmp(words, "closed ", 7) == 0) id = atoi(words + 7), type = CALL_CLOSED;
-    if (type == CALL_CLOSED && id == early_id) return;
+    if ((type == CALL_CLOSED || type == CALL_ON) && id == early_id) return;
     pass_ops();
     advance(true);
     const struct item *it = at_cursor();
