@@ -13,6 +13,7 @@ from typing import BinaryIO
 from conversation import ROOT, Fault, started
 
 BAD_LINE, UNSETTLED = 2, 3
+BAD = b"bad script line"
 # How many states a search keeps where no line says it, and by which numbers it comes there: one that isn't settled is begun anew with ten
 # times as many, so that whoever interrupts it knows how far it was. The shorter ones together take a ninth of the last one's time.
 DEFAULT_STATES = 10_000_000
@@ -60,7 +61,8 @@ class Search:
             status = self.ask(question, aside=True)
             self.output.seek(0)
             if status == BAD_LINE:
-                # (by the number of its line in what was asked)
+                # (it is said by the number of its line in what was asked)
+                self.said = [line for line in self.said if BAD not in line]
                 break
             if status != UNSETTLED or self.output.read() != b"not settled within %d states\n" % states:
                 return status, b"".join(self.said)
@@ -101,7 +103,7 @@ class Search:
         """What the program says on its errors is kept, and said at once, except what is known."""
         for line in errors:
             self.said.append(line)
-            if line not in known and not (aside and b"bad script line" in line):
+            if line not in known and not (aside and BAD in line):
                 sys.stderr.buffer.write(line)
                 sys.stderr.flush()
 

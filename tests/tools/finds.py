@@ -117,6 +117,16 @@ def try_lines(check: Check, folder: str) -> None:
     check("find, lines that are typed", ran.returncode == FOUND and debugged(ran.stdout.partition("\n")[2])[-1:] == ["call beat 2.0"], ran)
     ran = run([str(EXAMPLES / "late-timer.uvt"), *asked[:2], "find late beat 41"])
     check("find, no order is later than its delay", ran.returncode == NEVER and ran.stdout.startswith("never: "), ran)
+    questions = ["find late beat 40", "find late beat 41", "find call ping"]
+    kept = os.path.join(folder, "several")
+    ran = run([str(EXAMPLES / "late-timer.uvt"), *asked[:2], *questions, "-j", "2", "-o", kept])
+    said = [line.partition(": ") for line in ran.stdout.splitlines()]
+    check("find, several questions", ran.returncode == FOUND and [it[0] for it in said] == questions
+          and [it[2].split(" ")[0].rstrip(":") for it in said] == ["found", "never", "found"], ran)
+    check("find, the sessions of several questions", [os.path.exists(f"{kept}.{at}") for at in (1, 2, 3)] == [True, False, True]
+          and debugged(Path(f"{kept}.1").read_text(encoding="ascii"))[-1:] == ["call beat 2.0"], os.listdir(folder))
+    ran = run([str(EXAMPLES / "late-timer.uvt"), *asked[:2], questions[0], "find call nobody", "-j", "2"])
+    check("find, a bad line of several", ran.returncode == BAD and "`nobody` isn't declared before this line" in ran.stderr, ran)
     ran = run([str(EXAMPLES / "sent-session.rec"), "may wait", "most states 1", "find stuck"])
     check("find, of a recording, and not settled", (ran.returncode, ran.stdout) == (UNSETTLED, "not settled within 1 state\n"), ran)
     for number, (text, line, why) in enumerate(BAD_LINES):

@@ -1,0 +1,19 @@
+"""The tools on the installed libuv, for tests of the search."""
+from __future__ import annotations
+
+import os
+import subprocess
+from pathlib import Path
+
+ROOT = Path(__file__).resolve().parent.parent.parent
+FOUND = 0
+SECONDS = 300
+
+
+def order_of(version: str) -> str:
+    """The order of the loop in libuv of this version."""
+    return "1.45" if tuple(int(it) for it in version.split(".")[:2]) >= (1, 45) else "1.44"
+
+
+def run(tool: str, *words: str) -> subprocess.CompletedProcess[str]:
+    return subprocess.run([str(ROOT / "tools" / tool), *words], capture_output=True, text=True, timeout=SECONDS, env=os.environ)
