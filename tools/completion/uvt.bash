@@ -9,7 +9,7 @@ _uvt() {
         live) words='--workers' ;;
         view) words='--trace-event' ;;
         libuv) words='--node' ;;
-        find) words='-o' ;;
+        find) words='-o -j' ;;
         record) words='-o --log --bare --lift' ;;
         force) words='-o --stop --early --random --stall --seed --loop --quiet' ;;
         hunt) words='-o --for --part --join' ;;
