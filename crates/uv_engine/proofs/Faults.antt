@@ -1,6 +1,5 @@
 -- Which faults answer the input, and which those of a device.
-use Rattle.uv_engine.proofs.Names.{◌≡◌, ◌∙◌, ◌<◌, ◌-◌, ◌^◌, inl, inr, ℕ, ◌+◌, List, length, arith, Result, Ok, Err, IfErr, OnOk, sym, subst, Fault, OnAnswer, IfOfInput, TakesWithin, Counted, IsTooLong, ReaderCounts, IsDeviceFault, IsConversationFault, IsReadingFault, IsTellingFault, IsStartFault, IsReadFault, IsReplayFault}
-use Rattle.uv_ids.specs.declared.fault.Fault.TheVariants as fault
+use Rattle.uv_engine.proofs.Names.{◌≡◌, ◌<◌, ◌-◌, ◌^◌, ℕ, ◌+◌, List, length, arith, Result, IfErr, OnOk, Fault, OnAnswer, IfOfInput, TakesWithin, IsTooLong, ReaderCounts, IsDeviceFault, IsConversationFault, IsReadingFault, IsTellingFault, IsReadFault, IsReplayFault}
 
 -- ---- what holds on each answer
 

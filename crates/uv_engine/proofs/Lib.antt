@@ -3,6 +3,7 @@ pub mod Buffers
 pub mod Faults
 pub mod Fronts
 pub mod Gathers
+pub mod LongLines
 pub mod Loops
 mod Names
 mod OneAnswer

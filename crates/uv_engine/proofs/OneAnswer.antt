@@ -1,5 +1,5 @@
 -- An input has one answer.
-use Rattle.uv_engine.proofs.Names.{◌≡◌, ℕ, ◌==◌, List, [], ◌∷◌, ◌++◌, refl, ap, sym, subst, ◌∙◌, nat_lt, nat_le, cond_both, Event, Next, Moves, Refuses, lines_of, IsScript, IsBadLine, Program, some_reading, distinct_names, one_script, no_bad_line, one_bad_line, AreDistinct, Break, Shown, moved_back, moved_forward, BREAKS, Loop, Step, Quit, Asked, Do, Bad, Asks, asks, asks_one, Ended, IsAnswer, image_in, images_in, asked_after, Talks, input_ends, quits, goes_on, fresh_session, Ends, BadScript, talks, bad_line, no_begin, bad_input, HasAnswer, HasOneAnswer, Reply, Full, reply, reply_to, reply_after, may_follow, back_after, forward_after, add_after, break_back_after, has_step, PrintsFor, done_after}
+use Rattle.uv_engine.proofs.Names.{◌≡◌, ℕ, List, [], ◌∷◌, ◌++◌, refl, ap, sym, subst, ◌∙◌, nat_lt, nat_le, cond_both, Event, Next, Moves, Refuses, lines_of, IsScript, IsBadLine, Program, some_reading, distinct_names, one_script, no_bad_line, one_bad_line, AreDistinct, Break, Shown, moved_back, moved_forward, BREAKS, Step, Quit, Asked, Do, Bad, Asks, asks, asks_one, Ended, IsAnswer, image_in, images_in, asked_after, Talks, input_ends, quits, goes_on, fresh_session, Ends, BadScript, talks, bad_line, no_begin, bad_input, HasAnswer, HasOneAnswer, Reply, Full, reply, reply_to, reply_after, may_follow, back_after, forward_after, add_after, break_back_after, has_step, PrintsFor, done_after}
 use Rattle.std.specs.Prelude.{zero, suc, length, Option, Some, None}
 use Rattle.uv_ids.specs.declared.event.Event.TheVariants as event
 use Rattle.uv_model.specs.Next.{next}

@@ -1,12 +1,9 @@
 -- A text is one recording at most; and of one that was made the verdict is same alone.
-use Rattle.uv_engine.proofs.Names.{◌≡◌, ℕ, ◌<◌, List, [], ◌∷◌, ◌++◌, length, take, get_or, refl, ap, sym, subst, ◌∙◌, arith, length-append, codes, get_or-append_seam, append_cancel_left, take-append-le, take_all, none-some, same_Some, Event, Program, fields_of, Draft, IsScript, AreDistinct, after_complete, distinct_reads, distinct_none, Refuses, not_refused, Do, Step, IsCommand, command, SaysStep, loop, outside, IsCallbackLine, call, after_callback, closed, step_asked, callback_lines, asks_one, Verdict, Same, Version, version_line, unread_in, Part, Start, InScript, InSteps, InCalls, Whole, Reads, version, in_script, begins, step, calls, callback, ends, ReadsAll, none, one, IsHalt, refused, full, AreApart, AllTaken, IsVerdict, halts, same, differs, HasVerdict}
+use Rattle.uv_engine.proofs.Names.{◌≡◌, ℕ, ◌<◌, List, [], ◌∷◌, ◌++◌, length, take, get_or, refl, ap, sym, subst, ◌∙◌, arith, length-append, codes, get_or-append_seam, append_cancel_left, take-append-le, take_all, none-some, same_Some, Event, Program, Draft, IsScript, AreDistinct, after_complete, distinct_reads, distinct_none, not_refused, Do, Step, IsCommand, command, SaysStep, loop, outside, IsCallbackLine, step_asked, callback_lines, asks_one, Verdict, Same, Version, version_line, unread_in, Part, Start, InScript, InSteps, InCalls, Whole, Reads, in_script, step, callback, ends, ReadsAll, none, one, IsHalt, refused, full, AreApart, AllTaken, IsVerdict, HasVerdict}
 use Rattle.uv_script.specs.Reading as reading
 use Rattle.uv_script.specs.Grammar as script
-use Rattle.uv_model.specs.Next.{next}
-use Rattle.uv_model.specs.After.{after}
 use Rattle.uv_text.specs.Commands as is
 use Rattle.uv_text.specs.Recording.{recording_text}
-use Rattle.uv_engine.specs.declared.version.Version.TheVariants as versions
 use Rattle.uv_engine.proofs.Remade.{is_made, made_read}
 
 -- ---- which lines are no step and no callback

@@ -1,8 +1,7 @@
 -- A text has one verdict, or one first bad line, and not both.
-use Rattle.uv_engine.proofs.Names.{◌≡◌, ⊎_elim, ℕ, suc, ◌+◌, ◌<◌, ◌≤◌, List, [], ◌∷◌, ◌++◌, length, take, get_or, refl, ap, ap₂, sym, subst, ◌∙◌, arith, get_or-append_seam, cases_lt, append_cancel_left, take-append-le, take_all, get_or_append_left, Event, Why, Program, lines_of, Next, Refuses, not_refused, callback_lines, Verdict, Differs, Refused, Part, Start, Whole, Reads, ReadsAll, none, one, IsStuck, IsHalt, refused, full, AreApart, PartAt, IsVerdict, halts, same, differs, HasVerdict, HasOneVerdict}
+use Rattle.uv_engine.proofs.Names.{◌≡◌, ℕ, suc, ◌+◌, ◌<◌, List, [], ◌∷◌, ◌++◌, length, take, get_or, refl, ap, ap₂, sym, subst, ◌∙◌, arith, get_or-append_seam, append_cancel_left, take-append-le, take_all, get_or_append_left, Event, Why, Program, lines_of, Next, Refuses, not_refused, callback_lines, Verdict, Differs, Refused, Part, Start, Whole, Reads, ReadsAll, none, one, IsStuck, IsHalt, refused, full, AreApart, PartAt, IsVerdict, halts, same, differs, HasVerdict, HasOneVerdict}
 use Rattle.uv_model.specs.Next.{next}
 use Rattle.uv_model.specs.After.{after, Accepts}
-use Rattle.uv_engine.specs.declared.verdict.Verdict.TheVariants.{Full}
 use Rattle.uv_engine.specs.Recordings.{IsBadLine}
 use Rattle.uv_engine.proofs.OneRecording.{IsDistinct, Judged, one_part, distinct_part, all_one, never_halts, never_apart}
 

@@ -1,8 +1,11 @@
 -- The lines of a recording, one after another.
-use Rattle.uv_engine.proofs.Names.{◌≡◌, ◌≢◌, inl, inr, ℕ, ◌+◌, ◌<◌, ◌≤◌, ◌==◌, List, [], ◌∷◌, ◌++◌, Bool, true, false, length, map, get_or, Option, Some, None, Ok, Err, refl, ap, sym, subst, ◌∙◌, arith, append_assoc, append-nil, length-append, codes, both_ways, map-append, length-map, Event, Program, lines_of, IsSkipped, empty, comment, Draft, MakesFrom, SaysStep, IsCallbackLine, TakesLine, Begins, here, here_at_end, later, NeverBegins, nothing, last_line, one_line, IsFront, ParsesFront, after_last, at_line, NoneSkipped, IsFirstSkipped, FindsSkipped, IsFirstBad, version_line, Part, Start, InScript, InSteps, InCalls, Whole, Reads, version, in_script, begins, step, calls, callback, ends, ReadsAll, none, one, IsStuck, IsBadFrom, ReadsTo, Version}
+use Rattle.uv_engine.proofs.Names.{◌≡◌, ◌≢◌, inl, inr, ℕ, ◌+◌, ◌<◌, ◌≤◌, ◌==◌, List, [], ◌∷◌, ◌++◌, Bool, false, length, map, Option, Some, None, Ok, Err, refl, ap, sym, subst, ◌∙◌, arith, append_assoc, append-nil, length-append, codes, map-append, length-map, Event, Program, lines_of, IsSkipped, Draft, MakesFrom, IsCallbackLine, TakesLine, Begins, later, NeverBegins, last_line, one_line, FrontEnd, Begin, Input, Long, ReadsFront, IsBeforeLong, NoLineBegins, no_line, line_more, ParsesFront, TakesLong, RefusesLong, IsReadingFault, FailsAt, Fault, after_last, at_line, NoneSkipped, IsFirstSkipped, FindsSkipped, IsFirstBad, Part, InScript, InSteps, InCalls, Reads, version, in_script, begins, step, calls, callback, ends, ReadsAll, none, one, IsStuck, IsBadFrom, ReadsTo}
 use Rattle.uv_ids.specs.declared.fault.Fault.TheVariants as fault
 use Rattle.uv_script.specs.Grammar as script
+use Rattle.uv_text.specs.Recorded as recorded
+use Rattle.uv_engine.specs.declared.version.Version.TheVariants as versions
 use Rattle.uv_engine.proofs.Talking.{lines_fed, lines_last, lines_next}
+use Rattle.uv_engine.proofs.LongLines.{HasLong, long_first, lines_behind, long_refused}
 
 -- ---- one part after another
 
@@ -66,6 +69,43 @@ bad_end x a b old n e h = record {
   read = none;
   stuck = h;
 }
+
+-- ---- a line that is too long
+
+-- each line that goes on somewhere has 256 bytes at the most
+long_stuck : (x : Part) (line : List ℕ) → 256 < length line → (y : Part) → Reads x line y → ⊥
+long_stuck _ _ long _ (version versions.V1) = absurd (omega (arith, long))
+long_stuck _ _ long _ (version versions.V2) = absurd (omega (arith, long))
+long_stuck _ _ long _ (version versions.V3) = absurd (omega (arith, long))
+long_stuck _ line long _ (in_script {d = d} {e = e} says h) = long_refused d e line long h
+long_stuck _ _ long _ begins = absurd (omega (arith, long))
+long_stuck _ line long _ (step (recorded.loop is)) = let short : length line ≡ 4 = ap length is in omega (arith, short, long)
+long_stuck _ line long _ (step (recorded.outside e is f2 f3)) = let short = is.short in omega (arith, short, long)
+long_stuck _ _ long _ calls = absurd (omega (arith, long))
+long_stuck _ line long _ (callback (recorded.call text is f2)) = let short = is.short in omega (arith, short, long)
+long_stuck _ line long _ (callback (recorded.after text is f2)) = let short = is.short in omega (arith, short, long)
+long_stuck _ line long _ (callback (recorded.closed text is f2)) = let short = is.short in omega (arith, short, long)
+long_stuck _ _ long _ ends = absurd (omega (arith, long))
+
+long_bad : (x : Part) (a n : ℕ) (old new : List ℕ) → n ≡ a + 1 → TakesLong old new → IsBadFrom x a old n
+long_bad x a n old new e h =
+    let first = long_first old new h in
+    record {
+      before = [];
+      after = first.line ∷ first.more;
+      part = x;
+      lines_are = first.lines_are;
+      counted = omega (arith, e);
+      read = none;
+      stuck = long_stuck x first.line first.long;
+    }
+
+-- the next line couldn't be had
+pub long_fails : (x : Part) (a : ℕ) (old new : List ℕ) (f : Fault) → IsReadingFault f → RefusesLong f a old new → FailsAt x a old f
+long_fails x a old new (fault.Script n) is h = long_bad x a n old new h.0 h.1
+long_fails x a old new fault.Memory is h = tt
+long_fails x a old new fault.Read is h = tt
+long_fails x a old new _ is h = absurd is
 
 -- ---- the script
 
@@ -167,14 +207,41 @@ script_missing s input text p a m e is say n = record {
   stuck = tt;
 }
 
-front_outside : (s : Draft) (input text rest : List ℕ) (begun : Bool) (a n m : ℕ) → IsFront input text begun rest →
-    ParsesFront s text begun (Err (fault.Script n)) → AllSay (lines_of text) n → m ≡ a + n → IsBadFrom (InScript s) a input m
-front_outside s input text rest true a n m h p say e =
+-- the line behind these is too long
+script_long : (s : Draft) (input text behind : List ℕ) (p : Program) (a m : ℕ) → lines_of input ≡ lines_of text ++ lines_of behind → HasLong behind →
+    MakesFrom s (lines_of text) p → AllSay (lines_of text) (length (lines_of text) + 1) → m ≡ a + (length (lines_of text) + 1) →
+    IsBadFrom (InScript s) a input m
+script_long s input text behind p a m lines long is say n =
+    let d : Draft = record { program = p; said = is.said } in
+    record {
+      before = lines_of text;
+      after = long.line ∷ long.more;
+      part = InScript d;
+      lines_are = lines ∙ ap (λ (ls : List (List ℕ)). lines_of text ++ ls) long.lines_are;
+      counted = omega (arith, n);
+      read = script_on s d (lines_of text) (say (lines_of text) [] (sym (append-nil (lines_of text))) (omega arith)) is.read;
+      stuck = long_stuck (InScript d) long.line long.long;
+    }
+
+long_lines : (input text rest : List ℕ) (h : IsBeforeLong input text rest) → lines_of input ≡ lines_of text ++ lines_of h.behind
+long_lines input text rest h = ap lines_of h.whole ∙ lines_behind text h.behind h.lines
+
+none_begin : (text : List ℕ) → NoLineBegins text → NoBegin (lines_of text)
+none_begin _ no_line = tt
+none_begin _ (line_more {line = line} {rest = rest} free other h) = subst NoBegin (sym (lines_fed line rest free)) (other, none_begin rest h)
+
+front_outside : (s : Draft) (input text rest : List ℕ) (end : FrontEnd) (a n m : ℕ) → ReadsFront input text end rest →
+    ParsesFront s text end (Err (fault.Script n)) → AllSay (lines_of text) n → m ≡ a + n → IsBadFrom (InScript s) a input m
+front_outside s input text rest Begin a n m h p say e =
     let k = fronts input text rest h in script_bad s input text (codes "begin" ∷ lines_of rest) a n m k.lines_are k.no_begin p say e
-front_outside s input text rest false a n m h (after_last p is) say e = script_missing s input text p a m h.1 is say e
-front_outside s input text rest false a n m h (at_line bad) say e =
+front_outside s input text rest Input a n m h (after_last p is) say e = script_missing s input text p a m h.1 is say e
+front_outside s input text rest Input a n m h (at_line bad) say e =
     script_bad s input text [] a n m (ap lines_of h.1 ∙ sym (append-nil (lines_of text)))
     (subst (λ (xs : List ℕ). NoBegin (lines_of xs)) h.1 (never_begin input h.0)) bad say e
+front_outside s input text rest Long a n m h (after_last p is) say e =
+    script_long s input text h.behind p a m (long_lines input text rest h) (long_first h.behind rest h.takes) is say e
+front_outside s input text rest Long a n m h (at_line bad) say e =
+    script_bad s input text (lines_of h.behind) a n m (long_lines input text rest h) (none_begin text h.lines) bad say e
 
 -- a line of it is skipped, and those before it are a script
 stuck_skipped : (d : Draft) (line : List ℕ) → IsSkipped line → (y : Part) → Reads (InScript d) line y → ⊥
@@ -184,8 +251,10 @@ stuck_skipped d _ skipped _ begins = begins_says _ _ refl skipped
 abbrev FrontLines : List ℕ → List ℕ → Type 0
 FrontLines input text = (behind : List (List ℕ)) × (lines_of input ≡ lines_of text ++ behind)
 
-front_lines : (input text rest : List ℕ) (begun : Bool) → IsFront input text begun rest → FrontLines input text
-front_lines input text rest begun h = grind (arith, fronts, append-nil)
+front_lines : (input text rest : List ℕ) (end : FrontEnd) → ReadsFront input text end rest → FrontLines input text
+front_lines input text rest Begin h = (codes "begin" ∷ lines_of rest, (fronts input text rest h).lines_are)
+front_lines input text rest Input h = ([], ap lines_of h.1 ∙ sym (append-nil (lines_of text)))
+front_lines input text rest Long h = (lines_of h.behind, long_lines input text rest h)
 
 -- the script of the lines before one
 abbrev ReadsSome : Draft → List (List ℕ) → Type 0
@@ -206,11 +275,13 @@ before_bad s text n k first bad less =
     (omega (arith, first.counted, bad.counted)) in
     grind (arith, reads_some)
 
-before_front : (s : Draft) (text : List ℕ) (begun : Bool) (n k : ℕ) (first : IsFirstSkipped (lines_of text) n) →
-    ParsesFront s text begun (Err (fault.Script k)) → n ≤ k → ReadsSome s first.before
-before_front s text true n k first bad less = before_bad s text n k first bad less
-before_front s text false n k first (after_last p is) less = before_skipped s text p n first is
-before_front s text false n k first (at_line bad) less = before_bad s text n k first bad less
+before_front : (s : Draft) (text : List ℕ) (end : FrontEnd) (n k : ℕ) (first : IsFirstSkipped (lines_of text) n) →
+    ParsesFront s text end (Err (fault.Script k)) → n ≤ k → ReadsSome s first.before
+before_front s text Begin n k first bad less = before_bad s text n k first bad less
+before_front s text Input n k first (after_last p is) less = before_skipped s text p n first is
+before_front s text Input n k first (at_line bad) less = before_bad s text n k first bad less
+before_front s text Long n k first (after_last p is) less = before_skipped s text p n first is
+before_front s text Long n k first (at_line bad) less = before_bad s text n k first bad less
 
 skipped_bad : (s : Draft) (input text : List ℕ) (a n m : ℕ) → FrontLines input text → (first : IsFirstSkipped (lines_of text) n) →
     ReadsSome s first.before → m ≡ a + n → IsBadFrom (InScript s) a input m
@@ -225,22 +296,23 @@ skipped_bad s input text a n m front first before e = record {
 }
 
 -- it is a script, but a line is skipped
-pub front_skipped : (s : Draft) (input text rest : List ℕ) (begun : Bool) (p : Program) (a n m : ℕ) → IsFront input text begun rest →
-    ParsesFront s text begun (Ok p) → IsFirstSkipped (lines_of text) n → m ≡ a + n → IsBadFrom (InScript s) a input m
-front_skipped s input text rest true p a n m h is first e =
-    skipped_bad s input text a n m (front_lines input text rest true h) first (before_skipped s text p n first is) e
-front_skipped s input text rest false p a n m h is first e = absurd is
+pub front_skipped : (s : Draft) (input text rest : List ℕ) (end : FrontEnd) (p : Program) (a n m : ℕ) → ReadsFront input text end rest →
+    ParsesFront s text end (Ok p) → IsFirstSkipped (lines_of text) n → m ≡ a + n → IsBadFrom (InScript s) a input m
+front_skipped s input text rest Begin p a n m h is first e =
+    skipped_bad s input text a n m (front_lines input text rest Begin h) first (before_skipped s text p n first is) e
+front_skipped s input text rest Input p a n m h is first e = absurd is
+front_skipped s input text rest Long p a n m h is first e = absurd is
 
 -- the first line that is outside the grammar or skipped
-pub front_bad : (s : Draft) (input text rest : List ℕ) (begun : Bool) (skipped : Option ℕ) (a k n m : ℕ) → IsFront input text begun rest →
-    ParsesFront s text begun (Err (fault.Script k)) → FindsSkipped (lines_of text) skipped → IsFirstBad k skipped n → m ≡ a + n →
+pub front_bad : (s : Draft) (input text rest : List ℕ) (end : FrontEnd) (skipped : Option ℕ) (a k n m : ℕ) → ReadsFront input text end rest →
+    ParsesFront s text end (Err (fault.Script k)) → FindsSkipped (lines_of text) skipped → IsFirstBad k skipped n → m ≡ a + n →
     IsBadFrom (InScript s) a input m
-front_bad s input text rest begun None a k n m h p say is e = grind (arith, front_outside, none_before)
-front_bad s input text rest begun (Some skipped) a k n m h p first (inl is) e =
-    skipped_bad s input text a skipped m (front_lines input text rest begun h) first (before_front s text begun skipped k first p is.0)
+front_bad s input text rest end None a k n m h p say is e = grind (arith, front_outside, none_before)
+front_bad s input text rest end (Some skipped) a k n m h p first (inl is) e =
+    skipped_bad s input text a skipped m (front_lines input text rest end h) first (before_front s text end skipped k first p is.0)
     (omega (arith, e, is.1))
-front_bad s input text rest begun (Some skipped) a k n m h p first (inr is) e =
-    front_outside s input text rest begun a k m h p (say_up_to (lines_of text) skipped k first is.0) (omega (arith, e, is.1))
+front_bad s input text rest end (Some skipped) a k n m h p first (inr is) e =
+    front_outside s input text rest end a k m h p (say_up_to (lines_of text) skipped k first is.0) (omega (arith, e, is.1))
 
 -- ---- the first line that is skipped, as it is looked for
 

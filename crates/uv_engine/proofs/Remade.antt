@@ -1,9 +1,7 @@
 -- The recording of a script and of steps that it takes is read as that very script, those steps and their callbacks; so its rerun says same,
 -- and nothing else.
 use Rattle.uv_script.specs.Text.{script_text}
-use Rattle.uv_engine.proofs.Names.{ℕ, ◌+◌, ◌≤◌, List, [], ◌∷◌, ◌++◌, length, map, Contains, refl, sym, subst, arith, append_assoc, append-nil, codes, AllByRecursion, Event, Var, Callback, CallbackLine, MainOp, Program, worker_count, lines_in, lines_of, IsLine, IsSkipped, var_line, main_line, callback_line, name_lines, script_callbacks, thread_line, script_lines, IsName, unread, IsScript, is_line_decides, settled, lines_back, lines_read_back, read_lines, script_written, SaysStep, loop, outside, IsCallbackLine, call, after_line, closed, step_line, callback_lines, recording_lines, played, callbacks_said, step_said, CanBe, Same, Start, InScript, InSteps, InCalls, Whole, version, begins, step, calls, callback, ends, ReadsAll, none, one, NoneSkipped, AllTaken, same, HasVerdict, ◌≡◌, Bool, true, false, has_io, from_heap, first_line, version_line, unread_in, io_said, Version, Settings, Draft, Reads, AreWritten, text_makes, reads_without_io, has_step, line_if, io_line, heap_line, order_line, workers_line, slots_line, order_of, arena_size, setting_lines}
-use Rattle.uv_ids.specs.declared.seen.Callback.TheVariants as kinds
-use Rattle.uv_script.specs.declared.op.MainOp.TheVariants as main
+use Rattle.uv_engine.proofs.Names.{ℕ, ◌+◌, ◌≤◌, List, [], ◌∷◌, ◌++◌, length, map, Contains, refl, sym, subst, arith, append_assoc, append-nil, codes, AllByRecursion, Event, Var, Callback, CallbackLine, MainOp, Program, worker_count, lines_of, IsLine, IsSkipped, main_line, callback_line, script_callbacks, script_lines, IsName, unread, IsScript, is_line_decides, settled, lines_back, lines_read_back, read_lines, script_written, SaysStep, IsCallbackLine, step_line, callback_lines, recording_lines, played, callbacks_said, step_said, CanBe, Same, Start, InScript, InSteps, InCalls, Whole, version, begins, step, calls, callback, ends, ReadsAll, none, one, NoneSkipped, AllTaken, same, HasVerdict, ◌≡◌, Bool, true, false, has_io, from_heap, first_line, version_line, unread_in, Version, Settings, Draft, Reads, AreWritten, text_makes, reads_without_io, has_step, setting_lines}
 use Rattle.uv_script.specs.Grammar as script
 use Rattle.uv_text.specs.Recording.{recording_text}
 use Rattle.uv_engine.specs.declared.version.Version.TheVariants as versions

@@ -1,10 +1,22 @@
 -- The parts of a recording, as a replay reads and runs them.
-use Rattle.uv_engine.proofs.Names.{◌≡◌, ◌≢◌, ℕ, ◌+◌, List, [], ◌∷◌, ◌++◌, Bool, true, false, length, Option, Some, None, Ok, Err, refl, ap, sym, subst, ◌∙◌, arith, append-nil, codes, Event, Fault, Program, lines_of, SaysStep, IsCallbackLine, Verdict, Version, TakesLine, version_line, unread_in, Part, Start, InScript, InSteps, InCalls, Whole, Reads, version, step, calls, callback, ends, ReadsAll, IsBadFrom, IsFront, ParsesFront, NoneSkipped, CutShort, CutOff, IsVerdict, HasVerdict, verdict_text, Tells, cut_short, Replays, no_memory, no_read, ReadsTo, RanSo, HasSteps, Met, HasCalls, FailsAt, Draft}
+use Rattle.uv_engine.proofs.Names.{◌≡◌, ◌≢◌, ℕ, ◌+◌, List, [], ◌∷◌, ◌++◌, Bool, length, Option, None, Ok, Err, refl, ap, sym, subst, arith, append-nil, codes, Event, Fault, Program, lines_of, SaysStep, IsCallbackLine, Verdict, Version, TakesLine, version_line, unread_in, Part, Start, InScript, InSteps, InCalls, Whole, Reads, version, step, calls, callback, ends, IsBadFrom, FrontEnd, Begin, Input, Long, ReadsFront, ParsesFront, NoneSkipped, CutShort, CutOff, IsVerdict, HasVerdict, verdict_text, Tells, cut_short, Replays, ReadsTo, RanSo, HasSteps, Met, HasCalls, FailsAt, IsReadingFault, RefusesLong, Draft}
 use Rattle.uv_ids.specs.declared.fault.Fault.TheVariants as fault
 use Rattle.uv_engine.specs.Verdict as verdict
 use Rattle.uv_engine.specs.Recordings as grammar
-use Rattle.uv_engine.proofs.Recordings.{reads_none, reads_then, reads_line, bad_then, bad_line, bad_end, only_calls, script_read}
+use Rattle.uv_engine.proofs.Recordings.{reads_none, reads_then, reads_line, bad_then, bad_line, bad_end, only_calls, script_read, long_fails}
 use Rattle.uv_engine.proofs.Gathers.{short_of_cut}
+
+pub fails_then : (x y : Part) (a b : ℕ) (old mid : List ℕ) (f : Fault) → ReadsTo x a old y b mid → FailsAt y b mid f → FailsAt x a old f
+fails_then x y a b old mid (fault.Script line) h k = bad_then x y a b line old mid h k
+fails_then x y a b old mid fault.Memory h k = tt
+fails_then x y a b old mid fault.Read h k = tt
+fails_then x y a b old mid fault.Write h k = absurd k
+fails_then x y a b old mid fault.StepsFull h k = absurd k
+fails_then x y a b old mid (fault.Refused why) h k = absurd k
+fails_then x y a b old mid (fault.Torn place) h k = absurd k
+fails_then x y a b old mid fault.Stalled h k = absurd k
+fails_then x y a b old mid (fault.Differs place) h k = absurd k
+fails_then x y a b old mid fault.Limit h k = absurd k
 
 -- ---- the first line and the script
 
@@ -18,10 +30,12 @@ pub version_bad : (a b : ℕ) (old line new : List ℕ) (fed : Bool) → b ≡ a
     ((v : Version) → line ≢ version_line v) → IsBadFrom Start a old b
 version_bad a b old line new fed n takes other = bad_line Start a b old line new fed n takes (grind arith)
 
-pub front_read : (s : Draft) (input text rest : List ℕ) (begun : Bool) (p : Program) (a n : ℕ) → IsFront input text begun rest →
-    ParsesFront s text begun (Ok p) → NoneSkipped (lines_of text) → n ≡ length (lines_of text) →
+pub front_read : (s : Draft) (input text rest : List ℕ) (end : FrontEnd) (p : Program) (a n : ℕ) → ReadsFront input text end rest →
+    ParsesFront s text end (Ok p) → NoneSkipped (lines_of text) → n ≡ length (lines_of text) →
     ReadsTo (InScript s) a input (InSteps p []) (a + (n + 1)) rest
-front_read s input text rest begun p a n h is say e = grind (arith, script_read)
+front_read s input text rest Begin p a n h is say e = grind (arith, script_read)
+front_read s input text rest Input p a n h is say e = absurd is
+front_read s input text rest Long p a n h is say e = absurd is
 
 -- ---- the steps
 
@@ -61,6 +75,12 @@ pub steps_bad : {p : Program} {a b : ℕ} {old mid : List ℕ} {xs : List Event}
 steps_bad {p} {a} {b} {old} {mid} {xs} {h} c line new fed so n takes other none =
     bad_then (InSteps p []) (InSteps p so.steps) a b c old mid so.reads
     (bad_line (InSteps p so.steps) b c mid line new fed n takes (grind arith))
+
+-- the next line couldn't be had
+pub steps_fail : {p : Program} {a b : ℕ} {old mid : List ℕ} {xs : List Event} {h : Option Verdict} (new : List ℕ) (f : Fault) →
+    StepsSo p a old b mid xs h → IsReadingFault f → RefusesLong f b mid new → FailsAt (InSteps p []) a old f
+steps_fail {p} {a} {b} {old} {mid} {xs} {h} new f so is k =
+    fails_then (InSteps p []) (InSteps p so.steps) a b old mid f so.reads (long_fails (InSteps p so.steps) b mid new f is k)
 
 -- ---- the callbacks
 
@@ -109,6 +129,11 @@ pub calls_missing : {p : Program} {es xs : List Event} {h : Option Verdict} {a b
 calls_missing {p} {es} {xs} {h} {a} {b} {old} {mid} {i} {n} {o} c so k e =
     bad_then (InCalls p es []) (InCalls p es so.called) a b c old mid so.reads (bad_end (InCalls p es so.called) b c mid k e tt)
 
+pub calls_fail : {p : Program} {es xs : List Event} {h : Option Verdict} {a b : ℕ} {old mid : List ℕ} {i n : ℕ} {o : Option ℕ} (new : List ℕ)
+    (f : Fault) → CallsSo p es xs h a old b mid i n o → IsReadingFault f → RefusesLong f b mid new → FailsAt (InCalls p es []) a old f
+calls_fail {p} {es} {xs} {h} {a} {b} {old} {mid} {i} {n} {o} new f so is k =
+    fails_then (InCalls p es []) (InCalls p es so.called) a b old mid f so.reads (long_fails (InCalls p es so.called) b mid new f is k)
+
 -- ---- the end
 
 pub end_bad : (p : Program) (es : List Event) (called : List (List ℕ)) (a b : ℕ) (old line new : List ℕ) (fed : Bool) → b ≡ a + 1 →
@@ -125,18 +150,6 @@ end_read p es called a b old n e = record {
 }
 
 -- ---- the whole
-
-pub fails_then : (x y : Part) (a b : ℕ) (old mid : List ℕ) (f : Fault) → ReadsTo x a old y b mid → FailsAt y b mid f → FailsAt x a old f
-fails_then x y a b old mid (fault.Script line) h k = bad_then x y a b line old mid h k
-fails_then x y a b old mid fault.Memory h k = tt
-fails_then x y a b old mid fault.Read h k = tt
-fails_then x y a b old mid fault.Write h k = absurd k
-fails_then x y a b old mid fault.StepsFull h k = absurd k
-fails_then x y a b old mid (fault.Refused why) h k = absurd k
-fails_then x y a b old mid (fault.Torn place) h k = absurd k
-fails_then x y a b old mid fault.Stalled h k = absurd k
-fails_then x y a b old mid (fault.Differs place) h k = absurd k
-fails_then x y a b old mid fault.Limit h k = absurd k
 
 pub has_verdict : {p : Program} {b1 b2 b3 b4 b5 : ℕ} {input r1 r2 r3 r4 : List ℕ} {standing : List Event} {halted : Option Verdict}
     {looked count : ℕ} {parted : Option ℕ} (s : Draft) (v : Verdict) → ReadsTo Start 0 input (InScript s) b1 r1 →

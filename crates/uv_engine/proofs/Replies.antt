@@ -1,5 +1,5 @@
 -- What a session answers, as a reply.
-use Rattle.uv_engine.proofs.Names.{◌≡◌, ℕ, suc, zero, ◌+◌, inl, inr, ◌<◌, ◌≤◌, List, [], ◌∷◌, length, true, false, take, codes, ◌-◌, ◌++◌, length-take, length-append, Some, None, Ok, Err, refl, ap, sym, subst, ◌∙◌, arith, cases_order, nat_tests, Event, Outcome, Why, Program, Break, Shown, TakesEvent, moved_back, moved_forward, BREAKS, stops_at, NoneFrom, IsLastBreak, Took, Full, reply, break_text, at_text, back_text, back_after, forward_text, forward_after, add_text, add_after, last_match, last_break, break_back_text, break_back_after}
+use Rattle.uv_engine.proofs.Names.{◌≡◌, ℕ, suc, zero, inl, inr, ◌<◌, ◌≤◌, List, [], ◌∷◌, length, true, false, take, codes, ◌-◌, ◌++◌, length-take, length-append, Some, None, Ok, Err, refl, ap, sym, subst, ◌∙◌, arith, cases_order, nat_tests, Event, Outcome, Why, Program, Break, Shown, TakesEvent, moved_back, moved_forward, BREAKS, stops_at, NoneFrom, IsLastBreak, Took, Full, reply, break_text, at_text, back_text, back_after, forward_text, forward_after, add_text, add_after, last_match, last_break, break_back_text, break_back_after}
 use Rattle.std.proofs.Common.{nat_lt, nat_le}
 use Rattle.uv_ids.specs.declared.fault.Fault.TheVariants as fault
 use Rattle.uv_engine.specs.Reply.{Refused}

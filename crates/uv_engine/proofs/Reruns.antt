@@ -3,7 +3,7 @@ use Rattle.uv_engine.proofs.Names.{◌≡◌, ℕ, suc, ◌+◌, ◌-◌, ◌<�
 use Rattle.std.proofs.Math.Seq.{drop-cons}
 use Rattle.uv_ids.specs.declared.fault.Fault.TheVariants as fault
 use Rattle.uv_model.specs.Next.{next}
-use Rattle.uv_model.specs.After.{after, seen_by, Accepts}
+use Rattle.uv_model.specs.After.{seen_by}
 use Rattle.uv_engine.specs.declared.verdict.Verdict.TheVariants.{Full}
 
 -- ---- the steps

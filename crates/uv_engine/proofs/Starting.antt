@@ -1,5 +1,5 @@
 -- The lines of a script, one after another.
-use Rattle.uv_engine.proofs.Names.{◌≡◌, ◌≢◌, inl, inr, ℕ, ◌+◌, List, [], ◌∷◌, ◌++◌, Bool, true, false, length, Result, Ok, Err, refl, ap, sym, ◌∙◌, subst, arith, ◌==◌, IfErr, append_assoc, append-nil, codes, Fault, Program, lines_of, bytes_eq, bytes_eq-Decides, both_ways, Decides-eqb, elements, Draft, IsScript, MakesFrom, IsBadLine, Parses, ParsesFrom, unread, HasReading, STEPS, Shown, Ended, TalksCut, TalksOn, TakesLine, NoFeed, Buffered, pending, left, Out, Begins, NeverBegins, Ends, BadScript, Converses, IsDeviceFault, fresh_session, talks, here, here_at_end, later, nothing, last_line, one_line, bad_line, no_begin, bad_input, HasAnswer, HasScript, ReadsScript, IsFront, ParsesFront, MissesBegin, after_last, at_line, NoScript, IsStartFault, with_line}
+use Rattle.uv_engine.proofs.Names.{◌≡◌, ◌≢◌, inl, inr, ℕ, ◌+◌, List, [], ◌∷◌, ◌++◌, Bool, true, false, length, Result, Ok, Err, refl, ap, sym, ◌∙◌, subst, arith, ◌==◌, IfErr, append_assoc, append-nil, codes, Fault, Program, lines_of, bytes_eq, bytes_eq-Decides, both_ways, Decides-eqb, elements, Draft, IsScript, MakesFrom, IsBadLine, Parses, ParsesFrom, unread, HasReading, STEPS, Shown, Ended, TalksCut, TalksOn, TakesLine, NoFeed, Buffered, pending, left, Out, Begins, NeverBegins, Ends, BadScript, Converses, IsDeviceFault, fresh_session, talks, here, here_at_end, later, nothing, last_line, one_line, bad_line, no_begin, bad_input, HasAnswer, HasScript, ReadsScript, MissesBegin, after_last, at_line, NoScript, IsStartFault, with_line}
 use Rattle.uv_ids.specs.declared.fault.Fault.TheVariants as fault
 use Rattle.uv_engine.proofs.Talking.{EveryLine, some_talk}
 use Rattle.uv_engine.proofs.Replies.{same_shown}
@@ -29,7 +29,7 @@ more_fed input text before line after h n e other = record {
 }
 
 -- behind the last line nothing begins
-fed_line : (line rest : List ℕ) → line ++ 10 ∷ rest ≡ [] → ⊥
+pub fed_line : (line rest : List ℕ) → line ++ 10 ∷ rest ≡ [] → ⊥
 fed_line [] rest e = cc e
 fed_line (b ∷ bs) rest e = cc e
 
@@ -54,7 +54,7 @@ begins_here before line after true k e = subst (λ (xs : List ℕ). Begins xs []
 begins_here before line after false k e = subst (λ (xs : List ℕ). Begins before [] xs) (sym k.3)
     (subst (λ (xs : List ℕ). Begins xs [] []) (sym (k.2 ∙ e)) here_at_end)
 
-parsed : (input text after : List ℕ) (r : Result Program Fault) → Begins input text after → Parses text r → ReadsScript input r after
+pub parsed : (input text after : List ℕ) (r : Result Program Fault) → Begins input text after → Parses text r → ReadsScript input r after
 parsed input text after r b h = grind (arith, bad_line)
 
 -- the line `begin` was read
@@ -68,18 +68,10 @@ pub front_missing : {input text before : List ℕ} → CanBegin input text befor
 front_missing {input} {text} {before} h e =
     (h.never (subst NeverBegins (sym e) nothing), h.whole ∙ ap (λ (xs : List ℕ). text ++ xs) e ∙ append-nil text)
 
-missing : (input text : List ℕ) (line : ℕ) → NeverBegins input → input ≡ text → MissesBegin unread text line → Out input [] (BadScript line)
+pub missing : (input text : List ℕ) (line : ℕ) → NeverBegins input → input ≡ text → MissesBegin unread text line → Out input [] (BadScript line)
 missing input text _ n e (after_last p h) = subst (λ (xs : List ℕ). Out input [] (BadScript (length (lines_of xs) + 1))) e
     (no_begin p n (subst (λ (xs : List ℕ). IsScript xs p) (sym e) h))
 missing input text line n e (at_line h) = bad_input n (subst (λ (xs : List ℕ). IsBadLine xs line) (sym e) h)
-
--- what the text in front of `begin` says
-pub front_read : (input text rest : List ℕ) (begun : Bool) (r : Result Program Fault) → IsFront input text begun rest →
-    ParsesFront unread text begun r → ReadsScript input r rest
-front_read input text rest begun r h p = grind (arith, parsed, missing)
-
-pub front_fault : (text : List ℕ) (begun : Bool) (r : Result Program Fault) → ParsesFront unread text begun r → IfErr r IsStartFault
-front_fault text each e2 h = grind arith
 
 -- a script that has no line `begin`
 pub no_script : (d : Draft) (text : List ℕ) (p : Program) (f : Fault) → MakesFrom d (lines_of text) p →
@@ -92,7 +84,7 @@ no_script_fault d text each h = assumption
 
 -- ---- every input asks for something
 -- where an input begins, if it does
-data Starts (input : List ℕ) : Type 0 where
+pub data Starts (input : List ℕ) : Type 0 where
   begun : (script commands : List ℕ) → Begins input script commands → Starts input
   never : NeverBegins input → Starts input
 
@@ -120,7 +112,7 @@ starts_from part (b ∷ bs) n = at (b == 10) refl (λ more k. starts_from more b
       (line_here part bs n (on [] (λ k d l. absurd (omega arith))))
   at false e on = subst Starts (append_assoc part (b ∷ []) bs) (on (part ++ b ∷ []) (grind (arith, elements)))
 
-starts : (input : List ℕ) → Starts input
+pub starts : (input : List ℕ) → Starts input
 starts input = starts_from [] input (λ k d l. absurd (omega arith))
 
 abbrev pub EveryText : Type 0

@@ -1,8 +1,8 @@
 -- The answers to lines, one line after another.
-use Rattle.uv_engine.proofs.Names.{◌≡◌, ◌≢◌, ℕ, List, [], ◌∷◌, ◌++◌, Result, Ok, Err, suc, ◌==◌, arith, Bool, true, false, refl, ap, sym, ◌∙◌, subst, append_assoc, append-nil, Fault, Shown, Loop, Step, Back, Forward, AddBreak, ClearBreaks, BackToBreak, Trace, State, Image, Record, Quit, Asked, Nothing, Do, Bad, Asks, asked_of, lines_of, TakesLine, NoFeed, Ended, append_cancel_left, Grown, CutOff, Gathers, GathersOne, Talks, input_ends, quits, goes_on, IsAnswer, asked_after, TalksCut, TalksOn, Finishes, cond_both, has_step, PrintsFor, Event}
+use Rattle.uv_engine.proofs.Names.{◌≡◌, ◌≢◌, ℕ, List, [], ◌∷◌, ◌++◌, Result, Ok, Err, suc, ◌==◌, arith, Bool, false, refl, ap, sym, ◌∙◌, subst, append_assoc, append-nil, Fault, Shown, Loop, Step, Back, Forward, AddBreak, ClearBreaks, BackToBreak, Trace, State, Image, Record, Quit, Asked, Nothing, Do, Bad, Asks, asked_of, lines_of, TakesLine, NoFeed, Ended, append_cancel_left, Grown, CutOff, Gathers, GathersOne, Talks, input_ends, quits, goes_on, IsAnswer, asked_after, TalksCut, TalksOn, Finishes, cond_both, has_step, PrintsFor, Event}
 use Rattle.uv_engine.specs.declared.conversation.Ended.TheVariants as ended
 use Rattle.uv_engine.specs.Out.{refused}
-use Rattle.uv_engine.proofs.Gathers.{grown_none, grown_more}
+use Rattle.uv_engine.proofs.Gathers.{grown_more}
 
 -- what was written and gathered goes on to the answers to all lines, by any answers to the lines that are left
 pub record CanTalkOn (all : List (List ℕ)) (s0 : Shown) (lines : List (List ℕ)) (s : Shown) (old written gathered : List ℕ) : Type 0 where

@@ -3,8 +3,10 @@ use Rattle.std.specs.Prelude.{ℕ, List, Bool, Result, Ok, Err}
 use Rattle.uv_ids.specs.declared.fault.Fault.{Fault}
 use Rattle.uv_ids.specs.declared.fault.Fault.TheVariants as fault
 use Rattle.uv_script.specs.Program.{Program}
-use Rattle.uv_script.specs.Grammar.{Parses}
-use Rattle.uv_engine.specs.Start.{IsFront}
+use Rattle.uv_script.specs.Grammar.{Parses, unread}
+use Rattle.uv_engine.specs.declared.script.FrontEnd.{FrontEnd}
+use Rattle.uv_engine.specs.declared.script.FrontEnd.TheVariants.{Begin, Input, Long}
+use Rattle.uv_engine.specs.Start.{IsFront, ParsesNone}
 
 -- this is what the text in front of the line `begin` says, or the whole text where there is no such line
 pub record SaysInFront (input : List ℕ) (r : Result Program Fault) : Type 0 where
@@ -21,3 +23,9 @@ ReadsAlone input (Err (fault.Script line)) = SaysInFront input (Err (fault.Scrip
 ReadsAlone input (Err fault.Memory) = Unit {0}
 ReadsAlone input (Err fault.Read) = Unit {0}
 ReadsAlone input (Err _) = ⊥
+
+-- what may be answered to the front of an input that no commands follow, by what ends it
+abbrev pub ParsesAlone : List ℕ → FrontEnd → Result Program Fault → Type 0
+ParsesAlone text Begin r = Parses text r
+ParsesAlone text Input r = Parses text r
+ParsesAlone text Long r = ParsesNone unread text r

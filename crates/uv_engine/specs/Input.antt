@@ -39,3 +39,17 @@ TakesLine old line false new = NoFeed line × (line ≢ []) × (old ≡ line) ×
 -- where the end of the reader was seen, nothing remains in it
 abbrev pub EndIsSeen : Buffered → List ℕ → Type 0
 EndIsSeen b remaining = b.ended ≡ true → remaining ≡ []
+
+-- the first 257 bytes of a line are taken, which may have 256
+pub record TakesLong (old new : List ℕ) : Type 0 where
+  pub front : List ℕ
+  pub free : NoFeed front
+  pub long : length front ≡ 257
+  pub whole : old ≡ front ++ new
+
+-- the rest of a line is taken, with its line feed if it has one
+pub record TakesRest (old : List ℕ) (fed : Bool) (new : List ℕ) : Type 0 where
+  pub rest : List ℕ
+  pub free : NoFeed rest
+  pub whole : old ≡ rest ++ (if fed then 10 ∷ new else [])
+  pub last : fed ≡ false → new ≡ []

@@ -1,10 +1,13 @@
 -- How a conversation's script is read.
-use Rattle.std.specs.Prelude.{◌≡◌, ℕ, ◌+◌, ◌<◌, ◌≤◌, ◌⊎◌, List, [], ◌∷◌, ◌++◌, Bool, true, false, length, Option, Some, None, Result, Ok, Err}
+use Rattle.std.specs.Prelude.{◌≡◌, ◌≢◌, codes, ℕ, ◌+◌, ◌<◌, ◌≤◌, ◌⊎◌, List, [], ◌∷◌, ◌++◌, Bool, true, false, length, Option, Some, None, Result, Ok, Err}
 use Rattle.uv_ids.specs.declared.fault.Fault.{Fault}
 use Rattle.uv_ids.specs.declared.fault.Fault.TheVariants as fault
 use Rattle.uv_script.specs.Program.{Program}
 use Rattle.uv_script.specs.Lines.{lines_of, IsSkipped}
 use Rattle.uv_script.specs.Grammar.{Draft, IsScript, MakesFrom, IsBadLineFrom, ParsesFrom}
+use Rattle.uv_engine.specs.declared.script.FrontEnd.{FrontEnd}
+use Rattle.uv_engine.specs.declared.script.FrontEnd.TheVariants.{Begin, Input, Long}
+use Rattle.uv_engine.specs.Input.{NoFeed, TakesLong}
 use Rattle.uv_engine.specs.Out.{Out, Begins, NeverBegins, BadScript}
 
 -- a line as it stood in the text
@@ -46,11 +49,34 @@ abbrev pub IsFront : List ℕ → List ℕ → Bool → List ℕ → Type 0
 IsFront input text true rest = Begins input text rest
 IsFront input text false rest = NeverBegins input × (input ≡ text)
 
+-- whole lines, none of which is `begin`
+pub data NoLineBegins : List ℕ → Type 0 where
+  no_line : NoLineBegins []
+  line_more : {line rest : List ℕ} → NoFeed line → line ≢ codes "begin" → NoLineBegins rest → NoLineBegins (line ++ 10 ∷ rest)
+
+-- the lines in front of one that is too long, of which 257 bytes were taken
+pub record IsBeforeLong (input text rest : List ℕ) : Type 0 where
+  pub lines : NoLineBegins text
+  pub behind : List ℕ
+  pub whole : input ≡ text ++ behind
+  pub takes : TakesLong behind rest
+
+-- the front of an input, by what ends it
+abbrev pub ReadsFront : List ℕ → List ℕ → FrontEnd → List ℕ → Type 0
+ReadsFront input text Begin rest = IsFront input text true rest
+ReadsFront input text Input rest = IsFront input text false rest
+ReadsFront input text Long rest = IsBeforeLong input text rest
+
+-- what may be answered to lines that go on to no line `begin`
+abbrev pub ParsesNone : Draft → List ℕ → Result Program Fault → Type 0
+ParsesNone d text (Ok p) = ⊥
+ParsesNone d text (Err fault) = NoScript d text fault
+
 -- what may be answered to it
-abbrev pub ParsesFront : Draft → List ℕ → Bool → Result Program Fault → Type 0
-ParsesFront d text true r = ParsesFrom d text r
-ParsesFront d text false (Ok p) = ⊥
-ParsesFront d text false (Err fault) = NoScript d text fault
+abbrev pub ParsesFront : Draft → List ℕ → FrontEnd → Result Program Fault → Type 0
+ParsesFront d text Begin r = ParsesFrom d text r
+ParsesFront d text Input r = ParsesNone d text r
+ParsesFront d text Long r = ParsesNone d text r
 
 -- none of these lines is an empty one or a comment
 abbrev pub NoneSkipped : List (List ℕ) → Type 0

@@ -1,10 +1,24 @@
 -- What the answers to some lines may come to.
-use Rattle.std.specs.Prelude.{◌≡◌, ℕ, List, ◌++◌, Result, Ok, Err}
+use Rattle.std.specs.Prelude.{◌≡◌, ℕ, List, [], ◌++◌, Bool, Option, Some, None, Result, Ok, Err}
 use Rattle.uv_ids.specs.declared.fault.Fault.{Fault}
 use Rattle.uv_session.specs.Shown.{Shown}
+use Rattle.uv_text.specs.declared.command.Asked.{Asked}
+use Rattle.uv_text.specs.Commands.{Asks}
+use Rattle.uv_engine.specs.Input.{TakesLine}
 use Rattle.uv_engine.specs.declared.conversation.Ended.{Ended}
 use Rattle.uv_engine.specs.Sink.{CutShort}
 use Rattle.uv_engine.specs.Out.{Talks}
+
+-- a line is taken of what is left, and asks for this; or nothing is left
+pub record TakesLineThatAsks (names : List (List ℕ)) (old : List ℕ) (asked : Asked) (new : List ℕ) : Type 0 where
+  pub line : List ℕ
+  pub fed : Bool
+  pub takes : TakesLine old line fed new
+  pub asks : Asks names line asked
+
+abbrev pub TakesAsked : List (List ℕ) → List ℕ → Option Asked → List ℕ → Type 0
+TakesAsked names old (Some asked) new = TakesLineThatAsks names old asked new
+TakesAsked names old None new = old ≡ []
 
 -- all was written
 pub record TalksWhole (lines : List (List ℕ)) (s : Shown) (end : Ended) (old new : List ℕ) : Type 0 where

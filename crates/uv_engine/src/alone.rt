@@ -1,12 +1,13 @@
 //! A script that no commands follow.
 ghost use Rattle.std.specs.Prelude.{◌^◌, ◌<◌, length, IfErr};
-ghost use Rattle.uv_engine.specs.Alone.{ReadsAlone};
+ghost use Rattle.uv_engine.specs.Alone.{ReadsAlone, ParsesAlone};
 ghost use Rattle.uv_engine.specs.Devices.{ReaderCounts, IsTooLong, OnAnswer, TakesWithin};
 ghost use Rattle.uv_engine.specs.Start.{IsStartFault};
 
 use crate::input::Input;
-use crate::script::read_front;
+use crate::script::{Front, FrontEnd, read_front, without_begin};
 use crate::source::{LIMIT, Source};
+use crate::version::Version;
 use std::alloc::Global;
 use uv_ids::Fault;
 use uv_script::Script;
@@ -25,5 +26,16 @@ pub fn read_alone<R: Source>(alloc: Global, reader: &mut R) -> Result<Script, Fa
 {
     let mut input = Input::new(alloc, LIMIT);
     let front = read_front(alloc, &mut input, reader)?;
-    Script::parse(alloc, front.text.as_slice())
+    parse_alone(alloc, &front)
+}
+
+/// The script of a front, with or without the line `begin` behind it.
+fn parse_alone(alloc: Global, front: &Front) -> Result<Script, Fault>
+    ensures { ParsesAlone front.now.text.items front.now.end result }
+{
+    match front.end {
+        FrontEnd::Begin => Script::parse(alloc, front.text.as_slice()),
+        FrontEnd::Input => Script::parse(alloc, front.text.as_slice()),
+        FrontEnd::Long => Err(without_begin(alloc, Version::V3, front.text.as_slice())),
+    }
 }

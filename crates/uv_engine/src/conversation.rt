@@ -1,23 +1,24 @@
 //! The conversation.
-ghost use Rattle.std.specs.Prelude.{◌≡◌, ℕ, List, ◌++◌, ◌<◌, ◌≤◌, ◌^◌, ◌==◌, [], length, Ok, IfOk, IfErr, OnOk, ◌≢◌, true, false};
+ghost use Rattle.std.specs.Prelude.{◌≡◌, ℕ, List, ◌++◌, ◌<◌, ◌≤◌, ◌^◌, ◌==◌, [], length, Ok, IfOk, IfErr, OnOk, OnSome, ◌≢◌, true, false};
 ghost use Rattle.std.specs.List.{list_any};
 ghost use Rattle.uv_ids.specs.declared.fault.Fault.TheVariants.{Write};
 ghost use Rattle.uv_script.specs.Lines.{lines_of};
 ghost use Rattle.uv_engine.specs.Devices.{ReaderCounts, IsTooLong, WriterCounts, OnAnswer, TakesWithin};
-ghost use Rattle.uv_engine.specs.Input.{left, EndIsSeen};
+ghost use Rattle.uv_engine.specs.Input.{left, EndIsSeen, size};
+ghost use Rattle.uv_engine.specs.Taking.{SpendsBudget, SpendsGiven, IsReadFault};
 ghost use Rattle.uv_engine.specs.Gather.{Gathers};
 ghost use Rattle.uv_engine.specs.Out.{Converses, HasAnswer, HasOneAnswer, IsDeviceFault, IsConversationFault};
-ghost use Rattle.uv_engine.specs.Talk.{TalksOn, Finishes};
+ghost use Rattle.uv_engine.specs.Talk.{TakesAsked, TalksOn, Finishes};
 
 use crate::answer::spill;
-use crate::input::Input;
+use crate::input::{Input, Taken};
 use crate::script::read_script;
 use crate::sink::{Sink, write_out};
 use crate::source::{LIMIT, Source};
 use std::alloc::Global;
 use uv_ids::Fault;
 use uv_model::{Machine, STEPS};
-use uv_script::one_reading;
+use uv_script::{Names, one_reading};
 use uv_session::Session;
 use uv_text::{Asked, Command, every_line_asks, read_command};
 
@@ -58,6 +59,37 @@ fn is_quit(asked: Asked) -> bool
     matches!(asked, Asked::Do(Command::Quit))
 }
 
+/// What the next line asks for; none at the end of the input. Of a line that is too long nothing is kept: it is a bad command.
+fn next_asked<R: Source>(
+    names: &Names,
+    input: &mut Input,
+    reader: &mut R,
+) -> Result<Option<Asked>, Fault>
+    requires end { R.Tells → EndIsSeen input.old (R.remaining reader.old) }
+    ensures line { IfOk result (λ asked. R.Tells → TakesAsked names.now (left input.old (R.remaining reader.old)) asked (left input.new
+        (R.remaining reader.new))) }
+    ensures size { IfOk result (λ asked. OnSome asked (size input.new < size input.old)) }
+    ensures end { OnOk result (R.Tells → EndIsSeen input.new (R.remaining reader.new)) }
+    ensures budget { OnOk result (R.Tells → SpendsBudget input.old (R.remaining reader.old) input.new (R.remaining reader.new)) }
+    ensures given { OnOk result (SpendsGiven input.old (R.given reader.old) input.new (R.given reader.new)) }
+    ensures err { IfErr result IsReadFault }
+    ensures reader { ReaderCounts result (IsTooLong R.Tells input.old.budget (R.remaining reader.old) (R.given reader.old)
+        (R.given reader.new)) (R.failures reader.old) (R.failures reader.new) }
+{
+    match input.next_line(reader)? {
+        Taken::Line(line) => {
+            let asked = read_command(names, line.text.as_slice());
+            input.reuse(line);
+            Ok(Some(asked))
+        }
+        Taken::Long => {
+            input.skip_line(reader)?;
+            Ok(Some(Asked::Bad))
+        }
+        Taken::End => Ok(None),
+    }
+}
+
 impl<M: Machine> Conversation<M> {
     /// Answers the lines of an input, one after another, up to `quit` or the end of the input. The answers to the lines that
     /// were read are written before more is read, and before there is much of them.
@@ -81,17 +113,15 @@ impl<M: Machine> Conversation<M> {
         every_line_asks();
         'lines: loop {
             write_if_waiting(input, writer, &mut self.text)?;
-            let Some(line) = input.next_line(reader)? else {
+            let names = self.session.machine().script().names();
+            let Some(asked) = next_asked(names, input, reader)? else {
                 return self.finish(writer, Ended::Input);
             };
-            let names = self.session.machine().script().names();
-            let asked = read_command(names, line.text.as_slice());
             if is_quit(asked) {
                 return self.finish(writer, Ended::Quit);
             }
             self.answer(writer, asked)?;
             spill(writer, &mut self.text)?;
-            input.reuse(line);
         }
     }
 

@@ -8,9 +8,9 @@ ghost use Rattle.uv_engine.specs.Input.{left, EndIsSeen, size};
 ghost use Rattle.uv_engine.specs.Recordings.{unread_in, Start, InScript, InSteps, Whole};
 ghost use Rattle.uv_engine.specs.Rerun.{CanCount, ReadsPart, IsReadingFault};
 ghost use Rattle.uv_engine.specs.Start.{FindsSkipped, IsFirstBad};
-ghost use Rattle.uv_engine.specs.Taking.{TakesNext, SpendsBudget, SpendsGiven, IsReadFault};
+ghost use Rattle.uv_engine.specs.Taking.{TakesOne, RefusesLong, SpendsBudget, SpendsGiven};
 
-use crate::input::{Input, Line};
+use crate::input::{Input, Line, Taken};
 use crate::script::{parse_front, read_front};
 use crate::source::Source;
 use crate::version::Version;
@@ -26,27 +26,32 @@ pub(crate) struct Numbered {
 }
 
 impl Numbered {
-    /// The next line; none at the end of the input.
+    /// The next line; none at the end of the input. One that is too long is refused as its 257th byte was taken.
     pub(crate) fn next_line<R: Source>(&mut self, reader: &mut R) -> Result<Option<Line>, Fault>
         requires end { R.Tells → EndIsSeen self.old.input (R.remaining reader.old) }
         requires few { CanCount self.old.taken self.old.input }
-        ensures line { IfOk result (λ line. R.Tells → TakesNext (left self.old.input (R.remaining reader.old)) line
+        ensures line { IfOk result (λ line. R.Tells → TakesOne (left self.old.input (R.remaining reader.old)) line
+            (left self.new.input (R.remaining reader.new))) }
+        ensures long { IfErr result (λ fault. R.Tells → RefusesLong fault self.old.taken (left self.old.input (R.remaining reader.old))
             (left self.new.input (R.remaining reader.new))) }
         ensures taken { IfOk result (λ line. OnSome line (self.new.taken ≡ self.old.taken + 1)) }
         ensures none { IfOk result (λ line. IfNone line (self.new.taken ≡ self.old.taken)) }
         ensures size { IfOk result (λ line. OnSome line (size self.new.input < size self.old.input)) }
         ensures end { OnOk result (R.Tells → EndIsSeen self.new.input (R.remaining reader.new)) }
-        ensures budget { OnOk result (R.Tells → SpendsBudget self.old.input (R.remaining reader.old) self.new.input (R.remaining reader.new)) }
+        ensures budget { OnAnswer result (R.Tells → SpendsBudget self.old.input (R.remaining reader.old) self.new.input (R.remaining reader.new)) }
         ensures given { OnOk result (SpendsGiven self.old.input (R.given reader.old) self.new.input (R.given reader.new)) }
-        ensures err { IfErr result IsReadFault }
+        ensures err { IfErr result IsReadingFault }
         ensures reader { ReaderCounts result (IsTooLong R.Tells self.old.input.budget (R.remaining reader.old) (R.given reader.old)
             (R.given reader.new)) (R.failures reader.old) (R.failures reader.new) }
     {
-        let line = self.input.next_line(reader)?;
-        if line.is_some() {
-            self.taken += 1;
+        match self.input.next_line(reader)? {
+            Taken::Line(line) => {
+                self.taken += 1;
+                Ok(Some(line))
+            }
+            Taken::Long => Err(self.missing()),
+            Taken::End => Ok(None),
         }
-        Ok(line)
     }
 
     /// The last line that was taken is bad.
@@ -56,7 +61,7 @@ impl Numbered {
         Fault::Script { line: self.taken }
     }
 
-    /// A line is missing behind the last one.
+    /// The line behind the last one is missing, or has too many bytes.
     pub(crate) fn missing(&self) -> Fault
         requires { self.now.taken < 2 ^ 64 - 1 }
         ensures { result ≡ Fault.Script (self.now.taken + 1) }

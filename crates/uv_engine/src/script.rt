@@ -5,20 +5,31 @@ ghost use Rattle.uv_engine.specs.Recordings.{unread_in};
 ghost use Rattle.uv_engine.specs.Devices.{ReaderCounts, IsTooLong, OnAnswer};
 ghost use Rattle.uv_engine.specs.Input.{left, EndIsSeen, size};
 ghost use Rattle.uv_engine.specs.Taking.{SpendsBudget, SpendsGiven, IsReadFault};
-ghost use Rattle.uv_engine.specs.Start.{ReadsScript, IsFront, ParsesFront, NoScript, IsStartFault, with_line};
+ghost use Rattle.uv_engine.specs.Start.{ReadsScript, ReadsFront, ParsesFront, NoScript, IsStartFault, with_line};
 
-use crate::input::{Input, Line};
+use crate::input::{Input, Line, Taken};
 use crate::source::Source;
 use crate::version::Version;
 use std::alloc::{AllocError, Global};
 use uv_ids::Fault;
 use uv_script::{Script, line_count};
 
-/// The text in front of the line `begin`, or the whole text where there is no such line.
+/// What ends the front of an input.
+#[derive(Clone, Copy, Drop)]
+pub(crate) enum FrontEnd {
+    /// The line `begin`.
+    Begin,
+    /// The end of the input.
+    Input,
+    /// A line of more than 256 bytes, of which no more than 257 were taken.
+    Long,
+}
+
+/// The lines of an input in front of its line `begin`, or of one that is too long, or all of them.
 #[derive(Drop)]
 pub(crate) struct Front {
     pub(crate) text: Vec<u8>,
-    pub(crate) begun: bool,
+    pub(crate) end: FrontEnd,
 }
 
 /// Reads the script: the lines before the line `begin`.
@@ -40,16 +51,16 @@ pub fn read_script<R: Source>(
     parse_front(alloc, Version::V3, &front)
 }
 
-/// Reads the text in front of the line `begin`, and that line.
+/// Reads the text in front of the line `begin`, and that line. Behind a line that is too long nothing is read.
 pub(crate) fn read_front<R: Source>(
     alloc: Global,
     input: &mut Input,
     reader: &mut R,
 ) -> Result<Front, Fault>
     requires end { R.Tells → EndIsSeen input.old (R.remaining reader.old) }
-    ensures front { IfOk result (λ front. R.Tells → IsFront (left input.old (R.remaining reader.old)) front.text.items front.begun
+    ensures front { IfOk result (λ front. R.Tells → ReadsFront (left input.old (R.remaining reader.old)) front.text.items front.end
         (left input.new (R.remaining reader.new))) }
-    ensures size { IfOk result (λ front. front.begun ≡ true → size input.new ≤ size input.old) }
+    ensures size { OnOk result (size input.new ≤ size input.old) }
     ensures end { OnOk result (R.Tells → EndIsSeen input.new (R.remaining reader.new)) }
     ensures budget { OnOk result (R.Tells → SpendsBudget input.old (R.remaining reader.old) input.new (R.remaining reader.new)) }
     ensures given { OnOk result (SpendsGiven input.old (R.given reader.old) input.new (R.given reader.new)) }
@@ -59,11 +70,22 @@ pub(crate) fn read_front<R: Source>(
 {
     let mut text = Vec::new(alloc);
     'lines: loop {
-        let Some(line) = input.next_line(reader)? else {
-            return Ok(Front { text, begun: false });
+        let line = match input.next_line(reader)? {
+            Taken::Line(line) => line,
+            Taken::Long => return Ok(Front {
+                text,
+                end: FrontEnd::Long,
+            }),
+            Taken::End => return Ok(Front {
+                text,
+                end: FrontEnd::Input,
+            }),
         };
         if is_begin(&line) {
-            return Ok(Front { text, begun: true });
+            return Ok(Front {
+                text,
+                end: FrontEnd::Begin,
+            });
         }
         push_line(&mut text, &line)?;
         input.reuse(line);
@@ -72,12 +94,12 @@ pub(crate) fn read_front<R: Source>(
 
 /// The script of a text in front of `begin`, as recordings of this version have it.
 pub(crate) fn parse_front(alloc: Global, version: Version, front: &Front) -> Result<Script, Fault>
-    ensures { ParsesFront (unread_in version) front.now.text.items front.now.begun result }
+    ensures { ParsesFront (unread_in version) front.now.text.items front.now.end result }
 {
-    if front.begun {
-        version.parse(alloc, front.text.as_slice())
-    } else {
-        Err(without_begin(alloc, version, front.text.as_slice()))
+    match front.end {
+        FrontEnd::Begin => version.parse(alloc, front.text.as_slice()),
+        FrontEnd::Input => Err(without_begin(alloc, version, front.text.as_slice())),
+        FrontEnd::Long => Err(without_begin(alloc, version, front.text.as_slice())),
     }
 }
 
@@ -99,8 +121,8 @@ fn push_line(text: &mut Vec<u8>, line: &Line) -> Result<(), AllocError>
     Ok(())
 }
 
-/// What is wrong with an input without the line `begin`: its first bad line, or the line after its last one.
-fn without_begin(alloc: Global, version: Version, text: &[u8]) -> Fault
+/// What is wrong with lines that go on to no line `begin`: their first bad one, or the line after the last one.
+pub(crate) fn without_begin(alloc: Global, version: Version, text: &[u8]) -> Fault
     ensures { NoScript (unread_in version) text.now result }
 {
     match version.parse(alloc, text) {

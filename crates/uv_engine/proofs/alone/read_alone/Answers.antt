@@ -1,6 +1,5 @@
-use Rattle.uv_engine.proofs.Names.{err_from_is_err_and, left, arith}
+use Rattle.uv_engine.proofs.Names.{arith}
 use Rattle.uv_engine.proofs.Fronts.{reads_alone, parsed_fault}
-use Rattle.uv_engine.proofs.Faults.{on_answer, no_read}
 use Rattle.uv_engine.proofs.alone.read_alone.Goals as goal
 
 pub returns-in_err-front-clause-script : goal.returns-in_err-front-clause-script
@@ -13,7 +12,7 @@ pub returns-clause-script : goal.returns-clause-script
 returns-clause-script g c = grind (arith, reads_alone)
 
 pub returns-clause-err : goal.returns-clause-err
-returns-clause-err g c = parsed_fault c.as_slice.result.now c.parse.result c.parse.ensures
+returns-clause-err g c = parsed_fault c.in_ok-front.front.text.items c.in_ok-front.front.end c.parse_alone.result c.parse_alone.ensures
 
 pub returns-in_err-front-clause-within : goal.returns-in_err-front-clause-within
 returns-in_err-front-clause-within g c = grind arith

@@ -1,6 +1,6 @@
-use Rattle.uv_engine.proofs.Names.{Ok, Err, arith, err_from_is_err_and, left}
+use Rattle.uv_engine.proofs.Names.{Ok, arith, err_from_is_err_and, left}
 use Rattle.uv_engine.proofs.Starting.{no_start, no_machine, talked, begun_session, reads_whole}
-use Rattle.uv_engine.proofs.Faults.{taken, talked_within, talk_converses, talk_counts}
+use Rattle.uv_engine.proofs.Faults.{talked_within, talk_converses, talk_counts}
 use Rattle.uv_engine.proofs.conversation.converse_within.Goals as goal
 
 pub returns-in_err-script-clause-text : goal.returns-in_err-script-clause-text

@@ -1,4 +1,4 @@
-use Rattle.uv_engine.proofs.Names.{◌+◌, [], ◌∷◌, refl, ap, sym, ◌∙◌, arith, length-append, both_ways, line_number, lines_step, is_skipped_decides}
+use Rattle.uv_engine.proofs.Names.{◌+◌, [], ◌∷◌, ap, sym, ◌∙◌, arith, length-append, both_ways, line_number, lines_step, is_skipped_decides}
 use Rattle.uv_engine.proofs.Recordings.{none_step, skipped_here}
 use Rattle.uv_engine.proofs.numbered.first_skipped.Goals as goal
 

@@ -1,6 +1,5 @@
-use Rattle.uv_engine.proofs.Names.{ℕ, ◌+◌, arith, refl, ap, sym, subst, ◌∙◌, both_ways, IsCallbackLine, err_from_is_err_and}
-use Rattle.uv_engine.proofs.Replays.{calls_none, calls_more, calls_end, calls_bad, calls_missing}
-use Rattle.uv_engine.proofs.Faults.{no_read}
+use Rattle.uv_engine.proofs.Names.{ℕ, ◌+◌, arith, ap, sym, subst, ◌∙◌, both_ways, IsCallbackLine, err_from_is_err_and}
+use Rattle.uv_engine.proofs.Replays.{calls_none, calls_more, calls_end, calls_bad, calls_missing, calls_fail}
 use Rattle.uv_engine.proofs.replaying.read_calls.Goals as goal
 
 pub lines-init : goal.lines-init
@@ -28,6 +27,12 @@ returns-then-not-is_callback_line-clause-calls g c = λ reads es.
     (λ e. c.is_end.ensures.other c.if-is_end.false (c.as_slice.ensures.value ∙ e))
     (λ h. both_ways _ c.if-not-is_callback_line.true
     (c.is_callback_line.ensures.1 (subst IsCallbackLine (sym c.as_slice-in-lines.ensures.value) h))))
+
+pub returns-in_err-line-clause-calls : goal.returns-in_err-line-clause-calls
+returns-in_err-line-clause-calls g c = λ reads es.
+    let p = err_from_is_err_and c.from_residual.result c.from_residual.ensures.1 in
+    rw (p.1, p.2) (calls_fail _ c.in_err-line.field-0.0 (c.lines.invariant.reads reads es) c.in_err-line.ensures.err
+    (c.in_err-line.ensures.long reads))
 
 pub lines-preserved : goal.lines-preserved
 lines-preserved g c = rw c.reuse.ensures (record {

@@ -1,6 +1,5 @@
-use Rattle.uv_engine.proofs.Names.{arith, refl, sym, ◌∙◌, accepts-nil, err_from_is_err_and}
-use Rattle.uv_engine.proofs.Replays.{steps_none, steps_more, steps_end, steps_bad}
-use Rattle.uv_engine.proofs.Faults.{no_read}
+use Rattle.uv_engine.proofs.Names.{arith, ◌∙◌, accepts-nil, err_from_is_err_and}
+use Rattle.uv_engine.proofs.Replays.{steps_none, steps_more, steps_end, steps_bad, steps_fail}
 use Rattle.uv_engine.proofs.replaying.read_steps.Goals as goal
 
 pub lines-init : goal.lines-init
@@ -11,6 +10,11 @@ returns-then-is_calls-clause-steps g c = grind (arith, steps_end)
 
 pub returns-in_default-read_step-clause-steps : goal.returns-in_default-read_step-clause-steps
 returns-in_default-read_step-clause-steps g c = grind (arith, steps_bad)
+
+pub returns-in_err-line-clause-steps : goal.returns-in_err-line-clause-steps
+returns-in_err-line-clause-steps g c = λ reads.
+    let p = err_from_is_err_and c.from_residual.result c.from_residual.ensures.1 in
+    rw (p.1, p.2) (steps_fail _ c.in_err-line.field-0.0 (c.lines.invariant.reads reads) c.in_err-line.ensures.err (c.in_err-line.ensures.long reads))
 
 pub lines-preserved : goal.lines-preserved
 lines-preserved g c = rw c.reuse.ensures (record {

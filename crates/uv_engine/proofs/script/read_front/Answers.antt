@@ -1,11 +1,28 @@
-use Rattle.std.proofs.Common.{arith, ◌∙◌}
-use Rattle.uv_engine.proofs.Starting.{can_go_on, front_begun, front_missing}
+use Rattle.std.proofs.Common.{arith, refl, ◌∙◌}
+use Rattle.uv_engine.proofs.LongLines.{front_long, whole_more, whole_none}
+use Rattle.uv_engine.proofs.Starting.{can_start, can_go_on, front_begun, front_missing}
 use Rattle.uv_engine.proofs.script.read_front.Goals as goal
 
-pub returns-in_default-clause-front : goal.returns-in_default-clause-front
-returns-in_default-clause-front g c = λ reads.
-    let none_left = rw c.in_default.is at (c.in_ok-line.ensures.line reads) in
+pub lines-init : goal.lines-init
+lines-init g c = record {
+  end = c.requires.end;
+  text = λ reads. rw c.new-text.ensures.items (can_start _);
+  whole = λ reads. rw c.new-text.ensures.items (whole_none _);
+  budget = λ reads. refl;
+  given = λ few. refl;
+  size_is = omega arith;
+  none_failed = refl;
+}
+
+pub returns-in-End-clause-front : goal.returns-in-End-clause-front
+returns-in-End-clause-front g c = λ reads.
+    let none_left = rw c.in-End.is at (c.in_ok-line.ensures.line reads) in
     front_missing (c.lines.invariant.text reads) none_left
+
+pub returns-in-Long-clause-front : goal.returns-in-Long-clause-front
+returns-in-Long-clause-front g c = λ reads.
+    let taken = rw c.in-Long.is at (c.in_ok-line.ensures.line reads) in
+    front_long _ (c.lines.invariant.text reads) (c.lines.invariant.whole reads) taken
 
 pub returns-then-is_begin-clause-front : goal.returns-then-is_begin-clause-front
 returns-then-is_begin-clause-front g c = grind (arith, front_begun)
@@ -14,12 +31,15 @@ pub lines-preserved : goal.lines-preserved
 lines-preserved g c = rw c.reuse.ensures (record {
   end = c.in_ok-line.ensures.end;
   text = λ reads.
-      let taken = rw c.in-Some.is at (c.in_ok-line.ensures.line reads) in
-      can_go_on _ (c.lines.invariant.text reads) taken (c.is_begin.ensures.other c.if-is_begin.false) c.in_ok-push_line.ensures;
+      let taken = rw c.in-Line.is at (c.in_ok-line.ensures.line reads) in
+      can_go_on _ (c.lines.invariant.text reads) taken.0 (c.is_begin.ensures.other c.if-is_begin.false) c.in_ok-push_line.ensures;
+  whole = λ reads.
+      let taken = rw c.in-Line.is at (c.in_ok-line.ensures.line reads) in
+      whole_more _ (c.lines.invariant.whole reads) taken.0 (c.is_begin.ensures.other c.if-is_begin.false) c.in_ok-push_line.ensures;
   budget = λ reads. omega (arith, c.lines.invariant.budget reads, c.in_ok-line.ensures.budget reads);
   given = grind arith;
   size_is =
-      let smaller = rw c.in-Some.is at c.in_ok-line.ensures.size in
+      let smaller = rw c.in-Line.is at c.in_ok-line.ensures.size in
       omega (arith, smaller, c.lines.invariant.size_is);
   none_failed = c.in_ok-line.ensures.reader ∙ c.lines.invariant.none_failed;
 })

@@ -1,4 +1,5 @@
 use Rattle.uv_engine.proofs.Names.{◌≡◌, ◌≤◌, left, size, EndIsSeen, SpendsBudget, SpendsGiven}
+use Rattle.uv_engine.proofs.LongLines.{AreWhole}
 use Rattle.uv_engine.proofs.Starting.{CanBegin}
 use Rattle.uv_engine.proofs.script.read_front.Given as goal
 
@@ -8,6 +9,7 @@ invariant-lines g l = record {
   end : g.R.Source.Tells → EndIsSeen l.input (g.R.Source.remaining l.reader);
   text : g.R.Source.Tells → CanBegin (left l.initial.input (g.R.Source.remaining l.initial.reader)) l.text.items
       (left l.input (g.R.Source.remaining l.reader));
+  whole : g.R.Source.Tells → AreWhole l.text.items (left l.input (g.R.Source.remaining l.reader));
   budget : g.R.Source.Tells → SpendsBudget l.initial.input (g.R.Source.remaining l.initial.reader) l.input (g.R.Source.remaining l.reader);
   given : SpendsGiven l.initial.input (g.R.Source.given l.initial.reader) l.input (g.R.Source.given l.reader);
   size_is : size l.input ≤ size l.initial.input;

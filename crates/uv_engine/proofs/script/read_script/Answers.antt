@@ -1,14 +1,14 @@
-use Rattle.uv_engine.proofs.Starting.{front_read, front_fault}
+use Rattle.uv_engine.proofs.LongLines.{front_read, front_fault}
 use Rattle.std.proofs.lemmas.Result.{err_from_is_err_and}
 use Rattle.uv_engine.proofs.Faults.{on_answer, no_read}
 use Rattle.uv_engine.proofs.script.read_script.Goals as goal
 
 pub returns-clause-script : goal.returns-clause-script
 returns-clause-script g c = λ reads.
-    front_read _ _ _ c.in_ok-front.front.begun c.parse_front.result (c.in_ok-front.ensures.front reads) c.parse_front.ensures
+    front_read _ _ _ c.in_ok-front.front.end c.parse_front.result (c.in_ok-front.ensures.front reads) c.parse_front.ensures
 
 pub returns-clause-err : goal.returns-clause-err
-returns-clause-err g c = front_fault _ c.in_ok-front.front.begun c.parse_front.result c.parse_front.ensures
+returns-clause-err g c = front_fault c.in_ok-front.front.text.items c.in_ok-front.front.end c.parse_front.result c.parse_front.ensures
 
 pub returns-in_err-front-clause-budget : goal.returns-in_err-front-clause-budget
 returns-in_err-front-clause-budget g c =

@@ -1,4 +1,4 @@
-use Rattle.uv_engine.proofs.Names.{[], ◌∙◌, refl, arith, err_from_is_err_and}
+use Rattle.uv_engine.proofs.Names.{[], ◌∙◌, arith, err_from_is_err_and}
 use Rattle.uv_engine.proofs.Gathers.{gathered_more, gathered_by, cut_here, cut_by, first_part, part_next}
 use Rattle.uv_engine.proofs.showing.show_parts.Goals as goal
 

@@ -1,4 +1,4 @@
-use Rattle.uv_engine.proofs.Names.{arith, ◌∙◌, subst, ℕ, common_steps, Counted}
+use Rattle.uv_engine.proofs.Names.{arith, ◌∙◌, common_steps}
 use Rattle.uv_engine.proofs.Text.{wrote_more, beginning}
 use Rattle.uv_engine.proofs.sink.write_text.Goals as goal
 

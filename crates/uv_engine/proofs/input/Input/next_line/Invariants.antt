@@ -2,8 +2,8 @@ use Rattle.uv_engine.proofs.Names.{◌≡◌, true, left, size, turns_left, EndI
 use Rattle.uv_engine.proofs.input.Input.next_line.Given as goal
 
 -- what is left stays
-abbrev pub invariant-loop-text : goal.invariant-loop-text
-invariant-loop-text g l = record {
+abbrev pub invariant-reads : goal.invariant-reads
+invariant-reads g l = record {
   left_is : g.R.Source.Tells → left l.self (g.R.Source.remaining l.reader) ≡ left l.initial.self (g.R.Source.remaining l.initial.reader);
   end : g.R.Source.Tells → EndIsSeen l.self (g.R.Source.remaining l.reader);
   size_is : size l.self ≡ size l.initial.self;
@@ -13,5 +13,5 @@ invariant-loop-text g l = record {
   none_failed : g.R.Source.failures l.reader ≡ g.R.Source.failures l.initial.reader;
 }
 
-abbrev pub decreases-loop-text : goal.decreases-loop-text
-decreases-loop-text g l = turns_left l.self
+abbrev pub decreases-reads : goal.decreases-reads
+decreases-reads g l = turns_left l.self

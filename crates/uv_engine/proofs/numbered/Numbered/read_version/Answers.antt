@@ -1,7 +1,6 @@
 use Rattle.uv_engine.proofs.Names.{ℕ, ◌+◌, ap, sym, ◌∙◌, Start, err_from_is_err_and}
-use Rattle.uv_engine.proofs.Recordings.{bad_end}
+use Rattle.uv_engine.proofs.Recordings.{bad_end, long_fails}
 use Rattle.uv_engine.proofs.Replays.{version_read, version_bad}
-use Rattle.uv_engine.proofs.Faults.{no_read}
 use Rattle.uv_engine.proofs.numbered.Numbered.read_version.Goals as goal
 
 pub returns-in_default-clause-read : goal.returns-in_default-clause-read
@@ -25,10 +24,15 @@ returns-clause-read g c = λ reads.
     (version_bad _ _ _ c.in-Some.line.text.items _ c.in-Some.line.fed count taken
     (λ v e. c.in-None.ensures.none v (c.as_slice.ensures.value ∙ e)))
 
+pub returns-in_err-line-clause-read : goal.returns-in_err-line-clause-read
+returns-in_err-line-clause-read g c = λ reads.
+    let p = err_from_is_err_and c.from_residual.result c.from_residual.ensures.1 in
+    rw (p.1, p.2) (long_fails Start _ _ _ c.in_err-line.field-0.0 c.in_err-line.ensures.err (c.in_err-line.ensures.long reads))
+
 pub returns-in_err-line-clause-budget : goal.returns-in_err-line-clause-budget
 returns-in_err-line-clause-budget g c =
     let p = err_from_is_err_and c.from_residual.result c.from_residual.ensures.1 in
-    rw (p.1, p.2) (no_read _ _ c.in_err-line.ensures.err)
+    rw (p.1, p.2) c.in_err-line.ensures.budget
 
 pub returns-in_default-clause-budget : goal.returns-in_default-clause-budget
 returns-in_default-clause-budget g c = rw c.missing.ensures c.in_ok-line.ensures.budget
