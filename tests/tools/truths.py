@@ -276,6 +276,9 @@ def try_truths(tries) -> None:
             try_glance(check, program, walk)
             check(f"truths, {program}: times", not (found := untrue(answer, said_of(program))), found)
             walk.close()
+    page, programs = (ROOT / "docs" / "RECORD.md").read_text(), len({it.program for it in QUESTIONS})
+    said = f"{programs} programs whose true causes are known" in page and f"To {len(QUESTIONS)} questions about them" in page
+    check("truths: how many RECORD.md says", said, (programs, len(QUESTIONS)))
     check("truths, how many answers give the true cause", right >= 0.93 * len(QUESTIONS), (right, len(QUESTIONS)))
 
 
