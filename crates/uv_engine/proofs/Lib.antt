@@ -6,6 +6,7 @@ pub mod Gathers
 pub mod LongLines
 pub mod Loops
 mod Names
+pub mod Near
 mod OneAnswer
 pub mod OneRecording
 pub mod OneVerdict

@@ -15,7 +15,7 @@ pub use Rattle.std.specs.Str.{bytes_eq}
 pub use Rattle.uv_engine.specs.Alone.{ParsesAlone, ReadsAlone, SaysInFront}
 pub use Rattle.uv_engine.specs.Devices.{Counted, IfOfInput, IsTooLong, OnAnswer, ReaderCounts, TakesWithin}
 pub use Rattle.uv_engine.specs.Gather.{CutOff, Gathered, Gathers, GathersOne, Grown}
-pub use Rattle.uv_engine.specs.Input.{Buffered, EndIsSeen, NoFeed, TakesLine, TakesLong, TakesRest, left, pending, size, turns_left}
+pub use Rattle.uv_engine.specs.Input.{Buffered, EndIsSeen, NoFeed, ReadsNear, StopsNear, TakesLine, TakesLong, TakesRest, left, pending, size, turns_left}
 pub use Rattle.uv_engine.specs.Out.{BadScript, Begins, Converses, Ends, HasAnswer, HasOneAnswer, IsAnswer, IsConversationFault, IsDeviceFault, NeverBegins, Out, PrintsFor, Talks, asked_after, bad_input, bad_line, done_after, fresh_session, goes_on, here, here_at_end, image_in, images_in, input_ends, last_line, later, lies, no_begin, nothing, one_line, quits, talks}
 pub use Rattle.uv_engine.specs.Recordings.{InCalls, InScript, InSteps, IsBadFrom, IsStuck, Part, Reads, ReadsAll, Start, Whole, begins, callback, calls, ends, in_script, none, one, step, unread_in, version, version_line}
 pub use Rattle.uv_engine.specs.Reply.{Full, Reply, Took, add_after, add_text, at_text, back_after, back_text, break_back_after, break_back_text, break_text, forward_after, forward_text, last_break, last_match, may_follow, reply, reply_after, reply_text, reply_to, stop_text}

@@ -1,5 +1,9 @@
 -- A reader's lines, one after another.
-use Rattle.std.specs.Prelude.{◌≡◌, ◌≢◌, ℕ, ◌+◌, ◌==◌, true, false, List, [], ◌∷◌, ◌++◌, Bool, All, length, if◌then◌else◌}
+use Rattle.std.specs.Prelude.{◌≡◌, ◌≢◌, ℕ, ◌+◌, ◌==◌, true, false, List, [], ◌∷◌, ◌++◌, Bool, All, length, ◌≤◌, if◌then◌else◌}
+use Rattle.std.specs.List.{AllByRecursion}
+use Rattle.uv_ids.specs.declared.fault.Fault.{Fault}
+use Rattle.uv_ids.specs.declared.fault.Fault.TheVariants as fault
+use Rattle.uv_script.specs.Lines.{lines_of}
 
 -- what was read of an input and not yet taken
 pub record Buffered : Type 0 where
@@ -53,3 +57,16 @@ pub record TakesRest (old : List ℕ) (fed : Bool) (new : List ℕ) : Type 0 whe
   pub free : NoFeed rest
   pub whole : old ≡ rest ++ (if fed then 10 ∷ new else [])
   pub last : fed ≡ false → new ≡ []
+
+-- of these bytes no more were read than lines of at most 257 bytes, one after another, and 4,096 bytes behind them
+pub record ReadsNear (bytes remaining : List ℕ) : Type 0 where
+  pub lines : List ℕ
+  pub rest : List ℕ
+  pub whole : bytes ≡ lines ++ rest
+  pub short : AllByRecursion (λ (line : List ℕ). length line ≤ 257) (lines_of lines)
+  pub near : length rest ≤ length remaining + 4096
+
+-- where a script is bad, no more was read
+abbrev pub StopsNear : Fault → List ℕ → List ℕ → Type 0
+StopsNear (fault.Script line) bytes remaining = ReadsNear bytes remaining
+StopsNear _ bytes remaining = Unit {0}

@@ -2,6 +2,7 @@
 ghost use Rattle.std.specs.Prelude.{◌^◌, ◌<◌, length, IfErr};
 ghost use Rattle.uv_engine.specs.Alone.{ReadsAlone, ParsesAlone};
 ghost use Rattle.uv_engine.specs.Devices.{ReaderCounts, IsTooLong, OnAnswer, TakesWithin};
+ghost use Rattle.uv_engine.specs.Input.{StopsNear};
 ghost use Rattle.uv_engine.specs.Start.{IsStartFault};
 
 use crate::input::Input;
@@ -19,6 +20,8 @@ use uv_script::Script;
 /// longer than 2^30 bytes.
 pub fn read_alone<R: Source>(alloc: Global, reader: &mut R) -> Result<Script, Fault>
     ensures script { R.Tells → ReadsAlone (R.remaining reader.old) result }
+    // However long a line is, no more of it was read than its first 257 bytes, and 4,096 bytes behind them.
+    ensures stops { IfErr result (λ fault. R.Tells → StopsNear fault (R.remaining reader.old) (R.remaining reader.new)) }
     ensures within { OnAnswer result (R.Tells → TakesWithin (2 ^ 30) (R.remaining reader.old) (R.remaining reader.new)) }
     ensures err { IfErr result IsStartFault }
     ensures reader { ReaderCounts result (IsTooLong R.Tells (2 ^ 30) (R.remaining reader.old) (R.given reader.old)

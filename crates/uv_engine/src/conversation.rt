@@ -4,7 +4,7 @@ ghost use Rattle.std.specs.List.{list_any};
 ghost use Rattle.uv_ids.specs.declared.fault.Fault.TheVariants.{Write};
 ghost use Rattle.uv_script.specs.Lines.{lines_of};
 ghost use Rattle.uv_engine.specs.Devices.{ReaderCounts, IsTooLong, WriterCounts, OnAnswer, TakesWithin};
-ghost use Rattle.uv_engine.specs.Input.{left, EndIsSeen, size};
+ghost use Rattle.uv_engine.specs.Input.{left, EndIsSeen, size, StopsNear};
 ghost use Rattle.uv_engine.specs.Taking.{SpendsBudget, SpendsGiven, IsReadFault};
 ghost use Rattle.uv_engine.specs.Gather.{Gathers};
 ghost use Rattle.uv_engine.specs.Out.{Converses, HasAnswer, HasOneAnswer, IsDeviceFault, IsConversationFault};
@@ -158,6 +158,8 @@ pub fn converse_within<M: Machine, R: Source, W: Sink>(
     writer: &mut W,
 ) -> Result<Ended, Fault>
     ensures text { R.Tells → W.Tells → Converses (R.remaining reader.old) result (W.written writer.old) (W.written writer.new) }
+    // However long a line of the script is, no more of it was read than its first 257 bytes, and 4,096 bytes behind them.
+    ensures stops { IfErr result (λ fault. R.Tells → StopsNear fault (R.remaining reader.old) (R.remaining reader.new)) }
     ensures limit { result ≡ Ok Ended.Input → R.Tells → length (R.remaining reader.old) ≤ limit }
     ensures within { OnAnswer result (R.Tells → TakesWithin limit (R.remaining reader.old) (R.remaining reader.new)) }
     ensures err { IfErr result IsConversationFault }
@@ -184,6 +186,8 @@ pub fn converse<M: Machine, R: Source, W: Sink>(
     writer: &mut W,
 ) -> Result<Ended, Fault>
     ensures text { R.Tells → W.Tells → Converses (R.remaining reader.old) result (W.written writer.old) (W.written writer.new) }
+    // However long a line of the script is, no more of it was read than its first 257 bytes, and 4,096 bytes behind them.
+    ensures stops { IfErr result (λ fault. R.Tells → StopsNear fault (R.remaining reader.old) (R.remaining reader.new)) }
     ensures limit { result ≡ Ok Ended.Input → R.Tells → length (R.remaining reader.old) ≤ 2 ^ 30 }
     ensures within { OnAnswer result (R.Tells → TakesWithin (2 ^ 30) (R.remaining reader.old) (R.remaining reader.new)) }
     ensures err { IfErr result IsConversationFault }

@@ -3,7 +3,7 @@ ghost use Rattle.std.specs.Prelude.{◌≡◌, ◌≢◌, ◌++◌, [], ◌∷�
 ghost use Rattle.uv_script.specs.Lines.{lines_of};
 ghost use Rattle.uv_engine.specs.Recordings.{unread_in};
 ghost use Rattle.uv_engine.specs.Devices.{ReaderCounts, IsTooLong, OnAnswer};
-ghost use Rattle.uv_engine.specs.Input.{left, EndIsSeen, size};
+ghost use Rattle.uv_engine.specs.Input.{left, EndIsSeen, size, ReadsNear, StopsNear};
 ghost use Rattle.uv_engine.specs.Taking.{SpendsBudget, SpendsGiven, IsReadFault};
 ghost use Rattle.uv_engine.specs.Start.{ReadsScript, ReadsFront, ParsesFront, NoScript, IsStartFault, with_line};
 
@@ -40,6 +40,7 @@ pub fn read_script<R: Source>(
 ) -> Result<Script, Fault>
     requires end { R.Tells → EndIsSeen input.old (R.remaining reader.old) }
     ensures script { R.Tells → ReadsScript (left input.old (R.remaining reader.old)) result (left input.new (R.remaining reader.new)) }
+    ensures stops { IfErr result (λ fault. R.Tells → StopsNear fault (left input.old (R.remaining reader.old)) (R.remaining reader.new)) }
     ensures end { OnOk result (R.Tells → EndIsSeen input.new (R.remaining reader.new)) }
     ensures budget { OnAnswer result (R.Tells → SpendsBudget input.old (R.remaining reader.old) input.new (R.remaining reader.new)) }
     ensures given { OnOk result (SpendsGiven input.old (R.given reader.old) input.new (R.given reader.new)) }
@@ -60,6 +61,7 @@ pub(crate) fn read_front<R: Source>(
     requires end { R.Tells → EndIsSeen input.old (R.remaining reader.old) }
     ensures front { IfOk result (λ front. R.Tells → ReadsFront (left input.old (R.remaining reader.old)) front.text.items front.end
         (left input.new (R.remaining reader.new))) }
+    ensures near { OnOk result (R.Tells → ReadsNear (left input.old (R.remaining reader.old)) (R.remaining reader.new)) }
     ensures size { OnOk result (size input.new ≤ size input.old) }
     ensures end { OnOk result (R.Tells → EndIsSeen input.new (R.remaining reader.new)) }
     ensures budget { OnOk result (R.Tells → SpendsBudget input.old (R.remaining reader.old) input.new (R.remaining reader.new)) }

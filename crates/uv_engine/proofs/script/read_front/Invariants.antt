@@ -1,5 +1,6 @@
 use Rattle.uv_engine.proofs.Names.{◌≡◌, ◌≤◌, left, size, EndIsSeen, SpendsBudget, SpendsGiven}
 use Rattle.uv_engine.proofs.LongLines.{AreWhole}
+use Rattle.uv_engine.proofs.Near.{GoesOnNear}
 use Rattle.uv_engine.proofs.Starting.{CanBegin}
 use Rattle.uv_engine.proofs.script.read_front.Given as goal
 
@@ -10,6 +11,7 @@ invariant-lines g l = record {
   text : g.R.Source.Tells → CanBegin (left l.initial.input (g.R.Source.remaining l.initial.reader)) l.text.items
       (left l.input (g.R.Source.remaining l.reader));
   whole : g.R.Source.Tells → AreWhole l.text.items (left l.input (g.R.Source.remaining l.reader));
+  near : g.R.Source.Tells → GoesOnNear (left l.initial.input (g.R.Source.remaining l.initial.reader)) (left l.input (g.R.Source.remaining l.reader));
   budget : g.R.Source.Tells → SpendsBudget l.initial.input (g.R.Source.remaining l.initial.reader) l.input (g.R.Source.remaining l.reader);
   given : SpendsGiven l.initial.input (g.R.Source.given l.initial.reader) l.input (g.R.Source.given l.reader);
   size_is : size l.input ≤ size l.initial.input;
