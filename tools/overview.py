@@ -242,7 +242,8 @@ class Overview:
         return [self.spin(it) for it in found[:LINES]]
 
     def is_spin(self, row: list[int]) -> bool:
-        """In a recording: did nothing come that had to be done in most of these rounds, and is the time more than the work, that of long callbacks?"""
+        """In a recording: did nothing come that had to be done in most of these rounds, and is the time more than the work, that of long
+        callbacks?"""
         if not self.walk.notes.names:
             return True
         left = self.idled(row)
@@ -263,7 +264,8 @@ class Overview:
     def has_work(self, poll: int, behind: int) -> bool:
         """Did something come in this round that is over when it is done: bytes, a connection, a signal, a request, a send of somebody else?"""
         walk = self.walk
-        if walk.steps_between("after", poll, behind - 1) or any(walk.lines[it].startswith("out send ") for it in walk.steps_between("out", poll, behind - 1)):
+        outside = walk.steps_between("out", poll, behind - 1)
+        if walk.steps_between("after", poll, behind - 1) or any(walk.lines[it].startswith("out send ") for it in outside):
             return True
         calls = (walk.calls[it] for it in walk.steps_between("call", poll, behind - 1) if walk.steps[it - 1].startswith("io "))
         return any(walk.notes.what.get(name, {}).get(call, "").split(":")[0] not in STAYS for _, name, call in calls)

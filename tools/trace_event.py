@@ -203,12 +203,14 @@ def of_javascript(javascript: JavaScript) -> list[Event]:
         resource, end = javascript.resources[span.id], max(span.begin, span.end)
         # (a callback may be in another one's time, and the clock has whole ms: so they are no slices of one track)
         event = {"pid": JAVASCRIPT, "tid": 1, "name": javascript.who(span).text(), "cat": "JavaScript", "id": f"0x{span.id:x}.{len(found):x}"}
-        found += [event | {"ph": "b", "ts": 1000 * span.begin, "args": {"what": f"{resource.what()} {resource.asked()}"}}, event | {"ph": "e", "ts": 1000 * end}]
+        args = {"what": f"{resource.what()} {resource.asked()}"}
+        found += [event | {"ph": "b", "ts": 1000 * span.begin, "args": args}, event | {"ph": "e", "ts": 1000 * end}]
     before = 0
     for look in sorted(javascript.looks, key=lambda it: it.begin):
         begin = max(before, look.begin)
         before = max(begin, look.end)
-        found.append({"ph": "X", "pid": JAVASCRIPT, "tid": 2, "name": look.under.inner.text(), "cat": "JavaScript", "ts": begin, "dur": before - begin})
+        event = {"ph": "X", "pid": JAVASCRIPT, "tid": 2, "name": look.under.inner.text(), "cat": "JavaScript"}
+        found.append(event | {"ts": begin, "dur": before - begin})
     return found
 
 

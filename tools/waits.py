@@ -161,7 +161,8 @@ class Follower:
             self.closing = None
 
     def called(self, step: int) -> None:
-        """(A timer that doesn't repeat isn't active behind its call. What else is called once more, and nobody started it in between, stayed active.)"""
+        """(A timer that doesn't repeat isn't active behind its call. What else is called once more, and nobody started it in between, stayed
+        active.)"""
         self.end(step, "called")
         if self.kind == "timer" and self.repeat != "0" and self.is_active(step):
             self.begin(step, self.kind)

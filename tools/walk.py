@@ -297,7 +297,8 @@ class Walk:
 
     @functools.cached_property
     def left_by_io(self) -> list[LeftByIo]:
-        """The polls that callbacks of I/O left, in order. Where the lines show nobody who waits for one, nobody had woken it; else the state says it."""
+        """The polls that callbacks of I/O left, in order. Where the lines show nobody who waits for one, nobody had woken it; else the state
+        says it."""
         found = [LeftByIo(poll, step, False) for step, poll in self.leaving.items()]
         asked = [it for it, waits in zip(found, self.someone_waits([it.call for it in found])) if waits]
         for it, (_, state) in zip(asked, self.states_at([it.call for it in asked])):
@@ -334,7 +335,8 @@ class Walk:
 
     @functools.cached_property
     def unblocking(self) -> dict[str, list[tuple[int, int, str]]]:
-        """Since whom a poll doesn't wait: from which step, up to which other one, and the name. Idle handles that are active, and handles that close."""
+        """Since whom a poll doesn't wait: from which step, up to which other one, and the name. Idle handles that are active, and handles that
+        close."""
         found: dict[str, list[tuple[int, int, str]]] = {"idle": [], "closing": []}
         for name, rows in self.of_name.items():
             kind, active, closing = "", 0, 0

@@ -162,8 +162,10 @@ class Why:
             asked.setdefault((who, self.walk.lines[it.ended]), []).append(it.ended)
         first, last = run[0], run[-1]
         return [f"steps {first.ended} to {last.ended}: {len(run)} times no call: each time started again before it was due",
-                f"    due from {first.due} ms to {last.due} ms, started again from {self.walk.clock(first.ended)} ms to {self.walk.clock(last.ended)} ms",
-                *(f"    at {steps_of(steps)}{', the first time' if len(steps) > 1 else ''} {self.walk.by(steps[0])}" for steps in list(asked.values())[:MANY]),
+                f"    due from {first.due} ms to {last.due} ms, started again from {self.walk.clock(first.ended)} ms"
+                f" to {self.walk.clock(last.ended)} ms",
+                *(f"    at {steps_of(steps)}{', the first time' if len(steps) > 1 else ''} {self.walk.by(steps[0])}"
+                  for steps in list(asked.values())[:MANY]),
                 f"    {self.asked(first)}"]
 
     def is_plain(self, wait: Wait) -> bool:
@@ -313,7 +315,8 @@ class Why:
                 steps, names = {it for row in found for it in row}, dict.fromkeys(it for row in found.values() for it in row)
                 rows.append(f"the poll didn't wait, at {steps_of(sorted(steps))}: each time one or more of {few(list(names))} {WERE[what][1]}")
             else:
-                rows += [f"the poll didn't wait, at {steps_of(list(steps))}: {few(names)} {WERE[what][len(names) > 1]}" for steps, names in found.items()]
+                rows += [f"the poll didn't wait, at {steps_of(list(steps))}: {few(names)} {WERE[what][len(names) > 1]}"
+                         for steps, names in found.items()]
         return rows
 
     def is_before_due(self, step: int, due: int) -> bool:
@@ -420,7 +423,8 @@ class Why:
         busy = [at for at in self.walk.steps_between("closeloop", wait.asked, wait.ended - 1) if self.walk.lines[at] == "closeloop = EBUSY"]
         if busy:
             details.append(f"until then the loop had it: `closeloop` at {steps_of(busy)} returns EBUSY")
-        return f"it was closed at step {wait.asked}, and the turn of the close callbacks came at step {self.walk.last_line(('closing',), wait.ended)}", details
+        turn = self.walk.last_line(("closing",), wait.ended)
+        return f"it was closed at step {wait.asked}, and the turn of the close callbacks came at step {turn}", details
 
     def request(self, wait: Wait) -> tuple[str, list[str]]:
         if wait.cancelled:

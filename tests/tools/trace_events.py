@@ -21,7 +21,9 @@ HERE = Path(__file__).resolve().parent
 VIEW = str(ROOT / "tools" / "uvt-view")
 SECONDS = 120
 # Of each phase the fields that it has to have beside ph, ts, pid, tid and name.
-FIELDS = {"B": ("cat",), "E": (), "X": ("dur", "cat"), "b": ("id", "cat"), "e": ("id", "cat"), "s": ("id", "cat"), "f": ("id", "cat", "bp"), "M": ("args",)}
+FIELDS = {
+    "B": ("cat",), "E": (), "X": ("dur", "cat"), "b": ("id", "cat"), "e": ("id", "cat"), "s": ("id", "cat"), "f": ("id", "cat", "bp"), "M": ("args",),
+}
 METADATA = {"process_name": ("name", str), "thread_name": ("name", str), "thread_sort_index": ("sort_index", int)}
 
 
@@ -156,8 +158,10 @@ def try_changed(check) -> None:
     end = next(at for at, it in enumerate(events) if it["ph"] == "E")
     arrow = next(at for at, it in enumerate(events) if it["ph"] == "f")
     for what, changed in (
-        ("without an end", events[:end] + events[end + 1 :]), ("with an arrow to nowhere", [*events[:arrow], events[arrow] | {"ts": 1e12}, *events[arrow + 1 :]]),
-        ("with a phase that is none", [*events, events[end] | {"ph": "Z"}]), ("with an end that is too early", [*events[:end], events[end] | {"ts": 0}, *events[end + 1 :]]),
+        ("without an end", events[:end] + events[end + 1 :]),
+        ("with an arrow to nowhere", [*events[:arrow], events[arrow] | {"ts": 1e12}, *events[arrow + 1 :]]),
+        ("with a phase that is none", [*events, events[end] | {"ph": "Z"}]),
+        ("with an end that is too early", [*events[:end], events[end] | {"ts": 0}, *events[end + 1 :]]),
     ):
         check(f"trace events {what}", wrong_of(json.dumps(whole | {"traceEvents": changed}))[1], "nothing is wrong")
 
@@ -170,8 +174,8 @@ def try_trace_events(tries) -> None:
         check(f"trace events of {path.name}", events and not wrong, wrong[:5])
     try_known(check)
     with tempfile.TemporaryDirectory() as folder:
-        for log in (HERE / "truths" / "pool.log", HERE / "truths" / "watched.log", HERE / "truths" / "starve.log", HERE / "truths" / "chat.log", HERE / "logs" / "threads.log",
-                    HERE / "logs" / "node-late.log", HERE / "logs" / "uvloop-echo.log", HERE / "logs" / "starved.log"):
+        logs = [f"truths/{it}" for it in ("pool", "watched", "starve", "chat")] + [f"logs/{it}" for it in ("threads", "node-late", "uvloop-echo", "starved")]
+        for log in (HERE / f"{it}.log" for it in logs):
             data = log.read_bytes()
             from_data(data, read_log(data), str(Path(folder) / log.stem))
             for path in sorted(Path(folder).glob(f"{log.stem}*.rec")):

@@ -44,7 +44,7 @@ WANTED: list[tuple[str, str, str | None, list[str]]] = [
     ("run-ends-early.uvt", "beat", None, ["meanwhile the run ended at step 20: nothing kept the loop alive", "step 37, call 1: on time",
                                           "for beat is unreferenced since step 4, by line 12: main unref beat"]),
     ("run-ends-early.uvt", "beat", "tick 5", ["the end, at 11: no call: the loop waits in the poll, since step 11 and until 5 ms", "due at 10 ms"]),
-    ("watcher-waits.uvt", "late", None, ["step 23, call 1: an iteration later: it was started in the turn of the idle handles, which had begun at step 7",
+    ("watcher-waits.uvt", "late", None, ["an iteration later: it was started in the turn of the idle handles, which had begun at step 7",
                                          "started at step 9 by line 17: on starter @1 start late"]),
     ("watcher-waits.uvt", "soon", None, ["step 12, call 1: in the turn of the prepare handles that began at step 11"]),
     ("poll-does-not-block.uvt", "t", None, ["the poll didn't wait, at step 12: busy was an active idle handle", "due at 50 ms, called at 50 ms"]),
@@ -116,7 +116,8 @@ WANTED_OF_IO: list[tuple[str, str, list[str]]] = [
         "step 11: no call: closed by line 13: main close r", "step 12: `start r` returns EINVAL: it closes, since step 11"]),
     ("where-a-callback-of-i-o-may-come-and-where-none-may", "r", [
         "step 13, call 1: it left the poll: something came, and when nobody knows", "steps 15 to 22, calls 2 to 4: each as something came",
-        "at steps 15, 17 and 22", "the end, at 22: no further call: nothing came for it, and the session ends (the loop is at the callbacks that it had put off)",
+        "at steps 15, 17 and 22", "the end, at 22: no further call: nothing came for it, and the session ends",
+        "(the loop is at the callbacks that it had put off)",
         "it keeps the loop alive: it is active from its start on"]),
 ]
 # A callback that comes behind another one of the same poll, and one in `pending`. By hand: steps 1 to 12 lead to the poll, 13 is the tick, 14
