@@ -627,7 +627,7 @@ def try_with_stand_in(check: Check, program: str) -> None:
 
 
 def try_with_kit(check: Check, copy: str, folder: str) -> None:
-    """In a copy without a built program: the README's first command, and a build that is stopped and taken up again."""
+    """In a copy without a built program: the first commands of docs/TOUR.md and README.md, and a build that is stopped and taken up again."""
     uvt, env = os.path.join(copy, 'uvt'), {**os.environ, 'XDG_CACHE_HOME': os.path.join(folder, 'cache')}
     with open(os.path.join(copy, 'examples', 'late-timer.uvt'), 'rb') as script, open(os.path.join(copy, 'examples', 'late-timer.out'), 'rb') as due:
         ended = subprocess.run([uvt, 'debug'], stdin=script, stdout=subprocess.PIPE, stderr=subprocess.PIPE, timeout=600, env=env)

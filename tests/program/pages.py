@@ -1,4 +1,6 @@
-"""The commands of README.md, docs/TOOLS.md, docs/RECORD.md, docs/FIND.md and docs/HUNT.md, each as it stands, in order, in a fresh clone with a home of its own.
+"""The commands of README.md, docs/TOUR.md, docs/TOOLS.md, docs/RECORD.md, docs/FIND.md and docs/HUNT.md, each as it stands, in order.
+
+They are typed in a fresh clone, with a home of its own.
 
 A block of text on a page is a block of commands if its first line begins with one of the words of COMMANDS. Each line has to end with
 status 0 (or the one of STATUS) and with nothing on the errors, and the block behind it is what its lines print: all of it, or with
@@ -20,13 +22,15 @@ import tempfile
 from pathlib import Path
 from typing import Callable, NamedTuple, Optional
 
-PAGES = ("README.md", "docs/TOOLS.md", "docs/RECORD.md", "docs/FIND.md", "docs/HUNT.md")
+PAGES = ("README.md", "docs/TOUR.md", "docs/TOOLS.md", "docs/RECORD.md", "docs/FIND.md", "docs/HUNT.md")
 COMMANDS = ('./uvt ', 'uvt ', 'tools/', 'tests/', 'make ', 'cc ', 'cp ', 'ln ', 'mkdir ', 'cd ', 'tar ', 'printf ', 'grep ', 'sed ', 'cat ',
             'apt-get ', 'git ', 'rt ', 'parallel ', './upload')
 # What doesn't end with status 0: on the real libuv the example goes another way, and the page shows which.
 # And a search that answers `never` ends with status 1.
 ENDS = {
     'libuv examples/cancel-in-time.uvt': 3,
+    # (its callbacks are others now)
+    'replay examples/changed-program.rec': 3,
     "find examples/late-timer.uvt 'may tick 40 1' 'may wait' 'find late beat 41'": 1,
     'find examples/debounce.find': 1,
     # (what is hunted ends badly)
@@ -42,6 +46,7 @@ BROUGHT = ("uvt find: no line says `may`, so what came in the recording may come
            "uvt find: each callback does what it did in the recording, also where the program would do something else\n")
 ECHO = BROUGHT % ('14 callbacks of I/O, 1 time that went by in no callback, 3 callbacks that took time', 106)
 FRAME = BROUGHT % ('3 times that went by in no callback, 1 callback that took time', 144)
+SAYS.update({'%s replay examples/changed-program.rec' % uvt: 'uvt: differs at 1\n' for uvt in ('./uvt', 'uvt')})
 SAYS.update({'%s %s' % (uvt, words): said for uvt in ('./uvt', 'uvt') for words, said in (
     ("find examples/echo.rec 'find late heartbeat 25' -o beat.uvt", ECHO), ("find examples/frame.rec 'find late vsync 51' -o frame.uvt", FRAME),
     ("find examples/frame.rec 'find late vsync 52'", FRAME))})
@@ -211,6 +216,9 @@ def try_commands(check: Check, copy: str, room: str, proved: bool) -> None:
     os.mkdir(home)
     shutil.copytree(copy, folder, symlinks=True)
     walker = Walker(check, './uvt', folder, home, dict(os.environ), proved)
+    named = set(re.findall(r'[a-z-]+\.uvt', Path(folder, 'docs', 'TOUR.md').read_text(encoding='utf-8')))
+    scripts = {it.name for it in Path(folder, 'examples').glob('*.uvt')}
+    check('docs/TOUR.md has each script of examples/, and no other', named == scripts, 'got %r' % sorted(named ^ scripts))
     for name in PAGES:
         text = Path(folder, name).read_text(encoding='utf-8')
         check('%s: lines of commands among others' % name, not mixed_lines(text), 'got %r' % mixed_lines(text))
