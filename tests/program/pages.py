@@ -54,6 +54,8 @@ SAYS.update({'%s %s' % (uvt, words): said for uvt in ('./uvt', 'uvt') for words,
 NOTICE = re.compile(r'uvt: this is the program before its proofs: .*\n')
 LOG = Path(__file__).resolve().parent.parent / 'tools' / 'logs' / 'late.log'
 SECONDS = 120
+# Of README.md.
+MOST_LINES = 200
 Check = Callable[..., None]
 
 
@@ -216,6 +218,8 @@ def try_commands(check: Check, copy: str, room: str, proved: bool) -> None:
     os.mkdir(home)
     shutil.copytree(copy, folder, symlinks=True)
     walker = Walker(check, './uvt', folder, home, dict(os.environ), proved)
+    lines = Path(folder, 'README.md').read_text(encoding='utf-8').count('\n')
+    check('README.md is a front page', lines <= MOST_LINES, 'it has %d lines' % lines)
     named = set(re.findall(r'[a-z-]+\.uvt', Path(folder, 'docs', 'TOUR.md').read_text(encoding='utf-8')))
     scripts = {it.name for it in Path(folder, 'examples').glob('*.uvt')}
     check('docs/TOUR.md has each script of examples/, and no other', named == scripts, 'got %r' % sorted(named ^ scripts))

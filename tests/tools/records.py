@@ -542,7 +542,6 @@ def try_whys_of_parts(check, folder: str) -> None:
 
 # Each page, the log that was kept of the program that it records, how that is called there, and what its calls have in them.
 PAGES = (
-    ("README.md", "late", "./uvt record ./late", "late.rec"),
     ("docs/RECORD.md", "late", "./uvt record ./late", "late.rec"),
     ("docs/RECORD.md", "../truths/hangup", "./uvt record ./hangup", "hangup.rec"),
     ("docs/NODE.md", "node-server", "./uvt record --bare -o server node server.js", "server."),
