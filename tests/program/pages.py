@@ -7,8 +7,10 @@ status 0 (or the one of STATUS) and with nothing on the errors, and the block be
 lines `..` parts of it. What is not run as it stands:
 
   apt-get     isn't run: where no compiler with libuv's header is there, the commands behind it that need one are left out, and that is said
-  real runs   of ./late and ./upload, and what is said of their recordings: the figures differ from run to run, so numbers count as equal. Where the page goes
-              on in another way by its own figures (a `tick`), the recording is that of its own run, whose log is kept (tests/tools/logs)
+  real runs   of ./late and ./upload, and what is said of their recordings: the figures differ from run to run, so numbers count as equal. How much of
+              a time was on the processor is passed over: it is said where others had it meanwhile. Where the page goes on in another
+              way by its own figures (a `tick`), the recording is that of its own run, whose log is kept (tests/tools/logs)
+  ./hangup    is a program of the tests, which an installed page hasn't beside it: in place of its run its log is taken (tests/tools/truths)
   packages    `tools/package` and what is done with its files, where the program isn't a proved one: it refuses to pack that
 
 Where the clone has no search that is proved, its first line on the errors says so, and is passed over."""
@@ -53,6 +55,9 @@ SAYS.update({'%s %s' % (uvt, words): said for uvt in ('./uvt', 'uvt') for words,
 # The line of a program that was compiled before its proofs.
 NOTICE = re.compile(r'uvt: this is the program before its proofs: .*\n')
 LOG = Path(__file__).resolve().parent.parent / 'tools' / 'logs' / 'late.log'
+HUNG = Path(__file__).resolve().parent.parent / 'tools' / 'truths' / 'hangup.log'
+# What is said of a time of a real run where others had the processor meanwhile.
+BUSY = re.compile(r', (\d+|none) of them on the processor')
 SECONDS = 120
 # Of README.md.
 MOST_LINES = 200
@@ -116,7 +121,7 @@ def is_shown(shown: str, output: str) -> bool:
 
 
 def without_numbers(text: str) -> str:
-    return re.sub(r'\d+(, \d+)*', 'N', text)
+    return re.sub(r'\d+(, \d+)*', 'N', BUSY.sub('', text))
 
 
 def is_like(shown: str, output: str) -> bool:
@@ -147,7 +152,7 @@ class Walker:
     def why_left_out(self, command: str) -> str:
         if command.startswith('apt-get '):
             return 'it changes the machine'
-        if not self.libuv and re.search(r'^cc |record |late\.rec|uvt libuv |upload', command):
+        if not self.libuv and re.search(r'^cc |record |late\.rec|hangup\.rec|uvt libuv |upload', command):
             return 'there is no C compiler `cc` with libuv\'s header'
         for word, package in (('gdb', 'gdb'), ('parallel', 'parallel')):
             if re.search(r'(^| )%s ' % word, command) and not shutil.which(word):
@@ -166,7 +171,7 @@ class Walker:
                 continue
             # (whoever is given a package stands where its file is)
             folder = os.path.join(self.folder, 'out', 'packages') if command.startswith('tar ') else self.folder
-            ended = self.run(command, folder)
+            ended = self.run(self.of_kept_program(command), folder)
             self.count += 1
             what = '%s:%d: %s' % (block.page, block.line, command)
             self.check(what, ended.returncode == STATUS.get(command, 0), 'got %r' % ((ended.returncode, ended.stdout, ended.stderr),))
@@ -176,6 +181,13 @@ class Walker:
             if command.endswith('uvt record ./late'):
                 self.recorded = command
         return output
+
+    def of_kept_program(self, command: str) -> str:
+        """The same with a kept log in place of the run, where the program is one of the tests."""
+        if not command.endswith(' record ./hangup'):
+            return command
+        shutil.copy(HUNG, self.folder)
+        return command.replace('./hangup', '-o hangup --log %s' % HUNG.name)
 
     def of_kept_log(self, block: Block) -> None:
         shutil.copy(LOG, os.path.join(self.folder, 'kept.log'))
