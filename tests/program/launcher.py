@@ -1,7 +1,7 @@
 """Tries the launcher: what it adds to the program's words, and how it comes to a program where none is built.
 
 Where it builds, a stand-in for the kit's command (kit/rt) takes a moment for each crate in the place of minutes; what it proves is
-nothing, and so only the launcher is tried by it. With the real kit are tried the first answer of the README's first command, and a
+nothing, and so only the launcher is tried by it. With the real kit are tried the first answer of docs/TOUR.md's first command, and a
 build that is stopped once the first crate is done, and taken up again."""
 import os
 import pty
