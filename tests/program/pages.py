@@ -6,7 +6,8 @@ A block of text on a page is a block of commands if its first line begins with o
 status 0 (or the one of STATUS) and with nothing on the errors, and the block behind it is what its lines print: all of it, or with
 lines `..` parts of it. What is not run as it stands:
 
-  apt-get     isn't run: where no compiler with libuv's header is there, the commands behind it that need one are left out, and that is said
+  apt-get     isn't run: where no compiler with libuv's header is there, the commands behind it that need one are left out, and that is said;
+              so it is with gdb and GNU parallel
   real runs   of ./late and ./upload, and what is said of their recordings: the figures differ from run to run, so numbers count as equal. How much of
               a time was on the processor is passed over: it is said where others had it meanwhile. Where the page goes on in another
               way by its own figures (a `tick`), the recording is that of its own run, whose log is kept (tests/tools/logs)
@@ -157,6 +158,8 @@ class Walker:
         for word, package in (('gdb', 'gdb'), ('parallel', 'parallel')):
             if re.search(r'(^| )%s ' % word, command) and not shutil.which(word):
                 return 'there is no %s (Debian: %s)' % (word, package)
+        if ' --join ' in command and not shutil.which('parallel'):
+            return 'what it joins is made by parallel, which isn\'t there'
         if not self.proved and re.match(r'tools/package |tar ', command):
             return 'the program is none that was proved'
         return ''
