@@ -47,6 +47,8 @@ FUNCTIONS = (
 KINDS = ("timer", "idle", "prepare", "check", "async")
 VARIABLE = "_ZN4node"  # of node, in which a handle lies
 UNKNOWN = "no symbol that tells more"
+# What is told of a function without a symbol: the file that it is in.
+FILE_ALONE = "a function of "
 STREAMS = {"tcp": "socket", "pipe": "pipe", "tty": "terminal"}
 # node's function around the callbacks of all requests: of a stream a write, a connect or a shutdown; of one of the pool its kind says which.
 REQUEST = "MakeLibuvRequestCallback"
@@ -54,7 +56,7 @@ REQUEST = "MakeLibuvRequestCallback"
 
 def in_node(kind: str, name: str, function: str) -> InNode | None:
     """What the callback of this handle or request is, by its function; None where that isn't one of node's. `kind` is that of the name."""
-    if not function or UNKNOWN in function:
+    if not function or UNKNOWN in function or function.startswith(FILE_ALONE):
         if kind in KINDS:
             return InNode("node's own", True)
         return InNode(f"a callback of a {STREAMS[kind]} ({name})", False) if kind in STREAMS else None
