@@ -100,6 +100,8 @@ class Notes:
     javascript: JavaScript = field(default_factory=JavaScript)
     # the requests that were queued again while they were under way
     again: list[str] = field(default_factory=list)
+    # the handles whose memory became something else before they were closed: of each what became of it, and when
+    written: dict[str, str] = field(default_factory=dict)
     # which loop of the program it is: 0 is the first one
     loop: int = 0
     # how long a callback or work (as in `functions`, with its call) was on the processor, in ms
@@ -158,7 +160,9 @@ class Notes:
         return lines + [
             f"WRONG THREAD: {function} was called by another thread while the loop ran, which libuv allows of uv_async_send alone: line {line}"
             for line, function in sorted(self.foreign.items())
-        ] + [f"QUEUED AGAIN: {name} was queued while it was under way, which libuv doesn't allow" for name in self.again]
+        ] + [f"QUEUED AGAIN: {name} was queued while it was under way, which libuv doesn't allow" for name in self.again] + [
+            f"WRITTEN OVER: {name}, {told}" for name, told in self.written.items()
+        ]
 
     def text(self, recording: bytes) -> str:
         lines = [f"{HEAD} {hashlib.sha256(recording).hexdigest()}"]
@@ -174,6 +178,7 @@ class Notes:
         lines += self.javascript.lines()
         lines += [f"thread {line} {function}" for line, function in sorted(self.foreign.items())]
         lines += [f"again {name}" for name in self.again]
+        lines += [f"written {name} {told}" for name, told in self.written.items()]
         lines += [f"cpu {list} {name} {call} {ms}" for (list, name, call), ms in sorted(self.processor.items())]
         lines += self.place_lines()
         lines += [it.line() for it in self.requests]
@@ -284,6 +289,8 @@ def take(notes: Notes, line: str) -> None:
                 notes.requests.append(Request(words[1], words[2], *map(int, words[3:9]), words[9]))
             case "again":
                 notes.again.append(words[1])
+            case "written":
+                notes.written[words[1]] = " ".join(words[2:])
             case "ended":
                 notes.ended = line.removeprefix("ended ")
             case "came":

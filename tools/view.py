@@ -12,11 +12,13 @@ from typing import Callable, Iterator
 from came import behind, came
 from conversation import Conversation, Script
 from javascript import OUTSIDE
+from notes import Request
 from places import MEANT, Place, next_line, read_place
 from waits import Wait
 from walk import Took, Walk
 from why import FIFTH, Why
 from why_javascript import WhyJavaScript
+from why_requests import under_way
 
 TEMPLATE = Path(__file__).resolve().parent / "view.html"
 SEND = re.compile(r"(out )?send \S+ = \S+")
@@ -192,7 +194,23 @@ class Page:
         return away, f"late by {away} ms"
 
     def all_lanes(self) -> list[Lane]:
-        return [self.sections, *self.lanes.values(), *(self.workers[it] for it in sorted(self.workers))]
+        named = [it for name, lane in self.lanes.items() for it in (lane, *self.requests_of(name))]
+        return [self.sections, *named, *(self.workers[it] for it in sorted(self.workers))]
+
+    def requests_of(self, stream: str) -> list[Lane]:
+        """A lane of what of a stream's requests is under way, behind which step; none where it has no requests."""
+        mine = [it for it in self.walk.notes.requests if it.stream == stream]
+        turns: dict[int, list[tuple[Request, bool]]] = {}
+        for it in mine:
+            turns.setdefault(it.asked_step, []).append((it, True))
+            if it.done_step:
+                turns.setdefault(it.done_step, []).append((it, False))
+        lane, now = Lane(f"{stream}: requests", "requests", [] if 0 in turns else [(0, "")]), []
+        for step, changes in sorted(turns.items()):
+            now += [it for it, begins in changes if begins]
+            now = [it for it in now if (it, False) not in changes]
+            lane.now(step, under_way(now))
+        return [lane] if mine else []
 
     def values(self) -> dict[str, object]:
         """All that the page is given."""

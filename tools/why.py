@@ -114,6 +114,8 @@ class Why:
             lines.append(f"    {stands}{origin}{self.functions()}")
         if self.notes.part:
             lines.append(f"    THE RECORDING IS A PART: {self.notes.part}")
+        if self.name in self.notes.written:
+            lines.append(f"    WRITTEN OVER: {self.notes.written[self.name]}")
         for number, function in sorted(self.notes.foreign.items()):
             at = number - self.walk.script.first
             # (notes may name a line that isn't there)

@@ -40,6 +40,16 @@ def thing(it: Request) -> str:
     return f"a {WHAT.get(it.what, it.what)}{many}"
 
 
+def under_way(those: list[Request]) -> str:
+    """What is under way at a time: `write 512`, `2 writes 1024`, `connect`; `` where nothing is."""
+    told = []
+    for what, word in WHAT.items():
+        if found := [it for it in those if it.what == what]:
+            bytes = f" {sum(it.bytes for it in found)}" if what in ("write", "send") else ""
+            told.append(f"{word}{bytes}" if len(found) == 1 else f"{len(found)} {word}s{bytes}")
+    return ", ".join(told)
+
+
 def asked(walk: Walk, it: Request) -> str:
     """When it was asked for, and where."""
     places = walk.notes.places

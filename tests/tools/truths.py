@@ -113,6 +113,13 @@ QUESTIONS = [
     Question("chatter", ALL, [r"\d\d\d callbacks"], ["who spun"]),
     Question("idling", ALL, [r"who spun\n    \d+ polls in a row didn't wait, .*: once was called in each of .*; once is an active idle handle"]),
     Question("child", "kill_it", [r"call 1: (on time|late by \d ms: the poll, .* the system ended it)"], ["callback of output"]),
+    Question("stacked", ALL, [r"WRITTEN OVER: on_deadline, a timer on the stack, made at stacked\.c:9, in arm, called at stacked\.c:26, in main: "
+                              r"its memory was written over, at 0 ms, and it was not closed"], ["WRITTEN OVER: beat"]),
+    Question("stacked", "on_deadline", [r"WRITTEN OVER: a timer on the stack, made at stacked\.c:9, in arm", "no call: it isn't due yet"]),
+    Question("freed", ALL, [r"WRITTEN OVER: on_timeout, a timer, made at freed\.c:12, in begin_session, called at freed\.c:23, in on_next: "
+                            r"another handle was made in its memory, between 1\d and 2\d ms",
+                            r"WRITTEN OVER: on_timeout_2, a timer, made at freed\.c:12, .*: its memory was written over, between 2\d and 3\d ms"],
+             ["WRITTEN OVER: (next_session|late)", "on the stack"]),
     # ---- requests of streams
     Question("chat", "peer", [r"its requests: 1 write, 8388608 bytes",
              r"a write of 8388608 bytes, .* at chat\.c:17, in broadcast, called at chat\.c:22, in on_connection, "

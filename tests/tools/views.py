@@ -81,6 +81,20 @@ def try_io(check) -> None:
     check("what came", run["came"] == [[14, "slow", ""], [17, "fast", ""], [20, "slow", ""], [29, "fast", ""]], run["came"])
 
 
+def try_requests(check) -> None:
+    """A stream's requests have a lane beside it: by its source the program writes twice in `main`, and the close callback cancels both."""
+    with tempfile.TemporaryDirectory() as folder:
+        log = ROOT / "tests" / "tools" / "truths" / "hangup.log"
+        subprocess.run([str(ROOT / "tools" / "uvt-record"), "-o", f"{folder}/hangup", "--log", str(log)], capture_output=True, timeout=SECONDS)
+        run = json.loads(VALUES.search(viewed([f"{folder}/hangup.rec"]).stdout)[1])
+    lanes = {it["name"]: it for it in run["lanes"]}
+    names, closed = list(lanes), next(step for step, what in lanes["line"]["parts"] if what == "callback")
+    behind = names[names.index("line") + 1]
+    check("a lane of requests stands behind its stream's", behind == "line: requests" and "patience: requests" not in names, names)
+    wanted = [[0, f"2 writes {(8 << 20) + 5}"], [closed, ""]]
+    check("the lane of a stream's requests", lanes["line: requests"]["parts"] == wanted, lanes["line: requests"])
+
+
 def try_view(check) -> None:
     for name in ("late-timer.uvt", "never-called.uvt", "stale-name.uvt", "io-before-sends.uvt", "sent-session.rec"):
         try_page(check, name)
@@ -91,6 +105,7 @@ def try_view(check) -> None:
     wanted = [[0, "nothing"], [3, "inactive"], [6, "active"], [21, "due"], [32, "ready"], [34, "callback"], [35, "inactive"]]
     check("the lane of a timer", lane["parts"] == wanted, lane["parts"])
     try_io(check)
+    try_requests(check)
     ended = viewed([str(EXAMPLES / "nowhere.uvt")])
     check("the page of no file", ended.returncode == 1 and "No such file" in ended.stderr and "Traceback" not in ended.stderr, ended.stderr)
 

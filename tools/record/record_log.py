@@ -63,6 +63,7 @@ WORDS = {
     ),
     "Q": re.compile(rf"{NUMBER} {NUMBER}"),
     "W": re.compile(rf"(?:-1|{NUMBER}) \d{{1,20}} uv_[a-z_0-9]+"),
+    "M": re.compile(rf"{NUMBER} {NUMBER}(?: stack)?(?: made)?"),
 }
 
 

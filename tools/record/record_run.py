@@ -155,6 +155,8 @@ def where_it_stops(made: Made) -> str:
     if not made.outcome.why:
         return made.program.stopped
     item = made.outcome.item
+    if over := next((it for it in made.program.written if it.line < item.line), None):
+        return f"{says(item)}, and the loop {made.outcome.why}. {over.name}, {over.told()}; what libuv does with it then no script has"
     return f"{says(item)}, and the loop {made.outcome.why}: {PAGE}, `{heading_of(made.program, made.outcome)}`"
 
 
@@ -216,7 +218,8 @@ def notes_of(made: Made, note: str, ended: str = "") -> Notes:
         part_of(made, note), {it.name: (it.kind, it.text) for it in made.program.origins}, made.program.functions,
         outside - made.outcome.known, foreign_lines(made), made.outcome.outside, made.outcome.times, made.program.came, made.polls.said(),
         where_it_ended(made, ended), made.outcome.by, made.program.javascript,
-        [name for _, name in made.program.again], processor=dict(made.program.processor), places=places,
+        [name for _, name in made.program.again], {it.name: it.told() for it in made.program.written},
+        processor=dict(made.program.processor), places=places,
         asked_at={step: number[it] for step, it in stand.asked_at.items() if it in number}, requests=stand.requests(number),
         nothings=stand.nothings(number),
     )
@@ -241,6 +244,11 @@ def queued_again(program: Program) -> list[str]:
         f"QUEUED AGAIN: {name}, while it was under way (line {line} of the log), which libuv doesn't allow: one request has two after callbacks then"
         for line, name in program.again
     ]
+
+
+def written_over(program: Program) -> list[str]:
+    """The same of handles whose memory became something else."""
+    return [f"WRITTEN OVER: {it.name}, {it.told()}" for it in program.written]
 
 
 # The threads that node has for itself, by words in the functions of their loops; and those with JavaScript.
@@ -281,7 +289,8 @@ def told(made: Made, loop: int, path: Path, note: str, whose: str = "") -> list[
         lines = [head + f"same up to line {outcome.item.line} of the log", f"    there {where_it_stops(made)}"]
     else:
         lines = [head + "same"]
-    said = (whose, program.began, program.stopped, note, *by_other_threads(program), *queued_again(program), made.polls.said())
+    loud = [*by_other_threads(program), *queued_again(program), *written_over(program)]
+    said = (whose, program.began, program.stopped, note, *loud, made.polls.said())
     lines += [f"    {it}" for it in said if it]
     if outcome.answers:
         lines.append(f"    {len(outcome.answers)} answers differ, first: {outcome.answers[0]}")

@@ -146,6 +146,30 @@ class Nothing:
     within: Key | None
 
 
+@dataclass(slots=True)
+class Written:
+    """A handle whose memory is something else, while libuv has it still."""
+
+    name: str
+    kind: str
+    # when its memory was whole last, and when it was something else, and in which line of the log; and where it was made, `` where nobody knows
+    whole: int
+    seen: int
+    line: int
+    made: str
+    # does it lie on the stack; and has another handle been made there
+    on_stack: bool
+    made_over: bool
+
+    def told(self) -> str:
+        """What became of it, and when."""
+        when = f"at {self.seen} ms" if self.seen == self.whole else f"between {self.whole} and {self.seen} ms"
+        article, where = "an" if self.kind[0] in "ai" else "a", " on the stack" if self.on_stack else ""
+        what = f"{article} {self.kind}{where}{f', made {self.made}' if self.made else ''}"
+        became = "another handle was made in its memory" if self.made_over else "its memory was written over"
+        return f"{what}: {became}, {when}, and it was not closed; until its close callback that memory is libuv's"
+
+
 Item = Op | Run | End | Poll | Call | Done | Take | Finish | Send
 
 
@@ -209,6 +233,7 @@ class Program:
     places: dict[str, str] = field(default_factory=dict)
     # the requests that were queued again while they were under way, with the line of the log
     again: list[tuple[int, str]] = field(default_factory=list)
+    written: list[Written] = field(default_factory=list)
     notes: collections.Counter[str] = field(default_factory=collections.Counter)
     # of a name of I/O by its call: what came, in the log's words
     came: dict[str, dict[int, str]] = field(default_factory=dict)
@@ -278,6 +303,8 @@ class Maker:
         self.taken: set[str] = {"wake"}
         # by object, -1 for the loop: the function by which another thread asks something of it
         self.by_other: dict[int, str] = {}
+        # by object: the place in the program that made it
+        self.made_at: dict[int, str] = {}
         # the callbacks under way: the first one, in which the others are, and how many
         self.call: Call | None = None
         self.depth = 0
@@ -407,6 +434,7 @@ class Maker:
     def read_made(self, event: Event, id: int, kind: str) -> bool:
         """A handle, or a request."""
         name = self.bind(id, kind, event.line).name
+        self.made_at[id] = event.place
         foreign = self.foreign_of(id, name)
         if is_pool(kind):
             self.add_op(event, f"queue {name} 1", "id", foreign)
@@ -621,6 +649,12 @@ class Maker:
                     self.program.again.append((event.line, bound.name))
             case "J":
                 self.read_javascript(event)
+            case "M":
+                id, whole, *more = event.words.split(" ")
+                if bound := self.bound.get(int(id)):
+                    made = self.log.place(self.made_at.get(int(id), ""))
+                    over = Written(bound.name, bound.kind, int(whole), event.now, event.line, made, "stack" in more, "made" in more)
+                    self.program.written.append(over)
             case "K" | "L":
                 pass
             case "C":

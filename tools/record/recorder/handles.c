@@ -45,7 +45,9 @@ static const char *put_off(const struct loop *loop) {
 }
 
 void write_end(struct loop *loop, int id) {
-    if (loop->uv) write_line(loop, 'E', "%d%s", id, put_off(loop));
+    if (!loop->uv) return;
+    write_line(loop, 'E', "%d%s", id, put_off(loop));
+    look_at_memory(loop);
 }
 
 /* The handle may be gone by now, and another one have its address. */
@@ -65,13 +67,16 @@ void leave(struct loop *loop, void *handle, int id) {
 }
 
 struct object *made(uv_loop_t *uv, void *handle, const char *kind, bool watcher) {
+    note_made_over(uv, handle);
     struct object *object = put(loop_of(uv), handle);
     if (!object) return NULL;
     note_thread(object->loop, object->id);
     object->watcher = watcher;
     object->handle = true;
     object->kind = kind;
-    object->size = (int)CALL(uv_handle_size)(CALL(uv_handle_get_type)(handle));
+    object->type = CALL(uv_handle_get_type)(handle);
+    object->size = (int)CALL(uv_handle_size)(object->type);
+    watch_memory(object);
     write_line(object->loop, 'O', "init %%%d %s = ok", object->id, kind);
     name_place(object);
     settle(object);
@@ -80,7 +85,7 @@ struct object *made(uv_loop_t *uv, void *handle, const char *kind, bool watcher)
 
 /* A request of a watcher that is under way keeps the loop alive, as a handle that is active and referenced does. */
 void settle(struct object *watcher) {
-    if (!watcher || !watcher->watcher || CALL(uv_is_closing)(watcher->address)) return;
+    if (!watcher || !watcher->watcher || watcher->written || CALL(uv_is_closing)(watcher->address)) return;
     bool active = CALL(uv_is_active)(watcher->address) || watcher->requests > 0;
     bool unreferenced = !CALL(uv_has_ref)(watcher->address) && watcher->requests == 0;
     if (active != watcher->active) write_op(watcher, active ? "start" : "stop", "", 0);
@@ -154,6 +159,7 @@ int uv_run(uv_loop_t *uv, uv_run_mode mode) {
         loop->mode = mode;
         loop->begun++, loop->away++;
         write_line(loop, 'R', "%s%s", (unsigned)mode < 3 ? MODES[mode] : "default", put_off(loop));
+        look_at_memory(loop);
     }
     run_here = loop;
     unlock();

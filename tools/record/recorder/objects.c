@@ -160,6 +160,7 @@ void drop(struct object *object) {
     while (*at && *at != object) at = &(*at)->next;
     if (!*at) return;
     *at = object->next;
+    leave_memory(object);
     for (struct object **it = &object->loop->unsettled; *it; it = &(*it)->next_unsettled)
         if (*it == object) {
             *it = object->next_unsettled;

@@ -21,7 +21,7 @@ REAL(uv_timer_get_repeat)
 static void tell_one(struct object *it) {
     uint64_t due = 0, repeat = 0, order = it->order;
     bool active = it->active, referenced = it->watcher && !it->unreferenced, closing = false;
-    if (it->handle) {
+    if (it->handle && !it->written) {
         uv_handle_t *handle = it->address;
         closing = CALL(uv_is_closing)(handle);
         if (!it->watcher) active = CALL(uv_is_active)(handle), referenced = CALL(uv_has_ref)(handle);
@@ -78,6 +78,7 @@ static void note_poll(struct loop *loop, int timeout) {
     bool again = asks_again(loop);
     settle_all(loop, NULL);
     if (!again) {
+        look_at_memory(loop);
         tell_all(loop);
         /* (where it only looks, that is how long it will wait) */
         if (timeout == 0 && loop->mode == UV_RUN_DEFAULT) timeout = CALL(uv_backend_timeout)(loop->uv);

@@ -27,6 +27,9 @@ struct loop {
     int running; /* how many uv_run are under way */
     bool waiting; /* for events, in a poll */
     struct object *unsettled; /* watchers whose callback has just ended: see settle() */
+    struct object *looked; /* one of its handles, which lie in a ring: the next one whose memory is looked at (memory.c) */
+    uint64_t looked_at; /* the loop's time as that was done last */
+    int looks; /* how often, up to FEW */
     long lines, counted; /* of it in the log; and how many there were as all of it was last written down */
     uv_run_mode mode; /* of the uv_run that is under way */
     long begun, away; /* how many callbacks and runs have begun, and how many of them in no poll */
@@ -65,6 +68,10 @@ struct object {
     bool pooled, taken, through; /* a request that the pool has; a worker has taken it; and its work is done */
     void (*own)(struct uv__work *); /* of a request for files, names or random bytes: what libuv has a worker do */
     uv_close_cb closed;
+    uv_handle_type type; /* of a handle */
+    struct object *ring_next, *ring_before; /* of a handle: its loop's others */
+    uint64_t whole; /* the loop's time as its memory was last seen to be that of such a handle */
+    bool written; /* it is something else since then */
     struct object *owner; /* of a stream's request: the stream */
     struct object *next_unsettled;
     bool is_unsettled;
@@ -210,6 +217,16 @@ struct object *made(uv_loop_t *loop, void *handle, const char *kind, bool watche
 void settle(struct object *watcher);
 /* The same of all whose callback has just ended, except for the one whose next callback begins (NULL: for none). */
 void settle_all(struct loop *loop, const struct object *but);
+
+/* ---- the memory of handles (memory.c) */
+
+/* A handle is one of those whose memory is looked at, and no more. */
+void watch_memory(struct object *handle);
+void leave_memory(struct object *handle);
+/* Looks at some handles of the loop, where it hasn't done so in this millisecond. A line says of which the memory is something else. */
+void look_at_memory(struct loop *loop);
+/* A handle is made where another one is that wasn't closed: the same line of that one. */
+void note_made_over(const uv_loop_t *uv, const void *address);
 
 /* ---- interpreters (node.c, places.c, looks.c, script.c) */
 
