@@ -8,11 +8,11 @@ use Rattle.uv_script.specs.Grammar.{IsScript, IsBadLine}
 use Rattle.uv_model.specs.After.{STEPS}
 use Rattle.uv_session.specs.Shown.{Shown}
 use Rattle.uv_text.specs.declared.command.Command.{Command}
-use Rattle.uv_text.specs.declared.command.Command.TheVariants.{Loop, Step, Back, Forward, AddBreak, ClearBreaks, BackToBreak, Trace, State, Image, Record, Quit}
+use Rattle.uv_text.specs.declared.command.Command.TheVariants.{Loop, Step, Back, Forward, AddBreak, ClearBreaks, BackToBreak, Trace, State, StateOf, Image, Record, Quit}
 use Rattle.uv_text.specs.declared.command.Asked.{Asked}
 use Rattle.uv_text.specs.declared.command.Asked.TheVariants.{Nothing, Do, Bad}
 use Rattle.uv_text.specs.Commands.{Asks, asked_in}
-use Rattle.uv_text.specs.State.{state_text}
+use Rattle.uv_text.specs.State.{state_text, named_text}
 use Rattle.uv_text.specs.Image.{IsImageText}
 use Rattle.uv_text.specs.Recording.{recording_text}
 use Rattle.uv_engine.specs.declared.conversation.Ended.{Ended}
@@ -38,6 +38,7 @@ Prints ClearBreaks s text = text ≡ codes "break ok\n"
 Prints BackToBreak s text = text ≡ break_back_text (last_break s)
 Prints Trace s text = text ≡ trace_text s
 Prints State s text = text ≡ state_text s
+Prints (StateOf v) s text = text ≡ named_text s v
 Prints Image s text = PrintsImage s text
 Prints Record s text = text ≡ recording_text s.program s.standing
 Prints Quit s text = text ≡ []
@@ -53,6 +54,7 @@ command_after ClearBreaks s = record s { breaks = [] }
 command_after BackToBreak s = break_back_after s (last_break s)
 command_after Trace s = s
 command_after State s = s
+command_after (StateOf v) s = s
 command_after Image s = s
 command_after Record s = s
 command_after Quit s = s

@@ -11,7 +11,7 @@ use crate::reply::{add_break, back_to_break, clear_breaks, go_back, go_forward, 
 use crate::sink::{Sink, write_out};
 use uv_ids::{Event, Fault};
 use uv_model::Machine;
-use uv_text::{Asked, Command, asked_in};
+use uv_text::{Asked, Command, asked_in, push_named};
 
 /// How much text is gathered before it is written, in bytes.
 const FULL: usize = 8192;
@@ -68,6 +68,7 @@ impl<M: Machine> Conversation<M> {
             Command::ClearBreaks => Ok(clear_breaks(&mut self.session, &mut self.text)?),
             Command::BackToBreak => Ok(back_to_break(&mut self.session, &mut self.text)?),
             Command::State => self.show_state(writer),
+            Command::StateOf(name) => Ok(push_named(&mut self.text, &self.session, name)?),
             Command::Image => self.show_image(writer),
             Command::Record => self.show_recording(writer),
             Command::Quit => Ok(()),

@@ -9,7 +9,7 @@ use Rattle.uv_ids.proofs.Words.{same, code_right, code_found, phase_right}
 use Rattle.uv_script.specs.Checks.{number_of}
 use Rattle.uv_script.specs.Reading.{place_of}
 use Rattle.uv_session.specs.declared.breaks.Break.TheVariants as at
-use Rattle.uv_text.specs.declared.command.Command.TheVariants.{Loop}
+use Rattle.uv_text.specs.declared.command.Command.TheVariants.{Loop, StateOf}
 use Rattle.uv_text.specs.Commands as is
 
 section_found : (x : Phase) → section_of (phase_word x) ≡ Some (at.Section x)
@@ -103,14 +103,20 @@ ios_right : (names : List (List ℕ)) (word argument : List ℕ) (v : Option Var
 ios_right names word argument None w z = tt
 ios_right names word argument (Some v) w z = is.step word argument (Io v) refl (is.io v w (place_of-sound names argument v z))
 
+states_right : (names : List (List ℕ)) (word argument : List ℕ) (v : Option Var) → word ≡ codes "state" → place_of names argument ≡ v →
+    Right names (word ∷ argument ∷ []) (option_map StateOf v)
+states_right names word argument None w z = tt
+states_right names word argument (Some v) w z = is.state_of argument v (pair word argument _ w) (place_of-sound names argument v z)
+
 with_right : (names : List (List ℕ)) (word argument : List ℕ) → Right names (word ∷ argument ∷ []) (command_with names word argument)
 with_right names word argument =
     let P : Option Command → Type 0 = Right names (word ∷ argument ∷ []) in
     cond_both (bytes_eq word (codes "cancel")) _ _ P (λ a. cancels_right names word argument (place_of names argument) (same _ _ a) refl)
     (λ _. cond_both (bytes_eq word (codes "send")) _ _ P (λ a. sends_right names word argument (place_of names argument) (same _ _ a) refl)
     (λ _. cond_both (bytes_eq word (codes "io")) _ _ P (λ a. ios_right names word argument (place_of names argument) (same _ _ a) refl)
+    (λ _. cond_both (bytes_eq word (codes "state")) _ _ P (λ a. states_right names word argument (place_of names argument) (same _ _ a) refl)
     (λ _. cond_both (bytes_eq word (codes "break")) _ _ P (λ a. clears_right names word argument (same _ _ a))
-    (λ _. by_right names word argument (number_of argument) refl))))
+    (λ _. by_right names word argument (number_of argument) refl)))))
 
 -- ---- a break
 
@@ -277,6 +283,9 @@ reads_command names fields c (is.clear_breaks e) = reads names fields c (ap (com
 reads_command names fields c (is.back_to_break e) = reads names fields c (ap (command_of names) e)
 reads_command names fields c (is.trace e) = reads names fields c (ap (command_of names) e)
 reads_command names fields c (is.state e) = reads names fields c (ap (command_of names) e)
+reads_command names fields c (is.state_of name v e held) =
+    let p = place names name v held in
+    record { command = StateOf p.number; found = ap (command_of names) e ∙ ap (option_map StateOf) p.found; same = λ d. ap StateOf (p.same d) }
 reads_command names fields c (is.image e) = reads names fields c (ap (command_of names) e)
 reads_command names fields c (is.recording e) = reads names fields c (ap (command_of names) e)
 reads_command names fields c (is.quit e) = reads names fields c (ap (command_of names) e)
@@ -322,6 +331,7 @@ says_something names line c (is.clear_breaks e) = line_begins line _ _ _ e
 says_something names line c (is.back_to_break e) = line_begins line _ _ _ e
 says_something names line c (is.trace e) = line_begins line _ _ _ e
 says_something names line c (is.state e) = line_begins line _ _ _ e
+says_something names line c (is.state_of name v e held) = line_begins line _ _ _ e
 says_something names line c (is.image e) = line_begins line _ _ _ e
 says_something names line c (is.recording e) = line_begins line _ _ _ e
 says_something names line c (is.quit e) = line_begins line _ _ _ e

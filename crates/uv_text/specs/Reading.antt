@@ -11,7 +11,7 @@ use Rattle.uv_script.specs.Reading.{place_of}
 use Rattle.uv_session.specs.declared.breaks.Break.{Break}
 use Rattle.uv_session.specs.declared.breaks.Break.TheVariants as at
 use Rattle.uv_text.specs.declared.command.Command.{Command}
-use Rattle.uv_text.specs.declared.command.Command.TheVariants.{Loop, Step, Back, Forward, AddBreak, ClearBreaks, BackToBreak, Trace, State, Image, Record, Quit}
+use Rattle.uv_text.specs.declared.command.Command.TheVariants.{Loop, Step, Back, Forward, AddBreak, ClearBreaks, BackToBreak, Trace, State, StateOf, Image, Record, Quit}
 use Rattle.uv_text.specs.declared.command.Asked.{Asked}
 use Rattle.uv_text.specs.declared.command.Asked.TheVariants.{Nothing, Do, Bad}
 use Rattle.uv_text.specs.Commands.{MOST, LAST_WORKER}
@@ -76,7 +76,8 @@ command_with names word argument =
     if bytes_eq word (codes "cancel") then option_map (λ (v : Var). Step (Cancel v)) (place_of names argument)
     else (if bytes_eq word (codes "send") then option_map (λ (v : Var). Step (Send v)) (place_of names argument)
     else (if bytes_eq word (codes "io") then option_map (λ (v : Var). Step (Io v)) (place_of names argument)
-    else (if bytes_eq word (codes "break") then clears argument else command_by word (number_of argument))))
+    else (if bytes_eq word (codes "state") then option_map StateOf (place_of names argument)
+    else (if bytes_eq word (codes "break") then clears argument else command_by word (number_of argument)))))
 
 -- a word with two that follow it
 abbrev pub command_with_two : List (List ℕ) → List ℕ → List ℕ → List ℕ → Option Command

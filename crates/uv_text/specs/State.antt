@@ -256,6 +256,26 @@ text_after p n s =
 abbrev pub state_text : Shown → List ℕ
 state_text s = text_after s.program (length s.standing) (after s.program s.standing)
 
+-- ---- what one name is bound to
+
+-- the line of the slot with this id, where it still holds this
+abbrev pub held_line : Program → State → Id → Option Content → List ℕ
+held_line p s id (Some c) = slot_line p false (worker_of s id) id (Some c)
+held_line p s id None = []
+
+-- the line of the slot that holds what a name is bound to; none where that is gone, or the name was never bound
+abbrev pub bound_line : Program → State → Option Id → List ℕ
+bound_line p s (Some id) = held_line p s id (held s.arena.slots id)
+bound_line p s None = []
+
+-- the line of a name, and of its slot, as they stand in the text of the state
+abbrev pub named_line : Program → Var → State → List ℕ
+named_line p v s = name_line p v (named s v) ++ bound_line p s (named s v).id
+
+-- of a session
+abbrev pub named_text : Shown → Var → List ℕ
+named_text s v = named_line s.program v (after s.program s.standing)
+
 -- ---- the same in parts, as it is written: the numbers and the place, a line for each name, one for each slot, and what stands behind them
 
 -- how many parts stand behind the lines of the slots

@@ -5,7 +5,7 @@ ghost use Rattle.uv_text.specs.Commands.{Asks, MOST, LAST_WORKER, has_step, aske
 ghost use Rattle.uv_text.specs.Reading.{asked_of, command_of, command_alone, command_by, command_with, command_with_two, clears, step_by, loops, goes_back, goes_forward};
 
 use crate::breaks::read_break;
-use uv_ids::{Event, is};
+use uv_ids::{Event, Var, is};
 use uv_model::STEPS;
 use uv_script::{Fields, Names, Script, is_line, is_skipped, number};
 use uv_session::Break;
@@ -31,6 +31,8 @@ pub enum Command {
     Trace,
     /// `state`: shows the state.
     State,
+    /// `state NAME`: shows what one name is bound to.
+    StateOf(Var),
     /// `image`: shows the state, and how the memory lies that stands for it.
     Image,
     /// `record`: shows the recording of the standing steps.
@@ -129,6 +131,9 @@ fn with_argument(names: &Names, word: &[u8], argument: &[u8]) -> Option<Command>
     } else if is(word, b"io") {
         let name = names.number(argument)?;
         Some(Command::Step(Event::Io(name)))
+    } else if is(word, b"state") {
+        let name = names.number(argument)?;
+        Some(Command::StateOf(name))
     } else if is(word, b"break") {
         clears(argument)
     } else {

@@ -6,7 +6,7 @@ ghost use Rattle.uv_records.specs.Slots.{held};
 ghost use Rattle.uv_model.specs.After.{after};
 ghost use Rattle.uv_model.specs.declared.place.Place.TheVariants.{Running};
 ghost use Rattle.uv_model.specs.Queries.{numbers, timer_ids};
-ghost use Rattle.uv_text.specs.State.{numbered, flagged, steps_line, timers_text, stage_text, callback_word, body_text, place_line, bound_text, counts_text, name_line, name_part, kind_text, record_text, open_text, outcome_text, request_text, content_text, slot_line, slot_part, free_line, unused_line, holder_text, member_text, list_line, list_word, members_line, before_poll, after_poll, run_text, runs_upto, running_line, work_text, last_part, part_after, part_count, state_text};
+ghost use Rattle.uv_text.specs.State.{numbered, flagged, steps_line, timers_text, stage_text, callback_word, body_text, place_line, bound_text, counts_text, name_line, name_part, kind_text, record_text, open_text, outcome_text, request_text, content_text, slot_line, slot_part, free_line, unused_line, holder_text, member_text, list_line, list_word, held_line, bound_line, named_text, members_line, before_poll, after_poll, run_text, runs_upto, running_line, work_text, last_part, part_after, part_count, state_text};
 
 use crate::parts::{Parts, push_parts};
 use crate::trace::{push_id, push_timeout};
@@ -277,6 +277,58 @@ fn push_name<M: Machine>(text: &mut Vec<u8>, machine: &M, number: usize) -> Resu
 {
     let name = Var(number as u32);
     push_name_line(text, machine.script(), name, machine.named(name))
+}
+
+/// The line of the slot with this id, where it still holds this.
+fn push_held<M: Machine>(
+    text: &mut Vec<u8>,
+    machine: &M,
+    id: Id,
+    content: Option<Content>,
+) -> Result<(), AllocError>
+    ensures { OnOk result (text.new.items ≡ text.old.items ++ held_line
+        (M.program machine.now) (after (M.program machine.now) (M.standing machine.now)) id content) }
+{
+    match content {
+        Some(_) => push_slot_line(
+            text,
+            machine.script(),
+            false,
+            machine.worker_of(id),
+            id,
+            content,
+        ),
+        None => Ok(()),
+    }
+}
+
+/// The line of the slot that holds what a name is bound to.
+fn push_bound_line<M: Machine>(
+    text: &mut Vec<u8>,
+    machine: &M,
+    id: Option<Id>,
+) -> Result<(), AllocError>
+    ensures { OnOk result (text.new.items ≡ text.old.items ++ bound_line
+        (M.program machine.now) (after (M.program machine.now) (M.standing machine.now)) id) }
+{
+    match id {
+        Some(id) => push_held(text, machine, id, machine.held(id)),
+        None => Ok(()),
+    }
+}
+
+/// Puts the line of a name behind a text, and that of its slot, if that still holds what the name is bound to.
+pub fn push_named<M: Machine>(
+    text: &mut Vec<u8>,
+    session: &Session<M>,
+    name: Var,
+) -> Result<(), AllocError>
+    ensures { OnOk result (text.new.items ≡ text.old.items ++ named_text session.now name) }
+{
+    let machine = session.machine();
+    let named = machine.named(name);
+    push_name_line(text, machine.script(), name, named)?;
+    push_bound_line(text, machine, named.id)
 }
 
 /// What a handle has that those of another kind have not.

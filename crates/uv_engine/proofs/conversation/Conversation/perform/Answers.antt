@@ -53,3 +53,11 @@ returns-in_err-back_to_break-in-BackToBreak-clause-text g c = λ tells.
     let p = err_from_is_err_and c.from_residual-in_err-back_to_break-in-BackToBreak.result
     c.from_residual-in_err-back_to_break-in-BackToBreak.ensures.1 in
     rw (p.1, c.in-BackToBreak.is) (one_fault _ refl)
+
+pub returns-in_ok-push_named-in-StateOf-clause-text : goal.returns-in_ok-push_named-in-StateOf-clause-text
+returns-in_ok-push_named-in-StateOf-clause-text g c = λ tells. rw c.in-StateOf.is (one_text _ refl c.in_ok-push_named-in-StateOf.ensures)
+
+pub returns-in_err-push_named-in-StateOf-clause-text : goal.returns-in_err-push_named-in-StateOf-clause-text
+returns-in_err-push_named-in-StateOf-clause-text g c = λ tells.
+    let p = err_from_is_err_and c.from_residual-in_err-push_named-in-StateOf.result c.from_residual-in_err-push_named-in-StateOf.ensures.1 in
+    rw (p.1, c.in-StateOf.is) (one_fault _ refl)
