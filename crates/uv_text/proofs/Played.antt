@@ -1,9 +1,9 @@
 -- What every list of accepted steps has: each step may be taken, and each line shows a callback as a recording has it.
-use Rattle.uv_text.proofs.Names.{◌≡◌, ℕ, ◌+◌, ◌≤◌, List, [], ◌∷◌, ◌++◌, length, map, Bool, true, false, Contains, Option, Some, None, IfSome, refl, ap, subst, ◌∙◌, arith, length-append, option_to_list, AllByRecursion, filter, flat_map, length-replicate, All-nil, Id, Event, Seen, Program, arena_size, worker_count, IsSlotCount, IsName, Slot, Content, Named, CanStep, State, fresh, unbound, Next, Moves, Refuses, seen_from, state_of, seen_of, AcceptsFrom, STEPS, after_able, after-nil, after-push, line_text, IsCallbackLine, is_callback, callback_lines, has_step}
+use Rattle.uv_text.proofs.Names.{◌≡◌, ℕ, ◌+◌, ◌≤◌, List, [], ◌∷◌, ◌++◌, length, map, Bool, true, false, Contains, Option, Some, None, IfSome, refl, ap, subst, ◌∙◌, arith, length-append, option_to_list, AllByRecursion, filter, flat_map, length-replicate, Event, Seen, Program, arena_size, worker_count, IsSlotCount, IsName, CanStep, State, fresh, seen_from, state_of, AcceptsFrom, STEPS, after_able, after-nil, after-push, line_text, IsCallbackLine, is_callback, callback_lines, has_step}
 use Rattle.uv_model.specs.Next.{next}
 use Rattle.uv_model.specs.After.{after, seen_by, Accepts}
 use Rattle.uv_text.proofs.Printed.{callback_said}
-use Rattle.uv_text.proofs.Sizes.{IsContent, Sized, Shows, Stays, CanBe, next_sized, can_be, can_have}
+use Rattle.uv_text.proofs.Sizes.{Sized, Shows, CanBe, next_sized, can_be, can_have}
 
 pub record Played (p : Program) (m k : ℕ) (es : List Event) (xs : List (Option Seen)) : Type 0 where
   pub steps : AllByRecursion (CanBe m k) es

@@ -1,5 +1,5 @@
 -- The lines of a recording are read as what they say: each step that may be taken, and each callback.
-use Rattle.uv_text.proofs.Names.{◌≡◌, ◌⊎◌, inl, inr, ℕ, ◌+◌, ◌/◌, ◌%◌, ◌<◌, ◌≤◌, ◌^◌, ◌&&◌, nat_le, true, false, List, [], ◌∷◌, ◌++◌, length, get_or, All, Contains, Option, Some, None, IfSome, slice_get, refl, ap, sym, subst, ◌∙◌, arith, length-append, codes, decimal, list_all, length-decimal-le, All-append, All-cons, All-head, All-nil, All-tail, slice_get-get_or, encode_lower, lower_digits, length-encode_with, Id, Var, Event, Loop, Take, Finish, Cancel, Send, Io, Tick, Seen, IsLine, Program, text_or_none, name_text, IsLetter, IsDigit, IsName, IsDeclared, declared_contains, fields-last, decimal_printable, decimal_unspaced, printable_front, is_number, name_unspaced, IsDigest, has_step, SaysStep, loop, outside, IsCallbackLine, call, after, closed, step_line, is_callback, id_text, handle_text, end_text, line_text}
+use Rattle.uv_text.proofs.Names.{◌≡◌, ℕ, ◌+◌, ◌<◌, ◌≤◌, ◌^◌, ◌&&◌, nat_le, true, false, List, [], ◌∷◌, ◌++◌, length, get_or, All, Contains, Option, Some, None, IfSome, slice_get, refl, ap, sym, ◌∙◌, arith, length-append, codes, decimal, list_all, length-decimal-le, All-append, All-head, All-nil, All-tail, slice_get-get_or, encode_lower, lower_digits, length-encode_with, Id, Var, Event, Loop, Take, Finish, Cancel, Send, Io, Tick, Seen, IsLine, Program, text_or_none, name_text, IsName, IsDeclared, declared_contains, fields-last, decimal_printable, decimal_unspaced, printable_front, is_number, name_unspaced, IsDigest, has_step, SaysStep, loop, outside, IsCallbackLine, call, after, closed, step_line, is_callback, id_text, handle_text, end_text, line_text}
 use Rattle.hex.specs.Hex.{encode_with}
 use Rattle.uv_ids.specs.declared.seen.Seen.TheVariants as seen
 use Rattle.uv_text.specs.Commands as is

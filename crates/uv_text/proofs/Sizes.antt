@@ -1,6 +1,6 @@
 -- What a state keeps of its lists: as many names and workers as the script has, no more slots than a script may ask for, and a digest of
 -- 32 bytes in each request that was finished. So a step that is taken can be written as a line, and so can each callback.
-use Rattle.uv_text.proofs.Names.{◌≡◌, ℕ, suc, zero, ◌+◌, ◌<◌, ◌≤◌, ◌^◌, List, [], ◌∷◌, ◌++◌, length, drop, Bool, true, false, Option, Some, None, IfSome, Result, Ok, Err, All, slice_get, slice_set, option_and_then, nat_le, nat_lt, ◌==◌, ◌&&◌, refl, ap, subst, ◌∙◌, arith, length-append, length-set, cond, if◌then◌else◌, list_any, elements, cond_both, leb-true, ltb-true, none-some, same_Some, slice_get_within, Id, Var, Due, Kind, Code, Event, Loop, Take, Finish, Cancel, Send, Io, Tick, Why, Range, Seen, Callback, Op, MainOp, CallbackLine, Task, MOST_SLOTS, Program, arena_size, order_of, has_io, from_heap, text_of, HandleRecord, Slot, WatcherKind, inited, is_async, is_io, activated, referenced_as, repeating, watcher_kind, start_timer_refusal, start_watcher_refusal, stop_refusal, again_refusal, timer_refusal, close_refusal, no_refusal, send_refusal, Slots, held, held_in, with_held, next_unused, next_id, next_free, taken, taken_from, freed, with_first, Outcome, Open, Finished, Cancelled, IsDigest, is_digest, LATEST, Content, Named, Body, Run, Stage, Entry, Pending, Walking, Poll, Polled, Done, DoneUnwoken, Closing, Timers, TimersOf, Turn, AtEntry, Behind, BehindClosing, Way, ToTimers, ToPending, ToEnd, Timing, Collecting, Firing, Place, Main, Running, Request, CanStep, queued, digest_in, handle_in, request_in, same_id, State, handle, named, with_handle, with_id, with_named, live, live_id, as_handle, live_handle, live_request, front, front_request, watched, with_watched, refreshed, counted, stopped, taken_off, started, restarted, do_op, Next, Moves, Refuses, loop_step, main_step, run_step, body_step, stage_step, next_work, io_run, io_handle, call_io, takes_io, stage_polled, time_polled, finish, work_of, collect_request, timers, first_due, fire, way, goes_by, turns, refreshes, calls, may_leave, goes, begin_walk, after_walk, front_moved, walk, walk_async, close_front, IsMove, has_step, and_parts, if_keeps, found_both, front_freed, request_freed}
+use Rattle.uv_text.proofs.Names.{◌≡◌, ℕ, suc, zero, ◌+◌, ◌<◌, ◌≤◌, ◌^◌, List, [], ◌∷◌, ◌++◌, length, drop, true, false, Option, Some, None, IfSome, Result, Ok, Err, All, slice_get, slice_set, option_and_then, nat_le, nat_lt, ◌==◌, ◌&&◌, refl, subst, ◌∙◌, arith, length-append, length-set, if◌then◌else◌, list_any, elements, cond_both, leb-true, ltb-true, none-some, same_Some, slice_get_within, Id, Var, Due, Kind, Code, Event, Loop, Take, Finish, Cancel, Send, Io, Tick, Why, Range, Seen, Callback, Op, MainOp, CallbackLine, Task, MOST_SLOTS, Program, arena_size, order_of, has_io, from_heap, text_of, HandleRecord, Slot, WatcherKind, inited, is_async, is_io, activated, referenced_as, repeating, watcher_kind, start_timer_refusal, start_watcher_refusal, stop_refusal, again_refusal, timer_refusal, close_refusal, no_refusal, send_refusal, Slots, held, held_in, with_held, next_unused, next_id, next_free, taken, taken_from, freed, with_first, Outcome, Open, Finished, Cancelled, IsDigest, is_digest, LATEST, Content, Named, Body, Run, Stage, Entry, Pending, Walking, Poll, Polled, Done, DoneUnwoken, Closing, Timers, TimersOf, Turn, AtEntry, Behind, BehindClosing, Way, ToTimers, ToPending, ToEnd, Timing, Collecting, Firing, Place, Main, Running, Request, CanStep, queued, digest_in, request_in, same_id, State, named, with_handle, with_id, with_named, live, live_id, as_handle, live_handle, live_request, front, front_request, watched, with_watched, refreshed, counted, stopped, taken_off, started, restarted, do_op, Next, Moves, Refuses, loop_step, main_step, run_step, body_step, stage_step, next_work, io_run, io_handle, call_io, takes_io, stage_polled, time_polled, finish, work_of, collect_request, timers, first_due, fire, way, goes_by, turns, refreshes, calls, may_leave, goes, begin_walk, after_walk, front_moved, walk, walk_async, close_front, IsMove, has_step, and_parts, if_keeps, found_both, front_freed, request_freed}
 use Rattle.uv_ids.specs.declared.seen.Seen.TheVariants as seen
 use Rattle.uv_ids.specs.declared.seen.Callback.TheVariants as callback
 use Rattle.uv_script.specs.declared.op.Op.TheVariants as op
