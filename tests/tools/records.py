@@ -32,7 +32,7 @@ WHY = str(ROOT / "tools" / "uvt-why")
 SECONDS = 120
 # How often the program's threads send, by its source.
 SENDS = {"accepted": 2, "taken": 24, "learnt": 24, "later": 24, "uncalled": 24}
-# (for the program before its proofs, which takes 250 times as long)
+# (for the program before its proofs, which is half as fast, on a busy machine)
 LONG = 1200
 NESTED, CLOSING = "A run in a callback", "Some handles close later"
 
