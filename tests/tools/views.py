@@ -13,12 +13,12 @@ from pathlib import Path
 ROOT = Path(__file__).resolve().parent.parent.parent
 sys.path.insert(0, str(ROOT / "tools"))
 
-from conversation import Conversation, read_input  # noqa: E402
-from walk import longest_way  # noqa: E402
+from uvt.conversation import Conversation, read_input  # noqa: E402
+from uvt.walk import longest_way  # noqa: E402
 from whys import BEHIND  # noqa: E402
 
 EXAMPLES = ROOT / "crates" / "examples" / "data"
-VIEW = str(ROOT / "tools" / "uvt-view")
+VIEW = str(ROOT / "tools" / "uvt" / "uvt-view")
 SECONDS = 60
 # What the page is given.
 VALUES = re.compile(r'<script type="application/json" id="values">(.*)</script>')
