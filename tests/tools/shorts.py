@@ -178,7 +178,7 @@ def try_rounds(tries: Tries) -> None:
     """A round over a stand-in for the check: what passes is written, and put back where it is refused there."""
     lemmas = "".join(f"pub {it} : (n : ℕ) → n ≡ n\n{it} n =\n    refl\n\n" for it in ("first", "second")).rstrip("\n") + "\n"
     with tempfile.TemporaryDirectory() as folder, redirect_stdout(StringIO()) as said, \
-            patch("checks.check", stand_in), patch("rounds.check", stand_in):
+            patch("make.shorten.checks.check", stand_in), patch("make.shorten.rounds.check", stand_in):
         root = Path(folder)
         path = root / "crates" / "a_crate" / "proofs" / "Upper.antt"
         path.parent.mkdir(parents=True)
