@@ -1,43 +1,46 @@
-"""How each tool begins and ends: whatever happens, a person reads a sentence or nothing, and never where in its sources that was.
+#!/usr/bin/env python3
+"""Starts a tool: tools/start.py NAME WORDS..
 
-A tool imports this first. From then on an interrupt ends it without a word, also while Python still loads what it needs; what the tool does
-stands within `told`.
+The tools stand in four rooms, each of them a package beside this file, where Python finds them: `launch` (what ./uvt takes), `uvt` (what a person
+calls), `make` (for who changes the repository) and `package`. NAME is a module of a room, or of uvt/commands, whose `main` returns the status.
+A link to this file is the tool that it is named after: uvt/uvt-why is `why`, and make/claims is `claims`.
 """
 
 from __future__ import annotations
 
-import os
-import signal
 import sys
-from typing import Callable
 
 sys.dont_write_bytecode = True
-INTERRUPTED = 130
-# Whether interrupts are taken: a shell that starts a program in the background has it take none. The launcher has Python take none while it
-# starts, and says here whether it took any itself.
-_TAKES_INTERRUPTS = os.environ.pop("UVT_INTERRUPTS", "") == "1" or signal.getsignal(signal.SIGINT) is not signal.SIG_IGN
-if _TAKES_INTERRUPTS:
-    signal.signal(signal.SIGINT, signal.SIG_DFL)
+import launch.tool  # noqa: E402, F401 (first: an interrupt has no traceback while the rest is loaded)
+
+import importlib
+from pathlib import Path
+
+ROOMS = ("uvt.commands", "launch", "make", "package")
 
 
-def told(tool: str, work: Callable[[], int], failed: int, what: str = "the output") -> int:
-    """The status of what a tool does. What goes wrong is said on the errors: a fault in its own words, one of the system with its file, or
-    with `what` where it has none."""
-    from conversation import Fault
+def module_of(name: str) -> str | None:
+    """The module of the tool of this name, if there is one."""
+    tools, file = Path(__file__).resolve().parent, f"{name.replace('-', '_')}.py"
+    found = [it for it in ROOMS if "/" not in name and (tools / it.replace(".", "/") / file).is_file()]
+    return f"{found[0]}.{file.removesuffix('.py')}" if found else None
 
-    if _TAKES_INTERRUPTS:
-        signal.signal(signal.SIGINT, signal.default_int_handler)
-    try:
-        status = work()
-        if sys.stdout:
-            sys.stdout.flush()
-        return status
-    except Fault as fault:
-        print(f"{tool}: {fault}", file=sys.stderr)
-    except BrokenPipeError:
-        sys.stderr.close()
-    except OSError as fault:
-        print(f"{tool}: {fault.filename or what}: {fault.strerror}", file=sys.stderr)
-    except KeyboardInterrupt:
-        return INTERRUPTED
-    return failed
+
+def main() -> int:
+    called = Path(sys.argv[0]).name
+    if called == "start.py":
+        del sys.argv[:1]
+        called = sys.argv[0] if sys.argv else ""
+    name = called.removeprefix("uvt-")
+    module = module_of(name)
+    if module is None:
+        print(f"start.py: there is no tool `{name}`" if name else __doc__, file=sys.stderr)
+        return 2
+    # (so a tool's own words name it as they did where it was called by a link)
+    sys.argv[0] = f"uvt-{name}" if module.startswith("uvt.") else name
+    status: int = importlib.import_module(module).main()
+    return status
+
+
+if __name__ == "__main__":
+    sys.exit(main())

@@ -16,4 +16,4 @@ def order_of(version: str) -> str:
 
 
 def run(tool: str, *words: str) -> subprocess.CompletedProcess[str]:
-    return subprocess.run([str(ROOT / "tools" / tool), *words], capture_output=True, text=True, timeout=SECONDS, env=os.environ)
+    return subprocess.run([str(ROOT / "tools" / "uvt" / tool), *words], capture_output=True, text=True, timeout=SECONDS, env=os.environ)

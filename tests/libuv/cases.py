@@ -18,7 +18,7 @@ from pathlib import Path
 HERE = Path(__file__).resolve().parent
 sys.path.insert(0, str(HERE.parent.parent / "tools"))
 
-from beside import common  # noqa: E402
+from uvt.libuv.runner import common  # noqa: E402
 
 FOLDER = HERE / "cases"
 ASKS = re.compile(r"# asks (\d+|some|in order|then): (.*)")

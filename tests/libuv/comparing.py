@@ -6,7 +6,7 @@ import subprocess
 from collections import Counter
 from dataclasses import dataclass, field
 
-from beside import Library, common, run_programs
+from uvt.libuv.runner import Library, common, run_programs
 from model import SWITCHES, Model, switches_of
 from planted import obey
 from programs import Program

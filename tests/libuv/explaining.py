@@ -1,4 +1,4 @@
-"""Whether tools/uvt-libuv names a heading that explains where a script's lines part.
+"""Whether tools/uvt/uvt-libuv names a heading that explains where a script's lines part.
 
 The tool has no model: it goes by the states of uvt. Here its headings are held against the switches that the model needs to come to
 libuv's lines up to the first one that isn't the same.
@@ -6,14 +6,14 @@ libuv's lines up to the first one that isn't the same.
 
 from __future__ import annotations
 
-from beside import Library, run_programs
+from uvt.libuv.runner import Library, run_programs
 from comparing import first_parting
-from conversation import Script
-from led import lead
+from uvt.conversation import Script
+from uvt.libuv.session import lead
 from model import SWITCHES, Model, switches_of
-from partings import Cause, parting
+from uvt.libuv.differences import Cause, parting
 from programs import Program
-from walk import Walk, longest_way
+from uvt.walk import Walk, longest_way
 
 
 def needed(library: Library, program: Program, real: list[str], at: int) -> frozenset[str]:

@@ -10,7 +10,7 @@ WAKE = "."
 
 @dataclass
 class Program:
-    """A script, and behind its `begin` what is done from outside: as tools/libuv/run.c reads it."""
+    """A script, and behind its `begin` what is done from outside: as tools/uvt/libuv/run.c reads it."""
 
     text: str
     names: list[str] = field(default_factory=list)

@@ -1,6 +1,6 @@
 """Random scripts, each with what is done from outside: the program that both uvt and libuv run.
 
-A script is of a family, and its number is the seed. What stands behind `begin` is read by tools/libuv/run.c and by model.py.
+A script is of a family, and its number is the seed. What stands behind `begin` is read by tools/uvt/libuv/run.c and by model.py.
 """
 
 from __future__ import annotations

@@ -2,7 +2,7 @@
 
 from __future__ import annotations
 
-from beside import Library
+from uvt.libuv.runner import Library
 from comparing import Tested, see
 from programs import Program
 

@@ -18,7 +18,7 @@ from typing import Callable, List, NamedTuple
 HERE = os.path.dirname(os.path.realpath(__file__))
 ROOT = os.path.dirname(os.path.dirname(HERE))
 sys.path.insert(0, os.path.join(ROOT, 'tools'))
-import reasons
+from launch import reasons
 import scripts
 
 SECONDS = 60
@@ -49,7 +49,7 @@ HELPED = [
     (['replay', '/dev/null'], b'uvt: /dev/null: this file cannot be taken as input'), (['debug', b'\xff'], b'uvt: there is no file \xff\n'),
     ([b'\xff'], b'uvt: the words may be: '), ([b'debug\xff'], b'uvt: the words may be: '), ([''], b'uvt runs a script'),
     (['build', 'x'], b'uvt: the words may be: '), (['install'], b'uvt: the words may be: '), (['kept'], b'uvt: the words may be: '),
-    (['../tools/uvt-why'], b'uvt: the words may be: '), (['live', '--workers=2', '--workers=2'], b'uvt: the words may be: '),
+    (['../tools/uvt/uvt-why'], b'uvt: the words may be: '), (['live', '--workers=2', '--workers=2'], b'uvt: the words may be: '),
     (['debug', '--workers=2'], b'uvt: the words may be: '), (['live', '--workers'], b'uvt: the words may be: '),
     (['live', '--help'], b'uvt: the words may be: '),
 ]
@@ -63,7 +63,7 @@ def try_words(check: Check, uvt: str) -> None:
         check('the words %r' % words, (status, output) == (2, b'') and errors.startswith(BAD_COMMAND + said), 'got %r' % errors)
     for words in REFUSED:
         same(check, 'the words %r' % words, run([uvt] + words, SCRIPT), (2, b'', BAD_COMMAND))
-    with open(os.path.join(ROOT, 'tools', 'usage'), 'rb') as usage:
+    with open(os.path.join(ROOT, 'tools', 'launch', 'usage'), 'rb') as usage:
         text = usage.read()
     for words in (['help'], ['-h'], ['--help'], ['help', 'nothing']):
         same(check, 'the usage alone, by %r' % words, run([uvt] + words), (0, text, b''))
@@ -71,7 +71,7 @@ def try_words(check: Check, uvt: str) -> None:
     search = os.path.join(os.path.dirname(uvt), 'out', 'uvt_find', 'uvt_find')
     if os.path.exists(search):
         same(check, 'the path of the search', run([uvt, 'path', 'find']), (0, search.encode() + b'\n', b''))
-    tools = sorted(it[4:] for it in os.listdir(os.path.join(ROOT, 'tools')) if it.startswith('uvt-'))
+    tools = sorted(it[4:] for it in os.listdir(os.path.join(ROOT, 'tools', 'uvt')) if it.startswith('uvt-'))
     same(check, 'the usage names each tool', [it for it in tools if b'./uvt %s ' % it.encode() not in text], [])
     for it in tools:
         status, output, errors = run([uvt, it, '--help'])
@@ -352,7 +352,7 @@ def stand_in(folder: str, program: str) -> StandIn:
     for name in ('uvt', 'crates.txt'):
         os.makedirs(made.folder, exist_ok=True)
         shutil.copy(os.path.join(ROOT, name), os.path.join(made.folder, name))
-    shutil.copytree(os.path.join(ROOT, 'tools'), os.path.join(made.folder, 'tools'))
+    shutil.copytree(os.path.join(ROOT, 'tools'), os.path.join(made.folder, 'tools'), symlinks=True)
     shutil.copytree(os.path.join(ROOT, 'crates'), os.path.join(made.folder, 'crates'),
                     ignore=lambda at, names: [name for name in names if name in ('out', 'must-fail', 'data', 'specs', 'proofs')])
     return made

@@ -12,7 +12,7 @@ lines `..` parts of it. What is not run as it stands:
               a time was on the processor is passed over: it is said where others had it meanwhile. Where the page goes on in another
               way by its own figures (a `tick`), the recording is that of its own run, whose log is kept (tests/tools/logs)
   ./hangup    is a program of the tests, which an installed page hasn't beside it: in place of its run its log is taken (tests/tools/truths)
-  packages    `tools/package` and what is done with its files, where the program isn't a proved one: it refuses to pack that
+  packages    `tools/package/pack` and what is done with its files, where the program isn't a proved one: it refuses to pack that
 
 Where the clone has no search that is proved, its first line on the errors says so, and is passed over."""
 from __future__ import annotations
@@ -87,7 +87,7 @@ def blocks_of(text: str, page: str) -> list[Block]:
             continue
         behind = blocks[at + 1][1] if at + 1 < len(blocks) else ''
         lines = block.splitlines()
-        writes = any(' > ' in it for it in lines) or all(it.startswith(('cp ', 'ln ', 'mkdir ', 'cd ', 'apt-get ', 'cc ', 'tools/package', 'tar '))
+        writes = any(' > ' in it for it in lines) or all(it.startswith(('cp ', 'ln ', 'mkdir ', 'cd ', 'apt-get ', 'cc ', 'tools/package/pack', 'tar '))
                                                        or it == './uvt build' for it in lines[-1:])
         found.append(Block(page, line, lines, None if writes or behind.startswith(COMMANDS) else behind))
     return found
@@ -160,7 +160,7 @@ class Walker:
                 return 'there is no %s (Debian: %s)' % (word, package)
         if ' --join ' in command and not shutil.which('parallel'):
             return 'what it joins is made by parallel, which isn\'t there'
-        if not self.proved and re.match(r'tools/package |tar ', command):
+        if not self.proved and re.match(r'tools/package/pack |tar ', command):
             return 'the program is none that was proved'
         return ''
 

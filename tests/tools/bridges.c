@@ -1,4 +1,4 @@
-/* The bridges of the recorder's hooks (tools/record/recorder/hooks.c): small functions, each with another beginning, get a jump to `instead`,
+/* The bridges of the recorder's hooks (tools/uvt/record/recorder/hooks.c): small functions, each with another beginning, get a jump to `instead`,
  * and their bridges have to do what they did. Others have to be refused. Prints what is wrong, and at its end `ok` or `wrong`. */
 #include "hooks.c"
 

@@ -1,4 +1,4 @@
-"""Tries the debug adapter (tools/uvt-dap) by a client that holds each message against the protocol's published shapes."""
+"""Tries the debug adapter (tools/uvt/uvt-dap) by a client that holds each message against the protocol's published shapes."""
 
 from __future__ import annotations
 
@@ -9,15 +9,15 @@ import tempfile
 import time
 from pathlib import Path
 
-from conversation import Conversation, read_input
+from uvt.conversation import Conversation, read_input
 
 ROOT = Path(__file__).resolve().parent.parent.parent
 EXAMPLES = ROOT / "crates" / "examples" / "data"
 CONVERSATIONS = ROOT / "tests" / "program" / "conversations"
 # An async handle that a callback of I/O sends to, in a poll that nobody woke.
 BEFORE_SENDS = "what-a-callback-of-i-o-sends-to-in-a-poll-that-nobody-woke-is-called-an-iteration-later"
-ADAPTER = str(ROOT / "tools" / "uvt-dap")
-RECORD = str(ROOT / "tools" / "uvt-record")
+ADAPTER = str(ROOT / "tools" / "uvt" / "uvt-dap")
+RECORD = str(ROOT / "tools" / "uvt" / "uvt-record")
 SECONDS = 60
 
 # The shapes of the protocol (its JSON schema), of what the adapter sends: a field's type, `?` where it may be missing; a list has

@@ -1,4 +1,4 @@
-"""Tries the extension for VS Code (tools/vscode) without an editor: its files beside the fields that VS Code publishes, its colours of
+"""Tries the extension for VS Code (tools/uvt/vscode) without an editor: its files beside the fields that VS Code publishes, its colours of
 scripts beside the program, and the adapter as its manifest starts it."""
 
 from __future__ import annotations
@@ -9,11 +9,11 @@ import shutil
 import tempfile
 from pathlib import Path
 
-from conversation import Conversation, Fault, Script, read_input
+from uvt.conversation import Conversation, Fault, Script, read_input
 from daps import EXAMPLES, Client, fits
 
 ROOT = Path(__file__).resolve().parent.parent.parent
-FOLDER = ROOT / "tools" / "vscode"
+FOLDER = ROOT / "tools" / "uvt" / "vscode"
 
 # ---- the fields of a manifest and of its files, as VS Code publishes them; `?` where one may be missing
 
@@ -242,7 +242,7 @@ def try_copied(check) -> None:
     with tempfile.TemporaryDirectory() as name:
         folder = Path(name) / "uvt"
         shutil.copytree(FOLDER, folder)
-        (folder / "uvt-dap").symlink_to(ROOT / "tools" / "uvt-dap")
+        (folder / "uvt-dap").symlink_to(ROOT / "tools" / "uvt" / "uvt-dap")
         debugger = read_json(folder / "package.json")["contributes"]["debuggers"][0]
         client = Client(check, str(folder / debugger["program"]))
         path = EXAMPLES / "late-timer.uvt"

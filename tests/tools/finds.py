@@ -1,4 +1,4 @@
-"""Tries the search's tool (tools/uvt-find): each example that asks, and what is said of bad lines and bad words.
+"""Tries the search's tool (tools/uvt/uvt-find): each example that asks, and what is said of bad lines and bad words.
 
 What each example has to answer stands here, by its question: the line of the script's run that answers it, or that no order does. How many
 states there are, and that the answers are right, is tried by tests/find."""
@@ -17,10 +17,10 @@ from typing import Callable, NamedTuple
 
 ROOT = Path(__file__).resolve().parent.parent.parent
 EXAMPLES = ROOT / "crates" / "examples" / "data"
-TOOL = str(ROOT / "tools" / "uvt-find")
+TOOL = str(ROOT / "tools" / "uvt" / "uvt-find")
 sys.path.insert(0, str(ROOT / "tools"))
 
-import reasons  # noqa: E402
+from launch import reasons  # noqa: E402
 
 SECONDS = 300
 FOUND, NEVER, BAD, UNSETTLED, INTERRUPTED = 0, 1, 2, 3, 130

@@ -17,7 +17,7 @@ from pathlib import Path
 from records import ROOT, archive, has_libuv
 
 FOLDER = Path(__file__).resolve().parent / "forces"
-PROGRAMS = ROOT / "tools" / "record" / "programs"
+PROGRAMS = ROOT / "tools" / "uvt" / "record" / "programs"
 SECONDS = 180
 # How force ends: all went as in the session, it departs, it could not be done, the program ended badly.
 WELL, DEPARTS, FAULT, BADLY = 0, 1, 2, 3
@@ -43,7 +43,7 @@ def has_sanitizer(folder: str) -> bool:
 
 
 def tool(word: str, words: list[str], folder: str) -> tuple[int, str]:
-    ran = subprocess.run([str(ROOT / "tools" / f"uvt-{word}"), *words], capture_output=True, text=True, errors="replace", cwd=folder, timeout=SECONDS)
+    ran = subprocess.run([str(ROOT / "tools" / "uvt" / f"uvt-{word}"), *words], capture_output=True, text=True, errors="replace", cwd=folder, timeout=SECONDS)
     return ran.returncode, ran.stdout + ran.stderr
 
 
@@ -157,7 +157,7 @@ def try_hunts(check, folder: str) -> None:
 
 def try_interrupt(check, folder: str) -> None:
     hunting = subprocess.Popen(
-        [str(ROOT / "tools" / "uvt-hunt"), "--for", "10m", f"{folder}/zero"], cwd=folder, stdout=subprocess.PIPE, stderr=subprocess.STDOUT, text=True
+        [str(ROOT / "tools" / "uvt" / "uvt-hunt"), "--for", "10m", f"{folder}/zero"], cwd=folder, stdout=subprocess.PIPE, stderr=subprocess.STDOUT, text=True
     )
     time.sleep(6)
     hunting.send_signal(signal.SIGINT)
@@ -173,7 +173,7 @@ def try_parts(check, folder: str) -> None:
         print("tools: a hunt in parts: not tried, since there is no GNU parallel (Debian: parallel)", flush=True)
         return
     program = f"{folder}/lookup"
-    words = ["parallel", "-j", "3", str(ROOT / "tools" / "uvt-hunt"), "--for", "20s", "-o", "parts", "--part", "{}/3", program, ":::", "1", "2", "3"]
+    words = ["parallel", "-j", "3", str(ROOT / "tools" / "uvt" / "uvt-hunt"), "--for", "20s", "-o", "parts", "--part", "{}/3", program, ":::", "1", "2", "3"]
     subprocess.run(words, cwd=folder, capture_output=True, timeout=SECONDS)
     reports = sorted(it.name for it in Path(folder).glob("parts.*.report"))
     check("hunt, a report of each part", reports == [f"parts.{it}-of-3.report" for it in (1, 2, 3)], f"{reports}")

@@ -11,7 +11,7 @@ from __future__ import annotations
 
 import argparse
 import contextlib
-import importlib.machinery
+import importlib
 import io
 import multiprocessing
 import os
@@ -24,15 +24,14 @@ import traceback
 import types
 from concurrent.futures import ProcessPoolExecutor
 from pathlib import Path
-from typing import Any, Callable, Iterator
+from typing import Any, Iterator
 
 sys.dont_write_bytecode = True
 HERE = Path(__file__).resolve().parent
 ROOT = HERE.parent.parent
 TOOLS = ROOT / "tools"
-for _folder in (TOOLS, TOOLS / "record"):
-    if str(_folder) not in sys.path:
-        sys.path.insert(0, str(_folder))
+if str(TOOLS) not in sys.path:
+    sys.path.insert(0, str(TOOLS))
 
 KINDS = ("recording", "notes", "log", "script", "message")
 LOGS = ("late", "starved", "mixed", "threads", "accepted", "datagrams", "luv", "node-late", "ctest", "watchers")
@@ -87,12 +86,7 @@ def changed(draw: random.Random, text: str, times: int) -> str:
 
 def tool(name: str) -> types.ModuleType:
     """A tool of tools/ as a module."""
-    path = str(TOOLS / name)
-    loader = importlib.machinery.SourceFileLoader(name.replace("-", "_"), path)
-    module = types.ModuleType(loader.name)
-    module.__file__ = path
-    loader.exec_module(module)
-    return module
+    return importlib.import_module(f"uvt.commands.{name}")
 
 
 def run(module: types.ModuleType, words: list[str], text: str = "") -> tuple[int, str]:
@@ -125,7 +119,7 @@ class Wire:
 
     def receive(self) -> dict[str, Any]:
         if not self.messages:
-            import dap
+            from uvt import dap
             raise dap.Gone
         return self.messages.pop(0)
 
@@ -174,7 +168,7 @@ class Tried:
 
     def __init__(self, folder: Path) -> None:
         self.folder = folder
-        self.tools = {name: tool(f"uvt-{name}") for name in ("why", "view", "shell", "find", "record")}
+        self.tools = {name: tool(name) for name in ("why", "view", "shell", "find", "record")}
         self.recordings: list[tuple[str, str]] = []
         for name in LOGS + TRUTHS:
             run(self.tools["record"], ["-o", str(folder / name), "--log", str(log_of(name))])
@@ -223,7 +217,7 @@ class Tried:
         yield from self.asked(draw, path)
 
     def message(self, draw: random.Random) -> Iterator[tuple[str, list[str], str]]:
-        import dap
+        from uvt import dap
         path = self.folder / "launched.uvt"
         path.write_bytes((ROOT / "examples" / f"{draw.choice(SCRIPTS)}.uvt").read_bytes())
         asked = messages_for(draw, str(path))

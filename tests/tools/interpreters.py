@@ -10,14 +10,14 @@ import re
 import tempfile
 from pathlib import Path
 
-from conversation import read_input
+from uvt.conversation import read_input
 from javascripts import ALLOWED, answer, made, try_asked, unfolded
-from notes import read_notes
-from overview import Overview
-from record_log import read_log
-from record_run import from_data
-from view import Page
-from walk import Walk
+from uvt.notes import read_notes
+from uvt.overview import Overview
+from uvt.record.log import read_log
+from uvt.record.run import from_data
+from uvt.view import Page
+from uvt.walk import Walk
 
 FOLDER = Path(__file__).resolve().parent
 # Looks at Python are written when they have found the same for a tenth of a second, in ms, and it may wait for the next one.

@@ -7,12 +7,12 @@ import sys
 from pathlib import Path
 
 ROOT = Path(__file__).resolve().parent.parent.parent
-sys.path[:0] = [str(ROOT / "tools"), str(ROOT / "tools" / "record")]
+sys.path.insert(0, str(ROOT / "tools"))
 
-from notes import Notes, read_notes, sentence  # noqa: E402
-from record_differences import IO  # noqa: E402
-from record_log import read_log  # noqa: E402
-from record_run import Made, make, notes_of, where_it_stops  # noqa: E402
+from uvt.notes import Notes, read_notes, sentence  # noqa: E402
+from uvt.record.differences import IO  # noqa: E402
+from uvt.record.log import read_log  # noqa: E402
+from uvt.record.run import Made, make, notes_of, where_it_stops  # noqa: E402
 
 # A tcp, an async handle and a check handle; the tcp is started, and the others don't count.
 MADE = ["O 0 init %1 tcp = ok", "O 0 init %2 async = ok", "O 0 init %3 check = ok", "O 0 start %1 = ok", "O 0 start %3 = ok", "O 0 unref %2 = ok",

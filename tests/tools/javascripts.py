@@ -15,18 +15,18 @@ import tempfile
 from pathlib import Path
 
 ROOT = Path(__file__).resolve().parent.parent.parent
-sys.path[:0] = [str(ROOT / "tools"), str(ROOT / "tools" / "record")]
+sys.path.insert(0, str(ROOT / "tools"))
 
-from conversation import read_input  # noqa: E402
-from javascript import fitted  # noqa: E402
-from notes import read_notes  # noqa: E402
-from overview import Overview  # noqa: E402
-from record_log import read_log  # noqa: E402
-from record_run import from_data, name_for  # noqa: E402
-from view import Page  # noqa: E402
-from walk import Walk  # noqa: E402
-from why import why  # noqa: E402
-from why_javascript import WhyJavaScript  # noqa: E402
+from uvt.conversation import read_input  # noqa: E402
+from uvt.javascript import fitted  # noqa: E402
+from uvt.notes import read_notes  # noqa: E402
+from uvt.overview import Overview  # noqa: E402
+from uvt.record.log import read_log  # noqa: E402
+from uvt.record.run import from_data, name_for  # noqa: E402
+from uvt.view import Page  # noqa: E402
+from uvt.walk import Walk  # noqa: E402
+from uvt.why import why  # noqa: E402
+from uvt.why_javascript import WhyJavaScript  # noqa: E402
 
 FOLDER = Path(__file__).resolve().parent / "javascript"
 NODES = ("node18", "node20")
@@ -164,11 +164,11 @@ def try_find(tries: object) -> None:
     from_data(data, read_log(data), "app", lifts=True)
     for late, wanted in ((100, r"found in \d+ steps"), (101, r"never within clock 3000: \d+ states, every order")):
         words = ["app.lift.rec", "may tick 100 1", "may wait", "most clock 3000", f"find late app.js:19 {late}"]
-        ran = subprocess.run([str(ROOT / "tools" / "uvt-find"), *words], capture_output=True, text=True, timeout=SECONDS)
+        ran = subprocess.run([str(ROOT / "tools" / "uvt" / "uvt-find"), *words], capture_output=True, text=True, timeout=SECONDS)
         tries.check(f"javascript, find late app.js:19 {late}", re.match(wanted, ran.stdout) is not None, ran)
         whom = "app.js:19 is `remind`: remind (app.js:19), a timer of JavaScript, started at app.js:19\n"
         tries.check("javascript, find: whom it is about", whom in ran.stderr, ran.stderr)
-    ran = subprocess.run([str(ROOT / "tools" / "uvt-find"), "app.lift.rec", "find call app.js:3"], capture_output=True, text=True, timeout=SECONDS)
+    ran = subprocess.run([str(ROOT / "tools" / "uvt" / "uvt-find"), "app.lift.rec", "find call app.js:3"], capture_output=True, text=True, timeout=SECONDS)
     tries.check("javascript, find: a line of nobody's", ran.returncode == 70 and "no timer and no immediate was started at app.js:3" in ran.stderr, ran)
 
 
@@ -223,7 +223,7 @@ def try_names(tries: object) -> None:
     for words, wanted in ((["node", "json.js"], "json"), (["node", "--no-warnings", "json", "x"], "json"), (["/usr/bin/node", "-e", "1"], "node"),
                           (["node", "nowhere.js"], "node"), (["./json.js"], "json.js"), (["python3.11", "said.js"], "said"), (["late", "json.js"], "late")):
         tries.check(f"javascript, the name of {words}", name_for(words) == wanted, name_for(words))
-    ran = subprocess.run([str(ROOT / "tools" / "uvt-record"), "--bare", "--lift", "node", "json.js"], capture_output=True, text=True, timeout=SECONDS)
+    ran = subprocess.run([str(ROOT / "tools" / "uvt" / "uvt-record"), "--bare", "--lift", "node", "json.js"], capture_output=True, text=True, timeout=SECONDS)
     tries.check("javascript, --bare and --lift", ran.returncode == 2 and "--lift takes what --bare leaves out" in ran.stderr, ran)
 
 
@@ -253,7 +253,7 @@ def try_shell(tries: object) -> None:
         (["why load"], [r"load \(json\.js:6\): a timer of 33 ms, started at json\.js:18, 1 call"]),
         (["why laod"], ["no name `laod`, and no function or line of JavaScript that was seen: did you mean `load`\\?"]),
     ):
-        ran = subprocess.run([str(ROOT / "tools" / "uvt-shell"), "json.rec"], input="\n".join(lines) + "\n", capture_output=True, text=True, timeout=SECONDS)
+        ran = subprocess.run([str(ROOT / "tools" / "uvt" / "uvt-shell"), "json.rec"], input="\n".join(lines) + "\n", capture_output=True, text=True, timeout=SECONDS)
         found = all(re.search(f"^{it}$", ran.stdout, re.MULTILINE) for it in wanted)
         tries.check(f"javascript, shell, {lines}", found and "Traceback" not in ran.stderr, ran)
 

@@ -14,12 +14,12 @@ from pathlib import Path
 ROOT = Path(__file__).resolve().parent.parent.parent
 sys.path.insert(0, str(ROOT / "tools"))
 
-from beside import installed  # noqa: E402
-from conversation import Fault  # noqa: E402
+from uvt.libuv.runner import installed  # noqa: E402
+from uvt.conversation import Fault  # noqa: E402
 from daps import BEFORE_SENDS, CONVERSATIONS  # noqa: E402
 
 EXAMPLES = ROOT / "crates" / "examples" / "data"
-TOOL = str(ROOT / "tools" / "uvt-libuv")
+TOOL = str(ROOT / "tools" / "uvt" / "uvt-libuv")
 SECONDS = 60
 
 

@@ -1,4 +1,4 @@
-"""Tries the shell (tools/uvt-shell) in tmux, as somebody who types sees it: completion, history, an interrupt, an unknown word."""
+"""Tries the shell (tools/uvt/uvt-shell) in tmux, as somebody who types sees it: completion, history, an interrupt, an unknown word."""
 
 from __future__ import annotations
 
@@ -12,7 +12,7 @@ import time
 from pathlib import Path
 
 ROOT = Path(__file__).resolve().parent.parent.parent
-SHELL = str(ROOT / "tools" / "uvt-shell")
+SHELL = str(ROOT / "tools" / "uvt" / "uvt-shell")
 SECONDS = 30
 # an idle handle that is called in each iteration: `continue` comes to no end
 SPIN = "var watcher\nmain init watcher idle\nmain start watcher\nmain run default\n"

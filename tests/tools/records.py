@@ -1,4 +1,4 @@
-"""Recordings of programs (tools/uvt-record), from logs that were kept: logs/ has them. No libuv is needed.
+"""Recordings of programs (tools/uvt/uvt-record), from logs that were kept: logs/ has them. No libuv is needed.
 
 What a log has to give stands in WANTED, by hand: what the program does in it is read off its source, or off the log's lines.
 """
@@ -16,19 +16,19 @@ import tempfile
 from pathlib import Path
 
 ROOT = Path(__file__).resolve().parent.parent.parent
-sys.path[:0] = [str(ROOT / "tools"), str(ROOT / "tools" / "record")]
+sys.path.insert(0, str(ROOT / "tools"))
 
-from conversation import Fault, built_program  # noqa: E402
+from uvt.conversation import Fault, built_program  # noqa: E402
 from ios import try_io  # noqa: E402
-from notes import Notes, read_notes  # noqa: E402
-from record_log import read_log  # noqa: E402
-from record_run import from_data  # noqa: E402
+from uvt.notes import Notes, read_notes  # noqa: E402
+from uvt.record.log import read_log  # noqa: E402
+from uvt.record.run import from_data  # noqa: E402
 
 LOGS = Path(__file__).resolve().parent / "logs"
 EXAMPLES = ROOT / "crates" / "examples" / "data"
 TRUTHS = LOGS.parent / "truths"
-RECORD = str(ROOT / "tools" / "uvt-record")
-WHY = str(ROOT / "tools" / "uvt-why")
+RECORD = str(ROOT / "tools" / "uvt" / "uvt-record")
+WHY = str(ROOT / "tools" / "uvt" / "uvt-why")
 SECONDS = 120
 # How often the program's threads send, by its source.
 SENDS = {"accepted": 2, "taken": 24, "learnt": 24, "later": 24, "uncalled": 24}
@@ -271,7 +271,7 @@ def try_programs(check, folder: str) -> None:
         ran = recorded(words, folder)
         check(f"record, {what}", ran.returncode == 2 and wanted in ran.stderr and "Traceback" not in ran.stderr, ran.stderr)
     for name in ("killed", "late"):
-        subprocess.run(["cc", "-O1", str(ROOT / "tools" / "record" / "programs" / f"{name}.c"), "-o", f"{folder}/{name}", "-luv"], check=True)
+        subprocess.run(["cc", "-O1", str(ROOT / "tools" / "uvt" / "record" / "programs" / f"{name}.c"), "-o", f"{folder}/{name}", "-luv"], check=True)
     ran = recorded(["./killed"], folder)
     check("record, one that is ended by a signal", "ended by SIGABRT" in ran.stdout and "3 of 3 callbacks" in ran.stdout, ran)
     check("record, its recording", verdict(Path(folder) / "killed.rec") == "same")
@@ -292,7 +292,7 @@ def try_queued_again(check, folder: str) -> None:
     ran = recorded(["./queued-again"], folder)
     check("record, queued again", ran.returncode == 0 and plain.stdout in ran.stdout and ": same" in ran.stdout, ran)
     check("record, queued again is said", "    QUEUED AGAIN: job, while it was under way (line " in ran.stdout, ran)
-    asked = subprocess.run([str(ROOT / "tools" / "uvt-why"), "queued-again.rec"], capture_output=True, text=True, cwd=folder, timeout=SECONDS)
+    asked = subprocess.run([str(ROOT / "tools" / "uvt" / "uvt-why"), "queued-again.rec"], capture_output=True, text=True, cwd=folder, timeout=SECONDS)
     check("why, queued again is said", "QUEUED AGAIN: job was queued while it was under way" in asked.stdout, asked)
 
 
@@ -310,7 +310,7 @@ def archive() -> str:
 
 def try_within(check, folder: str, libuv: str) -> None:
     """Programs with libuv within them: they are recorded as others are, and it is said why where they can't be."""
-    programs = ROOT / "tools" / "record" / "programs"
+    programs = ROOT / "tools" / "uvt" / "record" / "programs"
     for name, callbacks, flags in (("late", 11, []), ("late", 11, ["-no-pie"]), ("zero", 4, []), ("watchers", 0, []), ("mixed", 0, [])):
         words = ["cc", "-O1", "-g", *flags, str(programs / f"{name}.c"), "-o", f"{folder}/{name}-within", libuv, "-ldl", "-lpthread"]
         subprocess.run(words, check=True)
@@ -329,7 +329,7 @@ def try_within(check, folder: str, libuv: str) -> None:
         check(f"record, {name} without what it takes", ran.returncode == 2 and wanted in ran.stderr and " is late: " in ran.stdout, ran)
     try_merged(check, folder)
     try_two(check, folder, libuv)
-    words = ["cc", "-w", "-O1", "-rdynamic", "-I", str(ROOT / "tools" / "record" / "recorder"), str(LOGS.parent / "bridges.c"), "-o", f"{folder}/bridges"]
+    words = ["cc", "-w", "-O1", "-rdynamic", "-I", str(ROOT / "tools" / "uvt" / "record" / "recorder"), str(LOGS.parent / "bridges.c"), "-o", f"{folder}/bridges"]
     subprocess.run([*words, "-ldl", "-lpthread"], check=True)
     ran = subprocess.run([f"{folder}/bridges"], capture_output=True, text=True, timeout=SECONDS)
     check("record, the bridges", ran.returncode == 0 and ran.stdout == "ok\n", ran)
@@ -530,11 +530,11 @@ def try_whys_of_parts(check, folder: str) -> None:
     """A recording that is only a beginning: each tool says so."""
     recorded(["-o", "cut", "--log", str(LOGS / "closing.log")], folder)
     for words in (["uvt-why", "timer", "cut.rec"], ["uvt-why", "cut.rec"], ["uvt-shell", "cut.rec"], ["uvt-view", "cut.rec"]):
-        ran = subprocess.run([str(ROOT / "tools" / words[0]), *words[1:]], cwd=folder, capture_output=True, text=True, timeout=SECONDS,
+        ran = subprocess.run([str(ROOT / "tools" / "uvt" / words[0]), *words[1:]], cwd=folder, capture_output=True, text=True, timeout=SECONDS,
                              env=os.environ, input="")
         check(f"{' '.join(words)} of a beginning", "THE RECORDING IS A PART: it has the first" in ran.stdout, ran.stdout[-500:] + ran.stderr)
     for tool, *words in (("uvt-why", "tick"), ("uvt-shell",), ("uvt-view",)):
-        ran = subprocess.run([str(ROOT / "tools" / tool), *words, str(LOGS / "zero.log")], capture_output=True, text=True, timeout=SECONDS, env=os.environ)
+        ran = subprocess.run([str(ROOT / "tools" / "uvt" / tool), *words, str(LOGS / "zero.log")], capture_output=True, text=True, timeout=SECONDS, env=os.environ)
         check(f"{tool} of a log", ran.returncode == 1 and "this is a log of a program" in ran.stderr and "Traceback" not in ran.stderr, ran.stderr)
 
 
@@ -585,7 +585,7 @@ def try_pages(check) -> None:
 def try_sharpness(check) -> None:
     """Changed logs are noticed: a request's callback left out or doubled always, two swapped of which not both are of I/O in nine of ten."""
     logs = [str(LOGS / f"{name}.log") for name in WANTED]
-    words = [str(ROOT / "tools" / "record" / "sharpness"), "--most", "20", *logs]
+    words = [str(ROOT / "tests" / "recorder" / "sharpness"), "--most", "20", *logs]
     ran = subprocess.run(words, capture_output=True, text=True, timeout=LONG)
     counts = {it[0]: (int(it[1]), int(it[2])) for it in re.findall(r"^([\w/ ]+): (\d+) of (\d+) noticed$", ran.stdout, re.MULTILINE)}
     (swapped, of), requests = counts.get("swapped", (0, 0)), counts.get("request", (0, 0))

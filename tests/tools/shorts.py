@@ -1,4 +1,4 @@
-"""tools/shorter without the prover: small lemmas in, and which copies it would try, what of them is chosen, and what goes when nobody cites it."""
+"""tools/make/shorter without the prover: small lemmas in, and which copies it would try, what of them is chosen, and what goes when nobody cites it."""
 
 from __future__ import annotations
 
@@ -12,15 +12,15 @@ from typing import Protocol
 from unittest.mock import patch
 
 ROOT = Path(__file__).resolve().parent.parent.parent
-sys.path.append(str(ROOT / "tools" / "shorten"))
+sys.path.append(str(ROOT / "tools"))
 
-from bodies import bodies, merged, whole_left  # noqa: E402
-from checks import KINDS, Asked, Said, copies  # noqa: E402
-from inside import Cited, inlined  # noqa: E402
-from proofs import Proofs  # noqa: E402
-from reading import Lemma, given_names, lemmas_in, own_terms, patterns_of, side_of, sides_of  # noqa: E402
-from rounds import Rounds, choose, put  # noqa: E402
-from tactics import Made, Means, laid  # noqa: E402
+from make.shorten.bodies import bodies, merged, whole_left  # noqa: E402
+from make.shorten.checks import KINDS, Asked, Said, copies  # noqa: E402
+from make.shorten.inside import Cited, inlined  # noqa: E402
+from make.shorten.proofs import Proofs  # noqa: E402
+from make.shorten.reading import Lemma, given_names, lemmas_in, own_terms, patterns_of, side_of, sides_of  # noqa: E402
+from make.shorten.rounds import Rounds, choose, put  # noqa: E402
+from make.shorten.tactics import Made, Means, laid  # noqa: E402
 
 SMALL = """-- what is brought in
 use Rattle.a_crate.proofs.Names.{ℕ, small}
@@ -178,7 +178,7 @@ def try_rounds(tries: Tries) -> None:
     """A round over a stand-in for the check: what passes is written, and put back where it is refused there."""
     lemmas = "".join(f"pub {it} : (n : ℕ) → n ≡ n\n{it} n =\n    refl\n\n" for it in ("first", "second")).rstrip("\n") + "\n"
     with tempfile.TemporaryDirectory() as folder, redirect_stdout(StringIO()) as said, \
-            patch("checks.check", stand_in), patch("rounds.check", stand_in):
+            patch("make.shorten.checks.check", stand_in), patch("make.shorten.rounds.check", stand_in):
         root = Path(folder)
         path = root / "crates" / "a_crate" / "proofs" / "Upper.antt"
         path.parent.mkdir(parents=True)
@@ -199,5 +199,5 @@ def try_shorter(tries: Tries) -> None:
     for part in (try_reading, try_copies, try_choice, try_drop, try_rounds):
         part(tries)
     for words in (["no_crate"], ["--kinds", "no", "uv_heap"], ["--files", "No", "uv_heap"], ["--jobs", "0", "uv_heap"]):
-        ended = subprocess.run([str(ROOT / "tools" / "shorter"), *words], capture_output=True, text=True, timeout=60, check=False)
+        ended = subprocess.run([str(ROOT / "tools" / "make" / "shorter"), *words], capture_output=True, text=True, timeout=60, check=False)
         tries.check(f"shorter, bad words {words}", ended.returncode == 2 and ended.stderr.startswith("shorter: "), ended.stderr)

@@ -1,5 +1,5 @@
 """A slow check beside `why`: the whole state is asked after every step, and what became of each callback is found by setting each
-state beside the one before. It shares no line with tools/walk.py, waits.py and why.py, and reads the texts by itself."""
+state beside the one before. It shares no line with tools/uvt/walk.py, waits.py and why.py, and reads the texts by itself."""
 
 from __future__ import annotations
 

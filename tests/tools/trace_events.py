@@ -11,14 +11,14 @@ import tempfile
 from pathlib import Path
 
 ROOT = Path(__file__).resolve().parent.parent.parent
-sys.path[:0] = [str(ROOT / "tools"), str(ROOT / "tools" / "record")]
+sys.path.insert(0, str(ROOT / "tools"))
 
-from record_log import read_log  # noqa: E402
-from record_run import from_data  # noqa: E402
+from uvt.record.log import read_log  # noqa: E402
+from uvt.record.run import from_data  # noqa: E402
 
 EXAMPLES = ROOT / "crates" / "examples" / "data"
 HERE = Path(__file__).resolve().parent
-VIEW = str(ROOT / "tools" / "uvt-view")
+VIEW = str(ROOT / "tools" / "uvt" / "uvt-view")
 SECONDS = 120
 # Of each phase the fields that it has to have beside ph, ts, pid, tid and name.
 FIELDS = {

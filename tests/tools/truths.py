@@ -13,15 +13,15 @@ from dataclasses import dataclass, field
 from pathlib import Path
 
 ROOT = Path(__file__).resolve().parent.parent.parent
-sys.path[:0] = [str(ROOT / "tools"), str(ROOT / "tools" / "record")]
+sys.path.insert(0, str(ROOT / "tools"))
 
-import glance  # noqa: E402
-from conversation import read_input  # noqa: E402
-from overview import Overview  # noqa: E402
-from record_log import read_log  # noqa: E402
-from record_run import from_data  # noqa: E402
-from walk import Walk  # noqa: E402
-from why import why  # noqa: E402
+from uvt import log_summary  # noqa: E402
+from uvt.conversation import read_input  # noqa: E402
+from uvt.overview import Overview  # noqa: E402
+from uvt.record.log import read_log  # noqa: E402
+from uvt.record.run import from_data  # noqa: E402
+from uvt.walk import Walk  # noqa: E402
+from uvt.why import why  # noqa: E402
 
 TRUTHS = Path(__file__).resolve().parent / "truths"
 # (the clock of a log has whole milliseconds, and a callback says what its work took, without what comes before and behind it)
@@ -219,7 +219,7 @@ AT_ONCE = {
 
 def try_glance(check, program: str, walk: Walk) -> None:
     """What the log says by itself, beside what the program printed, and beside what `why` says of the late timers."""
-    told = "\n".join(glance.told((TRUTHS / f"{program}.log").read_bytes()))
+    told = "\n".join(log_summary.told((TRUTHS / f"{program}.log").read_bytes()))
     said = said_of(program)
     for took, name in LONG.findall(told):
         known = said.get(re.sub(r"\[(\d+)\]", r"_\1", name), [])

@@ -1,6 +1,6 @@
 """The recorder never harms its program: each ends as it does without it, and the recorder itself touches no memory that isn't its own.
 
-In tests/tools/run the programs of tools/record/programs and of truths/ run under a recorder that is built with AddressSanitizer and
+In tests/tools/run the programs of tools/uvt/record/programs and of truths/ run under a recorder that is built with AddressSanitizer and
 UndefinedBehaviorSanitizer, and those of the first folder under valgrind, where these are installed. By hand, and much more of it:
 
     tests/tools/unharmed.py --libuv FOLDER    libuv's own tests, of the sources in this folder (Debian: apt-get source libuv1)
@@ -24,12 +24,12 @@ from pathlib import Path
 
 sys.dont_write_bytecode = True
 ROOT = Path(__file__).resolve().parent.parent.parent
-sys.path[:0] = [str(ROOT / "tools"), str(ROOT / "tools" / "record")]
+sys.path.insert(0, str(ROOT / "tools"))
 
-from record_run import HOOKS, RECORDER, recorder  # noqa: E402
+from uvt.record.run import HOOKS, RECORDER, recorder  # noqa: E402
 from records import has_libuv  # noqa: E402
 
-PROGRAMS = (ROOT / "tools" / "record" / "programs", Path(__file__).resolve().parent / "truths")
+PROGRAMS = (ROOT / "tools" / "uvt" / "record" / "programs", Path(__file__).resolve().parent / "truths")
 SECONDS = 300
 # How a program ends that valgrind or a sanitizer reports.
 REPORTED = 97

@@ -13,12 +13,12 @@ from pathlib import Path
 ROOT = Path(__file__).resolve().parent.parent.parent
 sys.path.insert(0, str(ROOT / "tools"))
 
-from conversation import Conversation, read_input  # noqa: E402
-from walk import longest_way  # noqa: E402
+from uvt.conversation import Conversation, read_input  # noqa: E402
+from uvt.walk import longest_way  # noqa: E402
 from whys import BEHIND  # noqa: E402
 
 EXAMPLES = ROOT / "crates" / "examples" / "data"
-VIEW = str(ROOT / "tools" / "uvt-view")
+VIEW = str(ROOT / "tools" / "uvt" / "uvt-view")
 SECONDS = 60
 # What the page is given.
 VALUES = re.compile(r'<script type="application/json" id="values">(.*)</script>')
@@ -85,7 +85,7 @@ def try_requests(check) -> None:
     """A stream's requests have a lane beside it: by its source the program writes twice in `main`, and the close callback cancels both."""
     with tempfile.TemporaryDirectory() as folder:
         log = ROOT / "tests" / "tools" / "truths" / "hangup.log"
-        subprocess.run([str(ROOT / "tools" / "uvt-record"), "-o", f"{folder}/hangup", "--log", str(log)], capture_output=True, timeout=SECONDS)
+        subprocess.run([str(ROOT / "tools" / "uvt" / "uvt-record"), "-o", f"{folder}/hangup", "--log", str(log)], capture_output=True, timeout=SECONDS)
         run = json.loads(VALUES.search(viewed([f"{folder}/hangup.rec"]).stdout)[1])
     lanes = {it["name"]: it for it in run["lanes"]}
     names, closed = list(lanes), next(step for step, what in lanes["line"]["parts"] if what == "callback")

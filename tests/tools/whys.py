@@ -14,17 +14,17 @@ sys.path.insert(0, str(ROOT / "tools"))
 sys.path.insert(0, str(ROOT / "tests" / "machines"))
 
 import sessions  # noqa: E402
-from came import behind, came, waited  # noqa: E402
-from conversation import Script, read_text  # noqa: E402
-from overview import Overview  # noqa: E402
+from uvt.arrivals import behind, came, waited  # noqa: E402
+from uvt.conversation import Script, read_text  # noqa: E402
+from uvt.overview import Overview  # noqa: E402
 from slow_why import Seen, SlowWhy  # noqa: E402
-from waits import Wait  # noqa: E402
-from walk import Walk, longest_way  # noqa: E402
-from why import Why, why  # noqa: E402
+from uvt.waits import Wait  # noqa: E402
+from uvt.walk import Walk, longest_way  # noqa: E402
+from uvt.why import Why, why  # noqa: E402
 
 EXAMPLES = ROOT / "crates" / "examples" / "data"
 CONVERSATIONS = ROOT / "tests" / "program" / "conversations"
-WHY = str(ROOT / "tools" / "uvt-why")
+WHY = str(ROOT / "tools" / "uvt" / "uvt-why")
 SECONDS = 60
 
 # Of each example a name, up to which of its commands it is run (`None`: the longest of its ways), and what the answer has to

@@ -1,0 +1,1 @@
+"""For who changes the repository."""

@@ -1,0 +1,1 @@
+"""What `tools/make/shorter` tries in place of proofs."""

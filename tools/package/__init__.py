@@ -1,0 +1,1 @@
+"""The proved program and the tools around it: installed, packed, taken away."""

@@ -1,0 +1,1 @@
+"""The tools that a person calls, each by a module of `commands`."""

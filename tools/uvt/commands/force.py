@@ -1,0 +1,105 @@
+"""Runs a real program in the order of a session: what comes from outside comes where the session has it.
+
+  ./uvt force SESSION [-o NAME] [--stop] [--early] [--loop N] [--] PROGRAM [ARG..]
+  ./uvt force --random N [--stall MS] [--seed S] [-o NAME] [--] PROGRAM [ARG..]
+
+SESSION is what find or hunt has found, what shell has saved, or a recording. The program runs unmodified: its clock moves as the session says,
+the pool's workers take and hand in their requests where it says, threads send where it says. So what the session shows happens in the
+program itself, under gdb, valgrind or a sanitizer too. Where the program does something else than the session, that is said, with the step.
+
+The run is recorded as by ./uvt record: NAME.rec. --stop: the program gets SIGTRAP at the session's last step, before it is done (for gdb).
+--early: the work of a request begins where a worker takes it, and runs beside the loop; without it at the step where it is finished.
+PROGRAM may be gdb (gdb --args PROGRAM ..) or valgrind with the program behind it.
+
+--random N: without a session, up to N runs, each in an order at random, until one ends badly: by a signal, with a sanitizer's report, with
+another status than a run that nobody forces, or never. Its order is NAME.rec, which `./uvt force NAME.rec PROGRAM` forces again. --stall MS: now
+and then the clock jumps by up to MS ms. --seed S: the first order's number.
+
+Status 0: all steps of the session have come, with no departure, and the program ended well (at random: each run did). 1: it departs, and ended
+well. 2: it could not be done. 3: the program ended badly, whether or not it departs: by a signal, or with a status that isn't 0. Under gdb the
+status says nothing of how the program ended.
+"""
+
+from __future__ import annotations
+
+import argparse
+from pathlib import Path
+
+from launch.tool import run_tool
+from uvt.conversation import INSTALLED, read_input
+from uvt.forcing import Order, Ran, agreement, badly, limit, recording_of, run
+
+WELL, DEPARTS, FAULT, BADLY = 0, 1, 2, 3
+# How long the run that nobody forces may take, in seconds, and how much of a program's output is shown, in lines.
+FIRST, LINES = 10, 12
+FORCE = "uvt force" if INSTALLED else "./uvt force"
+
+
+def counted(count: int, word: str) -> str:
+    return f"{count} {word}{'' if count == 1 else 's'}"
+
+
+def summary(ran: Ran, order: Order, recorded: bool) -> tuple[str, bool]:
+    """All in a line; and whether all went as in the session."""
+    length = len(order.lines)
+    steps = f"all {length} steps" if ran.done else f"{ran.steps} of {length} steps"
+    says = agreement(order.lines, recording_of(ran.name, order.loop)) if recorded else ""
+    good = ran.done and ran.departures == 0 and says in ("", "same")
+    return ", ".join(filter(None, [steps, counted(ran.departures, "departure"), says])), good
+
+
+def in_order(words: list[str], order: Order, name: str, records: bool) -> int:
+    ran = run(words, order, name, None, records)
+    is_gdb = Path(words[0]).name == "gdb"
+    bad = "" if is_gdb else ran.ended()
+    shown = [it for it in ran.told if order.stop or bad or not it.startswith("step ")]
+    line, good = summary(ran, order, records)
+    said = [f"the program {bad}"] if bad else []
+    print("\n".join([*said, *shown, *ran.recorded.splitlines(), line]), flush=True)
+    return BADLY if bad else WELL if good else DEPARTS
+
+
+def at_random(words: list[str], runs: int, stall: int, seed: int, name: str) -> int:
+    """Runs it in orders at random until it ends badly."""
+    first = run(words, Order(), name, FIRST, False)
+    if first.ended():
+        print(f"a run that nobody forces {first.ended()}", flush=True)
+    for number in range(1, runs + 1):
+        endless = int(1000 * first.seconds) if first.late else 0
+        ran = run(words, Order(seed=seed + number - 1, stall=stall, endless=endless), name, limit(first))
+        if bad := badly(ran, first):
+            print(f"run {number} {bad}")
+            print("\n".join(ran.output.splitlines()[:LINES]))
+            print(f"its order: {FORCE} {recording_of(name, 0)} {' '.join(words)}", flush=True)
+            return BADLY
+    print(f"{counted(runs, 'run')}, and each ended {'as that did' if first.ended() else 'well'}")
+    return WELL
+
+
+def main() -> int:
+    reader = argparse.ArgumentParser(description=__doc__, formatter_class=argparse.RawDescriptionHelpFormatter)
+    reader.add_argument("-o", dest="name", help="the recording's name, without .rec")
+    reader.add_argument("--stop", action="store_true", help="SIGTRAP at the last step")
+    reader.add_argument("--early", action="store_true", help="work begins where it is taken")
+    reader.add_argument("--quiet", action="store_true", help="no recording")
+    reader.add_argument("--random", type=int, metavar="N", help="no session: up to N orders at random")
+    reader.add_argument("--loop", type=int, metavar="N", help="which loop of the program (a recording says so itself; else 0, the first)")
+    reader.add_argument("--stall", type=int, default=0, metavar="MS", help="at random: jumps of the clock")
+    reader.add_argument("--seed", type=int, default=1, metavar="S", help="at random: the first order's number")
+    reader.add_argument("session", help="what is forced; with --random the program")
+    reader.add_argument("program", nargs=argparse.REMAINDER)
+    asked = reader.parse_args()
+    words = asked.program[1:] if asked.program[:1] == ["--"] else asked.program
+    if asked.random is not None and asked.session != "--":
+        words = [asked.session, *words]
+    if not words:
+        reader.error("PROGRAM is missing")
+
+    def force() -> int:
+        if asked.random is not None:
+            return at_random(words, asked.random, asked.stall, asked.seed, asked.name or f"{Path(words[0]).name}.random")
+        script, commands = read_input(Path(asked.session))
+        loop = script.notes.loop if asked.loop is None else asked.loop
+        return in_order(words, Order(script, commands, loop, asked.stop, asked.early), asked.name or f"{Path(words[0]).name}.forced", not asked.quiet)
+
+    return run_tool("uvt-force", force, failed=FAULT, what="the run")

@@ -1,0 +1,233 @@
+"""Hunts for an order in which a program on libuv ends badly: it records it, asks find, forces what was found, and learns from that.
+
+  ./uvt hunt [-o NAME] [--for TIME] [--part K/N] [--] PROGRAM [ARG..]
+  ./uvt hunt --join FILE..
+
+A run ends badly by a signal, with a report of AddressSanitizer (build the program with -fsanitize=address), with another status than the first
+run, or never, where the first run ended. First come ten orders at random. Then questions, which are the same of each program: a timer, an async
+handle or a request that is called, called twice or never called, or called before another one; an op on what is gone or closed; a cancel that
+comes in time, or too late; a loop that waits for ever. Each also with a stall, as long as the longest callback. Each order that find has found is
+forced upon the program. What callbacks do that were never called before is known from then on, and the questions are asked again. At the end come
+a hundred more orders at random.
+
+Where a run ends badly, its order is NAME.uvt, and the same order is forced twice more. NAME is the program's, with `.hunt`. --for TIME (60s, 10m,
+2h): it ends by then, and until then it goes on with orders at random. Ctrl-C ends it at any time, and it says what it has done.
+
+--part K/N: the K-th of N parts, each of which asks other questions, and has other orders at random. Its report is NAME.K-of-N.report. --join: what
+the parts have found, of their reports.
+
+Status 0: each run ended well; that doesn't say that there is no such order. 3: one ended badly. 2: it could not be done. 130: it was interrupted.
+"""
+
+from __future__ import annotations
+
+import argparse
+import dataclasses
+import json
+import os
+import re
+import shlex
+import shutil
+import signal
+import subprocess
+import sys
+import tempfile
+import time
+from pathlib import Path
+
+from launch.tool import run_tool
+from uvt.conversation import INSTALLED, ROOT, Fault, built_program
+from uvt.hunting import Bad, Counts, Hunt, counted
+from uvt.notes import harmless
+from uvt.record.run import recorder, write
+
+WELL, FAULT, BADLY, INTERRUPTED = 0, 2, 3, 130
+FORCE = "uvt force" if INSTALLED else "./uvt force"
+TIMES = {"": 1, "s": 1, "m": 60, "h": 3600}
+REPORT = "uvt-hunt 1"
+
+
+def prepare() -> str:
+    """What is compiled once is there before the first run begins: a fresh clone compiles for minutes, and no run is given so long. Answers the
+    program that searches."""
+    recorder()
+    recorder(forcing=True)
+    os.environ["UVT"] = built_program()
+    if "UVT_FIND" not in os.environ:
+        asked = subprocess.run([str(ROOT / "uvt"), "path", "find"], stdin=subprocess.DEVNULL, stdout=subprocess.PIPE, text=True)
+        if asked.returncode:
+            raise Fault("there is no program that searches")
+        os.environ["UVT_FIND"] = asked.stdout.rstrip("\n")
+    return os.environ["UVT_FIND"]
+
+
+class Teller:
+    """How far it is, in a line at a terminal."""
+
+    def __init__(self) -> None:
+        self.shows, self.began, self.shown = sys.stderr.isatty(), time.monotonic(), False
+        self.counts = Counts()
+
+    def tell(self, what: str) -> None:
+        if self.shows:
+            minutes, seconds = divmod(int(time.monotonic() - self.began), 60)
+            it = self.counts
+            line = f"uvt hunt: {minutes}:{seconds:02}, {counted(it.questions, 'question')}, {it.found} forced, {it.random} at random: {what}"
+            width = shutil.get_terminal_size().columns - 1
+            print(f"\r\x1b[K{harmless(line)[:width]}", end="", file=sys.stderr, flush=True)
+            self.shown = True
+
+    def done(self) -> None:
+        if self.shown:
+            print("\r\x1b[K", end="", file=sys.stderr, flush=True)
+
+
+# ---- what is said
+
+
+def how_often(bad: Bad) -> str:
+    return f", and in {bad.bad_again} of {counted(bad.again, 'further run')} in the same order" if bad.again else ""
+
+
+def of_bad(bad: Bad, name: str, words: list[str]) -> list[str]:
+    """How it ended badly, where that order is, and the words to see it."""
+    lines = [f"the program {bad.how}{how_often(bad)}"]
+    lines += [f"    in {bad.place}"] if bad.place else []
+    if not bad.order:
+        return [*lines, f"    in {bad.by}, of which nothing was recorded"]
+    write(Path(f"{name}.uvt"), bad.order.encode("ascii", "surrogateescape"))
+    program, loop = shlex.join(words), f" --loop {bad.loop}" if bad.loop else ""
+    # (where a signal or a sanitizer ends it, a debugger stops there by itself)
+    stop = "" if "was ended by" in bad.how or "Sanitizer" in bad.how else " --stop"
+    return [
+        *lines, f"    in {bad.by}", f"    its order is {name}.uvt. To see it:",
+        f"    {FORCE}{loop} {name}.uvt {program}", f"    {FORCE}{loop}{stop} {name}.uvt gdb --args {program}",
+    ]
+
+
+def say(counts: Counts, bad: Bad | None, name: str, words: list[str], part: str, fault: str) -> int:
+    if bad:
+        lines = of_bad(bad, name, words)
+    else:
+        lines = ["each run ended well"]
+    lines.append(f"    {counts.text()}{part}")
+    print(harmless("\n".join(lines)), flush=True)
+    if fault:
+        print(f"uvt hunt: a question could not be asked: {harmless(fault)}", file=sys.stderr)
+    return BADLY if bad else WELL
+
+
+# ---- parts
+
+
+def write_report(path: Path, hunt: Hunt, bad: Bad | None, ended: str) -> None:
+    """What --join reads."""
+    found = {"form": REPORT, "part": hunt.part, "program": hunt.words, "ended": ended, "counts": dataclasses.asdict(hunt.counts)}
+    found["bad"] = dataclasses.asdict(bad) if bad else None
+    write(path, (json.dumps(found, indent=1) + "\n").encode())
+
+
+def read_report(path: str) -> dict[str, object]:
+    try:
+        found = json.loads(Path(path).read_text(encoding="utf-8"))
+        if found["form"] != REPORT:
+            raise ValueError
+        Counts(**found["counts"])
+        mine, of = found["part"]
+        if not all(isinstance(it, str) for it in found["program"]) or not 1 <= mine <= of:
+            raise ValueError
+        if found["bad"]:
+            Bad(**found["bad"])
+        return found
+    except OSError as fault:
+        raise Fault(f"{path}: {fault.strerror}") from None
+    except (ValueError, TypeError, KeyError):
+        raise Fault(f"{path}: this is no report of a part of a hunt") from None
+
+
+def join(paths: list[str], name: str | None) -> int:
+    """What all parts have found."""
+    reports = [read_report(it) for it in paths]
+    of, words = reports[0]["part"][1], reports[0]["program"]
+    for path, it in zip(paths, reports):
+        if it["part"][1] != of or it["program"] != words:
+            raise Fault(f"{path}: this part is of another hunt than {paths[0]}")
+    all_counts = [Counts(**it["counts"]) for it in reports]
+    total = Counts(**{it.name: sum(getattr(one, it.name) for one in all_counts) for it in dataclasses.fields(Counts)})
+    have = {it["part"][0] for it in reports}
+    missing = [str(it) for it in range(1, of + 1) if it not in have]
+    cut = sorted(it["part"][0] for it in reports if it["ended"])
+    bad = [(it["part"][0], Bad(**it["bad"])) for it in sorted(reports, key=lambda it: it["part"][0]) if it["bad"]]
+    name = name or f"{Path(words[0]).name}.hunt"
+    lines = [f"part {', '.join(missing)} of {of} is missing"] if missing else []
+    lines += [f"part {it} was interrupted" for it in cut]
+    for number, one in bad:
+        lines += [f"part {number} of {of}:", *of_bad(one, name if len(bad) == 1 else f"{name}.{number}", words)]
+    lines += [] if bad else ["each run ended well"]
+    lines.append(f"    {total.text()}, in {counted(len(have), 'part')}")
+    print(harmless("\n".join(lines)), flush=True)
+    return BADLY if bad else WELL
+
+
+# ---- words
+
+
+def seconds_of(text: str) -> float:
+    found = re.fullmatch(r"(\d+)([smh]?)", text)
+    if not found:
+        raise argparse.ArgumentTypeError(f"{text}: a time is 60s, 10m or 2h")
+    return int(found[1]) * TIMES[found[2]]
+
+
+def part_of(text: str) -> tuple[int, int]:
+    found = re.fullmatch(r"(\d+)/(\d+)", text)
+    if not found or not 1 <= int(found[1]) <= int(found[2]):
+        raise argparse.ArgumentTypeError(f"{text}: a part is K/N, from 1/N to N/N")
+    return int(found[1]), int(found[2])
+
+
+def hunted(words: list[str], name: str, seconds: float | None, part: tuple[int, int]) -> int:
+    search, teller = prepare(), Teller()
+    folder = Path(tempfile.mkdtemp(prefix="uvt-hunt."))
+    hunt = Hunt(words, search, folder, seconds, part, teller.tell)
+    teller.counts = hunt.counts
+    bad, ended = None, ""
+    for it in (signal.SIGTERM, signal.SIGHUP):
+        signal.signal(it, lambda *_: os.kill(os.getpid(), signal.SIGINT))
+    try:
+        bad = hunt.run()
+    except KeyboardInterrupt:
+        ended = "interrupted"
+    finally:
+        shutil.rmtree(folder, ignore_errors=True)
+        teller.done()
+    hunt.counts.seconds = time.monotonic() - hunt.began
+    of_parts = f", part {part[0]} of {part[1]}" if part[1] > 1 else ""
+    if part[1] > 1:
+        write_report(Path(f"{name}.{part[0]}-of-{part[1]}.report"), hunt, bad, ended)
+        name = f"{name}.{part[0]}-of-{part[1]}"
+    status = say(hunt.counts, bad, name, words, of_parts, hunt.fault)
+    if ended:
+        print("it was interrupted, and not at its end", flush=True)
+    return INTERRUPTED if ended else status
+
+
+def main() -> int:
+    reader = argparse.ArgumentParser(description=__doc__, formatter_class=argparse.RawDescriptionHelpFormatter)
+    reader.add_argument("-o", dest="name", help="the name of what is written")
+    reader.add_argument("--for", dest="seconds", type=seconds_of, metavar="TIME", help="how long: 60s, 10m, 2h")
+    reader.add_argument("--part", type=part_of, default=(1, 1), metavar="K/N", help="this part of the questions and seeds")
+    reader.add_argument("--join", action="store_true", help="the reports of the parts")
+    reader.add_argument("program", nargs=argparse.REMAINDER)
+    asked = reader.parse_args()
+    words = asked.program[1:] if asked.program[:1] == ["--"] else asked.program
+    if not words:
+        reader.error("FILE is missing" if asked.join else "PROGRAM is missing")
+
+    def hunt() -> int:
+        try:
+            return join(words, asked.name) if asked.join else hunted(words, asked.name or f"{Path(words[0]).name}.hunt", asked.seconds, asked.part)
+        except ValueError as fault:
+            raise Fault(str(fault)) from None
+
+    return run_tool("uvt-hunt", hunt, failed=FAULT, what="the hunt")

@@ -1,0 +1,122 @@
+"""Why a callback ran late, or never.
+
+  ./uvt why NAME < FILE    a recording, or a script with `begin` and the steps behind it
+  ./uvt why NAME FILE      the same
+  ./uvt why FILE           without a name: which names there are, and what stands out. The longest callbacks, the latest timers, sends
+                           and requests, when the pool was full, what kept the loop alive, who spun; each with its step.
+                           (`./uvt why < FILE` does so too)
+  ./uvt why FILE.log       what a log says by itself, at once: the longest callbacks, and who waited for the loop. Before ./uvt build the log
+                           beside a long recording is told so first, since the whole answer takes longer then
+
+For each callback of the name it says when it was due or asked for, by which line, when it was called, and what stood between; for
+each that never came, why. Each answer names steps: `goto N` of ./uvt shell goes there. Where the commands of a script go back,
+and on in another way, the longest of the ways is told. Of a recording that ./uvt record made it reads the notes beside it, too.
+
+Of a program in node NAME may also be a function of JavaScript (`save`), or a line of it (`app.js:12`) that began one, started a timer, or
+asked for a request of the pool. So it is in Python on uvloop and in Lua on luv.
+
+UVT names another program than the launcher ./uvt.
+"""
+
+from __future__ import annotations
+
+import argparse
+import difflib
+import re
+import sys
+from pathlib import Path
+
+from launch.tool import run_tool
+from uvt import log_summary
+from uvt.conversation import INSTALLED, Fault, Script, is_proved, read_descriptor, read_input
+from uvt.javascript import PLACE, fitted
+from uvt.overview import Overview
+from uvt.progress import Teller
+from uvt.walk import Walk, longest_way
+from uvt.why import why
+from uvt.why_javascript import WhyJavaScript
+
+
+def read_asked(words: list[str]) -> tuple[str | None, Path | None]:
+    """The name and the file that were typed, in either order; None for what wasn't."""
+    lines = [it for it in words if PLACE.fullmatch(it) and not Path(it).is_file()]
+    files = [it for it in words if it not in lines and ("/" in it or "." in it or Path(it).is_file())]
+    names = [it for it in words if it not in files]
+    if len(files) > 1 or len(names) > 1:
+        raise Fault(f"one name and one file, and not {' and '.join(f'`{it}`' for it in words)}")
+    return names[0] if names else None, Path(files[0]) if files else None
+
+
+def known(script: Script, name: str) -> str:
+    if name not in script.names():
+        near = difflib.get_close_matches(name, script.names(), 1)
+        raise Fault(f"no name `{name}`" + (f": did you mean `{near[0]}`?" if near else ""))
+    return name
+
+
+# A recording of so many steps is long for the program before its proofs.
+MANY = 20_000
+
+
+def log_of(path: Path) -> bytes:
+    """The log beside a recording, if there is one."""
+    try:
+        return path.with_name(re.sub(r"(\.\d+)?(\.lift)?\.rec$", ".log", path.name)).read_bytes()
+    except OSError:
+        return b""
+
+
+def told_early(path: Path, script: Script, steps: int) -> None:
+    """What the log of a long recording says is told before the loop is led through it, where that takes long."""
+    found = log_summary.glances(data) if log_summary.is_log(data := log_of(path)) else {}
+    if script.notes.loop in found:
+        print(f"before the loop is led through its {steps} steps:", *found[script.notes.loop].answer(), "", sep="\n", flush=True)
+
+
+def of_log(name: str | None, path: Path) -> list[str] | None:
+    """What a log says by itself; None of another file."""
+    try:
+        with path.open("rb") as file:
+            if not log_summary.is_log(file.read(200)):
+                return None
+            file.seek(0)
+            data = file.read()
+    except (OSError, ValueError):
+        return None
+    if name is not None:
+        raise Fault(f"this is a log of a program: `uvt-record --log {path}` makes recordings of it, which can be asked about {name}")
+    return [*log_summary.told(data), f"make a recording, and ask that: {'uvt' if INSTALLED else './uvt'} record --log {path}"]
+
+
+def answered(name: str | None, path: Path | None) -> list[str]:
+    if path is None and sys.stdin.isatty():
+        raise Fault("a recording or a script is wanted: ./uvt why NAME FILE, or ./uvt why NAME < FILE; --help says more")
+    if path and (lines := of_log(name, path)):
+        return lines
+    script, commands = read_input(path) if path else read_descriptor(sys.stdin.buffer)
+    of_javascript = name is not None and bool(script.notes.javascript) and name not in script.names()
+    if name is not None and not of_javascript:
+        known(script, name)
+    if name is None and path and len(commands) > MANY and not is_proved():
+        told_early(path, script, len(commands))
+    teller = Teller("uvt-why", "steps")
+    with Walk(script, longest_way(script, commands), tell=teller.tell) as walk:
+        teller.done()
+        if of_javascript:
+            return WhyJavaScript(walk).answer(name)
+        if name is not None:
+            return [row for line in why(walk, name) for row in (fitted(line) if script.notes.javascript else [line])]
+        command = "uvt why" if INSTALLED else "./uvt why"
+        return Overview(walk).answer(f"{command} NAME {path}" if path else f"{command} NAME < FILE")
+
+
+def answer(words: list[str]) -> int:
+    print("\n".join(answered(*read_asked(words))))
+    return 0
+
+
+def main() -> int:
+    reader = argparse.ArgumentParser(description=__doc__, formatter_class=argparse.RawDescriptionHelpFormatter)
+    reader.add_argument("words", nargs="*", metavar="NAME FILE", help="a name that the script declares, and a file; both may be left out")
+    asked = reader.parse_args()
+    return run_tool("uvt-why", lambda: answer(asked.words), failed=1)

@@ -1,0 +1,483 @@
+"""A conversation with `uvt debug`, and the texts that it answers cut into values.
+
+What is here speaks the program's own words (docs/FORMAT.md) and has no loop of its own: every answer is the program's.
+"""
+
+from __future__ import annotations
+
+import functools
+import io
+import os
+import re
+import signal
+import subprocess
+import sys
+import threading
+from dataclasses import dataclass, field
+from pathlib import Path
+from typing import BinaryIO, Callable, Iterator
+
+from uvt.notes import Notes, harmless, path_of, read_notes
+
+ROOT = Path(__file__).resolve().parent.parent.parent
+# Whether these are the tools of tools/package/pack, without a repository.
+INSTALLED = (ROOT / "version").is_file()
+
+
+def out_folder() -> Path:
+    """Where the tools compile what they need: below the repository, or for installed tools in a folder of the user's and their version's."""
+    if not INSTALLED:
+        return ROOT / "out"
+    # (who has no home gets a folder that can't be made, and hears so where something has to be compiled)
+    cache = Path(os.environ.get("XDG_CACHE_HOME") or home() / ".cache")
+    return cache / "uvt" / (ROOT / "version").read_text(encoding="ascii").strip()
+
+
+def home() -> Path:
+    """The user's folder; one that isn't there where HOME isn't set, and nobody knows the user."""
+    try:
+        return Path.home()
+    except RuntimeError:
+        return Path("/nonexistent")
+
+
+OUT = out_folder()
+
+# The two lines that end an answer: that of `back 0`, which changes nothing, and that of a line that is no command. No
+# answer has the second one right behind the first one but at its end.
+END_COMMANDS = b"back 0\n?\n"
+AT = re.compile(r"at (\d+)$")
+BAD = "bad command"
+# as many bytes as every pipe holds at least
+PIPE = 4096
+
+
+class Fault(Exception):
+    """What a person is to be told, in a sentence. It may name a file, or show a line, that holds anything: a terminal gets none of its signs."""
+
+    def __str__(self) -> str:
+        return harmless(super().__str__())
+
+
+for _stream in (sys.stdout, sys.stderr):
+    # (a name of a file may have bytes that the terminal's encoding has no sign for)
+    if isinstance(_stream, io.TextIOWrapper):
+        _stream.reconfigure(errors="backslashreplace")
+
+
+@dataclass
+class Script:
+    """A script's lines as they were written, without its `begin`, and what the program makes of them."""
+
+    lines: list[str]
+    # the number of its first line in the file: a recording has its version in front
+    first: int = 1
+    # what is known of a recording beside its steps
+    notes: Notes = field(default_factory=Notes)
+
+    def is_recorded(self) -> bool:
+        return self.first > 1
+
+    def has_io(self) -> bool:
+        """Whether it may have handles of I/O."""
+        return "io" in self.lines
+
+    def names(self) -> list[str]:
+        """The names, in the order of their declarations."""
+        return [it.split(" ")[1] for it in self.lines if it.startswith("var ") and it.count(" ") == 1]
+
+    @functools.cached_property
+    def places(self) -> dict[str, list[int]]:
+        """The numbers, from 0, of the lines of each list, in order: those of `main`, of `on NAME`, .."""
+        found: dict[str, list[int]] = {}
+        for at, line in enumerate(self.lines):
+            words = line.split(" ", 2)
+            if len(words) > 1:
+                found.setdefault(words[0] if words[0] == "main" else f"{words[0]} {words[1]}", []).append(at)
+        return found
+
+    def numbered(self, first: str) -> list[int]:
+        """The same of one list: the k-th op of `main`, or of `on NAME`."""
+        return self.places.get(first, [])
+
+
+@dataclass
+class Recording:
+    """A recording: its script, the steps that stand, and the callbacks that were recorded."""
+
+    script: Script
+    steps: list[str]
+    calls: list[str]
+
+
+def read_lines(text: str) -> list[str]:
+    lines = text.split("\n")
+    return lines[:-1] if lines and not lines[-1] else lines
+
+
+def read_recording(text: str) -> Recording:
+    """Cuts a recording into its parts. What is in them is for the program to judge."""
+    lines = read_lines(text)
+    try:
+        begin = lines.index("begin")
+        calls = lines.index("calls", begin)
+    except ValueError:
+        raise Fault("this is no recording: it has no line `begin`, or no line `calls` behind it") from None
+    if not re.fullmatch(r"uvt \d+", lines[0]) or lines[-1] != "end":
+        raise Fault("this is no recording: its first line is `uvt` with a version, and its last one `end`")
+    return Recording(Script(lines[1:begin], 2), lines[begin + 1 : calls], lines[calls + 1 : -1])
+
+
+def read_text(text: str) -> tuple[Script, list[str]]:
+    """A script, or a recording, with the steps or commands behind it."""
+    lines = read_lines(text)
+    if lines and re.fullmatch(r"uvt \d+", lines[0]):
+        recording = read_recording(text)
+        return recording.script, recording.steps
+    if "begin" in lines:
+        begin = lines.index("begin")
+        return Script(lines[:begin]), [it for it in lines[begin + 1 :] if it and not it.startswith("#")]
+    return Script(lines), []
+
+
+def read_bytes(data: bytes, path: Path | None) -> tuple[Script, list[str]]:
+    """The same, of what a file has, with the notes beside it."""
+    if data.startswith(b"uvt-log "):
+        raise Fault("this is a log of a program, and no recording: `uvt-record --log FILE` makes recordings of it")
+    if data.startswith(b"uvt-notes "):
+        raise Fault("these are the notes of a recording: the recording is the file beside it that ends with .rec")
+    script, steps = read_text(data.decode("ascii", "surrogateescape"))
+    if path and script.is_recorded():
+        script.notes = read_notes(path, data)
+    return script, steps
+
+
+def read_input(path: Path) -> tuple[Script, list[str]]:
+    """The same, of a file."""
+    try:
+        data = path.read_bytes()
+    except OSError as fault:
+        raise Fault(f"{path}: {fault.strerror}") from None
+    except ValueError:
+        raise Fault("this is no path: it has a zero byte, or a sign that no name of a file may have") from None
+    return read_bytes(data, path)
+
+
+def read_descriptor(file: BinaryIO) -> tuple[Script, list[str]]:
+    """The same, of an input that is open already."""
+    try:
+        data = file.read()
+    except OSError as fault:
+        raise Fault(f"the input can't be read: {fault.strerror}") from None
+    return read_bytes(data, path_of(file.fileno()))
+
+
+@dataclass
+class Slot:
+    """A slot that was ever used: a handle's, a request's, or neither."""
+
+    id: str
+    kind: str
+    name: str = ""
+    values: dict[str, str] = field(default_factory=dict)
+    # of a request: `waiting`, `running K`, `done`, `cancelled`
+    outcome: str = ""
+
+
+SLOT_VALUES = {"ref", "active", "closing", "begun", "due", "start", "repeat", "pending"}
+
+
+def read_slot(words: list[str]) -> Slot:
+    id, kind = words[1], words[2]
+    if kind in ("empty", "retired"):
+        return Slot(id, kind)
+    if kind == "work":
+        outcome = " ".join(words[4:6]) if words[4] == "running" else words[4]
+        return Slot(id, kind, words[3], {}, outcome)
+    rest = words[4:]
+    return Slot(id, kind, words[3], {a: b for a, b in zip(rest[::2], rest[1::2]) if a in SLOT_VALUES})
+
+
+class State:
+    """What `state` prints, by its words. (It may have many thousand lines: what of it somebody asks for is cut into values then.)"""
+
+    def __init__(self, lines: list[str]) -> None:
+        self.lines = lines
+
+    @functools.cached_property
+    def numbers(self) -> dict[str, int]:
+        words = self.lines[0].split(" ")
+        found = {a: int(b) for a, b in zip(words[::2], words[1::2])}
+        return found | {"unused": int(it.split(" ")[1]) for it in self.lines if it.startswith("unused ")}
+
+    @property
+    def place(self) -> str:
+        return self.lines[1].removeprefix("place ")
+
+    @functools.cached_property
+    def names(self) -> list[list[str]]:
+        return [it.split(" ") for it in self.lines if it.startswith("name ")]
+
+    @functools.cached_property
+    def bound(self) -> dict[str, str | None]:
+        """Which id each name has."""
+        return {it[1]: None if it[2] == "none" else it[2] for it in self.names}
+
+    @functools.cached_property
+    def counts(self) -> dict[str, tuple[int, int, int]]:
+        """How many callbacks, after callbacks and close callbacks each name had."""
+        return {it[1]: (int(it[3]), int(it[4]), int(it[5])) for it in self.names}
+
+    @functools.cached_property
+    def rows(self) -> dict[str, str]:
+        """The line of each slot, by its id."""
+        return {it.split(" ", 2)[1]: it for it in self.lines if it.startswith("slot ")}
+
+    @functools.cached_property
+    def slots(self) -> list[Slot]:
+        return [read_slot(it.split(" ")) for it in self.rows.values()]
+
+    @functools.cached_property
+    def lists(self) -> dict[str, list[str]]:
+        found = (it.split(" ") for it in self.lines[2:] if not it.startswith(("name ", "slot ", "unused ")))
+        return {it[0]: it[1:] for it in found}
+
+    def slot_at(self, id: str | None) -> Slot | None:
+        row = self.rows.get(id)
+        return read_slot(row.split(" ")) if row else None
+
+    def slot_of(self, name: str) -> Slot | None:
+        """The slot that the name's id holds still."""
+        slot = self.slot_at(self.bound.get(name))
+        return slot if slot and slot.name == name else None
+
+
+@functools.lru_cache(maxsize=None)
+def built_program() -> str:
+    """The program that a call of the launcher would start, which says so where it is the one before its proofs; or the one that UVT names."""
+    named = os.environ.get("UVT")
+    if named:
+        return named
+    asked = subprocess.run([str(ROOT / "uvt"), "path"], stdin=subprocess.DEVNULL, stdout=subprocess.PIPE, text=True)
+    if asked.returncode:
+        raise Fault("there is no program to talk with")
+    return asked.stdout.rstrip("\n")
+
+
+def is_proved() -> bool:
+    """Is the program that a call would start a proved one, as far as is known without starting or building it?"""
+    named = os.environ.get("UVT")
+    return INSTALLED or ("unproved" not in named if named else (OUT / "uvt" / "uvt").is_file() and not (OUT / "uvt" / "unproved").is_dir())
+
+
+def started(work: Callable[..., None], *words: object) -> threading.Thread:
+    """A thread that does this. An interrupt waits until it has begun: the locks with which Python begins a thread don't bear one."""
+    thread = threading.Thread(target=work, args=words, daemon=True)
+    before = signal.pthread_sigmask(signal.SIG_BLOCK, [signal.SIGINT])
+    try:
+        thread.start()
+    finally:
+        signal.pthread_sigmask(signal.SIG_SETMASK, before)
+    return thread
+
+
+class Conversation:
+    """A running `uvt debug`, with its script read. One command is asked at a time."""
+
+    def __init__(self, script: Script, program: list[str] | None = None) -> None:
+        self.script = script
+        words = program or [built_program(), "debug"]
+        try:
+            self.process = subprocess.Popen(
+                words, stdin=subprocess.PIPE, stdout=subprocess.PIPE, stderr=subprocess.PIPE,
+                # (an interrupt at the terminal is for whoever asks, and not for the program)
+                start_new_session=True,
+            )
+        except OSError as fault:
+            raise Fault(f"{words[0]} could not be started: {fault.strerror}") from None
+        self.length = 0
+        self.send("".join(it + "\n" for it in script.lines) + "begin\n")
+        self.ask("back 0")
+
+    def send(self, text: str) -> None:
+        try:
+            self.process.stdin.write(text.encode("ascii", "surrogateescape"))
+            self.process.stdin.flush()
+        except (BrokenPipeError, ValueError):
+            self.ended()
+
+    def ended(self) -> None:
+        """The program has ended where it wasn't asked to: says why."""
+        said = self.process.stderr.read().decode("ascii", "replace").strip()
+        self.process.wait()
+        at = re.search(r"bad script line (\d+)", said)
+        line = self.script.lines[int(at[1]) - 1] if at and 0 < int(at[1]) <= len(self.script.lines) else None
+        told = said.splitlines()[-1] if said else f"uvt ended with status {self.process.returncode}"
+        if at:
+            told = f"uvt: bad script line {int(at[1]) - 1 + self.script.first}"
+        raise Fault(told if line is None else f"{told}: {line}")
+
+    def read_line(self) -> str:
+        line = self.process.stdout.readline()
+        if not line.endswith(b"\n"):
+            self.ended()
+        return line[:-1].decode("ascii", "replace")
+
+    def answer(self) -> Iterator[str]:
+        """The lines of an answer whose end was asked for."""
+        last = self.read_line()
+        while True:
+            line = self.read_line()
+            if line == BAD and (at := AT.match(last)):
+                self.length = int(at[1])
+                return
+            yield last
+            last = line
+
+    def begin(self, command: str) -> Iterator[str]:
+        """Asks a command, and gives the lines of its answer as they come. All of them have to be read."""
+        if "\n" in command:
+            raise Fault("a command is one line")
+        self.send(command + "\n" + END_COMMANDS.decode())
+        return self.answer()
+
+    def ask(self, command: str) -> list[str]:
+        """Asks a command, and answers the lines that it printed. `length` is how many steps stand then.
+
+        An interrupt waits until the answer is read, so that no half of it is taken for the next one.
+        """
+        before = signal.pthread_sigmask(signal.SIG_BLOCK, [signal.SIGINT])
+        try:
+            return list(self.begin(command))
+        finally:
+            signal.pthread_sigmask(signal.SIG_SETMASK, before)
+
+    def ask_each(self, commands: list[str]) -> Iterator[list[str]]:
+        """Asks one command after another without waiting for the answers, and gives these in order. All have to be read.
+
+        The commands are those that do steps, or set breaks: no line of their answers looks as that of `back 0` does, which ends each.
+        """
+        text = "".join(f"{it}\nback 0\n" for it in commands)
+        # (a pipe holds only so much: who writes all before reading would wait for a reader who waits)
+        writer = started(self.send_quietly, text) if len(text) > PIPE else None
+        if not writer:
+            self.send_quietly(text)
+        yield from self.answers(len(commands))
+        if writer:
+            writer.join()
+
+    def answers(self, count: int) -> Iterator[list[str]]:
+        """The lines of so many answers, each up to the line of its `back 0`."""
+        lines, rest = [], b""
+        while count:
+            part = self.process.stdout.read1(1 << 16)
+            if not part:
+                self.ended()
+            rows = (rest + part).split(b"\n")
+            rest = rows.pop()
+            for row in rows:
+                if row.startswith(b"at "):
+                    self.length = int(row[3:])
+                    count -= 1
+                    yield lines
+                    lines = []
+                else:
+                    lines.append(row.decode("ascii", "replace"))
+
+    def ask_all(self, commands: list[str]) -> list[str]:
+        """Asks many commands that do steps, and answers all their lines, without saying which are whose."""
+        writer = started(self.send_quietly, "\n".join([*commands, "back 0", ""]))
+        # (no line of theirs begins so but the last one)
+        lines = self.lines_until(b"at ")
+        writer.join()
+        self.length = int(lines.pop().removeprefix("at "))
+        return lines
+
+    def lines_until(self, last: bytes) -> list[str]:
+        """All lines up to one that begins so, which is the last one that comes."""
+        said = bytearray()
+        while not said.endswith(b"\n") or not said.startswith(last, said.rfind(b"\n", 0, -1) + 1):
+            part = self.process.stdout.read1(1 << 16)
+            if not part:
+                self.ended()
+            said += part
+        return said.decode("ascii", "replace").split("\n")[:-1]
+
+    def send_quietly(self, text: str) -> None:
+        """Sends, where the reader is the one who tells that the program has ended."""
+        try:
+            self.process.stdin.write(text.encode("ascii", "surrogateescape"))
+            self.process.stdin.flush()
+        except (BrokenPipeError, ValueError):
+            pass
+
+    def state(self) -> State:
+        return State(self.ask("state"))
+
+    def state_at(self, length: int) -> State:
+        """Goes to where so many steps stand, by those that stand or that were taken back, and answers the state there."""
+        away = length - self.length
+        move = f"forward {away}" if away > 0 else f"back {-away}"
+        self.send(f"{move}\nstate\n")
+        return self.read_state_behind(move)
+
+    def read_state_behind(self, move: str) -> State:
+        """The answer to a move, and the state behind it."""
+        said = self.read_line()
+        # (the line `done-yet` is a state's last one)
+        read, lines = self.process.stdout.readline, []
+        while not lines or not lines[-1].startswith(b"done-yet"):
+            lines.append(read())
+            if not lines[-1].endswith(b"\n"):
+                self.ended()
+        if not (at := AT.match(said)):
+            raise Fault(f"the program answers `{said}` to `{move}`")
+        self.length = int(at[1])
+        return State(b"".join(lines).decode("ascii", "replace").split("\n")[:-1])
+
+    def states_at(self, lengths: list[int]) -> Iterator[State]:
+        """The same of many, asked all at once. All have to be read."""
+        moves, here = [], self.length
+        for length in lengths:
+            moves.append(f"forward {length - here}" if length > here else f"back {here - length}")
+            here = length
+        writer = started(self.send_quietly, "".join(f"{it}\nstate\n" for it in moves))
+        for move in moves:
+            yield self.read_state_behind(move)
+        writer.join()
+
+    def trace(self) -> list[str]:
+        return self.ask("trace")
+
+    def record(self) -> list[str]:
+        """The lines of the recording: the last one is `end`, and no other one is."""
+        self.send("record\n")
+        return self.lines_until(b"end\n")
+
+    def recording(self) -> Recording:
+        return read_recording("\n".join(self.record()) + "\n")
+
+    def close(self) -> None:
+        """Ends the program."""
+        if self.process.poll() is None:
+            try:
+                self.process.stdin.write(b"quit\n")
+                self.process.stdin.close()
+            except (BrokenPipeError, ValueError):
+                pass
+            self.process.stdout.read()
+            self.process.wait()
+
+    def stop(self) -> None:
+        """Ends the program, whatever it is at: there may be answers that nobody reads any more."""
+        self.process.kill()
+        self.process.wait()
+
+    def __enter__(self) -> Conversation:
+        return self
+
+    def __exit__(self, fault: type[BaseException] | None, *_: object) -> None:
+        if fault is None:
+            self.close()
+        else:
+            self.stop()

@@ -1,0 +1,373 @@
+"""Runs a real program in the order of a session, or in one at random: what `force` and `hunt` have in common.
+
+The library is that of tools/uvt/record/recorder, compiled with force.c. Here it gets its schedule, and what it has said is read.
+"""
+
+from __future__ import annotations
+
+import contextlib
+import io
+import os
+import re
+import shutil
+import signal
+import struct
+import subprocess
+import time
+from collections.abc import Callable, Iterator
+from dataclasses import dataclass, field
+from pathlib import Path
+
+from uvt.conversation import Conversation, Fault, Script
+from uvt.record.run import Part, from_fresh, from_log, recorder, room_for, sanitizers, why_not, with_hooks
+
+SECTIONS = {"pending", "idle", "prepare", "done", "async", "check", "closing", "timers"}
+ASKS = {"now", "alive", "timeout", "due", "hasref", "active", "closing"}
+CALLS = {"call": "on", "after": "after", "closed": "closed"}
+# A sanitizer's own words. (A leak is none of an order: nobody looks for it, unless the user asks.)
+REPORT = re.compile(r"(?:ERROR|WARNING): (\w+Sanitizer: [\w-]+)")
+# So many departures are listed.
+SHOWN = 8
+# How long a run may take, in seconds: so often the time of the first run, and as long at the least. Where that didn't end by itself: so long, and
+# so long behind the session's last step.
+TIMES, LEAST, ENDLESS, GRACE = 10, 30, 10, 2
+
+
+# ---- the session, line by line
+
+
+def single(commands: list[str]) -> list[str]:
+    """The steps of a session, one by one."""
+    steps = []
+    for it in commands:
+        words = it.split(" ")
+        if words[0] == "loop":
+            steps += ["loop"] * (int(words[1]) if len(words) > 1 else 1)
+        elif words[0] in ("tick", "take", "finish", "send", "io", "cancel"):
+            steps.append(it)
+    return steps
+
+
+def row(kind: str, step: int, name: int, number: int, text: str, word: str = "", rest: str = "", answer: str = "") -> str:
+    return "\t".join([kind, str(step), str(name), str(number), word, rest, answer, text])
+
+
+def has_wake(script: Script) -> bool:
+    """Is there a handle `wake` that the program doesn't have? It stands for what woke the loop of a recording and called nobody."""
+    return [it for it in script.lines if it.startswith("main ")][:2] == ["main init wake async", "main unref wake"]
+
+
+def row_of(command: str, line: str, step: int, names: dict[str, int], unseen: str = "") -> str:
+    """What the program is to show at this step, or what comes from outside. `unseen`: a handle that it doesn't have."""
+    words = line.split(" ")
+    if not line or (unseen and words[0] != "out" and words[1:2] == [unseen]):
+        return row("silent", step, -1, 0, line or "a step without a line")
+    if words[0] == "out":
+        name = next((names[it] for it in words[2:] if it in names), -1)
+        number = int(words[2]) if words[1] in ("tick", "take", "finish") else 0
+        return row(words[1], step, name, number, line)
+    if words[0] in CALLS and words[1] in names and " = " not in line and len(words) > 2:
+        return row("io" if command.startswith("io ") else CALLS[words[0]], step, names[words[1]], 0, line)
+    if words[0] in ("run", "end"):
+        return row(words[0], step, -1, 0, line)
+    if words[0] == "poll":
+        return row("poll", step, -1, -1 if words[1] == "infinite" else int(words[1]), line)
+    if words[0] in SECTIONS and len(words) == 1:
+        return row("section", step, -1, 0, line, words[0])
+    op, _, code = line.partition(" = ")
+    parts = op.split(" ", 2)
+    if parts[0] in ASKS:
+        return row("silent", step, -1, 0, line)
+    name = names.get(parts[1], -1) if len(parts) > 1 else -1
+    answer = "ok" if parts[0] in ("init", "queue") and re.fullmatch(r"\d+\.\d+", code) else code
+    return row("op", step, name, 0, line, parts[0], parts[2] if len(parts) > 2 else "", answer)
+
+
+def schedule(script: Script, commands: list[str]) -> tuple[list[str], list[str]]:
+    """What the program is to show and what comes from outside, line by line; and the lines of the session's run."""
+    names = {it: at for at, it in enumerate(script.names())}
+    rows: list[str] = []
+    lines: list[str] = []
+    steps = single(commands)
+    unseen = "wake" if has_wake(script) else ""
+    with Conversation(script) as talk:
+        for command, answer in zip(steps, talk.ask_each(steps)):
+            line = answer[0] if answer else ""
+            if not line.startswith("refused"):
+                lines.append(line)
+                rows.append(row_of(command, line, len(lines), names, unseen))
+    return [f"name\t{it}" for it in names] + seen_by_the_poll(rows), lines
+
+
+def seen_by_the_poll(rows: list[str]) -> list[str]:
+    """Sends that come behind the line `done`, before anything is called there: libuv sees them only if they wake the poll, so they come before
+    that line. (What is called, and in which order, is the same.)"""
+    kept: list[str] = []
+    done = None
+    for it in rows:
+        parts = it.split("\t")
+        if parts[0] == "section" and parts[4] == "done":
+            done = len(kept)
+        elif done is not None and parts[0] == "send":
+            kept.insert(done, it)
+            done += 1
+            continue
+        elif parts[0] not in ("section", "silent", "tick", "take", "finish") or (parts[0] == "section" and parts[4] != "async"):
+            done = None
+        kept.append(it)
+    return kept
+
+
+def workers_of(script: Script) -> int:
+    return next((int(it.split(" ")[1]) for it in script.lines if it.startswith("workers ")), 4)
+
+
+def called(lines: list[str]) -> list[tuple[str, ...]]:
+    """Whose callbacks are called, in order. (`wake` is no handle of the program.)"""
+    calls = [tuple(it.split(" ")[:2]) for it in lines if it.split(" ")[0] in CALLS and " = " not in it]
+    return [it for it in calls if it[1] != "wake"]
+
+
+def agreement(session: list[str], recording: Path) -> str:
+    """Are the callbacks of the session the first ones of the recording, except for their names? `same`, or where they aren't."""
+    if not recording.exists():
+        return "nothing was recorded"
+    text = recording.read_text(errors="replace").splitlines()
+    want, have = called(session), called(text[text.index("calls") + 1 : -1])
+    known: dict[str, str] = {}
+    for at, ((kind, name), (kind2, name2)) in enumerate(zip(want, have), 1):
+        if kind != kind2 or known.setdefault(name, name2) != name2:
+            return f"callback {at} is `{kind} {name}` in the session, and `{kind2} {name2}` in the program"
+    return "same" if len(have) >= len(want) else f"the program had {len(have)} of {len(want)} callbacks"
+
+
+# ---- a run of the program
+
+
+@dataclass
+class Order:
+    """In which order the program is to run: a session's, or, with a seed, one at random."""
+
+    script: Script | None = None
+    commands: list[str] = field(default_factory=list)
+    loop: int = 0
+    stop: bool = False
+    early: bool = False
+    seed: int | None = None
+    stall: int = 0
+    # (made of the session)
+    rows: list[str] = field(default_factory=list)
+    lines: list[str] = field(default_factory=list)
+    # the program doesn't end by itself: it is ended behind the last step, or, at random, where the clock has gone so far, in ms
+    endless: int = 0
+
+    def __post_init__(self) -> None:
+        if self.script:
+            self.rows, self.lines = schedule(self.script, self.commands)
+
+
+@dataclass
+class Ran:
+    """What became of a run."""
+
+    status: int
+    seconds: float
+    output: str = ""
+    # it was ended, since it took too long
+    late: bool = False
+    told: list[str] = field(default_factory=list)
+    steps: int = 0
+    departures: int = 0
+    # all steps of the session have come
+    done: bool = False
+    name: str = ""
+    # what is said of its recording
+    recorded: str = ""
+
+    def ended(self) -> str:
+        """How the program ended, `` where that was well."""
+        if self.late:
+            return f"didn't end within {self.seconds:.0f} s"
+        report = REPORT.search(self.output)
+        words = f" ({report[1]})" if report else ""
+        if self.status < 0:
+            return f"was ended by {signal_of(-self.status)}{words}"
+        return f"ended with status {self.status}{words}" if self.status or report else ""
+
+
+def signal_of(number: int) -> str:
+    try:
+        return signal.Signals(number).name
+    except ValueError:
+        return f"signal {number}"
+
+
+def environment_of(words: list[str], folder: Path, order: Order) -> dict[str, str]:
+    """What the program, and no tool around it, finds in its environment."""
+    given = {
+        "UVT_LOG": str(folder / "log"), "UVT_FORCE_SAID": str(folder / "said"), "UVT_FORCE_AT": str(folder / "at"),
+        "UVT_FORCE_LOOP": str(order.loop),
+        # (libuv of 1.45 to 1.48 asks the kernel, and no worker, where it can: what the kernel does has no order here)
+        "UV_USE_IO_URING": "0",
+        "LD_PRELOAD": " ".join(
+            filter(None, [*next(filter(None, map(sanitizers, words)), []), str(recorder(True)), os.environ.get("LD_PRELOAD", "")])
+        ),
+        "ASAN_OPTIONS": ":".join(filter(None, ["detect_leaks=0", os.environ.get("ASAN_OPTIONS", "")])),
+    }
+    if order.seed is not None:
+        return given | {"UVT_FORCE_RANDOM": str(order.seed), "UVT_FORCE_STALL": str(order.stall), "UVT_FORCE_UNTIL": str(order.endless)}
+    if not order.script:
+        return given
+    (folder / "schedule").write_text("\n".join(order.rows) + "\n")
+    given |= {"UVT_FORCE": str(folder / "schedule"), "UV_THREADPOOL_SIZE": str(workers_of(order.script))}
+    given |= {"UVT_FORCE_STOP": "1"} if order.stop else {}
+    given |= {"UVT_FORCE_EARLY": "1"} if order.early else {}
+    # (what the recorder has node, Python and Lua load asks something of the loop as well)
+    return {**given, **hooks(given)} if order.script.notes.javascript else given
+
+
+def hooks(given: dict[str, str]) -> dict[str, str]:
+    found = with_hooks(dict(os.environ))
+    more = {it: found[it] for it in found if os.environ.get(it) != found[it]}
+    return more | {"UVT_RECORDER": str(recorder(True))}
+
+
+def read_page(path: Path) -> tuple[int, int, bool, bool]:
+    """How many steps of the session have come, how many departures there were, whether all has come, and whether nothing is forced any more."""
+    try:
+        steps, departures, done, free = struct.unpack("iiii", path.read_bytes()[:16])
+    except (OSError, struct.error):
+        return 0, 0, False, False
+    return steps, departures, bool(done), bool(free)
+
+
+def told(path: Path) -> list[str]:
+    """What the forced run said, for a person."""
+    lines: list[str] = []
+    departs: list[str] = []
+    for line in path.read_text(errors="replace").splitlines() if path.exists() else []:
+        word, _, rest = line.partition(" ")
+        if word in ("DEPARTS", "ENDS"):
+            departs.append(("departs " if word == "DEPARTS" else "ends ") + rest)
+        elif word == "AT":
+            lines.append(f"step {rest.partition(' ')[0]}: {rest.partition(' ')[2]}")
+        elif word == "STALE":
+            lines.append(f"    {rest}")
+        elif word != "DONE":
+            lines.append(line)
+    more = [f"and {len(departs) - SHOWN} more departures"] if len(departs) > SHOWN else []
+    return departs[:SHOWN] + more + lines
+
+
+@contextlib.contextmanager
+def folder_for(name: str) -> Iterator[Path]:
+    folder = room_for(name)
+    try:
+        yield folder
+    finally:
+        shutil.rmtree(folder, ignore_errors=True)
+
+
+def end_all(ran: subprocess.Popen[bytes]) -> None:
+    """Ends what was started in a session of its own, with its children."""
+    with contextlib.suppress(ProcessLookupError):
+        os.killpg(ran.pid, signal.SIGKILL)
+    ran.wait()
+
+
+def wait_for(ran: subprocess.Popen[bytes], seconds: float, is_over: Callable[[], bool]) -> bool:
+    """Waits for its end. False where it took too long, or all is over but its end."""
+    until = time.monotonic() + seconds
+    while time.monotonic() < until:
+        try:
+            ran.wait(min(0.5, max(0.0, until - time.monotonic())))
+            return True
+        except subprocess.TimeoutExpired:
+            if is_over():
+                until = min(until, time.monotonic() + GRACE)
+    return False
+
+
+def run_at(
+    words: list[str], environment: dict[str, str], folder: Path, seconds: float | None, is_over: Callable[[], bool]
+) -> tuple[int, int, Ran]:
+    """Runs it: at the terminal where no time is given, else with its output kept and its time limited. Answers its process too."""
+    began = time.monotonic()
+    if seconds is None:
+        try:
+            ran = subprocess.Popen(words, env=dict(os.environ, **environment))
+        except OSError as fault:
+            raise Fault(why_not(words[0], fault)) from None
+        # (an interrupt at the terminal is for the program; what ends this tool ends the program)
+        before = {signal.SIGINT: signal.signal(signal.SIGINT, lambda *_: None)}
+        before |= {it: signal.signal(it, lambda *_: ran.terminate()) for it in (signal.SIGTERM, signal.SIGHUP)}
+        try:
+            status = ran.wait()
+        finally:
+            for number, handler in before.items():
+                signal.signal(number, handler)
+        return ran.pid, status, Ran(status, time.monotonic() - began)
+    with (folder / "output").open("wb") as output:
+        try:
+            ran = subprocess.Popen(
+                words, env=dict(os.environ, **environment), stdin=subprocess.DEVNULL, stdout=output, stderr=subprocess.STDOUT, start_new_session=True
+            )
+        except OSError as fault:
+            raise Fault(why_not(words[0], fault)) from None
+        try:
+            late = not wait_for(ran, seconds, is_over)
+        finally:
+            end_all(ran)
+    text = (folder / "output").read_text(errors="replace")
+    return ran.pid, ran.returncode, Ran(ran.returncode, time.monotonic() - began, text, late)
+
+
+def run(words: list[str], order: Order, name: str, seconds: float | None = None, records: bool = True, part: Part = Part()) -> Ran:
+    """Runs the program in this order, and records it, or this part of it: NAME.rec."""
+    with folder_for(name) as folder:
+        environment = environment_of(words, folder, order)
+        started = words
+        if Path(words[0]).name == "gdb":
+            # (the program is to have it, and not gdb)
+            environment["ASAN_OPTIONS"] = f"{environment['ASAN_OPTIONS']}:abort_on_error=1"
+            wrapper = " ".join(f"'{a}={b}'" for a, b in environment.items())
+            started, environment = [words[0], "-ex", f"set exec-wrapper env {wrapper}", *words[1:]], {}
+        pid, status, ran = run_at(started, environment, folder, seconds, lambda: order.endless > 0 and read_page(folder / "at")[3])
+        ran.told = told(folder / "said")
+        ran.steps, ran.departures, ran.done, _ = read_page(folder / "at")
+        ran.name = name
+        logs = sorted(folder.glob("log.*.log"), key=lambda it: (not it.name.startswith(f"log.{pid}."), it.stat().st_mtime_ns))
+        if logs and records:
+            said = io.StringIO()
+            with contextlib.redirect_stdout(said):
+                from_fresh(logs[0], name, False, part, signal_of(-status) if status < 0 and not ran.late else "")
+            ran.recorded = said.getvalue()
+        return ran
+
+
+def remake(name: str) -> None:
+    """The recording of the whole log, where it was of a part."""
+    with contextlib.redirect_stdout(io.StringIO()):
+        from_log(Path(f"{name}.log"), name, Part())
+
+
+def recording_of(name: str, loop: int) -> Path:
+    """Of several loops each has its own."""
+    own = Path(f"{name}.{loop}.rec")
+    return own if own.exists() and not Path(f"{name}.rec").exists() else Path(f"{name}.rec")
+
+
+def limit(first: Ran) -> float:
+    """How long a run may take where the first one took so long."""
+    return ENDLESS if first.late else max(LEAST, TIMES * first.seconds)
+
+
+def badly(ran: Ran, first: Ran) -> str:
+    """How a run ended, where that is bad: `` where it ended well, or as the first run did."""
+    if ran.late and first.late:
+        return ""
+    ended = ran.ended()
+    if ended == first.ended() and not REPORT.search(ran.output):
+        return ""
+    more = f", and the first run took {first.seconds:.1f} s" if ran.late else ""
+    return ended + more if ended else ""

@@ -1,0 +1,326 @@
+"""The hunt for an order in which a program ends badly: what is asked of its recordings, what of that is forced, and what the runs teach."""
+
+from __future__ import annotations
+
+import contextlib
+import itertools
+import re
+import subprocess
+import tempfile
+import time
+import zlib
+from collections.abc import Callable, Iterator
+from dataclasses import dataclass, field
+from pathlib import Path
+
+from uvt.conversation import Fault, read_bytes, read_input
+from uvt.forcing import Order, Ran, badly, limit, recording_of, remake, run
+from uvt.record.run import Part
+
+BODY = re.compile(r"(on|after|closed) (\S+) (?:@\d+ )?(\S+)(?: (\S+))?")
+FRAME = re.compile(r"^ +#\d+ 0x[0-9a-f]+ in (\S+) (\S+):(\d+)", re.MULTILINE)
+NAMELESS = {"run", "stoploop", "updatetime", "closeloop"}
+# How long the first run and a search may take, in seconds; how long a stall is where no callback of the recording took longer, in ms; and how many
+# orders at random come before the questions, and behind them.
+FIRST, SEARCH, STALL, BEFORE, BEHIND = 10, 15, 15, 10, 100
+# So many callbacks of each run are looked at.
+LOOKED = Part(most=2000)
+CODES = ("ESTALE", "EINVAL", "EBUSY")
+# Of so many names each pair is asked about: of more than that, of neighbours alone.
+PAIRS = 12
+
+
+@dataclass
+class Recorded:
+    """A recording's script, and what came from outside."""
+
+    lines: list[str]
+    steps: list[str]
+    bodies: dict[tuple[str, str], list[str]] = field(default_factory=dict)
+    # the names, in the order in which they were called first
+    called: list[str] = field(default_factory=list)
+    # how long its longest callback took, in ms, or STALL where none took longer
+    longest: int = 0
+
+    def __post_init__(self) -> None:
+        for line in self.lines:
+            if it := BODY.match(line):
+                self.bodies.setdefault((it[1], it[2]), []).append(line)
+
+    def names(self) -> list[str]:
+        return [it.split(" ")[1] for it in self.lines if it.startswith("var ")]
+
+    def kinds(self) -> dict[str, str]:
+        """The handles, each with its kind, except for `wake`, which the program doesn't have."""
+        found = {it[1]: it[2] for line in self.lines if (it := re.search(r" init (\S+) (\S+)$", line))}
+        return {name: kind for name, kind in found.items() if name != "wake"}
+
+    def requests(self) -> list[str]:
+        return list(dict.fromkeys(it[1] for line in self.lines if (it := re.search(r" queue (\S+) ", line))))
+
+    def offers(self) -> list[str]:
+        clock = sum(int(it.split(" ")[1]) for it in self.steps if it.startswith("tick "))
+        came = [(word, it, self.steps.count(f"{word} {it}")) for it in self.kinds() for word in ("send", "io")]
+        return ["may wait", f"most clock {3 * clock + 100}", *(f"may {word} {name} {min(3, count)}" for word, name, count in came if count)]
+
+    def pairs(self, names: list[str]) -> Iterator[str]:
+        """Two that were called in this order, the other way."""
+        known = [it for it in self.called if it in names]
+        known += [it for it in names if it not in known]
+        pairs = itertools.combinations(known, 2) if len(known) <= PAIRS else zip(known, known[1:])
+        return (f"{later} before {it}" for it, later in pairs)
+
+    def questions(self) -> list[str]:
+        kinds, requests = self.kinds(), self.requests()
+        timers = [name for name, kind in kinds.items() if kind == "timer"]
+        sent = [name for name, kind in kinds.items() if kind == "async"]
+        asked = [f"late {it} 0" for it in timers] + [f"code {it}" for it in CODES]
+        asked += [f"code {code} of {it}" for code in CODES[:2] for it in kinds]
+        asked += [f"code ok of {it}" for it in requests if any(f" cancel {it}" in line for line in self.lines)]
+        asked += [f"code ECANCELED of {it}" for it in requests] if any(" cancel " in line for line in self.lines) else []
+        asked += self.pairs(requests)
+        asked += self.pairs(timers + sent + requests)
+        # (an order that is found has the fewest steps: so the one is called as soon behind the other as may be)
+        asked += [f"{it} after {other}" for it in sent[:PAIRS] for other in (timers + requests)[:PAIRS]]
+        asked += [f"never {it}" for it in timers + sent + requests] + ["stuck"]
+        return list(dict.fromkeys(f"find {it}" for it in asked + [f"call {it} 2" for it in timers + sent]))
+
+
+def read(path: Path) -> Recorded:
+    text = path.read_text(errors="replace").splitlines()
+    begin, calls = text.index("begin"), text.index("calls")
+    outside = read_input(path)[0].notes.outside
+    ticks = [int(it.split(" ")[1]) for at, it in enumerate(text[begin + 1 : calls], 1) if it.startswith("tick ") and at not in outside]
+    called = list(dict.fromkeys(it.split(" ")[1] for it in text[calls + 1 : -1] if it.split(" ")[0] in ("call", "after")))
+    return Recorded(text[1:begin], text[begin + 1 : calls], called=called, longest=max([STALL, *ticks]))
+
+
+def names_in(line: str) -> list[str]:
+    it = BODY.match(line)
+    return [it[2], *([it[4]] if it[4] and it[3] not in NAMELESS else [])] if it else []
+
+
+@dataclass
+class Bad:
+    """A bad end, and its order."""
+
+    how: str
+    # which question, or which order at random
+    by: str
+    # a session or a recording, as text, and which loop of the program it is of
+    order: str
+    loop: int
+    # how often the same order was forced again, and in how many of these runs it ended badly too
+    again: int = 0
+    bad_again: int = 0
+    # where, as a sanitizer has it, `` where it says nothing
+    place: str = ""
+
+
+@dataclass
+class Counts:
+    questions: int = 0
+    found: int = 0
+    never: int = 0
+    departed: int = 0
+    random: int = 0
+    seconds: float = 0
+
+    def text(self) -> str:
+        left = self.questions - self.found - self.never
+        more = [f"{left} not settled"] if left else []
+        departed = [f"{self.departed} departed"] if self.departed else []
+        return (f"{counted(self.questions, 'question')}{in_brackets(more)}, {counted(self.found, 'order')} found and forced{in_brackets(departed)},"
+                f" {self.random} at random, {self.seconds:.0f} s")
+
+
+def counted(count: int, word: str) -> str:
+    return f"{count} {word}{'' if count == 1 else 's'}"
+
+
+def in_brackets(words: list[str]) -> str:
+    return f" ({', '.join(words)})" if words else ""
+
+
+def place_of(output: str) -> str:
+    """The innermost function of a sanitizer's report whose source is known and isn't the sanitizer's own."""
+    found = next((it for it in FRAME.finditer(output) if not it[2].startswith("..")), None)
+    return f"{found[1]} ({Path(found[2]).name}:{found[3]})" if found else ""
+
+
+class TimeOver(Exception):
+    """No time is left."""
+
+
+class Hunt:
+    """Questions of a program's recordings, and orders at random, until one ends badly."""
+
+    def __init__(
+        self, words: list[str], search: str, folder: Path, seconds: float | None, part: tuple[int, int], tell: Callable[[str], None]
+    ) -> None:
+        self.words, self.search, self.folder, self.part, self.tell = words, search, folder, part, tell
+        self.began = time.monotonic()
+        self.until = None if seconds is None else self.began + seconds
+        self.asked: set[tuple[str, str]] = set()
+        self.known: dict[tuple[str, str], list[str]] = {}
+        self.counts = Counts()
+        self.first = Ran(0, 0)
+        self.loop = 0
+        self.runs = 0
+        self.fault = ""
+
+    # ---- runs
+
+    def left(self) -> float:
+        """How long it may go on, in seconds."""
+        if self.until is None:
+            return SEARCH
+        left = self.until - time.monotonic()
+        if left <= 0:
+            raise TimeOver
+        return left
+
+    def force(self, order: Order, records: bool = True) -> Ran:
+        self.left()
+        self.runs += 1
+        order.endless = int(1000 * self.first.seconds) if self.first.late else 0
+        return run(self.words, order, str(self.folder / f"run{self.runs}"), limit(self.first), records, LOOKED)
+
+    def recorded(self, ran: Ran) -> Recorded | None:
+        path = recording_of(ran.name, self.loop)
+        return read(path) if path.exists() else None
+
+    def begin(self) -> Recorded | Bad:
+        """The first run, which nobody forces. Of several loops the one that has the most callbacks is hunted."""
+        self.tell("the first run")
+        self.first = run(self.words, Order(), str(self.folder / "first"), FIRST)
+        paths = {it: read(it) for it in sorted(self.folder.glob("first*.rec"))}
+        if not paths:
+            raise Fault(f"no recording was made of the first run: {self.first.recorded.strip() or 'it called nothing of libuv'}")
+        path = max(paths, key=lambda it: len(paths[it].steps))
+        self.loop = read_input(path)[0].notes.loop
+        if not self.first.late and (self.first.status < 0 or "Sanitizer" in self.first.ended()):
+            script, commands = read_input(path)
+            bad = self.bad(self.first, self.first.ended(), "the first run, which nobody forced", path.read_text())
+            # (what ends a run badly is another end than that of a run that went well)
+            self.first = Ran(0, self.first.seconds)
+            return self.again(bad, Order(script, commands, self.loop))
+        return paths[path]
+
+    # ---- what is known
+
+    def learn(self, found: Recorded) -> bool:
+        """True where a callback does something that none was seen to do before."""
+        new = [it for it in found.bodies if it not in self.known]
+        self.known.update({it: found.bodies[it] for it in new})
+        return bool(new)
+
+    def whole(self, found: Recorded) -> Recorded:
+        """With what other runs have shown of callbacks that weren't called in this one."""
+        names = set(found.names())
+        more = [line for key, lines in self.known.items() if key not in found.bodies and key[1] in names
+                for line in lines if names.issuperset(names_in(line))]
+        return Recorded(found.lines + more, found.steps, called=found.called, longest=found.longest)
+
+    def is_mine(self, text: str) -> bool:
+        """Does this part ask it? Each question and each seed belongs to one of the parts."""
+        mine, of = self.part
+        return zlib.crc32(text.encode()) % of == mine - 1
+
+    # ---- the hunt
+
+    def run(self) -> Bad | None:
+        begun = self.begin()
+        if isinstance(begun, Bad):
+            return begun
+        self.learn(begun)
+        open = [begun]
+        seeds = itertools.count(1)
+        try:
+            for count in itertools.chain([BEFORE], itertools.repeat(BEHIND)):
+                for seed in itertools.islice((it for it in seeds if self.is_mine(f"seed {it}")), count):
+                    if isinstance(found := self.at_random(seed), Bad):
+                        return found
+                    if found and self.learn(found):
+                        open.append(found)
+                had = bool(open)
+                while open:
+                    if bad := self.ask_all(self.whole(open.pop(0)), open):
+                        return bad
+                if not had and self.until is None:
+                    return None
+        except TimeOver:
+            pass
+        return None
+
+    def ask_all(self, script: Recorded, open: list[Recorded]) -> Bad | None:
+        for stall, question in itertools.product(([], [f"may tick {script.longest} 1"]), script.questions()):
+            key = "\n".join(script.lines), " ".join([question, *stall])
+            if key in self.asked or not self.is_mine(key[1]):
+                continue
+            self.asked.add(key)
+            self.tell(key[1])
+            found = self.ask(script, [*stall, question], key[1])
+            if isinstance(found, Bad):
+                return found
+            if found and self.learn(found):
+                open.append(found)
+        return None
+
+    def ask(self, script: Recorded, question: list[str], text: str) -> Bad | Recorded | None:
+        """Asks, and forces what is found: how that ended badly, or what was recorded of it."""
+        self.counts.questions += 1
+        session = self.searched([*script.lines, "begin", *script.offers(), *question])
+        if not session:
+            return None
+        self.counts.found += 1
+        asked, commands = read_bytes(session.encode(), None)
+        ran = self.force(Order(asked, commands, self.loop))
+        self.counts.departed += ran.departures > 0 or not (ran.done or ran.ended())
+        if how := badly(ran, self.first):
+            return self.again(self.bad(ran, how, f"the order of `{text}`", session), Order(asked, commands, self.loop))
+        return self.recorded(ran)
+
+    def searched(self, lines: list[str]) -> str:
+        """The session that is found, or ``."""
+        with tempfile.TemporaryFile() as given:
+            given.write("".join(f"{it}\n" for it in lines).encode("ascii", "surrogateescape"))
+            given.seek(0)
+            try:
+                ran = subprocess.run([self.search], stdin=given, capture_output=True, timeout=min(SEARCH, self.left()), start_new_session=True)
+            except subprocess.TimeoutExpired:
+                return ""
+            except OSError as fault:
+                raise Fault(f"{self.search} could not be started: {fault.strerror}") from None
+        first, _, session = ran.stdout.decode("ascii", "replace").partition("\n")
+        self.counts.never += first.startswith("never")
+        if ran.returncode not in (0, 1, 3):
+            self.fault = self.fault or ran.stderr.decode("ascii", "replace").strip()
+        return session if ran.returncode == 0 and first.startswith("found") else ""
+
+    def at_random(self, seed: int) -> Bad | Recorded | None:
+        self.counts.random += 1
+        self.tell(f"order {seed} at random")
+        stall = STALL if seed % 2 else 0
+        ran = self.force(Order(seed=seed, stall=stall, loop=self.loop))
+        if not (how := badly(ran, self.first)):
+            return self.recorded(ran)
+        by, path = f"order {seed} at random", recording_of(ran.name, self.loop)
+        if Path(f"{ran.name}.log").exists():
+            remake(ran.name)
+        if not path.exists():
+            return self.bad(ran, how, by, "")
+        script, commands = read_input(path)
+        return self.again(self.bad(ran, how, by, path.read_text()), Order(script, commands, self.loop))
+
+    def bad(self, ran: Ran, how: str, by: str, order: str) -> Bad:
+        return Bad(how, by, order, self.loop, place=place_of(ran.output))
+
+    def again(self, bad: Bad, order: Order) -> Bad:
+        """The same order, twice more."""
+        with contextlib.suppress(TimeOver):
+            for _ in range(2):
+                ended = badly(self.force(order, False), self.first)
+                bad.again += 1
+                bad.bad_again += bool(ended)
+        return bad

@@ -1,0 +1,330 @@
+"""What stands out in a session, without a name: who took long, who was late, when the pool was full, who kept the loop alive, who spun.
+
+Each line has its step, and the last one says what to ask next. What is said of a name is what `why` says of it.
+"""
+
+from __future__ import annotations
+
+from dataclasses import dataclass
+
+from uvt.arrivals import LEFT, behind, came, waited
+from uvt.javascript import LEAST, at, fitted
+from uvt.node_names import IMMEDIATES
+from uvt.places import read_place
+from uvt.waits import Wait, follow
+from uvt.walk import Took, Walk
+from uvt.why import FIFTH, KINDS, MANY, Why, few, in_javascript, named, sentence, times
+from uvt.why_javascript import WhyJavaScript
+from uvt.why_requests import longest
+
+# How many lines each part has at the most.
+LINES = 5
+# Of so many calls that were late it is looked at who was in the way.
+GROUPED = 20_000
+# So many polls in a row that don't wait are a spin.
+ROUNDS = 10
+# A callback of so many ms is long; and what stays there when it was told: an event of a poll handle, a change of a file.
+LONG = 2
+STAYS = ("poll", "fs_event", "fs_poll")
+# So many names are listed at the most.
+NAMES = 40
+
+
+@dataclass
+class Late:
+    """A call of a name, and how long it waited."""
+
+    name: str
+    took: int
+    wait: Wait
+
+
+def head(walk: Walk) -> list[str]:
+    calls = len(walk.calls)
+    return [f"{times(calls, 'callback')}, {times(walk.length, 'step')}, {walk.clock(walk.length)} ms", *walk.notes.loud()[:MANY]]
+
+
+def long_callbacks(walk: Walk) -> list[str]:
+    found = sorted((it for it in walk.tooks if it.is_callback()), key=Took.took, reverse=True)
+    if walk.notes.javascript:
+        return in_node(walk, found)
+    found = found[:LINES]
+    return [f"{it.took()} ms{it.on_processor()}: {named(it).rstrip(',')}, from step {it.first} to {it.last}, at {it.pieces[0][0]} ms"
+            + in_javascript(walk, it, it.pieces[0][0], it.pieces[-1][1]) for it in found]
+
+
+def in_node(walk: Walk, found: list[Took]) -> list[str]:
+    """The same of node: what JavaScript did in them, and of node's own those that took a fifth of all."""
+    whole, rows = sum(it.took() for it in found), []
+    for it in found:
+        begin, end = it.pieces[0][0], it.pieces[-1][1]
+        told = walk.notes.javascript.told(begin, end)
+        if it.took() >= LEAST and (told or FIFTH * it.took() >= whole):
+            what = sentence(walk, it, begin, end) if told else f"{named(it)}, from step {it.first} to {it.last}"
+            rows.append(f"{it.took()} ms: {what}, at {begin} ms")
+    return rows[:LINES]
+
+
+def main_program(walk: Walk) -> list[str]:
+    """What JavaScript did before the first run of the loop."""
+    found = [it for it in walk.tooks if it.what == "the main program" and walk.notes.javascript.told(it.pieces[0][0], it.pieces[-1][1])]
+    return [f"{it.took()} ms, from step {it.first} to {it.last}" + in_javascript(walk, it, it.pieces[0][0], it.pieces[-1][1]) for it in found]
+
+
+def listed(names: list[str]) -> str:
+    """These names, or as many of them as a person reads."""
+    return ", ".join(names[:NAMES]) + (f" and {len(names) - NAMES} more" if len(names) > NAMES else "")
+
+
+class Overview:
+    """All names of a session, each as `why` sees it."""
+
+    def __init__(self, walk: Walk) -> None:
+        self.walk = walk
+        names = [it for it in walk.script.names() if it in walk.of_name and not walk.notes.is_nodes_own(it)]
+        self.whys = {name: Why(walk, name, history) for name, history in follow(walk, names).items()}
+        self.least = 2 if walk.notes.names else 1
+        self.next: list[tuple[int, str]] = []
+        # the latest timer of JavaScript: who has that asks about it first
+        self.first = ""
+
+    # ---- who was late
+
+    def called(self, what: str) -> list[tuple[str, Wait]]:
+        return [(name, it) for name, why in self.whys.items() for it in why.history.waits if it.what == what and it.how == "called"]
+
+    def away(self, wait: Wait) -> int:
+        return self.walk.clock(wait.ended) - self.walk.clock(wait.asked)
+
+    def worst(self, found: list[Late]) -> list[Late]:
+        kept = sorted((it for it in found if it.took >= self.least), key=lambda it: it.took, reverse=True)[:LINES]
+        self.next += [(it.took, it.name) for it in kept[:1]]
+        return kept
+
+    def told(self, late: Late, kind: str) -> str:
+        """Its answer's first line, as `why` has it."""
+        return f"{late.name}, {self.whys[late.name].first_line(late.wait)}{kind}"
+
+    def timers(self) -> list[str]:
+        late = [Late(name, took, it) for name, it in self.called("timer") if (took := self.walk.clock(it.ended) - it.due) >= self.least]
+        if len(late) <= LINES:
+            return [self.told(it, "") for it in self.worst(late)]
+        groups: dict[tuple[str, int], list[Late]] = {}
+        for it in sorted(late, key=lambda it: it.took, reverse=True)[:GROUPED]:
+            groups.setdefault(self.culprit(it), []).append(it)
+        self.worst(late)
+        least = "at least " if len(late) > GROUPED else ""
+        return [self.told(it[0], "") + self.others(it[1:], least) for it in list(groups.values())[:LINES]]
+
+    def culprit(self, late: Late) -> tuple[str, int]:
+        """Where most of the time went by that a timer was late."""
+        begin, end = late.wait.due, self.walk.clock(late.wait.ended)
+        took = max(self.walk.causes(begin, end), key=lambda it: it.between(begin, end))
+        return took.what, took.first
+
+    def others(self, late: list[Late], least: str) -> str:
+        """The other calls that are late by the same."""
+        names = list(dict.fromkeys(it.name for it in late))
+        by = f"{late[-1].took} ms" if late[-1:] and late[-1].took == late[0].took else f"{late[-1].took} to {late[0].took} ms" if late else ""
+        return f"; by the same {least}{times(len(late), 'more call')} by {by}: {few(names)}" if late else ""
+
+    def javascript(self) -> list[str]:
+        """Those that JavaScript started, of which node has many on one timer of the loop."""
+        if not self.walk.notes.javascript:
+            return []
+        asked = WhyJavaScript(self.walk)
+        rows = asked.latest(self.least, LINES)
+        self.first = rows[0][1] if rows else ""
+        return [text for _, _, text in rows] + asked.never()
+
+    def sends(self) -> list[str]:
+        seen = [Late(name, self.away(it), it) for name, it in self.called("async") if it.asked not in self.walk.notes.guessed]
+        return [f"{it.took} ms: {self.told(it, '')}" for it in self.worst(seen)]
+
+    def io(self) -> list[str]:
+        """Nobody knows when something came. What is known is how long the loop hadn't looked, and what it did behind the poll first."""
+        found = []
+        for name, it in self.called("async"):
+            if it.asked in self.walk.notes.guessed and self.walk.notes.is_io(name):
+                found.append(Late(name, self.whys[name].unseen_for(it), it))
+        for name, it in self.called("io"):
+            left = came(self.walk, it).where == LEFT
+            found.append(Late(name, self.whys[name].unseen_for(it) if left else behind(self.walk, it), it))
+        return [self.came(it) for it in self.worst(found)]
+
+    def came(self, late: Late) -> str:
+        """How long something may have waited for the loop, and what the loop did meanwhile."""
+        wait = late.wait
+        if wait.what == "io" and came(self.walk, wait).where != LEFT:
+            return self.told(late, "")
+        between = self.walk_between(wait, late)
+        return f"{late.took} ms that the loop hadn't looked: {late.name}, step {wait.ended}, call {wait.call}: {between}"
+
+    def walk_between(self, wait: Wait, late: Late) -> str:
+        end = self.walk.clock(wait.ended)
+        return self.whys[late.name].delay(end - late.took, end)
+
+    def unwoken(self) -> list[str]:
+        """Whose callbacks waited for the next poll, since nobody had woken the one that a callback of I/O left."""
+        found = [(it, others) for it in self.walk.left_by_io if (others := [name for name in waited(self.walk, it) if name in self.whys])]
+        self.next += [(1, others[0]) for _, others in found[:1]]
+        return [f"{few(others)}: the callback of {self.walk.calls[it.call][1]} left the poll of step {it.poll} at step {it.call}, and nobody had"
+                " woken it by then" for it, others in found[:LINES]]
+
+    def requests(self) -> list[str]:
+        found = [Late(name, self.away(it), it) for name, it in self.called("work")]
+        return [f"{it.took} ms from its queueing to its callback: {self.request(it)}, step {it.wait.ended}: {self.parts(it)}"
+                for it in self.worst(found)]
+
+    def request(self, late: Late) -> str:
+        """Its name; with the line of JavaScript that asked for it, where that is known."""
+        place = self.walk.notes.javascript.asked.get((late.name, late.wait.call))
+        return f"asked for {at(place)} ({late.name})" if place else late.name
+
+    def parts(self, late: Late) -> str:
+        """Where a request's time went."""
+        wait, walk = late.wait, self.walk
+        if wait.cancelled:
+            return "cancelled"
+        if wait.finished in walk.notes.guessed or wait.taken[0] in walk.notes.guessed:
+            full = walk.pool.full_between(wait.asked, wait.ended)
+            known = sum(walk.happened(it.last) - walk.happened(it.first) for it in full)
+            return f"for {known} ms each worker had other work" if known else "when a worker took it and was through nobody knows"
+        waited = walk.happened(wait.taken[0]) - walk.clock(wait.asked)
+        ran = walk.happened(wait.finished) - walk.happened(wait.taken[0])
+        return f"{waited} ms it waited for a worker, {ran} ms it ran, {late.took - waited - ran} ms it waited for the loop"
+
+    # ---- the rest
+
+    def full(self) -> list[str]:
+        kept = sorted(self.walk.pool.fulls, key=lambda it: self.walk.happened(it.last) - self.walk.happened(it.first), reverse=True)
+        rows = [(self.walk.happened(it.first), self.walk.happened(it.last), it) for it in kept[:LINES]]
+        return [f"{end - begin} ms: from {begin} to {end} ms, from step {it.first} to {it.last}: {few(it.names)}"
+                for begin, end, it in rows if end > begin]
+
+    def alive(self) -> list[str]:
+        """Who is active and referenced where the session ends, or else where the loop waited last."""
+        walk = self.walk
+        ends = read_place(walk.state(walk.length).place).mode is not None
+        waited = [it.first for it in walk.tooks if it.is_poll()]
+        step = walk.length if ends else waited[-1] if waited else 0
+        state = walk.state(step)
+        names = [(it.name, it.kind) for it in state.slots
+                 if it.name and (it.kind == "work" or it.values.get("active") == "1" and it.values.get("ref") == "1")]
+        kept = [f"{name} ({self.kind(name, kind)})" for name, kind in names if name in self.whys]
+        if len(kept) < len(names):
+            # (of node's own one is for all the timers of JavaScript)
+            kept = [f"{it.text()} (timer)" for it in walk.notes.javascript.alive(walk.clock(step))] + kept
+        if not kept:
+            return []
+        if ends and names[0][0] in self.whys:
+            self.next.append((0, names[0][0]))
+        where = "at the end, where the run is under way still" if ends else f"in the last poll that waited, at step {step}"
+        blocked = ", and the poll waits" if ends and walk.after == "blocked" else ""
+        return [f"{where}{blocked}: {few(kept)}"]
+
+    def kind(self, name: str, kind: str) -> str:
+        return self.walk.notes.kind(name) or KINDS.get(kind, kind).split(" ", 1)[1]
+
+    def spins(self) -> list[str]:
+        """Polls in a row that didn't wait, and who was called in most of these rounds."""
+        walk, found = self.walk, []
+        waits = {it.first for it in walk.tooks if it.is_poll()}
+        row: list[int] = []
+        for step in [*walk.words.get("poll", []), 0]:
+            if step and step not in waits:
+                row.append(step)
+                continue
+            if len(row) >= ROUNDS and self.is_spin(row):
+                found.append(row)
+            row = []
+        found.sort(key=len, reverse=True)
+        return [self.spin(it) for it in found[:LINES]]
+
+    def is_spin(self, row: list[int]) -> bool:
+        """In a recording: did nothing come that had to be done in most of these rounds, and is the time more than the work, that of long
+        callbacks?"""
+        if not self.walk.notes.names:
+            return True
+        left = self.idled(row)
+        if left < self.least or 2 * left <= self.time_of(row):
+            return False
+        bounds = [*row, self.walk.next_line("poll", row[-1])]
+        return 2 * sum(self.has_work(*it) for it in zip(bounds, bounds[1:])) < len(row)
+
+    def time_of(self, row: list[int]) -> int:
+        return self.walk.clock(row[-1]) - self.walk.clock(row[0])
+
+    def idled(self, row: list[int]) -> int:
+        """How much of the time of these rounds was in no long callback, in ms."""
+        begin, end = self.walk.clock(row[0]), self.walk.clock(row[-1])
+        long = (it.between(begin, end) for it in self.walk.causes(begin, end) if it.is_callback() and it.took() >= LONG)
+        return end - begin - sum(long)
+
+    def has_work(self, poll: int, behind: int) -> bool:
+        """Did something come in this round that is over when it is done: bytes, a connection, a signal, a request, a send of somebody else?"""
+        walk = self.walk
+        outside = walk.steps_between("out", poll, behind - 1)
+        if walk.steps_between("after", poll, behind - 1) or any(walk.lines[it].startswith("out send ") for it in outside):
+            return True
+        calls = (walk.calls[it] for it in walk.steps_between("call", poll, behind - 1) if walk.steps[it - 1].startswith("io "))
+        return any(walk.notes.what.get(name, {}).get(call, "").split(":")[0] not in STAYS for _, name, call in calls)
+
+    def spin(self, row: list[int]) -> str:
+        counts: dict[str, int] = {}
+        for kind in ("call", "after", "closed"):
+            for step in self.walk.steps_between(kind, row[0], row[-1]):
+                name = self.who_is(*self.walk.calls[step])
+                counts[name] = counts.get(name, 0) + (name != "")
+        who = [name for name, count in sorted(counts.items(), key=lambda it: -it[1]) if 2 * count >= len(row)]
+        idle = [it for it in self.walk.state(row[len(row) // 2]).lists["idle"] if not self.walk.notes.is_nodes_own(it)]
+        why = f"{few(who)} {'was' if len(who) == 1 else 'were'} called in each of these rounds or most" if who else "nobody was called each time"
+        are = "is an active idle handle" if len(idle) == 1 else "are active idle handles"
+        active = f"; {few(idle)} {are}, so the poll doesn't wait" if idle else ""
+        self.next += [(self.idled(row), who[0])] if who and who[0] in self.whys else []
+        return f"{len(row)} polls in a row didn't wait, from step {row[0]} to {row[-1]}, {self.time_of(row)} ms: {why}{active}"
+
+    def who_is(self, kind: str, name: str, call: int) -> str:
+        """A name, or what its callback is in node; `` where that tells nothing of the program."""
+        node = self.walk.notes.in_node(name, kind, call)
+        return name if node is None or not node.own else IMMEDIATES if node.words == IMMEDIATES else ""
+
+    def never(self) -> list[str]:
+        """Timers and sends that never came, and handles that nobody uses."""
+        found = []
+        for name, why in self.whys.items():
+            kind = why.history.kind()
+            if kind and kind != "work" and not why.history.counts["call"] and not why.history.counts["closed"]:
+                found.append(f"{name} ({self.kind(name, kind)})")
+        return [few(found)] if found else []
+
+    def busy(self) -> list[str]:
+        """Who was in the way where the loop was to be closed."""
+        found = []
+        for step in self.walk.words.get("closeloop", []):
+            if self.walk.lines[step] == "closeloop = EBUSY":
+                left = [(it.name, it.values.get("closing") == "1", self.kind(it.name, it.kind)) for it in self.walk.state(step).slots if it.name]
+                said = [f"{name} ({kind}{', closed, and its close callback is to come' if closing else ''})" for name, closing, kind in left]
+                found.append(f"step {step}: uv_loop_close returns EBUSY, for {few(said)} {'is' if len(said) == 1 else 'are'} there still")
+        return found[:LINES]
+
+    def answer(self, ask: str) -> list[str]:
+        language = self.walk.notes.javascript.language
+        lines, asked_for = head(self.walk), [it for it in self.walk.script.names() if not self.walk.notes.is_nodes_own(it)]
+        for title, rows in (
+            ("the longest callbacks", long_callbacks(self.walk)), ("the main program", main_program(self.walk)),
+            (f"the latest timers of {language}", self.javascript()), ("the latest timers", self.timers()), ("the latest sends", self.sends()),
+            ("I/O", self.io()), ("who waited for the next poll", self.unwoken()), ("the longest requests", self.requests()),
+            ("the longest writes, connects and shutdowns", longest(self.walk)),
+            ("the pool was full", self.full()),
+            ("what kept the loop alive", self.alive()), ("who spun", self.spins()), ("never called", self.never()),
+            ("the loop was not closed", self.busy()),
+        ):
+            lines += [title, *(f"    {it}" for it in rows)] if rows else []
+        late = max(self.next, default=(0, ""))[1]
+        name = self.first or late or next(iter(self.whys), "")
+        functions = self.walk.notes.javascript.names()
+        lines += [f"functions of {language}: {listed(functions)}"] if functions else []
+        lines += [f"names: {listed(asked_for)}"] if asked_for else []
+        lines += [f"ask next: {ask.replace('NAME', name)}"] if name else []
+        return [row for line in lines for row in fitted(line)] if self.walk.notes.javascript else lines

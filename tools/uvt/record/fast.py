@@ -1,0 +1,252 @@
+"""Long logs: what a program does again and again is asked of `uvt debug` by the steps that led through it the first time.
+
+Between two callbacks the follower looks for the steps. Where the same items come once more, the same steps are asked at once, for many
+callbacks together, without waiting for an answer. The lines of each callback's steps are compared with those of the first time; from the
+first one on that went otherwise, the steps are taken back, and the follower looks for them again. So nothing is taken on trust.
+"""
+
+from __future__ import annotations
+
+import bisect
+import itertools
+from dataclasses import dataclass
+from typing import TYPE_CHECKING
+
+from uvt.conversation import BAD
+from uvt.record.script import Call, Done, End, Item, Op, Poll, Run, Send
+
+if TYPE_CHECKING:
+    from uvt.record.follow import Follower
+
+# So many callbacks are asked together at the most.
+MOST = 256
+LONGEST = 24
+# No command, whose answer BAD stands behind those of each unit.
+NOTHING = "?"
+# Which time of an item: that of the loop, of the clock, or that to which the clock goes on as its callback ends.
+NOW, CLOCK, END = "now", "clock", "end"
+
+
+@dataclass
+class Tick:
+    """The clock goes on to a time of this item of a unit."""
+
+    item: int
+    which: str
+    outside: bool
+
+
+@dataclass
+class Step:
+    """A step that the loop does, or a send, and the line that it has."""
+
+    command: str
+    line: str
+
+
+@dataclass
+class Way:
+    """The steps through a unit, and where the loop is behind it."""
+
+    parts: list[Tick | Step]
+    where: str
+    wakes: int
+    # to whom is sent on it in a thread's place
+    sends: set[str]
+
+
+@dataclass
+class Asked:
+    """A unit whose way is gone once more."""
+
+    end: int
+    way: Way
+    commands: list[str]
+    # how the line of each is to begin, `` where it is to have none
+    wanted: list[str]
+    # which of them, from 1, are ticks when no callback is under way
+    outside: list[int]
+    # behind it
+    clock: int
+
+    def lines(self, said: list[str]) -> list[str] | None:
+        """The line of each of its steps. None where it went otherwise."""
+        answers = iter(said)
+        lines = [next(answers, "") if it else "" for it in self.wanted]
+        right = all(line.startswith(want) and (want.endswith(" ") or line == want) for line, want in zip(lines, self.wanted))
+        return lines if right and next(answers, None) is None else None
+
+
+def alike(line: str) -> str:
+    """What of a line has to be the same the next time: numbers of slots, and how long a poll waits, may be others."""
+    words = line.split(" ")
+    if words[0] in ("call", "closed"):
+        return f"{words[0]} {words[1]} "
+    if words[0] == "poll":
+        return "poll "
+    return line.rsplit(" = ", 1)[0] + " = " if words[0] == "init" else line
+
+
+def first_sends(items: list[Item]) -> list[int]:
+    """Of each callback, except for those of I/O, the first send to its handle since that was called last; where there is none, behind all items."""
+    sent: dict[str, int] = {}
+    found = []
+    for at, item in enumerate(items):
+        match item:
+            case Send():
+                sent.setdefault(item.name, at)
+            case Op() if item.text.startswith("send "):
+                sent.setdefault(item.text.split(" ")[1], at)
+            case Call() if not item.is_io():
+                found.append(sent.pop(item.name, len(items)) if item.callback == "on" else len(items))
+    return found
+
+
+def happens(item: Item) -> tuple:
+    """What of an item has to be the same."""
+    match item:
+        case Op():
+            return Op, item.text, item.answer
+        case Call():
+            return Call, item.name, item.callback, item.section
+    return (type(item),)
+
+
+class Ways:
+    """The ways that are known, each by what happens on it."""
+
+    def __init__(self, follower: Follower) -> None:
+        self.follower, self.items = follower, follower.items
+        # the items that end a poll's callbacks, and those of them that are made ready for it, with their places
+        self.ends = [at for at, it in enumerate(self.items) if isinstance(it, (Poll, Run, End))]
+        self.calls = [it for it in self.items if isinstance(it, Call) and not it.is_io()]
+        self.called = [at for at, it in enumerate(self.items) if isinstance(it, Call) and not it.is_io()]
+        # of each of these the first send to it since it was called last
+        self.first_sends = first_sends(self.items)
+        self.ways: dict[tuple, Way] = {}
+        self.many = 4
+        # a unit that went otherwise than the last time
+        self.slow_until = 0
+
+    # ---- units: a callback, and what comes before it
+
+    def end_of(self, at: int) -> int:
+        """Where the unit that begins at this item ends; 0 where there is none that can be asked at once."""
+        calls = 0
+        for behind in range(at, min(at + LONGEST, len(self.items))):
+            item = self.items[behind]
+            match item:
+                case Done():
+                    return behind + 1 if calls and len(self.ahead(behind + 1)) <= LONGEST else 0
+                case Call() if item.callback != "after" and not calls:
+                    calls = 1
+                case Poll() if not calls:
+                    pass
+                case Op() if not item.text.startswith(("queue ", "cancel ", "updatetime")):
+                    pass
+                case _:
+                    return 0
+        return 0
+
+    def key(self, at: int, end: int, where: str) -> tuple:
+        """What happens in a unit, who is called behind it before the next poll, and whom of all these somebody has sent to as it begins."""
+        return (where, *map(happens, self.items[at:end]), *(it.name for it in self.ahead(end)), tuple(self.sent(at, end)))
+
+    def ahead(self, at: int) -> list[Call]:
+        """The callbacks from this item on up to the next poll, except for those of I/O, which need nothing."""
+        return self.calls[self.places(at, at)]
+
+    def places(self, at: int, end: int) -> slice:
+        """Which of the callbacks come from this item on, up to the first poll behind that one."""
+        behind = bisect.bisect_left(self.ends, end)
+        last = self.ends[behind] if behind < len(self.ends) else len(self.items)
+        return slice(bisect.bisect_left(self.called, at), bisect.bisect_left(self.called, last))
+
+    def sent(self, at: int, end: int) -> list[str]:
+        """To whom somebody has sent as the unit begins, of those that are called in it, and behind it before the next poll."""
+        places = self.places(at, end)
+        return [call.name for call, first in zip(self.calls[places], self.first_sends[places]) if first < at]
+
+    # ---- a way is learnt
+
+    def learn(self, at: int, end: int, key: tuple, length: int, late: int) -> None:
+        """Keeps how the follower came through this unit, from so many steps on, where so many sends had come late. (A send that came late
+        belongs to this time alone.)"""
+        follower = self.follower
+        if follower.came_late > late:
+            return
+        ticks, parts, wakes = iter(follower.trail), [], 0
+        tick = next(ticks, None)
+        for step in range(length, follower.talk.length + 1):
+            while tick is not None and tick[0] <= step:
+                parts.append(Tick(tick[1] - at, tick[2], tick[3]))
+                tick = next(ticks, None)
+            if step < follower.talk.length and not follower.did[step].startswith("tick "):
+                parts.append(Step(follower.did[step], alike(follower.said[step])))
+                wakes += follower.did[step] == "send wake"
+        sends = {it.command.split(" ")[1] for it in parts if isinstance(it, Step) and it.command.startswith("send ")}
+        if all(0 <= it.item < end - at for it in parts if isinstance(it, Tick)):
+            self.ways[key] = Way(parts, follower.where, wakes, sends)
+
+    # ---- and gone again
+
+    def run(self, at: int) -> int:
+        """Goes along the units from this item on as far as their ways are known and lead through. Answers the item behind them."""
+        if at < self.slow_until:
+            return at
+        while (units := self.known(at)) and (behind := self.go(at, units)) > at:
+            at = behind
+        return at
+
+    def known(self, at: int) -> list[tuple[int, Way]]:
+        if self.follower.uncalled:
+            return []
+        units, where, late = [], self.follower.where, self.follower.sent_late.keys()
+        while len(units) < self.many and (end := self.end_of(at)) and (way := self.ways.get(self.key(at, end, where))):
+            # (where a send waits for its call, that is the one that comes)
+            if not way.sends.isdisjoint(late):
+                break
+            units.append((end, way))
+            at, where = end, way.where
+        return units
+
+    def asked(self, at: int, end: int, way: Way, clock: int) -> Asked:
+        unit = Asked(end, way, [], [], [], clock)
+        for part in way.parts:
+            if isinstance(part, Step):
+                unit.commands.append(part.command)
+                unit.wanted.append(part.line)
+                continue
+            time = self.follower.time_of(at + part.item, part.which)
+            if time > unit.clock:
+                unit.commands.append(f"tick {time - unit.clock}")
+                unit.wanted.append(f"out tick {time - unit.clock}")
+                unit.outside += [len(unit.commands)] if part.outside else []
+                unit.clock = time
+        return unit
+
+    def go(self, at: int, units: list[tuple[int, Way]]) -> int:
+        """Asks these units together, and answers the item behind the last one that went as it was to."""
+        follower, asked, first = self.follower, [], at
+        for end, way in units:
+            asked.append(self.asked(first, end, way, asked[-1].clock if asked else follower.clock))
+            first = end
+        answers = iter(follower.talk.ask_all([command for it in asked for command in (*it.commands, NOTHING)]))
+        done: list[Asked] = []
+        for unit in asked:
+            lines = unit.lines(list(itertools.takewhile(lambda it: it != BAD, answers)))
+            if lines is None:
+                break
+            follower.took(unit.commands, lines, unit.outside)
+            done.append(unit)
+        follower.take_back()
+        self.many = min(MOST, 2 * self.many) if len(done) == len(asked) else max(1, len(done))
+        if not done:
+            self.slow_until = at + 1
+            return at
+        follower.where, follower.clock = done[-1].way.where, done[-1].clock
+        follower.outcome.callbacks += len(done)
+        follower.outcome.wakes += sum(it.way.wakes for it in done)
+        if len(done) < len(asked):
+            self.slow_until = done[-1].end + 1
+        return done[-1].end

@@ -1,0 +1,187 @@
+"""What the hook in node told of the JavaScript (lines J of a log), as a recording's notes have it."""
+
+from __future__ import annotations
+
+from pathlib import Path
+
+from uvt.javascript import NOWHERE, OUTSIDE, JavaScript, Look, Place, Resource, Span, Under
+from uvt.record.log import Event, Log
+
+# node's functions that call what JavaScript asked for.
+HOWS = {
+    "listOnTimeout": "timer", "processImmediate": "immediate", "runMicrotasks": "promise", "runNextTicks": "tick",
+    "processTicksAndRejections": "tick", "executeUserEntryPoint": "main", "Module.load": "main",
+    # (of the hook in Python)
+    "uvt_called": "timer", "run_forever": "event",
+}
+# Callbacks of the loop itself in Python, each due as many ms behind what asked for it as it says there.
+LOOPS_OWN = ("timer", "soon", "task")
+BETWEEN = ("tick", "timer", "immediate")
+COLLECTOR = "(garbage_collector)"
+SHOWN = 70
+# What a line at which a timer is called says of it.
+REPEATS, UNREFERENCED = 1, 2
+# The hook's own file; and its functions that stand between a timer and its callback.
+HOOK = "/record/node/hook.js:"
+PASSED = {"uvt_called", "get", "set", "ref", "unref"}
+
+
+def place_of(log: Log, number: int) -> Place:
+    """A function with its file and line, the file as it is seen from where the program was started."""
+    function, _, where = log.places.get(number, "").rpartition(" ")
+    where = where.removeprefix("file://")
+    return Place(function, where.removeprefix(f"{log.home}/") if log.home else where) if function else NOWHERE
+
+
+def is_program(place: Place) -> bool:
+    """Does this function stand in the program, and not in node, V8 or the recorder's hook?"""
+    return place.where != "-" and not place.where.startswith(OUTSIDE) and HOOK not in place.where
+
+
+def how_of(frames: list[tuple[Place, int]]) -> str:
+    """How the innermost of these came to be called, by node's own functions below it; `` where these don't tell."""
+    return next((HOWS[it.function] for it, _ in frames if it.function in HOWS), "")
+
+
+class Stacks:
+    """What is under way, by the number of a stack."""
+
+    def __init__(self, log: Log) -> None:
+        self.log = log
+        self.known: dict[int, Under | None] = {}
+
+    def frames(self, number: int) -> list[tuple[Place, int]]:
+        """From the innermost one on, each with the line at which it was found most."""
+        found = []
+        while number >= 0 and (row := self.log.stacks.get(number)) and len(found) < 1000:
+            number, place, line = row
+            found.append((place_of(self.log, place), line))
+        return found
+
+    def under(self, number: int) -> Under | None:
+        """None where that is nothing of the program."""
+        if number not in self.known:
+            self.known[number] = self.read(self.frames(number))
+        return self.known[number]
+
+    @staticmethod
+    def read(frames: list[tuple[Place, int]]) -> Under | None:
+        frames = [it for it in frames if it[0].function not in PASSED or HOOK not in it[0].where]
+        if any(HOOK in place.where for place, _ in frames):
+            hook = Place("the_recorder", "-")
+            return Under("hook", hook, hook, "0", "-")
+        own = [at for at, (place, _) in enumerate(frames) if is_program(place)]
+        return Stacks.of(frames, own) if own else None
+
+    @staticmethod
+    def of(frames: list[tuple[Place, int]], own: list[int]) -> Under:
+        inner, outer = own[0], own[-1]
+        below = [place.function for place, _ in frames[outer + 1 :]]
+        # (V8 calls what a promise has at the end of a callback by itself: below it there is nothing)
+        how = next((HOWS[it] for it in below if it in HOWS), "event" if below else "promise")
+        # (of node's or V8's functions in between the one that the program called)
+        top = frames[inner - 1][0].function if inner else "-"
+        return Under(how, frames[outer][0], frames[inner][0], str(frames[inner][1]) if inner == 0 else "0", top)
+
+
+class Reader:
+    """Reads the lines J of a loop, in order, with the callback of the loop that is under way at each."""
+
+    def __init__(self, log: Log) -> None:
+        self.log = log
+        self.found = JavaScript()
+        self.stacks = Stacks(log)
+        self.open: dict[int, tuple[tuple[str, str, int], int, int | None, int]] = {}
+        # of node's own times those of the log: never less than what a timer's line says
+        self.behind: int | None = None
+        self.rows: list[tuple[int, tuple[str, str, int], int, int, int | None, int]] = []
+        # when the loop's first callback began
+        self.begun: int | None = None
+        self.raw: list[tuple[int, int, int]] = []
+
+    def read(self, event: Event, call: tuple[str, str, int]) -> None:
+        words = event.words.split(" ")
+        id = int(words[1])
+        resource = self.found.resources.get(id)
+        match words[0]:
+            case "new":
+                function, at, delay = (int(it) for it in words[3:])
+                self.found.resources[id] = Resource(id, words[2], place_of(self.log, function), place_of(self.log, at), event.clock, delay)
+            case "run":
+                start = int(words[2]) if len(words) > 2 else None
+                delay = int(words[3]) if len(words) > 3 else 0
+                self.open[id] = call, event.clock, start, delay
+                if resource and start is not None:
+                    self.behind = max(self.behind if self.behind is not None else -(1 << 60), resource.when - start)
+                    flags = int(words[4]) if len(words) > 4 else 0
+                    resource.kind = "interval" if flags & REPEATS else resource.kind
+                    resource.referenced &= not flags & UNREFERENCED
+            case "ran" if it := self.open.pop(id, None):
+                self.rows.append((id, it[0], it[1], event.clock, it[2], it[3]))
+            case "gone" if resource:
+                resource.gone, resource.gone_at = event.clock, place_of(self.log, int(words[2]))
+            case "ref" if resource:
+                resource.referenced, resource.referenced_at = words[2] == "1", place_of(self.log, int(words[3]))
+            case "thread":
+                self.found.thread = id
+            case "busy":
+                self.raw.append((int(words[2]), int(words[2]) + int(words[3]), id))
+
+    def read_by(self, event: Event, name: str, call: int) -> None:
+        """Which line asked for a request of the pool."""
+        self.found.asked[name, call] = place_of(self.log, int(event.words.split(" ")[2]))
+
+    def done(self) -> JavaScript:
+        behind = self.behind or 0
+        for id, call, begin, end, start, delay in self.rows:
+            if resource := self.found.resources.get(id):
+                # (Python's timers are the loop's own, and no time of node's is said of them)
+                due = start + behind + delay if start is not None else resource.when + resource.delay if resource.kind in LOOPS_OWN else None
+                self.found.add(Span(id, call, begin, end, due))
+        last: Look | None = None
+        for begin, end, number in sorted(self.raw):
+            frames = self.stacks.frames(number)
+            if last and frames and frames[0][0].function == COLLECTOR:
+                # (what the collector takes is taken from whom it interrupts)
+                last.end = end if begin - last.end < 2000 else last.end
+                continue
+            under = self.stacks.under(number)
+            # (a look counts up to the next one, which may come late)
+            end = min(end, 1000 * self.begun) if under and under.how == "main" and self.begun is not None else end
+            if end <= begin:
+                continue
+            if under and last and last.under == under and begin - last.end < 100:
+                last.end = end
+            elif under:
+                last = Look(begin, end, under)
+                self.found.looks.append(last)
+            elif last and frames and last.under.how in BETWEEN and begin - last.end < 100 and how_of(frames) == last.under.how:
+                # (what node does between two of these is theirs)
+                last.end = end
+            else:
+                last = None
+        for id, (call, begin, start, delay) in self.open.items():
+            if resource := self.found.resources.get(id):
+                due = start + behind + delay if start is not None else resource.when + resource.delay if resource.kind in LOOPS_OWN else None
+                self.found.add(Span(id, call, begin, max(begin, self.found.seen()), due, True))
+        self.read_sources()
+        self.found.home = self.log.home if self.found else ""
+        self.found.language = self.log.language
+        return self.found
+
+    def read_sources(self) -> None:
+        """The lines at which the program was found most, from its files where these are there."""
+        texts: dict[str, list[str]] = {}
+        for look in self.found.looks:
+            where = JavaScript.line_of(look.under.inner, look.under.line)
+            file, _, line = where.rpartition(":")
+            if look.under.line == "0" or where in self.found.source:
+                continue
+            if file not in texts:
+                try:
+                    texts[file] = Path(file).read_text(encoding="utf-8", errors="replace").splitlines()
+                except (OSError, ValueError):
+                    texts[file] = []
+            if 0 < int(line) <= len(texts[file]):
+                text = " ".join(texts[file][int(line) - 1].split())
+                self.found.source[where] = text if len(text) <= SHOWN else text[: SHOWN - 3] + "..."

@@ -1,0 +1,253 @@
+"""Logs of the recorder, line by line (docs/RECORD.md has what each line means).
+
+A log may be cut anywhere, and any byte of it may be another one: it is read up to the first line that is none.
+"""
+
+from __future__ import annotations
+
+import functools
+import re
+from dataclasses import dataclass, field
+
+from uvt.conversation import Fault
+from uvt.notes import harmless
+
+NUMBER = r"(?:0|[1-9]\d{0,18})"
+TIMER_OWN = {"timer", "idle", "prepare", "check", "async"}
+WATCHERS = {"tcp", "udp", "pipe", "tty", "poll", "signal", "fs_event", "fs_poll", "process"}
+# In logs of version 1 `ref` and `unref` of a watcher say whether it counts for the loop (it is active and referenced, or has a request
+# under way), and nothing says that it is started or stopped; `P` has the timeout that libuv asks with, be it only to look.
+HEAD = re.compile(r"uvt-log ([12]) (1\.\d{1,4}\.\d{1,4}\S*) (\d{1,9}) (\d{1,9}) (.*)")
+ADDRESS = re.compile(r"- A (\d{1,9}) ([0-9a-f]{1,16}) (\S+) (.*)")
+WORKERS = re.compile(r"- N (\d{1,9})")
+ENDED = re.compile(r"- X (SIG[A-Z0-9]{1,12})")
+UNSEEN = re.compile(r"- U (-|uv_[a-z_0-9]+) (.+)")
+PLACE = re.compile(r"- J place (\d{1,9}) (.*)")
+HOME = re.compile(r"- J home (.*)")
+LANGUAGE = re.compile(r"- J language (Python|Lua)")
+STACK = re.compile(r"- J stack (\d{1,9}) (-1|\d{1,9}) (\d{1,9}) (\d{1,9})")
+NO_CLOCK = -1
+# So many functions are told of a place, each of which was called by the next one.
+CHAIN = 2
+TIMED = "BEFGJRST"
+# Of these the place in the program stands at the end of the line, that called libuv there; behind `<` the one that called that function.
+CALLED = "GIOS"
+FROM = re.compile(r"(.*) @((?:0|[1-9]\d{0,8})(?:<(?:0|[1-9]\d{0,8}))?)")
+NO_ROOM = "- ! no room"
+CODE = r"(?:ok|E[A-Z0-9_]+)"
+WORDS = {
+    "O": re.compile(
+        rf"init %{NUMBER} (?:{'|'.join(sorted(TIMER_OWN | WATCHERS))}) = ok"
+        rf"|queue %{NUMBER} (?:work|addrinfo|nameinfo|random|fs_[a-z]+) = ok"
+        rf"|start %{NUMBER}(?: \d{{1,20}} \d{{1,20}})? = {CODE}|repeat %{NUMBER} \d{{1,20}} = {CODE}"
+        rf"|(?:stop|again|close|ref|unref|send|cancel) %{NUMBER} = {CODE}|(?:closeloop|stoploop|updatetime) = {CODE}"
+    ),
+    "E": re.compile(rf"{NUMBER}(?: \+)?(?: cpu {NUMBER})?"),
+    "B": re.compile(rf"on {NUMBER} [a-z_]+(?: [A-Za-z0-9_-]+){{0,2}}(?: %{NUMBER})?|after {NUMBER} (?:ok|ECANCELED)|closed {NUMBER}"),
+    "R": re.compile(r"(?:default|once|nowait)(?: \+)?"),
+    "r": re.compile("[01]"),
+    "P": re.compile(r"-?\d{1,10}"),
+    "p": re.compile(r"-?\d{1,10}"),
+    "T": re.compile(NUMBER),
+    "F": re.compile(rf"{NUMBER}(?: cpu {NUMBER})?"),
+    "G": re.compile(rf"{NUMBER} {NUMBER} (?:write|connect|shutdown|send) \d{{1,20}}"),
+    "I": re.compile(rf"{NUMBER} uv_[a-z_]+"),
+    "L": re.compile(r"-?\d{1,10}"),
+    "S": re.compile(rf"{NUMBER} \d{{1,20}}(?: {NUMBER})?"),
+    "C": re.compile(rf"{NUMBER} \d{{1,9}}(?: [a-z_]+)?"),
+    "V": re.compile(rf"{NUMBER} \d{{1,9}}(?: \d{{1,9}})?"),
+    "K": re.compile(rf"all|end|{NUMBER} [a-z_]+ [01] [01] [01] {NUMBER} {NUMBER} {NUMBER}"),
+    "J": re.compile(
+        rf"new {NUMBER} (?:timer|interval|immediate|soon|task|callback) (?:-1|{NUMBER}) (?:-1|{NUMBER}) {NUMBER}|run {NUMBER}(?: {NUMBER} {NUMBER}(?: [123])?)?|ran {NUMBER}"
+        rf"|gone {NUMBER} (?:-1|{NUMBER})|ref {NUMBER} [01] (?:-1|{NUMBER})|by {NUMBER} {NUMBER}|busy {NUMBER} {NUMBER} {NUMBER}|thread {NUMBER}"
+    ),
+    "Q": re.compile(rf"{NUMBER} {NUMBER}"),
+    "W": re.compile(rf"(?:-1|{NUMBER}) \d{{1,20}} uv_[a-z_0-9]+"),
+    "M": re.compile(rf"{NUMBER} {NUMBER}(?: stack)?(?: made)?"),
+}
+
+
+@dataclass(slots=True)
+class Event:
+    """A line of a loop."""
+
+    type: str
+    # the loop's time; and of a callback or work that begins or ends, and of a send the clock, or NO_CLOCK: in ms since the loop was first seen
+    now: int
+    clock: int
+    words: str
+    line: int
+    # of an op, a send and a request of a stream: the place in the program that called libuv, by its number, and behind `<` the one that called that
+    # function; `` where nobody knows
+    place: str = ""
+
+    def when(self) -> tuple[int, int, int]:
+        return self.now, self.clock, self.line
+
+
+@dataclass(slots=True)
+class Address:
+    """A place in a program's file: of a static handle, or of a callback."""
+
+    offset: int
+    # `-` where nobody knows it; `NAME+OFFSET/SIZE` within a variable, `NAME@FILE:LINE` of a function with debug information
+    symbol: str
+    file: str
+    # where a name that is made of it comes from, in a sentence, where that isn't a function's symbol
+    origin: str = ""
+
+    def name(self) -> str:
+        return re.split(r"[+@]", self.symbol)[0]
+
+    def source(self) -> str:
+        """Where a function's source stands, `` where nobody knows."""
+        return self.symbol.partition("@")[2]
+
+    def within_file(self) -> str:
+        """The program or library in which it is, without its folder."""
+        return self.file.rsplit("/", 1)[-1]
+
+    def called_from(self) -> list[str]:
+        """Of a place that calls, in words: `at churn.c:14, in rearm`; and where its function is a part of another one, that too."""
+        told = []
+        for one in self.symbol.split("<"):
+            name, _, source = one.partition("@")
+            function = f"in {in_words(name)}" if name != "-" else f"in a function of {self.within_file()} that has no symbol"
+            told.append(f"at {source}, {function}" if source else function)
+        return told
+
+    def within(self) -> tuple[int, int]:
+        """How far behind a variable's start it lies, and how large that is; (0, 0) where the log doesn't say."""
+        found = re.fullmatch(r".*\+(\d+)/(\d+)", self.symbol)
+        return (int(found[1]), int(found[2])) if found else (0, 0)
+
+
+@dataclass
+class Log:
+    # of the log's own form, and of libuv
+    form: int
+    version: str
+    process: int
+    workers: int
+    program: str
+    loops: dict[int, list[Event]] = field(default_factory=dict)
+    addresses: dict[int, Address] = field(default_factory=dict)
+    # of JavaScript: a function, or where it was, and its file and line; and of a stack the one below it, the place and its line
+    home: str = ""
+    language: str = "JavaScript"
+    places: dict[int, str] = field(default_factory=dict)
+    stacks: dict[int, tuple[int, int, int]] = field(default_factory=dict)
+    lines: int = 0
+    # why it ends before its program did, or hasn't all of it, in a sentence
+    note: str = ""
+    # of each loop but the first how much later its times begin, in ms
+    later: dict[int, int] = field(default_factory=dict)
+    # the signal that ended the program, `` where none did
+    ended: str = ""
+    # why nothing of the program's libuv can be seen, in a sentence
+    blind: str = ""
+
+    def behind(self, loop: int) -> int:
+        """How much later than those of the first loop its times begin, in ms."""
+        return self.later.get(loop, 0)
+
+    def is_one_clock(self) -> bool:
+        """Is that known of each loop?"""
+        return len(self.later) >= len(self.loops) - 1
+
+    def callers(self) -> set[int]:
+        """The numbers of the places that call libuv, and of those that call these functions."""
+        places = {it.place for events in self.loops.values() for it in events if it.place}
+        return {int(number) for place in places for number in place.split("<")}
+
+    def place(self, place: str) -> str:
+        """A place in words, with who called its function: two functions at the most."""
+        told = [it for number in place.split("<") if number and (address := self.addresses.get(int(number))) for it in address.called_from()]
+        return ", called ".join(told[:CHAIN])
+
+
+LAMBDA = re.compile(r"(.*?)(?:::)?\{lambda#\d+\}(?:::(?:call|_FUN|__invoke))?")
+
+
+def in_words(function: str) -> str:
+    """A function's name; of a lambda the one in which that stands."""
+    found = LAMBDA.fullmatch(function)
+    return f"a lambda of {found[1]}" if found and found[1] else function
+
+
+def is_number(text: str) -> bool:
+    return text.isdecimal() and text.isascii() and len(text) <= 19 and (text[0] != "0" or text == "0")
+
+
+@functools.lru_cache(maxsize=1 << 16)
+def is_good(type: str, words: str) -> bool:
+    return WORDS[type].fullmatch(words) is not None
+
+
+def read_event(text: str, line: int) -> tuple[int, Event] | None:
+    parts = text.split(" ", 3)
+    if len(parts) != 4 or parts[1] not in WORDS or not is_number(parts[0]) or not is_number(parts[2]):
+        return None
+    loop, type, now, words, place = int(parts[0]), parts[1], int(parts[2]), parts[3], ""
+    if type in CALLED and (called := FROM.fullmatch(words)):
+        words, place = called[1], called[2]
+    if type in TIMED:
+        clock, _, rest = words.partition(" ")
+        if is_number(clock) and is_good(type, rest):
+            return loop, Event(type, now, int(clock), rest, line, place)
+        # (logs of earlier recorders have a clock at a callback's end alone)
+        if type == "E":
+            return None
+    return (loop, Event(type, now, NO_CLOCK, words, line, place)) if is_good(type, words) else None
+
+
+def within(workers: int) -> int:
+    return max(1, min(1024, workers))
+
+
+def read_log(data: bytes) -> Log:
+    """What stands in a log, up to its first line that is none."""
+    # (a window of the file that wasn't filled has zeros at its end)
+    lines = harmless(data.replace(b"\0", b"").decode("utf-8", "replace")).split("\n")
+    cut = lines.pop() != ""
+    head = HEAD.fullmatch(lines[0]) if lines else None
+    if not head and re.match(r"uvt \d", lines[0] if lines else ""):
+        raise Fault("this is a recording, and no log: uvt-why, uvt-shell and uvt-view take it as it is")
+    if not head:
+        raise Fault("this is no log of a program: its first line isn't `uvt-log 1` or `uvt-log 2` with libuv's version, a process, workers"
+                    " and a program")
+    log = Log(int(head[1]), head[2], int(head[3]), within(int(head[4])), head[5])
+    for number, text in enumerate(lines[1:], 2):
+        log.lines = number
+        if home := HOME.fullmatch(text):
+            log.home = home[1]
+        elif language := LANGUAGE.fullmatch(text):
+            log.language = language[1]
+        elif event := read_event(text, number):
+            log.loops.setdefault(event[0], []).append(event[1])
+            if event[1].type == "L":
+                log.later[event[0]] = int(event[1].words)
+        elif address := ADDRESS.fullmatch(text):
+            log.addresses[int(address[1])] = Address(int(address[2], 16), address[3], address[4])
+        elif place := PLACE.fullmatch(text):
+            log.places[int(place[1])] = place[2]
+        elif stack := STACK.fullmatch(text):
+            log.stacks[int(stack[1])] = int(stack[2]), int(stack[3]), int(stack[4])
+        elif workers := WORKERS.fullmatch(text):
+            log.workers = within(int(workers[1]))
+        elif ended := ENDED.fullmatch(text):
+            log.ended = ended[1]
+        elif unseen := UNSEEN.fullmatch(text):
+            if unseen[1] == "-":
+                log.blind = log.note = f"nothing can be seen of the libuv within the program: {unseen[2]}"
+            else:
+                log.note = f"{unseen[1]} can't be seen ({unseen[2]}): what the program asks by it is missing"
+        elif text == NO_ROOM:
+            log.note = f"the disk had no room for more: the log ends at line {number}"
+            return log
+        else:
+            log.note = f"line {number} of the log is none that the recorder writes: what stands before it was taken"
+            return log
+    if cut:
+        log.note = f"the log is cut in its line {len(lines) + 1}: what stands before it was taken"
+    return log

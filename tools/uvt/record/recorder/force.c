@@ -1,0 +1,711 @@
+/* Forces the order of a session upon the program: what comes from outside comes only where the session has it.
+ *
+ * UVT_FORCE=SCHEDULE  a line for each line of the session's run, made by tools/uvt/forcing.py
+ * UVT_FORCE_SAID=FILE where it says what it did, and where the program departs from the session
+ * UVT_FORCE_AT=FILE   a page: how far it has come (struct page), also where the program is ended by a signal
+ * UVT_FORCE_LOOP=N    the loop of this number, as the log has it; else the first one
+ * UVT_FORCE_STOP=1    SIGTRAP at the session's last step, before it is done
+ * UVT_FORCE_EARLY=1   work begins where the session has its take; else where it has its finish
+ *
+ * The loop's thread leads. At each place where it could see something from outside (the program's op, a callback's beginning and
+ * end, libuv's look at the clock, the poll) it does what the session has there: it moves the clock, lets one worker take a request,
+ * lets it hand the request in, lets one thread send, and waits until that is done. All others wait at gates. */
+#define _GNU_SOURCE
+#define _GNU_SOURCE
+#include "force.h"
+
+#include <errno.h>
+#include <fcntl.h>
+#include <stdio.h>
+#include <stdlib.h>
+#include <string.h>
+#include <sys/mman.h>
+#include <sys/syscall.h>
+#include <unistd.h>
+
+volatile enum state state = NOT_FORCING;
+struct item *items;
+int item_count, cursor;
+int last_shown = -1;
+struct name *names;
+int name_count;
+struct loop *forced;
+int depth;
+bool early, behind_poll;
+static uint64_t began_real;
+static __thread unsigned reads;
+static __thread uint64_t crept, told;
+
+const char *name_of(int at) {
+    return at >= 0 && at < name_count ? names[at].text : "?";
+}
+
+static int name_by_id(int id) {
+    for (int at = 0; at < name_count; at++)
+        if (names[at].id == id) return at;
+    return -1;
+}
+
+const struct item *at_cursor(void) {
+    return cursor < item_count ? &items[cursor] : NULL;
+}
+
+/* The callback of the last step goes on with all as the session left it: until it is over nothing comes from outside. */
+static void step_done(void) {
+    page->steps = items[cursor].step;
+    cursor++;
+    progress++;
+    if (cursor == item_count) {
+        page->done = 1;
+        say("DONE %d", items[item_count - 1].step);
+        if (depth == 0) set_free(NULL);
+    }
+}
+
+/* ---- steps from outside, by the loop's thread */
+
+/* (the worker itself writes no such line: its work may begin later) */
+void write_taken(int id) {
+    lock();
+    struct object *object = id >= 0 ? object_by_id(id) : NULL;
+    if (object && is_seen_work(object)) write_line(forced, 'T', "%d", id);
+    unlock();
+}
+
+static void do_take(const struct item *item) {
+    struct worker *worker;
+    pthread_mutex_lock(&gate);
+    if (WAIT(worker_at(AT_TAKE) != NULL)) {
+        worker = worker_at(AT_TAKE);
+        worker->number = item->number;
+        worker->name = item->name;
+        worker->may_take = true;
+        pthread_cond_broadcast(&changed);
+        if (!WAIT(worker->place >= TAKEN)) depart("worker %ld didn't take %s", item->number, name_of(item->name));
+        else if (worker->place == ASLEEP) depart("worker %ld takes nothing: the pool has nothing for it", item->number);
+    } else {
+        depart("no worker of the pool is free to take %s", name_of(item->name));
+    }
+    pthread_mutex_unlock(&gate);
+    write_taken(item->name >= 0 ? names[item->name].id : -1);
+}
+
+/* (with the gate's mutex) The work that is held may be what this one waits for: then all that was taken begins. */
+static bool is_through(const struct worker *worker) {
+    int whole = patience;
+    patience = SOON;
+    bool is = WAIT(worker->place == AT_TAKE);
+    patience = whole;
+    if (is) return true;
+    for (int at = 0; at < pool_count; at++)
+        if (pool[at].place == TAKEN) pool[at].may_run = true;
+    pthread_cond_broadcast(&changed);
+    return WAIT(worker->place == AT_TAKE);
+}
+
+static void do_finish(const struct item *item) {
+    pthread_mutex_lock(&gate);
+    struct worker *worker = worker_of(item->number);
+    if (!worker) {
+        depart("worker %ld has no request to finish", item->number);
+    } else {
+        worker->may_run = worker->may_finish = true;
+        waits_for = worker;
+        pthread_cond_broadcast(&changed);
+        if (!is_through(worker)) depart("the work of %s doesn't come to its end: it waits for something", name_of(item->name));
+        waits_for = NULL;
+    }
+    pthread_mutex_unlock(&gate);
+}
+
+static void do_send(const struct item *item) {
+    pthread_mutex_lock(&gate);
+    struct sender *sender = NULL;
+    for (int tries = 0; !sender && state == FORCING; tries++) {
+        int whole = patience;
+        struct worker *holder = worker_at(TAKEN);
+        if (holder && !holder->may_run) patience = SOON; /* the work of a request may send: first those that send anyway */
+        WAIT((sender = sender_of(item->name)) != NULL);
+        patience = whole;
+        if (sender || !holder || holder->may_run) break;
+        holder->may_run = true;
+        pthread_cond_broadcast(&changed);
+        WAIT(holder->place != TAKEN);
+    }
+    if (sender) {
+        long before = sent;
+        sender->may_send = true;
+        sender->last = cursor == last_shown;
+        if (sender->last) {
+            say("AT %d %s", item->step, item->text);
+            page->steps = item->step;
+            page->done = cursor + 1 == item_count;
+        }
+        pthread_cond_broadcast(&changed);
+        WAIT(sent != before);
+    } else {
+        depart("no thread of the program sends to %s", name_of(item->name));
+    }
+    pthread_mutex_unlock(&gate);
+}
+
+/* The loop's wake of the handle `wake`, which the program doesn't have. */
+REAL(uv_async_send)
+
+static void do_item(const struct item *item) {
+    switch (item->type) {
+    case TICK: moved += (uint64_t)item->number; break;
+    case TAKE: do_take(item); break;
+    case FINISH: do_finish(item); break;
+    case SEND:
+        if (strcmp(name_of(item->name), "wake") == 0 && names[item->name].id < 0) CALL(uv_async_send)(&forced->uv->wq_async);
+        else do_send(item);
+        break;
+    case CANCEL: depart("`%s` comes from outside, and no program does that", item->text); break;
+    default: break;
+    }
+}
+
+static bool is_outside(const struct item *item) {
+    return item->type <= CANCEL;
+}
+
+static bool is_shown(const struct item *item) {
+    return item->type > SILENT;
+}
+
+/* Does what comes from outside, up to the next thing that is none of that. With `through`: up to the next thing that the program shows. */
+static void advance(bool through) {
+    const struct item *it;
+    int held = unlock_all();
+    leads++;
+    while (state == FORCING && (it = at_cursor()) && (is_outside(it) || (through && !is_shown(it)))) {
+        if (is_outside(it)) do_item(it);
+        step_done();
+    }
+    leads--;
+    lock_again(held);
+}
+
+/* ---- what the program shows */
+
+static bool is_same_word(const char *word, const char *function) {
+    if (strcmp(word, "send") == 0) return strcmp(function, "uv_async_send") == 0;
+    if (strcmp(word, "start") == 0) return strstr(function, "_start") != NULL;
+    if (strcmp(word, "stop") == 0) return strstr(function, "_stop") != NULL;
+    if (strcmp(word, "again") == 0) return strstr(function, "_again") != NULL;
+    if (strcmp(word, "repeat") == 0) return strstr(function, "set_repeat") != NULL;
+    return strncmp(function, "uv_", 3) == 0 && strcmp(word, function + 3) == 0;
+}
+
+/* In front of what the program asks of libuv. */
+void force_before(const char *function) {
+    if (!is_leader()) return;
+    reads = 0;
+    if (at_random) {
+        maybe_choose();
+        return;
+    }
+    advance(false);
+    const struct item *it = at_cursor();
+    if (it && it->type == OP && it->answer && strcmp(it->answer, "ESTALE") == 0 && is_same_word(it->word, function)) {
+        say("AT %d %s", it->step, it->text);
+        say("STALE %s asks for %s, whose handle or request is gone", function, name_of(it->name));
+        if (cursor == last_shown) stop_here();
+        step_done();
+    }
+}
+
+struct shown read_shown(const char *words) {
+    struct shown shown = {.id = -1};
+    const char *end = strstr(words, " = ");
+    size_t length = end ? (size_t)(end - words) : strlen(words);
+    char text[512];
+    if (length > sizeof text - 1) length = sizeof text - 1;
+    memcpy(text, words, length);
+    text[length] = 0;
+    snprintf(shown.answer, sizeof shown.answer, "%.60s", end ? end + 3 : "");
+    char *next = strchr(text, ' ');
+    if (next) *next++ = 0;
+    snprintf(shown.word, sizeof shown.word, "%.60s", text);
+    if (next && *next == '%') {
+        shown.id = (int)strtol(next + 1, &next, 10);
+        while (*next == ' ') next++;
+    }
+    snprintf(shown.rest, sizeof shown.rest, "%.250s", next ? next : "");
+    return shown;
+}
+
+static bool is_made(const char *word) {
+    return strcmp(word, "init") == 0 || strcmp(word, "queue") == 0;
+}
+
+static bool is_own_kind(const char *kind) {
+    static const char *const KINDS[] = {"timer", "idle", "prepare", "check", "async"};
+    for (size_t at = 0; at < 5; at++)
+        if (strcmp(KINDS[at], kind) == 0) return true;
+    return false;
+}
+
+static bool is_soft(const struct item *item) {
+    /* (the recorder sees some of what libuv does with a handle of I/O later) */
+    return item->type == OP && item->name >= 0 && names[item->name].kind && !is_own_kind(names[item->name].kind)
+        && strcmp(names[item->name].kind, "work") != 0 && !is_made(item->word);
+}
+
+static bool fits_op(const struct item *item, const struct shown *shown) {
+    if (item->type != OP || strcmp(item->word, shown->word) != 0) return false;
+    if (strcmp(item->word, "init") == 0)
+        return strcmp(item->rest, shown->rest) == 0 || (strcmp(item->rest, "io") == 0 && !is_own_kind(shown->rest));
+    if (strcmp(item->word, "queue") == 0) return true;
+    if (item->name < 0) return shown->id < 0;
+    return names[item->name].id == shown->id;
+}
+
+static const char *told_of(const struct shown *shown, char *room, size_t size) {
+    int name = shown->id >= 0 ? name_by_id(shown->id) : -1;
+    if (shown->id < 0) snprintf(room, size, "`%s`", shown->word);
+    else if (name >= 0) snprintf(room, size, "`%s %s%s%s`", shown->word, name_of(name), *shown->rest ? " " : "", shown->rest);
+    else snprintf(room, size, "`%s (a handle or request that the session doesn't have) %s`", shown->word, shown->rest);
+    return room;
+}
+
+static void did_op(const char *words) {
+    struct shown shown = read_shown(words);
+    char room[400];
+    const struct item *it = at_cursor();
+    if (!it) return;
+    int found = -1;
+    for (int at = cursor, seen = 0; at < item_count && seen < 12; at++) {
+        if (is_outside(&items[at]) || items[at].type == SILENT) continue;
+        if (items[at].type != OP) break;
+        seen++;
+        if (fits_op(&items[at], &shown)) {
+            found = at;
+            break;
+        }
+    }
+    if (found < 0) {
+        depart("the program does %s, where the session has `%s`", told_of(&shown, room, sizeof room), it->text);
+        return;
+    }
+    while (cursor < found && state == FORCING) {
+        it = at_cursor();
+        if (it->type == OP && !is_soft(it))
+            depart("the program does %s, where the session has `%s` first", told_of(&shown, room, sizeof room), it->text);
+        if (is_outside(it)) advance(false);
+        else step_done();
+    }
+    it = at_cursor();
+    if (is_made(it->word)) {
+        struct object *object = object_by_id(shown.id);
+        names[it->name].id = shown.id;
+        names[it->name].address = object ? object->address : NULL;
+        names[it->name].kind = NULL;
+        const char *kinds[] = {"timer", "idle", "prepare", "check", "async", "tcp", "udp", "pipe", "tty", "poll", "signal", "fs_event", "fs_poll",
+                               "process", "work"};
+        for (size_t at = 0; at < sizeof kinds / sizeof *kinds; at++)
+            if (strcmp(kinds[at], shown.rest) == 0) names[it->name].kind = kinds[at];
+        if (!names[it->name].kind) names[it->name].kind = "pool";
+    } else {
+        if (strcmp(it->word, "start") == 0 && strcmp(it->rest, shown.rest) != 0)
+            depart("the program does %s, where the session has `%s`", told_of(&shown, room, sizeof room), it->text);
+        if (it->answer && strcmp(it->answer, shown.answer) != 0)
+            depart("`%s %s` answers %s in the program, and %s in the session", it->word, name_of(it->name), shown.answer, it->answer);
+    }
+    if (cursor == last_shown) {
+        say("AT %d %s", it->step, it->text);
+        stop_here();
+    }
+    step_done();
+}
+
+/* The ops of the callback under way that didn't come. */
+static void pass_ops(void) {
+    const struct item *it;
+    advance(false);
+    while (state == FORCING && (it = at_cursor()) && it->type == OP) {
+        if (!is_soft(it) && !(it->answer && strcmp(it->answer, "ESTALE") == 0))
+            depart("the session has `%s` there, and the program doesn't do it", it->text);
+        step_done();
+        advance(false);
+    }
+}
+
+static void depart_for_good(const char *what, const struct item *it) {
+    depart("the program has %s there, where the session has `%s`: from here on it runs freely", what, it ? it->text : "its end");
+    set_free(NULL);
+}
+
+static int early_id = -1; /* its close callback has begun with an earlier one */
+
+static void began_callback(const char *words) {
+    int id = -1;
+    enum type type = CALL_ON;
+    char what[128];
+    if (strncmp(words, "on ", 3) == 0) id = atoi(words + 3);
+    else if (strncmp(words, "after ", 6) == 0) id = atoi(words + 6), type = CALL_AFTER;
+    else if (strncmp(words, "closed ", 7) == 0) id = atoi(words + 7), type = CALL_CLOSED;
+    if ((type == CALL_CLOSED || type == CALL_ON) && id == early_id) return;
+    pass_ops();
+    advance(true);
+    const struct item *it = at_cursor();
+    if (state != FORCING || !it) return;
+    int name = name_by_id(id);
+    if (type == CALL_ON && it->type == CALL_CLOSED && name == it->name && name >= 0) early_id = id, type = CALL_CLOSED;
+    if (it->type == type && name == it->name && name >= 0) {
+        if (type != CALL_ON) names[name].id = -1;
+        if (cursor == last_shown) {
+            say("AT %d %s", it->step, it->text);
+            stop_here();
+        }
+        step_done();
+        return;
+    }
+    snprintf(what, sizeof what, "the %scallback of %s", type == CALL_AFTER ? "after " : type == CALL_CLOSED ? "close " : "",
+             name >= 0 ? name_of(name) : "a handle that the session doesn't have");
+    depart_for_good(what, it);
+}
+
+/* A line of the log, at which something is shown. */
+void force_event(struct loop *loop, char type, const char *words) {
+    if (state != FORCING) return;
+    if (loop != forced || !is_leader()) return;
+    reads = 0;
+    if (at_random) {
+        random_event(type, words);
+        return;
+    }
+    /* (a run in the callback of the last step) */
+    if (cursor == item_count && strchr("RPr", type)) set_free(NULL);
+    int held = unlock_all();
+    const struct item *it;
+    switch (type) {
+    case 'O': did_op(words); break;
+    case 'B':
+        behind_poll = false;
+        if (depth++ == 0) began_callback(words);
+        break;
+    case 'E':
+        if (--depth == 0) advance(false);
+        if (depth == 0 && cursor == item_count) set_free(NULL);
+        break;
+    case 'R':
+        pass_ops();
+        it = at_cursor();
+        if (state == FORCING && it && it->type == RUN) step_done();
+        else if (state == FORCING && it) depart_for_good("uv_run", it);
+        break;
+    case 'P':
+        pass_ops();
+        advance(true);
+        it = at_cursor();
+        if (state != FORCING || !it) break;
+        if (it->type != POLL) {
+            depart_for_good("a poll", it);
+            break;
+        }
+        if (it->number != atol(words))
+            say("at step %d the poll may wait %s ms in the program, and %ld in the session", it->step, words, it->number);
+        step_done();
+        break;
+    case 'r':
+        behind_poll = false;
+        pass_ops();
+        advance(true);
+        it = at_cursor();
+        if (state == FORCING && it && it->type == END) step_done();
+        else if (state == FORCING && it) depart_for_good("the end of its run", it);
+        advance(false);
+        break;
+    default: break;
+    }
+    lock_again(held);
+}
+
+/* ---- libuv's look at the clock */
+
+static void look_at_clock(void) {
+    /* (libuv looks once behind each call of the system: what the session has there is done by then) */
+    if (behind_poll) {
+        behind_poll = false;
+        return;
+    }
+    if (at_random) {
+        maybe_choose();
+        return;
+    }
+    for (int at = cursor; at < item_count && !is_shown(&items[at]); at++) {
+        if (items[at].type != SECTION || strcmp(items[at].word, "timers") != 0) continue;
+        int held = unlock_all();
+        leads++;
+        while (cursor <= at && state == FORCING) {
+            if (is_outside(&items[cursor])) do_item(&items[cursor]);
+            step_done();
+        }
+        leads--;
+        lock_again(held);
+        return;
+    }
+    /* (nothing but what comes from outside is left of the session) */
+    for (int at = cursor; at < item_count; at++)
+        if (!is_outside(&items[at])) return;
+    advance(false);
+}
+
+int clock_gettime(clockid_t id, struct timespec *time) {
+    bool steady = id == CLOCK_MONOTONIC || id == CLOCK_MONOTONIC_COARSE || id == CLOCK_MONOTONIC_RAW || id == CLOCK_BOOTTIME;
+    bool civil = id == CLOCK_REALTIME || id == CLOCK_REALTIME_COARSE;
+    if (state == NOT_FORCING || (!steady && !civil)) {
+        static void *kept;
+        return ((int (*)(clockid_t, struct timespec *))real("clock_gettime", &kept))(id, time);
+    }
+    uint64_t now;
+    /* (libuv's own look, and not that of whoever is asked for memory there, as a sanitizer) */
+    bool is_libuv = leads == 0 && is_text_of_libuv(__builtin_return_address(0));
+    if (state == FORCING && steady && is_libuv && depth == 0 && forced && forced->running > 0 && is_leader()) {
+        look_at_clock();
+        now = virtual_ns();
+    } else if (state == FORCING && inside == 0 && !is_locked_here()) {
+        /* the program's own: one that waits in a loop until time has gone by comes to its end */
+        now = virtual_ns();
+        if (++reads == 1) crept = 0;
+        if (reads > 50) crept += 20000;
+        now += crept;
+        if (now < told) now = told;
+        told = now;
+    } else {
+        now = virtual_ns();
+    }
+    if (civil) now = now - began + began_real;
+    time->tv_sec = (time_t)(now / 1000000000);
+    time->tv_nsec = (long)(now % 1000000000);
+    return 0;
+}
+
+uint64_t force_clock(uint64_t real_ms) {
+    return state == NOT_FORCING ? real_ms : virtual_ns() / 1000000;
+}
+
+/* ---- who sleeps: nobody */
+
+static bool sleeps(uint64_t ns) {
+    if (state != FORCING) return false;
+    bool is = is_leader();
+    crept += ns;
+    leads += is;
+    take_nap();
+    leads -= is;
+    return true;
+}
+
+int nanosleep(const struct timespec *asked, struct timespec *left) {
+    if (sleeps((uint64_t)asked->tv_sec * 1000000000 + (uint64_t)asked->tv_nsec)) return 0;
+    return (int)syscall(SYS_nanosleep, asked, left);
+}
+
+int clock_nanosleep(clockid_t id, int flags, const struct timespec *asked, struct timespec *left) {
+    if (!flags && sleeps((uint64_t)asked->tv_sec * 1000000000 + (uint64_t)asked->tv_nsec)) return 0;
+    return syscall(SYS_clock_nanosleep, id, flags, asked, left) ? errno : 0;
+}
+
+int usleep(useconds_t asked) {
+    if (sleeps((uint64_t)asked * 1000)) return 0;
+    struct timespec time = {asked / 1000000, (long)(asked % 1000000) * 1000};
+    return (int)syscall(SYS_nanosleep, &time, NULL);
+}
+
+unsigned sleep(unsigned asked) {
+    if (sleeps((uint64_t)asked * 1000000000)) return 0;
+    struct timespec time = {asked, 0};
+    return syscall(SYS_nanosleep, &time, NULL) ? 1 : 0;
+}
+
+/* ---- the poll */
+
+static int file_of(const struct name *name) {
+    uv_loop_t *uv = forced->uv;
+    if (!name->kind || !name->address) return -1;
+    if (strcmp(name->kind, "poll") == 0) return ((uv_poll_t *)name->address)->io_watcher.fd;
+    if (strcmp(name->kind, "udp") == 0) return ((uv_udp_t *)name->address)->io_watcher.fd;
+    if (strcmp(name->kind, "signal") == 0 || strcmp(name->kind, "process") == 0) return uv->signal_io_watcher.fd;
+    if (strcmp(name->kind, "fs_event") == 0) return uv->inotify_fd;
+    return ((uv_stream_t *)name->address)->io_watcher.fd;
+}
+
+enum { WANTED = 1024 };
+
+static bool poll_in_order(int descriptor, struct epoll_event *events, int room, int timeout, int *got) {
+    const struct item *it;
+    int held = unlock_all();
+    advance(false);
+    lock_again(held);
+    if (state != FORCING) return false;
+    behind_poll = true;
+    /* what has to be handed out, in this order: I/O, the wake (of which after callbacks and those of async handles come), I/O */
+    int wanted[WANTED], often[WANTED], count = 0, wake = -1, wake_file = forced->uv->async_io_watcher.fd;
+    for (int at = cursor; at < item_count && count < WANTED - 1; at++) {
+        const struct item *item = &items[at];
+        if (item->type == SECTION && strcmp(item->word, "done") == 0 && wake < 0) {
+            wake = count;
+            often[count] = 1;
+            wanted[count++] = wake_file;
+        } else if ((item->type == SECTION && strcmp(item->word, "async") != 0) || item->type == POLL || item->type == END || item->type == RUN) {
+            break;
+        } else if (item->is_io) {
+            int file = file_of(&names[item->name]);
+            int before = 0;
+            while (before < count && wanted[before] != file) before++;
+            if (before < count) often[before]++;
+            if (file >= 0 && before == count) often[count] = 1, wanted[count++] = file;
+        }
+    }
+    if (wake < 0 && cursor >= item_count) return false;
+    struct epoll_event ready[WANTED];
+    int found = 0;
+    sigset_t none;
+    sigemptyset(&none);
+    for (int tries = 0; tries < 200; tries++) {
+        found = (int)syscall(SYS_epoll_pwait, descriptor, ready, WANTED, tries ? 10 : 0, NULL, 8);
+        bool all = true;
+        for (int at = 0; at < count; at++) {
+            bool is_ready = wanted[at] == wake_file;
+            for (int of = 0; of < found; of++) is_ready |= ready[of].data.fd == wanted[at];
+            all &= is_ready;
+        }
+        if (all) break;
+    }
+    int handed = 0;
+    for (int at = 0; at < count && handed < room; at++) {
+        bool is_there = false;
+        for (int of = 0; of < found; of++)
+            if (ready[of].data.fd == wanted[at]) {
+                events[handed] = ready[of];
+                /* (one callback: the end of a stream comes with a poll of its own) */
+                if (often[at] == 1 && (events[handed].events & EPOLLIN)) events[handed].events &= ~(unsigned)(EPOLLHUP | EPOLLRDHUP);
+                handed++;
+                is_there = true;
+            }
+        if (!is_there && wanted[at] != wake_file)
+            depart("nothing comes for the handle of I/O whose callback the session has there (other processes run in real time, and are not forced)");
+    }
+    uint64_t deadline = forced->uv->time + (uint64_t)(timeout < 0 ? 0 : timeout);
+    if (handed == 0 && timeout != 0 && (timeout < 0 || virtual_ns() / 1000000 < deadline)) {
+        it = at_cursor();
+        depart_for_good("nothing that ends its poll", it);
+        return false;
+    }
+    *got = handed;
+    return true;
+}
+
+bool force_poll(struct loop *loop, int descriptor, struct epoll_event *events, int room, int timeout, int *got) {
+    if (state != FORCING || loop != forced || !is_leader()) return false;
+    leads++;
+    bool is = at_random ? poll_at_random(descriptor, events, room, timeout, got) : poll_in_order(descriptor, events, room, timeout, got);
+    leads--;
+    return is;
+}
+
+/* ---- the beginning and the end */
+
+bool forces(void) {
+    return state == FORCING;
+}
+
+static char *cut(char **rest) {
+    char *begin = *rest, *end = strchr(begin, '\t');
+    if (end) *end = 0, *rest = end + 1;
+    else *rest = begin + strlen(begin);
+    return begin;
+}
+
+static void read_schedule(FILE *file) {
+    char *line = NULL;
+    size_t size = 0;
+    ssize_t length;
+    int item_room = 0, name_room = 0;
+    static const char *const TYPES[] = {
+        "tick", "take", "finish", "send", "cancel", "section", "silent", "on", "after", "closed", "op", "run", "end", "poll",
+    };
+    while ((length = getline(&line, &size, file)) > 0) {
+        if (line[length - 1] == '\n') line[length - 1] = 0;
+        char *rest = line, *kind = cut(&rest);
+        if (strcmp(kind, "name") == 0) {
+            if (name_count == name_room) names = realloc(names, (size_t)(name_room = name_room * 2 + 64) * sizeof *names);
+            names[name_count++] = (struct name){strdup(rest), -1, NULL, NULL};
+            continue;
+        }
+        if (item_count == item_room) items = realloc(items, (size_t)(item_room = item_room * 2 + 256) * sizeof *items);
+        struct item item = {.name = -1};
+        item.is_io = strcmp(kind, "io") == 0;
+        if (item.is_io) kind = "on";
+        for (size_t at = 0; at < sizeof TYPES / sizeof *TYPES; at++)
+            if (strcmp(TYPES[at], kind) == 0) item.type = (enum type)at;
+        item.step = atoi(cut(&rest));
+        item.name = atoi(cut(&rest));
+        item.number = atol(cut(&rest));
+        item.word = strdup(cut(&rest));
+        item.rest = strdup(cut(&rest));
+        item.answer = strdup(cut(&rest));
+        item.text = strdup(rest);
+        if (item.type == OP || item.type == SEND || (item.type >= CALL_ON && item.type <= CALL_CLOSED)) last_shown = item_count;
+        items[item_count++] = item;
+    }
+    free(line);
+}
+
+static void at_end(void) {
+    if (state == FORCING && !at_random && cursor < item_count) {
+        const struct item *it = at_cursor();
+        say("ENDS at step %d: the program ends, where the session has `%s`", it ? it->step : 0, it ? it->text : "its end");
+    }
+    set_free(NULL);
+}
+
+static void in_child(void) {
+    state = NOT_FORCING;
+}
+
+/* The page that tells how far it has come. */
+static void open_page(const char *file) {
+    int descriptor = file ? open(file, O_RDWR | O_CREAT | O_CLOEXEC, 0644) : -1;
+    if (descriptor < 0) return;
+    void *got = ftruncate(descriptor, sizeof *page) == 0 ? mmap(NULL, sizeof *page, PROT_READ | PROT_WRITE, MAP_SHARED, descriptor, 0) : MAP_FAILED;
+    if (got != MAP_FAILED) page = got;
+    close(descriptor);
+}
+
+static void begin_forcing(struct loop *loop) {
+    const char *file = getenv("UVT_FORCE_SAID");
+    if (file) said = open(file, O_WRONLY | O_CREAT | O_APPEND | O_CLOEXEC, 0644);
+    open_page(getenv("UVT_FORCE_AT"));
+    began = loop->base * 1000000;
+    began_real = real_ns(CLOCK_REALTIME) / 1000000 * 1000000;
+    forced = loop;
+    leader_id = own_id();
+    atexit(at_end);
+    pthread_atfork(NULL, NULL, in_child);
+    state = FORCING;
+}
+
+/* A process has its first loop: from here on it is forced. (A debugger that starts the program has none, and its children are not forced.) */
+void force_loop(struct loop *loop) {
+    const char *schedule = getenv("UVT_FORCE"), *random = getenv("UVT_FORCE_RANDOM"), *which = getenv("UVT_FORCE_LOOP");
+    if (state != NOT_FORCING || forced || loop->number != (which ? atoi(which) : 0)) return;
+    if (random) {
+        const char *jumps = getenv("UVT_FORCE_STALL"), *until = getenv("UVT_FORCE_UNTIL");
+        begin_random(strtoull(random, NULL, 10), jumps ? atoi(jumps) : 0, until ? strtoull(until, NULL, 10) : 0);
+        begin_forcing(loop);
+        unsetenv("UVT_FORCE_RANDOM");
+        return;
+    }
+    FILE *read = schedule ? fopen(schedule, "re") : NULL;
+    if (!read) return;
+    read_schedule(read);
+    fclose(read);
+    unsetenv("UVT_FORCE");
+    stops = getenv("UVT_FORCE_STOP") != NULL;
+    early = getenv("UVT_FORCE_EARLY") != NULL;
+    if (item_count) begin_forcing(loop);
+}

@@ -1,0 +1,253 @@
+/* A recorder of programs on libuv, for LD_PRELOAD.
+ *
+ * It stands before libuv's public functions, calls them, and writes a line for each op, callback and poll. It decides
+ * nothing: the program runs as it would. tools/uvt/uvt-record makes recordings of what it writes, and docs/RECORD.md says
+ * what each line means.
+ *
+ * UVT_LOG=PREFIX LD_PRELOAD=recorder.so PROGRAM..   writes PREFIX.PID.log for each process that has a loop */
+#ifndef RECORDER_H
+#define RECORDER_H
+
+#include <pthread.h>
+#include <stdbool.h>
+#include <stdint.h>
+#include <uv.h>
+
+/* ---- a loop, and a handle or a request (objects.c) */
+
+/* Of so many callbacks that were the last ones it is known when they began and ended. */
+enum { TIMES = 64 };
+
+struct loop {
+    uv_loop_t *uv; /* NULL once it is closed */
+    int number;
+    uint64_t base; /* the loop's time as it was first seen: times in the log count from there */
+    int behind; /* how much later than that of the first loop, in ms */
+    pthread_t thread; /* that of the last uv_run, or of its init */
+    int running; /* how many uv_run are under way */
+    bool waiting; /* for events, in a poll */
+    struct object *unsettled; /* watchers whose callback has just ended: see settle() */
+    struct object *looked; /* one of its handles, which lie in a ring: the next one whose memory is looked at (memory.c) */
+    uint64_t looked_at; /* the loop's time as that was done last */
+    int looks; /* how often, up to FEW */
+    long lines, counted; /* of it in the log; and how many there were as all of it was last written down */
+    uv_run_mode mode; /* of the uv_run that is under way */
+    long begun, away; /* how many callbacks and runs have begun, and how many of them in no poll */
+    struct times {
+        long begun; /* which it is */
+        uint64_t begin, end; /* by the clock; 0: not yet */
+        uint64_t processor; /* of its thread, in ns, as it begins */
+    } times[TIMES];
+    struct poll {
+        long begun, away; /* the same as libuv asked for events */
+        int timeout, got; /* how long it waits, and how many events it got; negative where it was interrupted */
+        bool in_vain; /* none of these is for anybody */
+    } poll; /* the last time */
+};
+
+/* Which of its callbacks: a stream has several. */
+enum role { OWN, CONNECTION, CONNECT, WRITE, SHUTDOWN, CLOSED, AFTER, ROLES };
+
+struct object {
+    struct object *next; /* of the same bucket, or of those that are free */
+    void *address;
+    struct loop *loop;
+    int id;
+    const char *kind; /* NULL of a request of a stream */
+    uint64_t order; /* of an idle, prepare or check handle: the how-manieth start it was */
+    bool handle;
+    bool watcher; /* a handle of I/O, signals, files or processes */
+    bool active; /* of a watcher, as the log has it: it is active, or a request of its own is under way */
+    bool unreferenced; /* and it is unreferenced, and none is */
+    int size; /* of its type: elements of an array lie so far apart */
+    void *named[ROLES]; /* the callbacks that the log has of it */
+    int requests; /* of a watcher: writes, connects, .. that are under way */
+    uint64_t bytes; /* of such a request */
+    void *callback;
+    void *second; /* of a request: its work; of a stream: its connection callback */
+    bool pooled, taken, through; /* a request that the pool has; a worker has taken it; and its work is done */
+    void (*own)(struct uv__work *); /* of a request for files, names or random bytes: what libuv has a worker do */
+    uv_close_cb closed;
+    uv_handle_type type; /* of a handle */
+    struct object *ring_next, *ring_before; /* of a handle: its loop's others */
+    uint64_t whole; /* the loop's time as its memory was last seen to be that of such a handle */
+    bool written; /* it is something else since then */
+    struct object *owner; /* of a stream's request: the stream */
+    struct object *next_unsettled;
+    bool is_unsettled;
+};
+
+struct loop *loop_of(uv_loop_t *uv);
+struct loop *new_loop(uv_loop_t *uv);
+/* The last one that was made or asked for in this thread, NULL if there is none. */
+struct loop *last_loop(void);
+/* The last one that was put at this address, NULL if there is none; and the one before it. */
+struct object *find(const void *address);
+struct object *earlier(const struct object *object);
+/* The same, of what the program has asked something of: where another thread than the loop's does that, a line says so. */
+struct object *asked(const void *address);
+/* Memory that is handed to libuv, in front of what libuv does with it: a sanitizer with which the program was built doesn't see into libuv. */
+void touch(const void *address);
+/* A line where another thread than the loop's asks something of a loop that runs, `id` -1 for the loop itself. */
+void note_thread(struct loop *loop, int id);
+struct object *put(struct loop *loop, void *address);
+void drop(struct object *object);
+void each(struct loop *loop, void (*tell)(struct object *));
+int object_total(void);
+/* The number of an address in a program's file: the first time a line says where it is. -1 for memory that is in none. */
+int address_number(const void *address);
+/* Of the place with this number, from which libuv was called now: the number of the one that called its function; -1 where nobody knows, or that is
+ * none of the program's (callers.c). */
+int caller_number(int place, const void *from);
+/* The lines that say where it lies, and which its callback is: `what` as in the line at which that begins. */
+void name_place(struct object *object);
+void name_callback(struct object *object, void *callback, enum role role, const char *what);
+
+/* ---- the log (log.c) */
+
+extern bool off; /* nothing is recorded: no UVT_LOG, no room, or a child after fork */
+
+/* Around all that is asked of objects and written. */
+void lock(void);
+void unlock(void);
+bool is_locked_here(void);
+/* `LOOP TYPE NOW ..`, and behind NOW the clock where a callback, a run or work begins or ends, somebody sends, or a request of a
+ * stream begins (types B, E, R, T, F, S and G). At the end of an op, a send and a request stands the place that called it, and at that of a callback or
+ * work that took long enough how long its thread was on the processor.
+ * The format knows %d, %u (64 bits), %x (64 bits) and %s. */
+void write_line(struct loop *loop, char type, const char *format, ...);
+/* How many workers the pool has, by the environment as it is now; the line that says so where that isn't what the first line has. */
+int workers(void);
+void write_workers(void);
+/* `LOOP O NOW WORD %ID REST = ANSWER`; nothing where there is no object. */
+void write_op(struct object *object, const char *word, const char *rest, int answer);
+const char *answer_text(int answer);
+
+/* ---- the real functions (log.c) */
+
+void *real(const char *name, void **kept);
+/* Does libuv itself call the function that asks so? Its own calls of its public functions are no ops of the program. They
+ * come from its text; or, as tail calls, while a real function is under way. */
+bool is_from_libuv(const void *caller);
+bool is_text_of_libuv(const void *caller);
+/* The same; and where it doesn't, the function is kept as the one that the program called last in this thread. */
+bool is_inside(const void *caller, const char *function);
+extern __thread int inside;
+extern __thread const char *called;
+/* Where it was called; NULL from where a callback ends on. Lines of ops that follow say so. */
+extern __thread const void *called_from;
+
+/* More of libuv's text; and is any known? */
+void add_text_of_libuv(uintptr_t from, uintptr_t to);
+bool knows_libuv(void);
+
+#define REAL(name) static void *kept_##name;
+#define CALL(name) ((__typeof__(name) *)real(#name, &kept_##name))
+#define INSIDE() is_inside(__builtin_return_address(0), __func__)
+#define REALLY(call)                 \
+    ({                               \
+        inside++;                    \
+        __typeof__(call) got = call; \
+        inside--;                    \
+        got;                         \
+    })
+
+/* ---- a libuv that isn't a library of its own (hooks.c) */
+
+/* Looks for one within the program; within the file whose code calls here. Where there is one, calls of its functions are calls of the
+ * recorder's from then on. */
+void hook_program(void);
+void hook_caller(const void *caller);
+bool has_own_libuv(void);
+/* This place calls a function of libuv's. Where it lies in a library that takes libuv from elsewhere, of another version than the program's
+ * own, the program is ended, and it is said why. */
+void see_caller(const void *caller);
+/* Its function of this name as it was; NULL if it has none. */
+void *own_function(const char *name);
+/* Calls of a function of it can't be seen, or (NULL) of none, and then nothing is recorded: a line behind the first one says why. */
+void note_unseen(const char *function, const char *why);
+
+/* ---- an order that is forced (force.c): a library of its own, compiled with FORCE. The recorder by itself has nothing of it */
+
+struct sender;
+struct epoll_event;
+#ifdef FORCE
+void force_loop(struct loop *loop);
+bool forces(void);
+void force_before(const char *function);
+void force_event(struct loop *loop, char type, const char *words);
+bool force_send(void *handle, struct sender **handed);
+void force_sent(struct sender *sender);
+uint64_t force_clock(uint64_t real_ms);
+bool force_poll(struct loop *loop, int descriptor, struct epoll_event *events, int room, int timeout, int *got);
+void force_unlocked(uv_mutex_t *mutex);
+#else
+static inline void force_loop(struct loop *loop) { (void)loop; }
+static inline bool forces(void) { return false; }
+static inline void force_before(const char *function) { (void)function; }
+static inline void force_event(struct loop *loop, char type, const char *words) { (void)loop, (void)type, (void)words; }
+static inline bool force_send(void *handle, struct sender **handed) { return (void)handle, (void)handed, false; }
+static inline void force_sent(struct sender *sender) { (void)sender; }
+static inline uint64_t force_clock(uint64_t real_ms) { return real_ms; }
+static inline bool force_poll(struct loop *loop, int descriptor, struct epoll_event *events, int room, int timeout, int *got) {
+    return (void)loop, (void)descriptor, (void)events, (void)room, (void)timeout, (void)got, false;
+}
+static inline void force_unlocked(uv_mutex_t *mutex) { (void)mutex; }
+#endif
+/* The lock is given away for a while, however often this thread has it. */
+int unlock_all(void);
+void lock_again(int held);
+struct object *object_by_id(int id);
+/* Do lines say when a worker takes this request, and when it is through? */
+bool is_seen_work(const struct object *request);
+
+/* ---- callbacks and watchers (handles.c) */
+
+/* Around a handle's callback. `enter` answers its object, NULL if there is none. WHAT came, and what is known of it: how many bytes, an
+ * error, ..; "" where that is nothing. */
+struct object *enter(void *handle, const char *what, const char *known);
+void leave(struct loop *loop, void *handle, int id);
+/* The line at which a callback ends. */
+void write_end(struct loop *loop, int id);
+/* The loop that this thread runs, or NULL. */
+struct loop *running_here(void);
+/* The op `init`, of a handle that was made. */
+struct object *made(uv_loop_t *loop, void *handle, const char *kind, bool watcher);
+/* Says whether a watcher is active, and whether it is referenced, where that has changed. */
+void settle(struct object *watcher);
+/* The same of all whose callback has just ended, except for the one whose next callback begins (NULL: for none). */
+void settle_all(struct loop *loop, const struct object *but);
+
+/* ---- the memory of handles (memory.c) */
+
+/* A handle is one of those whose memory is looked at, and no more. */
+void watch_memory(struct object *handle);
+void leave_memory(struct object *handle);
+/* Looks at some handles of the loop, where it hasn't done so in this millisecond. A line says of which the memory is something else. */
+void look_at_memory(struct loop *loop);
+/* A handle is made where another one is that wasn't closed: the same line of that one. */
+void note_made_over(const uv_loop_t *uv, const void *address);
+
+/* ---- interpreters (node.c, places.c, looks.c, script.c) */
+
+int new_place_number(void);
+
+/* A line that says where JavaScript asked for this object of the loop, if it is under way in this thread. */
+void note_javascript(struct loop *loop, int id);
+/* The line of a program in Lua that asks for requests of the pool just now, -1: none. */
+extern __thread int asking_here;
+
+/* How long the loop may wait, in ms, before the looks of this thread are to be written; -1: there are none, or no new ones. */
+int wait_before_looks(struct loop *loop);
+void write_looks_here(void);
+
+/* Calls a callback of the program: what it asks of libuv are ops again. */
+#define PROGRAM(call)           \
+    do {                        \
+        int outer = inside;     \
+        inside = 0;             \
+        call;                   \
+        inside = outer;         \
+    } while (0)
+
+#endif

@@ -1,0 +1,48 @@
+"""At which step of a recording what the log has stands."""
+
+from __future__ import annotations
+
+from uvt.notes import Request
+from uvt.record.script import Call, Op, Program
+
+LINES = {"on": "call", "after": "after", "closed": "closed"}
+
+
+class Steps:
+    """Of a program's ops and callbacks, by the lines of a recording's steps: they stand there in the same order."""
+
+    def __init__(self, program: Program, lines: list[str]) -> None:
+        self.program = program
+        # of each op's step the place that asked for it; and the step of each callback
+        self.asked_at: dict[int, str] = {}
+        self.calls: dict[tuple[str, str, int], int] = {}
+        found = enumerate(lines, 1)
+        for item in program.items:
+            match item:
+                case Op():
+                    step = next((at for at, line in found if line.startswith(f"{item.text} = ")), 0)
+                    if step and item.place:
+                        self.asked_at[step] = item.place
+                case Call():
+                    step = next((at for at, line in found if line.startswith(f"{LINES[item.callback]} {item.name} ")), 0)
+                    if step:
+                        self.calls[item.callback, item.name, item.number] = step
+
+    def places(self) -> tuple[list[str], dict[str, int]]:
+        """The places in words, each once; and by how the log has it which of these each is."""
+        texts = list(dict.fromkeys(self.program.places.values()))
+        order = {text: at for at, text in enumerate(texts)}
+        number = {place: order[text] for place, text in self.program.places.items()}
+        return texts, number
+
+    def nothings(self, number: dict[str, int]) -> list[tuple[str, str, int, int]]:
+        """The calls that changed nothing: the name, the function, the step of the callback in which each was, and its place."""
+        return [(it.name, it.function, self.calls.get(it.within, 0) if it.within else 0, number.get(it.place, -1)) for it in self.program.nothings]
+
+    def requests(self, number: dict[str, int]) -> list[Request]:
+        """The requests of streams, with their steps: that of the callback in which each was asked for, and that of its own."""
+        return [
+            Request(it.stream, it.what, it.bytes, it.asked, self.calls.get(it.within, 0) if it.within else 0, number.get(it.place, -1), it.done,
+                    self.calls.get(it.by, 0) if it.by else 0, it.status or "-")
+            for it in self.program.requests
+        ]

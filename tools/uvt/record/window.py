@@ -1,0 +1,84 @@
+"""A part of a log: from a time on, or the last seconds. It begins where the recorder wrote down all that the loop had (lines K).
+
+There the script makes what there was, as it was, and what comes behind is followed as ever.
+"""
+
+from __future__ import annotations
+
+from dataclasses import replace
+
+from uvt.conversation import Fault
+from uvt.record.log import NO_CLOCK, TIMER_OWN, WATCHERS, Event
+
+
+class NoPart(Fault):
+    """A loop of which no recording can begin there."""
+
+
+def starts_of(events: list[Event]) -> list[int]:
+    """Where the recorder wrote down all of it: the places behind these lines, with a poll next."""
+    return [at + 1 for at, it in enumerate(events) if it.type == "K" and it.words == "end"]
+
+
+def begin_of(events: list[Event], at: int) -> int:
+    """The first event of the iteration whose poll comes next: the callbacks of idle and prepare handles before it. -1 where these ask
+    something, which would stand there twice."""
+    all_at = next(it for it in range(at - 1, -1, -1) if events[it].type == "K" and events[it].words == "all")
+    at = all_at
+    while at and (events[at - 1].type == "E" or events[at - 1].type == "B" and events[at - 1].words.endswith((" idle", " prepare"))):
+        begun = next((it for it in range(at - 1, -1, -1) if events[it].type == "B"), 0)
+        if not events[begun].words.endswith((" idle", " prepare")):
+            break
+        if any(it.type == "O" for it in events[begun:at]):
+            return -1
+        at = begun
+    return at
+
+
+def made_again(events: list[Event], at: int, form: int) -> list[Event]:
+    """The ops that make what there was. (In logs of form 1 REF of a watcher is whether it counts, and it makes it unreferenced.)"""
+    all_at = next(it for it in range(at - 1, -1, -1) if events[it].type == "K" and events[it].words == "all")
+    rows = sorted((it.words.split(" ") for it in events[all_at + 1 : at - 1]), key=lambda it: int(it[0]))
+    may_start, ops = (TIMER_OWN - {"async", "timer"}) | (WATCHERS if form > 1 else set()), []
+    for id, kind, *_ in rows:
+        ops.append(f"init %{id} {kind} = ok" if kind in TIMER_OWN | WATCHERS else f"queue %{id} {kind} = ok")
+    for id, kind, active, _, closing, due, repeat, _ in sorted(rows, key=lambda it: int(it[7])):
+        if kind == "timer" and active == "1":
+            ops.append(f"start %{id} {due} {repeat} = ok")
+        elif kind == "timer" and repeat != "0":
+            ops.append(f"repeat %{id} {repeat} = ok")
+        elif kind in may_start and active == "1":
+            ops.append(f"start %{id} = ok")
+    for id, kind, _, referenced, closing, *_ in rows:
+        if kind in TIMER_OWN | (WATCHERS if form > 1 else set()) and referenced == "0":
+            ops.append(f"unref %{id} = ok")
+        elif kind in WATCHERS and form == 1 and referenced == "1":
+            ops.append(f"ref %{id} = ok")
+        if closing == "1":
+            ops.append(f"close %{id} = ok")
+    return [Event("O", 0, NO_CLOCK, it, events[all_at].line) for it in ops]
+
+
+def moved(event: Event, now: int) -> Event:
+    """Its times count from there."""
+    if event.type == "J" and event.words.startswith("busy "):
+        word, stack, begin, took = event.words.split(" ")
+        event = replace(event, words=f"{word} {stack} {max(0, int(begin) - 1000 * now)} {took}")
+    return replace(event, now=max(0, event.now - now), clock=event.clock if event.clock == NO_CLOCK else max(0, event.clock - now))
+
+
+def window(events: list[Event], time: int, form: int) -> tuple[list[Event], int]:
+    """The events from this time of the loop on, or from a little before; and the time at which they begin."""
+    known = [at for at in starts_of(events) if begin_of(events, at) >= 0]
+    before = [at for at in known if events[at - 1].now <= time]
+    if not before:
+        nothing = ", since nothing of it was written down (a short log, or an old one)"
+        first = f": it is possible from {events[known[0] - 1].now} ms on" if known else nothing
+        raise NoPart(f"no recording can begin at {time} ms of the log{first}")
+    at = before[-1]
+    now, begin = events[at - 1].now, begin_of(events, at)
+    mode = next((it.words.split(" ")[0] for it in reversed(events[:begin]) if it.type == "R"), "default")
+    places = [it for it in events[:at] if it.type in "CV"]
+    kept = [it for it in events[begin:] if it.type != "K" and (it.type not in "CV" or it.line > events[at - 1].line)]
+    run = Event("R", 0, NO_CLOCK, mode, events[at - 1].line)
+    return [*places, *made_again(events, at, form), run, *(moved(it, now) for it in kept)], now

@@ -1,0 +1,79 @@
+"""The part of a long log that has the longest stall: found by the log's clocks, before anything is followed."""
+
+from __future__ import annotations
+
+from dataclasses import dataclass
+
+from uvt.record.log import NO_CLOCK, Event, Log
+from uvt.record.window import NoPart, window
+
+
+@dataclass
+class Stall:
+    """A callback: the event that begins it, which of the callbacks it is, from 0, and how many ms it took."""
+
+    at: int
+    number: int
+    took: int
+
+
+def worst_of(events: list[Event]) -> Stall:
+    """The callback that took longest; the first one where none took any."""
+    best, depth, number, begun = Stall(0, 0, -1), 0, -1, 0
+    for at, it in enumerate(events):
+        if it.type == "B":
+            number += 1
+            if not depth:
+                begun, first = at, number
+            depth += 1
+        elif it.type == "E" and depth:
+            depth -= 1
+            if not depth and NO_CLOCK not in (it.clock, events[begun].clock) and it.clock - events[begun].clock > best.took:
+                best = Stall(begun, first, it.clock - events[begun].clock)
+    return best
+
+
+def function_of(log: Log, events: list[Event], at: int) -> str:
+    """Which function of the program this callback is, in words; `` where nobody knows."""
+    callback, id, *what = events[at].words.split(" ")
+    wanted = what[0] if callback == "on" else callback
+    for it in reversed(events[:at]):
+        if it.type == "C" and (words := it.words.split(" "))[0] == id and wanted in words[2:]:
+            address = log.addresses.get(int(words[1]))
+            source = address.source() if address else ""
+            return f", in {address.name()}" + (f" ({source})" if source else "") if address and address.symbol != "-" else ""
+    return ""
+
+
+def around(log: Log, events: list[Event], most: int) -> tuple[list[Event], str, str]:
+    """As many callbacks as are wanted, with the longest one among them, from a place where a recording can begin; and in a sentence each where it
+    begins, and which part that is. Which callback is the longest is said at once."""
+    calls = [at for at, it in enumerate(events) if it.type == "B"]
+    stall = worst_of(events)
+    took = f"{stall.took} ms at {events[stall.at].clock} ms{function_of(log, events, stall.at)}" if stall.took >= 0 else "no time that is known"
+    part, began, before = begun_near(events, stall, [most // 2, most // 10, 1] if stall.number >= most else [], most, log.form)
+    begun = [at for at, it in enumerate(part) if it.type == "B"]
+    # (where a recording can't begin near to it there are some more)
+    count = min(len(begun), max(most, before + most // 4))
+    # (said at once: to follow them takes longer)
+    print(f"the longest of {len(calls)} callbacks took {took}; the {count} around it are followed", flush=True)
+    said = (f"the log has {len(calls)} callbacks, and the {count} around the longest one were taken:"
+            " --most N takes the first N, --last SECONDS or --from MS another part")
+    return part[: begun[count]] if len(begun) > count else part, began, said
+
+
+def begun_near(events: list[Event], stall: Stall, distances: list[int], most: int, form: int) -> tuple[list[Event], str, int]:
+    """The events from a place on that lies so many callbacks before this one, at first, and then nearer; all of them where no recording can begin
+    there. With that a sentence on where it begins, and how many callbacks stand before this one then."""
+    calls = [it for it in events if it.type == "B"]
+    part, began, before = events, "", stall.number
+    for distance in distances:
+        try:
+            part, now = window(events, calls[stall.number - distance].now, form)
+        except NoPart:
+            continue
+        began = f"it begins at {now} ms of the loop's time, with what there was then, and its times count from there"
+        before = sum(it.type == "B" and it.line < events[stall.at].line for it in part)
+        if before < most:
+            break
+    return part, began, before

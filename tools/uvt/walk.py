@@ -1,0 +1,431 @@
+"""A session that is stepped once more, by a program of its own: the line of each step, and the state at any length."""
+
+from __future__ import annotations
+
+import array
+import bisect
+import collections
+import functools
+from dataclasses import dataclass, field
+from typing import Callable, Iterator
+
+from uvt.conversation import Conversation, Fault, Script, Slot, State
+from uvt.node_names import InNode
+from uvt.places import Place, next_line, read_place
+from uvt.pool import Pool
+
+# The commands that do a step beside `loop`, those that go to another length, and those that only show something. A step `io` is from
+# outside, and is the callback itself; all that its body does is the loop's.
+OUTSIDE = ("take", "finish", "cancel", "send", "tick", "io")
+MOVES = ("back", "rback", "forward")
+SHOWS = ("state", "image", "trace", "record")
+LISTS = {"call": "on", "after": "after", "closed": "closed"}
+WORDS = {"on": "the callback", "after": "the after callback", "closed": "the close callback"}
+CALLBACKS = tuple(f"{it} of " for it in WORDS.values())
+POLL = "the poll"
+MANY_STEPS = 10000
+# So many lines of states are kept, and so many are asked for without waiting.
+MANY_LINES = 1_000_000
+AT_ONCE = 200
+# How the lines begin behind which a request may be done, or an async handle sent to.
+WAKES = ("send ", "out send ", "cancel ", "out cancel ", "out finish ")
+
+
+@dataclass
+class LeftByIo:
+    """A poll that a callback of I/O left."""
+
+    # the step that began it, and that of the callback
+    poll: int
+    call: int
+    # whether a request was done by then, or an async handle was sent to
+    woken: bool
+
+
+@dataclass(slots=True)
+class Look:
+    """A slot that is wanted as it is where so many steps stand. It is the same up to another length: nothing of it is done on the way."""
+
+    name: str
+    id: str
+    first: int
+    last: int
+
+
+# The clock has whole ms, and what is known of the processor's time may be one ms more: so less than that is no difference.
+DIFFERENCE = 3
+
+
+def processor_told(processor: int, took: int) -> str:
+    """How much of a time, in ms, a thread was on the processor, where it isn't all of it: it waited, or others had the processor."""
+    return f", {processor or 'none'} of them on the processor" if 0 <= processor <= took - DIFFERENCE else ""
+
+
+@dataclass
+class Took:
+    """Where the clock went on: in a callback, or elsewhere, from one step to another, and by which pieces of it."""
+
+    what: str
+    first: int
+    last: int
+    pieces: list[tuple[int, int]] = field(default_factory=list)
+    # of a callback the program's function, where that is known; and of one of node's what it is in node
+    function: str = ""
+    node: InNode | None = None
+    # how long its thread was on the processor, in ms; -1 where nobody knows
+    processor: int = -1
+
+    def on_processor(self) -> str:
+        """How much of it that was, where it isn't all of it."""
+        return processor_told(self.processor, self.took())
+
+    def is_callback(self) -> bool:
+        return self.what.startswith(CALLBACKS)
+
+    def is_poll(self) -> bool:
+        return self.what == POLL
+
+    def took(self) -> int:
+        return sum(end - begin for begin, end in self.pieces)
+
+    def between(self, begin: int, end: int) -> int:
+        """How much of it lies between two times of the clock."""
+        return sum(max(0, min(end, b) - max(begin, a)) for a, b in self.pieces)
+
+
+class Walk:
+    """The steps of a session, from 1, with their lines. A length is how many steps stand."""
+
+    def __init__(self, script: Script, steps: list[str], program: list[str] | None = None, tell: Callable[[int, int], None] | None = None) -> None:
+        """The steps are those of a recording, or single steps of a script, of which the program may refuse some. These don't count.
+        `tell` is told how many of them are done, and of how many."""
+        self.script = script
+        self.notes = script.notes
+        self.talk = Conversation(script, program)
+        self.steps: list[str] = []
+        # (a step has no line where the program prints none; there is no step 0)
+        self.lines = [""]
+        self.states: dict[int, State] = {}
+        self.kept_lines = 0
+        try:
+            self.go_through(steps, tell)
+        except BaseException:
+            self.talk.stop()
+            raise
+
+    def go_through(self, steps: list[str], tell: Callable[[int, int], None] | None) -> None:
+        # (of lines and steps that are alike one is kept)
+        same: dict[str, str] = {}
+        for at, (step, answer) in enumerate(zip(steps, self.talk.ask_each(steps))):
+            if self.talk.length == len(self.lines):
+                self.steps.append(same.setdefault(step, step))
+                line = answer[0] if answer else ""
+                self.lines.append(same.setdefault(line, line))
+            elif self.script.is_recorded():
+                raise Fault(f"step {len(self.lines)} of the recording is `{step}`, and the program answers `{answer[-1]}`")
+            if tell and at % MANY_STEPS == 0:
+                tell(at, len(steps))
+        self.length = len(self.steps)
+        self.after = self.ask_after()
+        self.clocks = self.all_clocks()
+        self.ticks = [at for at in range(1, self.length + 1) if self.clocks[at] > self.clocks[at - 1]]
+        self.tick_ends = [self.clocks[at] for at in self.ticks]
+        self.look_through()
+
+    def ask_after(self) -> str:
+        """Why the loop can't go on behind the last step: `blocked` or `ended`; empty where it can."""
+        answer = self.talk.ask("loop")
+        if answer and answer[-1].startswith("refused "):
+            return answer[-1].removeprefix("refused ")
+        self.talk.ask("back 1")
+        return ""
+
+    def state(self, length: int) -> State:
+        """The state where so many steps stand."""
+        if length not in self.states:
+            state = self.talk.state_at(length)
+            self.kept_lines += len(state.lines)
+            if self.kept_lines > MANY_LINES:
+                self.states.clear()
+                self.kept_lines = len(state.lines)
+            self.states[length] = state
+        return self.states[length]
+
+    def states_at(self, lengths: list[int]) -> Iterator[tuple[int, State]]:
+        """The same of many, which have to be in order: asked without waiting for each."""
+        for at in range(0, len(lengths), AT_ONCE):
+            yield from zip(lengths[at : at + AT_ONCE], self.talk.states_at(lengths[at : at + AT_ONCE]))
+
+    def slots_at(self, looks: list[Look]) -> Iterator[tuple[Look, Slot | None]]:
+        """All these slots, by as few states as there can be: one serves all looks whose lengths it lies between."""
+        looks = sorted(looks, key=lambda it: it.last)
+        lengths: list[int] = []
+        for it in looks:
+            if not lengths or it.first > lengths[-1]:
+                lengths.append(it.last)
+        at = 0
+        for length, state in self.states_at(lengths):
+            while at < len(looks) and looks[at].first <= length:
+                yield looks[at], state.slot_at(looks[at].id)
+                at += 1
+
+    def all_clocks(self) -> array.array:
+        """The clock at each length: a line `out tick MS` says that it went on."""
+        clock = self.state(0).numbers["clock"]
+        found = array.array("q", [clock])
+        for line in self.lines[1:]:
+            if line.startswith("out tick "):
+                clock += int(line[9:])
+            found.append(clock)
+        return found
+
+    def clock(self, length: int) -> int:
+        return self.clocks[length]
+
+    def happened(self, step: int) -> int:
+        """The clock where a take or a finish happened, by the notes where these know better than the step."""
+        return self.notes.times.get(step, self.clocks[step])
+
+    def place(self, length: int) -> Place:
+        return read_place(self.state(length).place)
+
+    # ---- the lines, looked through once
+
+    def look_through(self) -> None:
+        """Which callback each step is in, where each tick is, and at which steps a line begins with a word."""
+        # the step that begins the callback in which a step is done, or behind whose last op it comes; 0 where there is none
+        self.inside = array.array("i", bytes(4 * (self.length + 1)))
+        # by that step: the last op; and which call of its list and name it is
+        self.last_op: dict[int, int] = {}
+        self.calls: dict[int, tuple[str, str, int]] = {}
+        # the callbacks of I/O that left a poll, each with the step that began that; and the step that left each poll
+        self.leaving: dict[int, int] = {}
+        self.left_by_step: dict[int, int] = {}
+        self.words: dict[str, list[int]] = {}
+        self.tooks: list[Took] = []
+        self.took_at: dict[int, Took] = {}
+        counts: collections.Counter[tuple[str, str]] = collections.Counter()
+        first, poll, runs = 0, 0, False
+        for step in range(1, self.length + 1):
+            line = self.lines[step]
+            word = line.split(" ", 1)[0]
+            self.words.setdefault(word, []).append(step)
+            if kind := LISTS.get(word):
+                if poll:
+                    self.leaving[step], self.left_by_step[poll] = poll, step
+                first, poll, name = step, 0, line.split(" ", 2)[1]
+                counts[kind, name] += 1
+                self.calls[step] = kind, name, counts[kind, name]
+                self.last_op[step] = step
+            elif self.steps[step - 1] == "loop":
+                if " = " in line:
+                    self.last_op[first] = step
+                else:
+                    if poll:
+                        self.left_by_step[poll] = step
+                    first, poll, runs = 0, step if word == "poll" else 0, word != "end" and (runs or word == "run")
+            elif word == "out" and self.clocks[step] > self.clocks[step - 1]:
+                self.note_tick(step, first, poll, runs)
+            self.inside[step] = first
+        if first and self.place(self.length).callback:
+            self.last_op[first] = self.length
+        for took in self.tooks:
+            took.last = max(took.last, self.last_op.get(took.first, 0))
+
+    def note_tick(self, step: int, first: int, poll: int, runs: bool) -> None:
+        if first and step in self.notes.outside:
+            new = Took("the loop, between two callbacks", step, step)
+        elif first:
+            kind, name, call = self.calls[first]
+            function, node = self.notes.function(kind, name, call), self.notes.in_node(name, kind, call)
+            processor = self.notes.processor.get((kind, name, call), -1)
+            new = Took(f"{WORDS[kind]} of {name}", first, step, function=function, node=node, processor=processor)
+        elif not runs:
+            new = Took("the main program", step, step)
+        elif poll:
+            new = Took(POLL, poll, step)
+        else:
+            place = self.place(step - 1)
+            # (of a real program nobody knows when its run began, only when that looked at the clock first)
+            before = place.where == "entry" and self.notes.names
+            new = Took("the program, before its run looked at the clock" if before else f"the loop, at {place.turn()}", step, step)
+        if not self.tooks or (self.tooks[-1].what, self.tooks[-1].first) != (new.what, new.first):
+            self.tooks.append(new)
+        took = self.took_at[step] = self.tooks[-1]
+        took.last = step
+        took.pieces.append((self.clocks[step - 1], self.clocks[step]))
+
+    def line_done(self, step: int) -> int | None:
+        """The number, from 0, of the script's line that this step did. None where it did none of them."""
+        return next_line(self.script, self.place(step - 1)) if self.steps[step - 1] == "loop" else None
+
+    def by(self, step: int) -> str:
+        """Who did this step, in words."""
+        at = self.line_done(step)
+        if at is None:
+            other = self.notes.by.get(step)
+            return "by the loop" if self.steps[step - 1] == "loop" else f"by {other}" if other else "from outside"
+        line = f"line {at + self.script.first}: {self.script.lines[at]}"
+        function = self.notes.foreign.get(at + self.script.first)
+        if function:
+            return f"by ANOTHER THREAD, with {function}, while the loop ran; in the recording it stands in {line}"
+        inside = self.calls.get(self.inside[step])
+        told = self.notes.function(*inside) if inside else ""
+        if place := self.notes.place(step):
+            # (a place says its function: that of the callback is told where it is another one)
+            return f"by {line}, {place}" + (f", in the callback {told}" if told and told.split(" ")[0] not in place.split(" ") else "")
+        return f"by {line}" + (f", in {told}" if told else "")
+
+    def last_line(self, words: tuple[str, ...], length: int) -> int | None:
+        """The last step, of so many, whose line begins with one of these words."""
+        found = [rows[at - 1] for it in words if (rows := self.words.get(it)) and (at := bisect.bisect_right(rows, length))]
+        return max(found, default=None)
+
+    def next_line(self, word: str, step: int) -> int:
+        """The next step behind this one whose line begins with this word, or the one behind the last of all."""
+        rows = self.words.get(word, [])
+        at = bisect.bisect_right(rows, step)
+        return rows[at] if at < len(rows) else self.length + 1
+
+    def left_at(self, poll: int) -> int:
+        """The step that left the poll which began at this one: the loop's, or a callback of I/O."""
+        return self.left_by_step.get(poll, self.length)
+
+    def left(self, poll: int) -> int:
+        """The clock where the poll that began at this step was left."""
+        return self.clocks[self.left_at(poll)]
+
+    @functools.cached_property
+    def left_by_io(self) -> list[LeftByIo]:
+        """The polls that callbacks of I/O left, in order. Where the lines show nobody who waits for one, nobody had woken it; else the state
+        says it."""
+        found = [LeftByIo(poll, step, False) for step, poll in self.leaving.items()]
+        asked = [it for it, waits in zip(found, self.someone_waits([it.call for it in found])) if waits]
+        for it, (_, state) in zip(asked, self.states_at([it.call for it in asked])):
+            it.woken = " polled woken" in state.place
+        return found
+
+    def someone_waits(self, steps: list[int]) -> Iterator[bool]:
+        """At each of these steps, in order: may there be somebody who was sent to, or a request that is done, and wasn't called yet?"""
+        waiting: set[str] = set()
+        at = 1
+        for step in steps:
+            for line in self.lines[at:step]:
+                if line.startswith(WAKES):
+                    words = line.split(" ")
+                    waiting.add(words[3] if words[1] == "finish" else words[2] if words[0] == "out" else words[1])
+                elif waiting and line.startswith(("call ", "after ", "close ")):
+                    waiting.discard(line.split(" ", 2)[1])
+            at = step
+            yield bool(waiting)
+
+    @functools.cached_property
+    def of_name(self) -> dict[str, list[tuple[int, list[str]]]]:
+        """Of each name the steps whose line has it, with that line's words."""
+        names, found = set(self.script.names()), {}
+        known: dict[str, tuple[str, list[str]] | None] = {}
+        for step, line in enumerate(self.lines):
+            if line not in known:
+                words = line.split(" ")
+                name = next((it for it in words[1:4] if it in names), None)
+                known[line] = (name, words) if name else None
+            if row := known[line]:
+                found.setdefault(row[0], []).append((step, row[1]))
+        return found
+
+    @functools.cached_property
+    def unblocking(self) -> dict[str, list[tuple[int, int, str]]]:
+        """Since whom a poll doesn't wait: from which step, up to which other one, and the name. Idle handles that are active, and handles that
+        close."""
+        found: dict[str, list[tuple[int, int, str]]] = {"idle": [], "closing": []}
+        for name, rows in self.of_name.items():
+            kind, active, closing = "", 0, 0
+            for step, words in rows:
+                match words:
+                    case ["init", _, made, "=", id] if "." in id:
+                        kind = made
+                    case ["start", _, "=", "ok"] if kind == "idle":
+                        active = active or step
+                    case ["stop" | "close", _, "=", "ok"]:
+                        found["idle"] += [(active, step, name)] if active else []
+                        active, closing = 0, step if words[0] == "close" else closing
+                    case ["closed", *_]:
+                        found["closing"].append((closing, step, name))
+                        closing = 0
+            found["idle"] += [(active, self.length + 1, name)] if active else []
+            found["closing"] += [(closing, self.length + 1, name)] if closing else []
+        return found
+
+    def unblocked(self, spans: list[tuple[int, int, str]], first: int, last: int) -> Iterator[tuple[str, list[int]]]:
+        """Of each of these the polls from one step to another that didn't wait."""
+        rows = self.words.get("poll", [])
+        for begin, end, name in spans:
+            a, b = max(begin, first), min(end - 1, last)
+            if a <= b and (steps := [it for it in rows[bisect.bisect_left(rows, a) : bisect.bisect_right(rows, b)] if self.lines[it] == "poll 0"]):
+                yield name, steps
+
+    @functools.cached_property
+    def pool(self) -> Pool:
+        return Pool(self)
+
+    def steps_between(self, word: str, first: int, last: int) -> list[int]:
+        """The steps from one to another whose line begins with this word."""
+        rows = self.words.get(word, [])
+        return rows[bisect.bisect_left(rows, first) : bisect.bisect_right(rows, last)]
+
+    # ---- where the clock went on
+
+    def causes(self, begin: int, end: int) -> list[Took]:
+        """Where the clock went on between these two times, and all that it went on there."""
+        found: list[Took] = []
+        for at in range(bisect.bisect_right(self.tick_ends, begin), len(self.ticks)):
+            step = self.ticks[at]
+            if self.clocks[step - 1] >= end:
+                break
+            if not found or found[-1] is not self.took_at[step]:
+                found.append(self.took_at[step])
+        return found
+
+    def close(self) -> None:
+        self.talk.close()
+
+    def __enter__(self) -> Walk:
+        return self
+
+    def __exit__(self, *fault: object) -> None:
+        self.talk.__exit__(*fault)
+
+
+def ways(commands: list[str]) -> Iterator[list[str]]:
+    """The commands, cut in front of each that goes back, or forward again."""
+    part: list[str] = []
+    for command in commands:
+        if command == "quit":
+            break
+        if command.split(" ")[0] in MOVES:
+            yield part
+            part = []
+        if command.split(" ")[0] not in SHOWS:
+            part.append(command)
+    yield part
+
+
+def longest_way(script: Script, commands: list[str]) -> list[str]:
+    """The steps of the longest session that these commands come to. They may go back, and on in another way.
+
+    Where each of them is one step they are answered as they are.
+    """
+    if all(it == "loop" or it.split(" ")[0] in OUTSIDE for it in commands):
+        return commands
+    best: list[str] = []
+    longest = 0
+    with Conversation(script) as talk:
+        for part in ways(commands):
+            if part and part[0].split(" ")[0] in MOVES:
+                talk.ask(part.pop(0))
+            for _ in talk.ask_each(part):
+                pass
+            if talk.length > longest:
+                longest = talk.length
+                best = talk.recording().steps
+    return best
