@@ -46,12 +46,13 @@ COMMANDS = [
     ('cancel NAME, send NAME', 'from outside, as another thread does'),
     ('io NAME', 'the callback of a handle of I/O comes, in a script with the line `io`'),
     ('trace, state, image, record', 'shows the steps, the state, the memory, the recording'),
+    ('state NAME', 'shows what one name is bound to'),
     ('quit', 'ends'),
 ]
 # The form of each command: words, or what stands for one. Of `break` there are four.
 FORMS = {
     'loop': ['', 'N'], 'tick': ['MS'], 'take': ['K'], 'finish': ['K'], 'cancel': ['NAME'], 'send': ['NAME'], 'io': ['NAME'],
-    'back': ['N'], 'forward': ['N'], 'rback': [''], 'trace': [''], 'state': [''], 'image': [''], 'record': [''], 'quit': [''],
+    'back': ['N'], 'forward': ['N'], 'rback': [''], 'trace': [''], 'state': ['', 'NAME'], 'image': [''], 'record': [''], 'quit': [''],
     'break': ['call NAME', 'code CODE', 'section WORD', 'clear'],
 }
 RANGES = {'MS': (0, reasons.LARGEST), 'K': (0, 65535), 'loop': (1, 16777216), 'back': (0, 16777216), 'forward': (0, 16777216)}

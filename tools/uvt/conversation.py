@@ -414,6 +414,10 @@ class Conversation:
     def state(self) -> State:
         return State(self.ask("state"))
 
+    def of_name(self, name: str) -> State:
+        """What one name is bound to: of the state the line of the name, and that of its slot while it holds that, and no more."""
+        return State(self.ask(f"state {name}"))
+
     def state_at(self, length: int) -> State:
         """Goes to where so many steps stand, by those that stand or that were taken back, and answers the state there."""
         away = length - self.length

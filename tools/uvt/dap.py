@@ -283,7 +283,7 @@ class Adapter:
             self.top = self.talk.length
         for line in lines:
             self.event("output", category="stdout" if self.talk.length > at else "console", output=f"{line}\n")
-        if step.startswith("io ") and self.steps is self.launched and (told := what_came(self.script.notes, step, self.talk.state())):
+        if step.startswith("io ") and self.steps is self.launched and (told := what_came(self.script.notes, step, self.talk.of_name(step[3:]))):
             self.event("output", category="console", output=f"    {told}\n")
         return lines if self.talk.length > at else None
 

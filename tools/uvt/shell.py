@@ -108,7 +108,7 @@ class Shell:
                 found = {"call": self.names(), "code": CODES, "section": SECTIONS}.get(typed[1], [])
             case "info", 1:
                 found = INFO
-            case "print" | "why" | "send" | "cancel" | "io" | "watch", 1:
+            case "print" | "why" | "state" | "send" | "cancel" | "io" | "watch", 1:
                 found = self.names()
             case "help", 1:
                 found = self.words()
@@ -200,10 +200,10 @@ class Shell:
             end = next((it for it in range(at, min(at + most, len(self.steps))) if self.steps[it] != "loop"), at + most)
             step = f"loop {end - at}"
         lines = self.own(step)
-        if step.startswith("io ") and self.steps is self.recorded and (told := what_came(self.talk.script.notes, step, self.talk.state())):
+        if step.startswith("io ") and self.steps is self.recorded and (told := what_came(self.talk.script.notes, step, self.talk.of_name(step[3:]))):
             self.write(f"    {told}")
         if len(lines) == 1 and self.steps is self.recorded and (javascript := self.talk.script.notes.javascript):
-            told = javascript.called(lines[0], self.talk.state().counts if lines[0].startswith(CALLED) else {})
+            told = javascript.called(lines[0], self.talk.of_name(lines[0].split(" ")[1]).counts if lines[0].startswith(CALLED) else {})
             self.show([row for it in told for row in fitted(f"    {it}")])
         return lines
 

@@ -318,7 +318,7 @@ class Follower:
                 pass
             elif ready and self.sends_before(item, at):
                 continue
-            elif item.name not in self.senders or self.talk.state().slot_of(item.name).values.get("pending") == "0":
+            elif item.name not in self.senders or self.talk.of_name(item.name).slot_of(item.name).values.get("pending") == "0":
                 self.later(f"send {item.name}", f"out send {item.name} = ok")
             ready = True
 
