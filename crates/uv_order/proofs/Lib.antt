@@ -3,8 +3,10 @@ mod Bodies
 mod ClosesOnce
 mod Contents
 mod Counted
+mod Dated
 mod Did
 pub mod Documents
+pub mod DueTold
 mod Follows
 mod Gone
 pub mod Histories

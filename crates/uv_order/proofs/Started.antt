@@ -329,10 +329,10 @@ due_started p past s t f kept k =
     (λ e. call_tells p past t.1.name t.0 ∙ ap activity_called e ∙ rw (still, without_itself s.ready t.0) (grind arith)) k
 
 -- one of a list of watchers is active, and no timer
-front_watches : (s : State) (q : WatcherKind) (t : Id × HandleRecord) → FrontOf s (watched s q).yet t → Kept s → Watches (kind_as q) t.1
+pub front_watches : (s : State) (q : WatcherKind) (t : Id × HandleRecord) → FrontOf s (watched s q).yet t → Kept s → Watches (kind_as q) t.1
 front_watches s q t f kept = front_fits s (Watches (kind_as q)) (watched s q).list (watched s q).yet t (kept.watchers q).each f
 
-no_timers : (q : WatcherKind) → is_timer (kind_as q) ≡ false
+pub no_timers : (q : WatcherKind) → is_timer (kind_as q) ≡ false
 no_timers q = grind arith
 
 -- a watcher is called, with its record as it was, or no longer pending
