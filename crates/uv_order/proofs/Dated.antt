@@ -228,7 +228,7 @@ did_op_dated p past s o d (DidOp.cancelled v t live on) kept w b k =
     by_quiet p past s (Op.Cancel v) d (calm_op p (seens past) (Op.Cancel v) d.answer refl)
     (λ now q. request_dated p past now s t.0 t.1 _ live.holds q k)
 did_op_dated p past s o d (DidOp.started v timeout repeat t e is stays) kept w b k = start_dated p past s v timeout repeat t e w k
-did_op_dated p past s o d (DidOp.again v t e is stays) kept w b k = again_op_dated p past s v t e w b k
+did_op_dated p past s o d (DidOp.again v t e is stays begun) kept w b k = again_op_dated p past s v t e w b k
 did_op_dated p past s o d (DidOp.watching v WatcherKind.Idle t e is off stays) kept w b k =
     by_touched p past s o d t.0 t.1 (records.activated t.1) refl (assumption (live_held s v t e)) refl (no_timer t.1.kind Kind.Idle is refl) k
 did_op_dated p past s o d (DidOp.watching v q t e is off stays) kept w b k =

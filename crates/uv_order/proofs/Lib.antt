@@ -1,3 +1,4 @@
+pub mod AnswersTold
 mod Asked
 mod Bodies
 mod ClosesOnce
@@ -10,6 +11,7 @@ pub mod DueTold
 mod Follows
 mod Gone
 pub mod Histories
+mod Heard
 mod Holding
 pub mod IdLists
 mod IoFollows
@@ -27,6 +29,7 @@ mod Quiet
 pub mod Reaching
 pub mod RefusedOnce
 pub mod RefusedOrder
+mod Saying
 mod Sends
 mod Standing
 mod Started

@@ -5,6 +5,7 @@
 //! for `closes_once`, `PoolEvents.antt` for `pool_follows`; none of them knows the model's step.
 #![tactic(auto)]
 
+mod answers;
 mod dues;
 mod once;
 mod phase_order;
@@ -14,6 +15,7 @@ mod refused;
 mod told;
 mod waits;
 
+pub use answers::answers_told;
 pub use dues::dues_told;
 pub use once::closes_once;
 pub use phase_order::documented_order;
