@@ -14,7 +14,7 @@ pub record Counted (p : Program) (names : List Named) (told : Told) : Type 0 whe
 pub counted_kept : (p : Program) (now was : List Named) (told : Told) → SameCalls now was → Counted p was told → Counted p now told
 counted_kept p now was told same k = record { long = same.long ∙ k.long; calls = λ kind v l. ap (count_of kind) (same.each v) ∙ k.calls kind v l }
 
-replicate_long : (n : ℕ) → length (replicate n unbound) ≡ n
+pub replicate_long : (n : ℕ) → length (replicate n unbound) ≡ n
 replicate_long zero = refl
 replicate_long (suc n) = ap suc (replicate_long n)
 

@@ -151,7 +151,7 @@ pub holds_after : (p : Program) (es : List Event) → HoldsAt p (after.after p e
 holds_after p es = holds_by (course p es)
 
 -- each handle is what the lines tell of it
-its_close : (p : Program) (past : List Seen) (s : State) (id : Id) (h : HandleRecord) → held_at s.arena.slots id ≡ Some h → KnownAt p past s →
+pub its_close : (p : Program) (past : List Seen) (s : State) (id : Id) (h : HandleRecord) → held_at s.arena.slots id ≡ Some h → KnownAt p past s →
     (b : Bool) → h.closing ≡ b → was_closed p past id ≡ b
 its_close p past s id h e k true c = k.closing id (record { handle = h; holds = e; fits = c })
 its_close p past s id h e k false c = not_closed p past s.arena s.names id h e c k

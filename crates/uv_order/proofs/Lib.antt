@@ -1,13 +1,17 @@
+pub mod AnswersTold
 mod Asked
 mod Bodies
 mod ClosesOnce
 mod Contents
 mod Counted
+mod Dated
 mod Did
 pub mod Documents
+pub mod DueTold
 mod Follows
 mod Gone
 pub mod Histories
+mod Heard
 mod Holding
 pub mod IdLists
 mod IoFollows
@@ -25,6 +29,7 @@ mod Quiet
 pub mod Reaching
 pub mod RefusedOnce
 pub mod RefusedOrder
+mod Saying
 mod Sends
 mod Standing
 mod Started

@@ -67,7 +67,7 @@ refuses_close h c e ok = grind arith
 pub start_passes : (h : HandleRecord) → start_timer_refusal h ≡ None → (h.kind ≡ Kind.Timer) × (h.closing ≡ false)
 start_passes h e = grind arith
 
-pub again_passes : (h : HandleRecord) → again_refusal h ≡ None → (h.kind ≡ Kind.Timer) × (h.closing ≡ false)
+pub again_passes : (h : HandleRecord) → again_refusal h ≡ None → (h.kind ≡ Kind.Timer) × (h.closing ≡ false) × (h.begun ≡ true)
 again_passes h e = grind arith
 
 pub send_passes : (h : HandleRecord) → send_refusal h ≡ None → (h.kind ≡ Kind.Async) × (h.closing ≡ false)
@@ -117,9 +117,10 @@ pub data IsAsked : Op → Type 0 where
   asks_timeout : IsAsked Op.Timeout
   close_loop : IsAsked Op.CloseLoop
 
-pub data IsRef : Op → Type 0 where
-  ref : (v : Var) → IsRef (Op.Ref v)
-  unref : (v : Var) → IsRef (Op.Unref v)
+-- it says whether the handle of this name is referenced
+pub data IsRef : Op → Var → Bool → Type 0 where
+  ref : (v : Var) → IsRef (Op.Ref v) v true
+  unref : (v : Var) → IsRef (Op.Unref v) v false
 
 abbrev pub MayRefuse : Op → Type 0
 MayRefuse Op.StopLoop = ⊥
@@ -142,7 +143,7 @@ pub data DidOp (s : State) : Op → ops.Done → Type 0 where
   -- that of a handle
   started : (v : Var) (timeout repeat : ℕ) (t : Id × HandleRecord) → live_handle s v ≡ Ok t → t.1.kind ≡ Kind.Timer → t.1.closing ≡ false
       → DidOp s (Op.Start v timeout repeat) (ops.start s timeout repeat t.0 t.1)
-  again : (v : Var) (t : Id × HandleRecord) → live_handle s v ≡ Ok t → t.1.kind ≡ Kind.Timer → t.1.closing ≡ false
+  again : (v : Var) (t : Id × HandleRecord) → live_handle s v ≡ Ok t → t.1.kind ≡ Kind.Timer → t.1.closing ≡ false → t.1.begun ≡ true
       → DidOp s (Op.Again v) (ops.again s t.0 t.1)
   watching : (v : Var) (q : WatcherKind) (t : Id × HandleRecord) → live_handle s v ≡ Ok t → t.1.kind ≡ kind_as q → t.1.active ≡ false
       → t.1.closing ≡ false → DidOp s (Op.StartWatcher v) (ops.succeeds (ops.watcher_started s q t.0 t.1))
@@ -154,7 +155,7 @@ pub data DidOp (s : State) : Op → ops.Done → Type 0 where
   stopped : (v : Var) (t : Id × HandleRecord) → live_handle s v ≡ Ok t → (t.1.kind ≡ Kind.Async → ⊥) → DidOp s (Op.Stop v) (ops.stop s t.0 t.1)
   closed : (v : Var) (t : Id × HandleRecord) → live_handle s v ≡ Ok t → t.1.closing ≡ false → DidOp s (Op.Close v) (ops.close s t.0 t.1)
   repeated : (v : Var) (n : ℕ) (t : Id × HandleRecord) → live_handle s v ≡ Ok t → DidOp s (Op.SetRepeat v n) (ops.set_repeat s n t.0 t.1)
-  referenced : (o : Op) (v : Var) (flag : Bool) (t : Id × HandleRecord) → live_handle s v ≡ Ok t → IsRef o
+  referenced : (o : Op) (v : Var) (flag : Bool) (t : Id × HandleRecord) → live_handle s v ≡ Ok t → IsRef o v flag
       → DidOp s o (ops.set_referenced s flag t.0 t.1)
   sent_to : (v : Var) (t : Id × HandleRecord) → live_handle s v ≡ Ok t → t.1.kind ≡ Kind.Async → t.1.closing ≡ false
       → DidOp s (Op.Send v) (record { state = with_handle s t.0 (sent t.1); answer = Answer.Code Success })
@@ -182,7 +183,7 @@ op_did s (Op.Start v timeout repeat) = held_did s (Op.Start v timeout repeat) v 
 op_did s (Op.StartWatcher v) = grind (arith, held_did, watcher_did)
 op_did s (Op.Stop v) = held_did s (Op.Stop v) v stop_refusal _ tt refuses_stop (λ t e is. stopped v t e (grind arith))
 op_did s (Op.Again v) = held_did s (Op.Again v) v again_refusal _ tt refuses_again
-    (λ t e is. let p = again_passes t.1 is in again v t e p.0 p.1)
+    (λ t e is. let p = again_passes t.1 is in again v t e p.0 p.1 p.2)
 op_did s (Op.SetRepeat v n) = held_did s (Op.SetRepeat v n) v timer_refusal _ tt refuses_timer (λ t e is. repeated v n t e)
 op_did s (Op.DueIn v) = held_did s (Op.DueIn v) v timer_refusal _ tt refuses_timer (λ t e is. asked _ _ (due_in v))
 op_did s (Op.Close v) = held_did s (Op.Close v) v close_refusal _ tt refuses_close (λ t e is. closed v t e (grind arith))

@@ -185,7 +185,7 @@ did_op_effect names s o d (DidOp.made v q id e) x k = new_effect names s v q id
 did_op_effect names s o d (DidOp.queued v task id e) x k =
     still names s (Op.Queue v task) _ refl refl (grind (arith, set_long, set_says (λ (n : Named). n.calls))) (assumption)
 did_op_effect names s o d (DidOp.started v timeout repeat t e is stays) x k = start_effect names s v timeout repeat t x e is k
-did_op_effect names s o d (DidOp.again v t e is stays) x k = again_effect names s v t x e is k
+did_op_effect names s o d (DidOp.again v t e is stays begun) x k = again_effect names s v t x e is k
 did_op_effect names s o d (DidOp.stopped v t e sync) x k = stop_effect names s v t x e sync k
 did_op_effect names s o d (DidOp.closed v t e stays) x k = close_effect names s v t x e
 did_op_effect names s o d (DidOp.watching v WatcherKind.Idle t e is off stays) x k = simple names s (Op.StartWatcher v) _ refl refl refl (assumption)

@@ -176,7 +176,7 @@ did_op_known p past s o d (DidOp.cancelled v t live on) kept unmade k = cancel_o
 did_op_known p past s o d (DidOp.started v timeout repeat t e is stays) kept unmade k = known_by p past o d (harmless o refl _)
     (touched p past s d.state t.0 t.1 _ (start_touches s (stopped s t.0 t.1) t.0 t.1 (records.stopped t.1) timeout repeat
     (assumption (live_held s v t e))) refl k)
-did_op_known p past s o d (DidOp.again v t e is stays) kept unmade k = known_by p past o d (harmless (Op.Again v) refl _)
+did_op_known p past s o d (DidOp.again v t e is stays begun) kept unmade k = known_by p past o d (harmless (Op.Again v) refl _)
     (touched p past s d.state t.0 t.1 _ (again_touches s (stopped s t.0 t.1) t.0 t.1 (records.stopped t.1) (assumption (live_held s v t e)))
     (grind arith) k)
 did_op_known p past s o d (DidOp.watching v q t e is off stays) kept unmade k = search (known_by, past, harmless, changed, live_held)

@@ -73,7 +73,7 @@ did_op_same s o d (DidOp.queued v task id e) h kept = absurd h
 did_op_same s o d (DidOp.cancelled v t live on) h kept = absurd h
 did_op_same s o d (DidOp.started v timeout repeat t e is stays) h kept = touched s d.state t.0 t.1 _
     (start_touches s (stopped s t.0 t.1) t.0 t.1 (records.stopped t.1) timeout repeat (assumption (live_held s v t e)))
-did_op_same s o d (DidOp.again v t e is stays) h kept = again_same s t (live_held s v t e)
+did_op_same s o d (DidOp.again v t e is stays begun) h kept = again_same s t (live_held s v t e)
 did_op_same s o d (DidOp.watching v WatcherKind.Idle t e is off stays) h kept = changed s t (activated t.1) (live_held s v t e)
 did_op_same s o d (DidOp.watching v each t e is off stays) h kept = changed s t (activated t.1) (live_held s v t e)
 did_op_same s o d (DidOp.io_started v t e is off stays) h kept = changed s t (activated t.1) (live_held s v t e)

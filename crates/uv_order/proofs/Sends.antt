@@ -139,7 +139,7 @@ did_op_sent names s sent o d (DidOp.queued v task id e) x kept k = queued_sent s
 did_op_sent names s sent o d (DidOp.cancelled v t live on) x kept k = request_sent s sent t.0 t.1 _ live.holds k
 did_op_sent names s sent o d (DidOp.started v timeout repeat t e is stays) x kept k = touched s d.state sent t.0 t.1 _
     (start_touches s (stopped s t.0 t.1) t.0 t.1 (records.stopped t.1) timeout repeat (assumption (live_held s v t e))) refl refl refl k
-did_op_sent names s sent o d (DidOp.again v t e is stays) x kept k = again_sent s sent t (live_held s v t e) k
+did_op_sent names s sent o d (DidOp.again v t e is stays begun) x kept k = again_sent s sent t (live_held s v t e) k
 did_op_sent names s sent o d (DidOp.watching v WatcherKind.Idle t e is off stays) x kept k = search (changed, live_held)
 did_op_sent names s sent o d (DidOp.watching v each t e is off stays) x kept k = search (changed, live_held)
 did_op_sent names s sent o d (DidOp.io_started v t e is off stays) x kept k = search (changed, live_held)

@@ -135,7 +135,7 @@ done_started p past s u o v t x is e touches lists own w k place at =
     chosen i b d = grind arith
 
 -- who is ready, where a timer is started again or not
-again_ready : (u : State) (id : Id) (h : HandleRecord) → (restarted u id h).ready ≡ u.ready
+pub again_ready : (u : State) (id : Id) (h : HandleRecord) → (restarted u id h).ready ≡ u.ready
 again_ready u id h = grind arith
 
 -- an op that starts and stops nobody, and makes no id
@@ -238,7 +238,7 @@ did_op_started p past s o d (DidOp.started v timeout repeat t e is stays) kept w
     done_started p past s d.state (Op.Start v timeout repeat) v t _ refl e
     (start_touches s (stopped s t.0 t.1) t.0 t.1 (records.stopped t.1) timeout repeat (assumption (live_held s v t e)))
     (λ i f. has_without s.ready t.0 i f) (rw (without_itself s.ready t.0) refl) w k
-did_op_started p past s o d (DidOp.again v t e is stays) kept w k =
+did_op_started p past s o d (DidOp.again v t e is stays begun) kept w k =
     done_started p past s d.state (Op.Again v) v t _ refl e
     (again_touches s (stopped s t.0 t.1) t.0 t.1 (records.stopped t.1) (assumption (live_held s v t e)))
     (λ i f. ap (λ (ids : List Id). has_id ids i) (again_ready (stopped s t.0 t.1) t.0 t.1) ∙ has_without s.ready t.0 i f)
@@ -329,10 +329,10 @@ due_started p past s t f kept k =
     (λ e. call_tells p past t.1.name t.0 ∙ ap activity_called e ∙ rw (still, without_itself s.ready t.0) (grind arith)) k
 
 -- one of a list of watchers is active, and no timer
-front_watches : (s : State) (q : WatcherKind) (t : Id × HandleRecord) → FrontOf s (watched s q).yet t → Kept s → Watches (kind_as q) t.1
+pub front_watches : (s : State) (q : WatcherKind) (t : Id × HandleRecord) → FrontOf s (watched s q).yet t → Kept s → Watches (kind_as q) t.1
 front_watches s q t f kept = front_fits s (Watches (kind_as q)) (watched s q).list (watched s q).yet t (kept.watchers q).each f
 
-no_timers : (q : WatcherKind) → is_timer (kind_as q) ≡ false
+pub no_timers : (q : WatcherKind) → is_timer (kind_as q) ≡ false
 no_timers q = grind arith
 
 -- a watcher is called, with its record as it was, or no longer pending

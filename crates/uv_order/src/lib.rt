@@ -5,6 +5,8 @@
 //! for `closes_once`, `PoolEvents.antt` for `pool_follows`; none of them knows the model's step.
 #![tactic(auto)]
 
+mod answers;
+mod dues;
 mod once;
 mod phase_order;
 mod pool;
@@ -13,6 +15,8 @@ mod refused;
 mod told;
 mod waits;
 
+pub use answers::answers_told;
+pub use dues::dues_told;
 pub use once::closes_once;
 pub use phase_order::documented_order;
 pub use pool::pool_follows;

@@ -1,0 +1,208 @@
+-- What ops answer: what a name stands for by the lines is what it stands for in the state, and so each answer is as the lines tell.
+use Rattle.uv_order.proofs.Names.{arith, ◌≡◌, ◌&&◌, ◌||◌, List, ◌∷◌, Bool, true, false, not, length, list_any, if◌then◌else◌, Option, Some, None, Ok, option_map, unwrap_or, slice_get, slice_get_past, nat_lt, nat_tests, ◌≤◌, refl, ap, sym, subst, ◌∙◌, Id, Var, Due, Code, Answer, Op, Program, Request, Content, HandleRecord, Named, is_timer, held, same_id, State, handle, live, live_handle, live_request, do_op, has_id, bound, was_closed, unbound, named, with_id, [], as_request, Seen, Activity, same_Some, timer_refusal, has_take_line, has_cancel_line, Mode, Outcome, Open, Finished, Cancelled, is_open, run_ids, request_in, or_left, or_right, ◌++◌, cond_both, has_some}
+use Rattle.std.specs.Prelude.{◌-◌}
+use Rattle.std.proofs.lemmas.Bool.{ltb-false}
+use Rattle.uv_model.specs.Ops as ops
+use Rattle.uv_model.specs.Found.{found_or}
+use Rattle.uv_model.specs.State.{live_id, as_handle}
+use Rattle.uv_order.specs.Line.{Line}
+use Rattle.uv_order.specs.Dues.{due_told, seens}
+use Rattle.uv_order.specs.Answers.{Facts, facts, ids_held, held_as, live_told, is_of, is_invalid, active_told, asked, says_of, says, cancel_says, MakesAs, OpAnswers}
+use Rattle.uv_order.proofs.Lemmas.{asked_at, has_both, turned, Kept, Working, live_held}
+use Rattle.uv_order.proofs.OpsOnce.{KnownAt}
+use Rattle.uv_order.proofs.Started.{StartedAt}
+use Rattle.uv_order.proofs.Dated.{DatedAt}
+use Rattle.uv_order.proofs.Documents.{its_close}
+use Rattle.uv_order.proofs.Heard.{HeardAt, facts_of}
+use Rattle.uv_order.proofs.Lives.{lives_is, may_wait_is, either_way, found, is_any, first, some_of}
+use Rattle.uv_order.proofs.Worked.{EndsTrue}
+use Rattle.uv_model.specs.Content.{is_used}
+use Rattle.uv_order.proofs.Standing.{are_timers}
+use Rattle.uv_records.specs.Dues.{due_in}
+
+-- ---- live names
+
+abbrev pub told_of : Id × Content → Id × Facts
+told_of t = (t.0, facts_of t.1)
+
+-- a name is bound as the lines tell, where it is one of the script
+bound_now : (p : Program) (past : List Seen) (s : State) (v : Var) → HeardAt p past s →
+    (if nat_lt v.0 (length p.callbacks) then bound p past v else None) ≡ (named s v).id
+bound_now p past s v k = by (nat_lt v.0 (length p.callbacks)) refl where
+  by : (b : Bool) → nat_lt v.0 (length p.callbacks) ≡ b → (if b then bound p past v else None) ≡ (named s v).id
+  by true e = k.bound v (grind (arith, nat_tests))
+  by false e = let n : slice_get s.names v.0 ≡ None = slice_get_past s.names v.0 (let l = k.long in let m : length p.callbacks ≤ v.0 = ltb-false v.0 (length p.callbacks) e in omega arith) in
+      sym (ap (λ (o : Option Named). (unwrap_or o unbound).id) n)
+
+held_now : (p : Program) (past : List Seen) (s : State) (o : Option Id) → HeardAt p past s → held_as p past o ≡ option_map told_of (live_id s o)
+held_now p past s None k = refl
+held_now p past s (Some id) k = ap (with_id id) (k.stands id) ∙ by (held s.arena.slots id) where
+  by : (c : Option Content) → with_id id (option_map facts_of c) ≡ option_map told_of (with_id id c)
+  by None = refl
+  by (Some c) = refl
+
+pub live_now : (p : Program) (past : List Seen) (s : State) (v : Var) → HeardAt p past s → live_told p past v ≡ option_map told_of (live s v)
+live_now p past s v k = ap (held_as p past) (bound_now p past s v k) ∙ held_now p past s (named s v).id k
+
+live_holds : (s : State) (v : Var) (t : Id × Content) → live s v ≡ Some t → held s.arena.slots t.0 ≡ Some t.1
+live_holds s v t e = grind arith
+
+-- ---- handles
+
+-- what the lines tell of a handle
+record Shown (p : Program) (past : List Line) (s : State) (id : Id) (h : HandleRecord) : Type 0 where
+  closing : was_closed p (seens past) id ≡ h.closing
+  active : active_told p (seens past) s id ≡ h.active
+  due : is_timer h.kind ≡ true → (if h.active then (due_told p past id).at - s.time else 0) ≡ due_in s.time h
+
+shown_now : (p : Program) (past : List Line) (s : State) (id : Id) (h : HandleRecord) → handle s id ≡ Some h → Kept s → KnownAt p (seens past) s →
+    StartedAt p (seens past) s → DatedAt p past s → Shown p past s id h
+shown_now p past s id h e kept w b d = record {
+  closing = its_close p (seens past) s id h e w h.closing refl;
+  active = ap (λ (x : Activity). x.started && not (has_id s.ready id)) (b.active id h e) ∙ resting (has_id s.ready id) refl;
+  due = λ timer. by h.active refl timer;
+} where
+  resting : (r : Bool) → has_id s.ready id ≡ r → ((r || h.active) && not r) ≡ h.active
+  resting true on =
+      let f = kept.ready.each id on in
+      let is : f.handle ≡ h = same_Some f.handle h (sym f.holds ∙ e) in
+      sym (ap (λ (x : HandleRecord). x.active) (sym is) ∙ f.fits.inactive)
+  resting false on = grind arith
+
+  by : (x : Bool) → h.active ≡ x → is_timer h.kind ≡ true → (if x then (due_told p past id).at - s.time else 0) ≡ (if x then h.due.at - s.time else 0)
+  by true on timer = ap (λ (q : Due). q.at - s.time) (sym (d.due id h e timer on))
+  by false on timer = refl
+
+-- an op on a handle answers so, where its record does
+abbrev DoneSays : Program → List Line → State → Op → (HandleRecord → Option Code) → (Id → HandleRecord → ops.Done) → Type 0
+DoneSays p past s o why f = (id : Id) (h : HandleRecord) → Shown p past s id h →
+    (found_or (why h) (ops.refuses s) (f id h)).answer
+    ≡ says_of (is_of o h.kind) (is_invalid o (was_closed p (seens past) id) h.begun) (asked p past s o id (facts_of (Content.Handle h)))
+
+handle_says : (p : Program) (past : List Line) (s : State) (o : Op) (v : Var) (why : HandleRecord → Option Code) (f : Id → HandleRecord → ops.Done) →
+    DoneSays p past s o why f → Kept s → KnownAt p (seens past) s → StartedAt p (seens past) s → DatedAt p past s → HeardAt p (seens past) s →
+    (ops.on_handle s (live_handle s v) why f).answer ≡ says p past s o (live_told p (seens past) v)
+handle_says p past s o v why f done kept w b d k = by (live s v) refl ∙ ap (says p past s o) (sym (live_now p (seens past) s v k)) where
+  by : (t : Option (Id × Content)) → live s v ≡ t → (ops.on_handle s (as_handle t) why f).answer ≡ says p past s o (option_map told_of t)
+  by None e = refl
+  by (Some (id, Content.Handle h)) e = done id h (shown_now p past s id h (live_held s v (id, h) (ap as_handle e)) kept w b d)
+  by (Some (id, Content.Request r)) e = refl
+
+pub send_says : (p : Program) (past : List Line) (s : State) (v : Var) → Kept s → KnownAt p (seens past) s → StartedAt p (seens past) s →
+    DatedAt p past s → HeardAt p (seens past) s →
+    Answer.Code (ops.send s (live_handle s v)).code ≡ says p past s (Op.Send v) (live_told p (seens past) v)
+send_says p past s v kept w b d k = by (live s v) refl ∙ ap (says p past s (Op.Send v)) (sym (live_now p (seens past) s v k)) where
+  by : (t : Option (Id × Content)) → live s v ≡ t →
+      Answer.Code (ops.send s (as_handle t)).code ≡ says p past s (Op.Send v) (option_map told_of t)
+  by None e = refl
+  by (Some (id, Content.Handle h)) e =
+      let x = shown_now p past s id h (live_held s v (id, h) (ap as_handle e)) kept w b d in grind (arith, x.closing)
+  by (Some (id, Content.Request r)) e = refl
+
+any_has : (ids : List Id) (id : Id) → list_any (same_id id) ids ≡ has_id ids id
+any_has [] id = refl
+any_has (x ∷ ids) id = grind (arith, turned, any_has ids id)
+
+-- a request that is held waits just where no worker took it, and no cancel of it was accepted
+waits_told : (p : Program) (past : List Seen) (s : State) (id : Id) (r : Request) → held s.arena.slots id ≡ Some (Content.Request r) → Working s →
+    KnownAt p past s → (has_take_line past id || has_cancel_line p past id) ≡ not (has_id s.waiting id)
+waits_told p past s id r e work w = by (has_id s.waiting id) refl where
+  its : asked_at s.arena.slots id ≡ Some r
+  its = ap request_in e
+
+  ended : (x : Outcome) → r.outcome ≡ x → is_open x ≡ false → (has_take_line past id || has_cancel_line p past id) ≡ true
+  ended (Finished digest) f c = or_left _ _ (subst (EndsTrue p past id r.task) f (w.worked.ended id r its)).0
+  ended Cancelled f c = or_right _ _ (subst (EndsTrue p past id r.task) f (w.worked.ended id r its)).1
+  ended Open f c = cc c
+
+  open_one : has_id s.waiting id ≡ false → is_open r.outcome ≡ true → has_take_line past id ≡ true
+  open_one off opened =
+      let on : has_id (s.waiting ++ run_ids s.running) id ≡ true = work.open_ones.all id (record { request = r; holds = its; fits = opened }) in
+      let runs : has_id (run_ids s.running) id ≡ true = sym (has_both s.waiting (run_ids s.running) id ∙ rw off refl) ∙ on in
+      (w.worked.runs_now id runs).0
+
+  away : has_id s.waiting id ≡ false → (b : Bool) → is_open r.outcome ≡ b → (has_take_line past id || has_cancel_line p past id) ≡ true
+  away off true f = or_left _ _ (open_one off f)
+  away off false f = ended r.outcome refl f
+
+  by : (b : Bool) → has_id s.waiting id ≡ b → (has_take_line past id || has_cancel_line p past id) ≡ not b
+  by true on = rw (w.worked.waits id on, w.worked.uncancelled id on) refl
+  by false off = away off (is_open r.outcome) refl
+
+pub cancel_answers : (p : Program) (past : List Seen) (s : State) (v : Var) → Working s → KnownAt p past s → HeardAt p past s →
+    (ops.cancel s (live_request s v)).answer ≡ cancel_says p past (live_told p past v)
+cancel_answers p past s v work w k = by (live s v) refl ∙ ap (cancel_says p past) (sym (live_now p past s v k)) where
+  waits : (id : Id) (r : Request) → held s.arena.slots id ≡ Some (Content.Request r) →
+      (ops.cancel s (Ok (id, r))).answer ≡ cancel_says p past (Some (id, facts_of (Content.Request r)))
+  waits id r e =
+      let told = waits_told p past s id r e work w in
+      let any = any_has s.waiting id in grind arith
+
+  by : (t : Option (Id × Content)) → live s v ≡ t → (ops.cancel s (as_request t)).answer ≡ cancel_says p past (option_map told_of t)
+  by None e = refl
+  by (Some (id, Content.Handle h)) e = refl
+  by (Some (id, Content.Request r)) e = waits id r (live_holds s v (id, Content.Request r) e)
+
+-- ---- any op
+
+-- something is held just where the lines tell of something
+is_there : (p : Program) (past : List Seen) (s : State) (id : Id) → HeardAt p past s → is_used (held s.arena.slots id) ≡ has_id (ids_held p past) id
+is_there p past s id k = by (has_id (ids_held p past) id) (held s.arena.slots id) (k.stands id) where
+  by : (b : Bool) (c : Option Content) → (if b then Some (facts p past id) else None) ≡ option_map facts_of c → is_used c ≡ b
+  by true None e = cc e
+  by false (Some c) e = cc e
+  by true (Some c) e = refl
+  by false None e = refl
+
+in_use : (p : Program) (past : List Seen) (s : State) → HeardAt p past s → ops.is_in_use s ≡ has_some (ids_held p past)
+in_use p past s k = either_way _ _
+    (λ e. let f = found is_used s.arena.slots e in some_of (ids_held p past) f.0 (sym (is_there p past s f.0 k) ∙ f.1))
+    (λ e. let f = first (ids_held p past) e in is_any is_used s.arena.slots f.id.slot f.id.generation refl (is_there p past s f.id k ∙ f.on))
+
+made_says : (s : State) (t : Option (Id × Content)) (made : Id → State) → MakesAs (option_map told_of t) (ops.make s t made).answer
+made_says s t made = grind arith
+
+pub op_says : (p : Program) (past : List Line) (s : State) (o : Op) → Kept s → Working s → KnownAt p (seens past) s → StartedAt p (seens past) s →
+    DatedAt p past s → HeardAt p (seens past) s → OpAnswers p past s o (do_op s o).answer
+op_says p past s (Op.Init v q) kept work w b d k =
+    subst (λ (t : Option (Id × Facts)). MakesAs t (do_op s (Op.Init v q)).answer) (sym (live_now p (seens past) s v k)) (made_says s (live s v) _)
+op_says p past s (Op.Queue v task) kept work w b d k =
+    subst (λ (t : Option (Id × Facts)). MakesAs t (do_op s (Op.Queue v task)).answer) (sym (live_now p (seens past) s v k)) (made_says s (live s v) _)
+op_says p past s (Op.Cancel v) kept work w b d k = cancel_answers p (seens past) s v work w k
+op_says p past s (Op.Start v timeout repeat) kept work w b d k =
+    handle_says p past s (Op.Start v timeout repeat) v _ _ (λ id h x. let c = x.closing in grind arith) kept w b d k
+op_says p past s (Op.StartWatcher v) kept work w b d k =
+    handle_says p past s (Op.StartWatcher v) v _ _ (λ id h x. let c = x.closing in grind arith) kept w b d k
+op_says p past s (Op.Stop v) kept work w b d k = handle_says p past s (Op.Stop v) v _ _ (λ id h x. grind arith) kept w b d k
+op_says p past s (Op.Again v) kept work w b d k =
+    handle_says p past s (Op.Again v) v _ _ (λ id h x. let c = x.closing in grind arith) kept w b d k
+op_says p past s (Op.SetRepeat v n) kept work w b d k = handle_says p past s (Op.SetRepeat v n) v _ _ (λ id h x. grind arith) kept w b d k
+op_says p past s (Op.DueIn v) kept work w b d k = handle_says p past s (Op.DueIn v) v _ _ (λ id h x. due_says id h x (is_timer h.kind) refl) kept w b d k where
+  due_says : (id : Id) (h : HandleRecord) → Shown p past s id h → (timer : Bool) → is_timer h.kind ≡ timer →
+      (found_or (timer_refusal h) (ops.refuses s) (ops.says s (Answer.Number (due_in s.time h)))).answer
+      ≡ says_of (is_timer h.kind) false (asked p past s (Op.DueIn v) id (facts_of (Content.Handle h)))
+  due_says id h x true e = rw e (ap Answer.Number (sym (x.due e)
+      ∙ sym (ap (λ (on : Bool). if on then (due_told p past id).at - s.time else 0) x.active)))
+  due_says id h x false e = rw e refl
+op_says p past s (Op.Close v) kept work w b d k =
+    handle_says p past s (Op.Close v) v _ _ (λ id h x. let c = x.closing in grind arith) kept w b d k
+op_says p past s (Op.Ref v) kept work w b d k = handle_says p past s (Op.Ref v) v _ _ (λ id h x. refl) kept w b d k
+op_says p past s (Op.Unref v) kept work w b d k = handle_says p past s (Op.Unref v) v _ _ (λ id h x. refl) kept w b d k
+op_says p past s (Op.HasRef v) kept work w b d k = handle_says p past s (Op.HasRef v) v _ _ (λ id h x. refl) kept w b d k
+op_says p past s (Op.IsActive v) kept work w b d k =
+    handle_says p past s (Op.IsActive v) v _ _ (λ id h x. ap Answer.Flag (sym x.active)) kept w b d k
+op_says p past s (Op.IsClosing v) kept work w b d k =
+    handle_says p past s (Op.IsClosing v) v _ _ (λ id h x. ap Answer.Flag (sym x.closing)) kept w b d k
+op_says p past s (Op.Send v) kept work w b d k = send_says p past s v kept w b d k
+op_says p past s Op.StopLoop kept work w b d k = refl
+op_says p past s Op.UpdateTime kept work w b d k = refl
+op_says p past s Op.Now kept work w b d k = refl
+op_says p past s Op.IsAlive kept work w b d k = ap Answer.Flag (sym (lives_is s work))
+op_says p past s Op.Timeout kept work w b d k = record {
+  timers = s.timers;
+  are = are_timers s s.timers s.next_start kept.timers;
+  is = ap Answer.Timeout (may_wait_is s s.timers Mode.Default (lives_is s work));
+}
+op_says p past s Op.CloseLoop kept work w b d k =
+    cond_both (ops.is_in_use s) _ _ (λ (x : ops.Done). x.answer ≡ Answer.Code (if has_some (ids_held p (seens past)) then Code.Ebusy else Code.Ok))
+    (λ e. rw (sym (in_use p (seens past) s k) ∙ e) refl) (λ e. rw (sym (in_use p (seens past) s k) ∙ e) refl)
