@@ -3,7 +3,6 @@ use Rattle.std.specs.Prelude.{ℕ, ◌==◌, ◌&&◌, Bool, true, false, is_non
 use Rattle.std.specs.Option.{option_eq}
 use Rattle.uv_ids.specs.declared.id.Id.{Id}
 use Rattle.uv_ids.specs.declared.id.Var.{Var}
-use Rattle.uv_ids.specs.declared.phase.Phase.TheVariants as phase
 use Rattle.uv_ids.specs.declared.seen.Callback.{Callback}
 use Rattle.uv_ids.specs.declared.seen.Callback.TheVariants as callback
 use Rattle.uv_ids.specs.declared.seen.Seen.{Seen}
@@ -24,7 +23,7 @@ use Rattle.uv_find.specs.declared.kept.Kept.{Kept}
 
 -- where a search begins
 abbrev pub none_kept : Kept
-none_kept = record { due = 0; owed = 0; quiet = false }
+none_kept = record { due = 0; owed = 0 }
 
 -- ---- when the timer that is asked about is due
 
@@ -96,30 +95,11 @@ abbrev pub owed_after : List Takes → ℕ → State → Option Seen → ℕ
 owed_after takes owed s None = owed
 owed_after takes owed s (Some l) = owed_by takes owed s l
 
--- ---- where a send would come too late for the poll
-
--- the loop has left its poll, and has called no request and no handle since: the done section has begun, and the check section hasn't
-abbrev pub quiet_by : Bool → Seen → Bool
-quiet_by was (seen.Section phase.Done) = true
-quiet_by was (seen.Section phase.Async) = was
-quiet_by was (seen.Section x) = false
-quiet_by was (seen.Call v id) = false
-quiet_by was (seen.After digest v id) = false
-quiet_by was l = was
-
-abbrev pub quiet_after : Bool → Option Seen → Bool
-quiet_after was None = was
-quiet_after was (Some l) = quiet_by was l
-
 -- ---- the whole
 
 -- what is kept after a step with this line that led to this state
 abbrev pub kept_after : List Takes → Question → Kept → State → Option Seen → Kept
-kept_after takes question k s line = record {
-  due = kept_due question s k.due;
-  owed = owed_after takes k.owed s line;
-  quiet = quiet_after k.quiet line;
-}
+kept_after takes question k s line = record { due = kept_due question s k.due; owed = owed_after takes k.owed s line }
 
 -- a callback's time is still to go by
 abbrev pub owes : Kept → Bool

@@ -15,7 +15,7 @@ use Rattle.uv_find.specs.Orders.{Rules, Place, Led, led, with_event, leads_on, p
 use Rattle.uv_find.specs.Questions.{answers}
 use Rattle.uv_find.specs.Courses.{LeadsOn}
 use Rattle.uv_find.specs.declared.kept.Kept.{Kept}
-use Rattle.uv_find.specs.Spots.{Spot, spot_of, next_spot, left_code, bit, kept_code, spot_code, IsSpot}
+use Rattle.uv_find.specs.Spots.{Spot, spot_of, next_spot, left_code, kept_code, spot_code, IsSpot}
 
 -- how often the offers may be taken that have a bound, of those that have one in both
 lefts_tell : (a b : List (Option ℕ)) (x y : List ℕ) → map is_some a ≡ map is_some b → left_code a ++ x ≡ left_code b ++ y → (a ≡ b) × (x ≡ y)
@@ -35,19 +35,11 @@ lefts_tell (Some n ∷ as1) (Some m ∷ bs) x y s e =
     let r = lefts_tell as1 bs x y more first.1 in
     (ap₂ (λ k os. Some k ∷ os) first.0 r.0, r.1)
 
-bits_tell : (a b : Bool) → bit a ≡ bit b → a ≡ b
-bits_tell false false e = refl
-bits_tell true true e = refl
-bits_tell false true e = absurd cc
-bits_tell true false e = absurd cc
-
 kept_tells : (a b : Kept) → kept_code a ≡ kept_code b → a ≡ b
 kept_tells a b e =
-    let due = numbers_tell a.due b.due (number_code a.owed ++ number_code (bit a.quiet)) (number_code b.owed ++ number_code (bit b.quiet)) e in
-    let owed = numbers_tell a.owed b.owed (number_code (bit a.quiet)) (number_code (bit b.quiet)) due.1 in
-    let quiet = numbers_tell (bit a.quiet) (bit b.quiet) [] [] (ap (λ xs. xs ++ []) owed.1) in
-    let same = bits_tell a.quiet b.quiet quiet.0 in
-    λ i. record { due = due.0 i; owed = owed.0 i; quiet = same i }
+    let due = numbers_tell a.due b.due (number_code a.owed) (number_code b.owed) e in
+    let owed = numbers_tell a.owed b.owed [] [] (ap (λ xs. xs ++ []) due.1) in
+    λ i. record { due = due.0 i; owed = owed.0 i }
 
 -- a place is told by its key
 pub places_tell : (r : Rules) (s t : Spot) → IsSpot r s → IsSpot r t → spot_code s ≡ spot_code t → s.place ≡ t.place

@@ -8,6 +8,10 @@ use Rattle.uv_ids.specs.declared.id.Var.{Var}
 use Rattle.uv_ids.specs.declared.seen.Seen.{Seen}
 use Rattle.uv_ids.specs.declared.fault.Why.TheVariants.{Blocked}
 use Rattle.uv_script.specs.Program.{Program, worker_count}
+use Rattle.uv_records.specs.Slots.{held}
+use Rattle.uv_records.specs.declared.lists.WatcherKind.TheVariants as watcher
+use Rattle.uv_work.specs.declared.content.Content.{Content}
+use Rattle.uv_work.specs.declared.content.Content.TheVariants as content
 use Rattle.uv_model.specs.declared.place.Place as loop
 use Rattle.uv_model.specs.declared.place.Place.TheVariants.{Main, Running}
 use Rattle.uv_model.specs.declared.place.Stage.{Stage}
@@ -112,13 +116,37 @@ abbrev pub is_made : State → Option Var → Bool
 is_made s None = true
 is_made s (Some v) = is_some (named s v).id
 
--- while a callback's time is still to go by, no callback of I/O begins, and no other time goes by; and nothing is sent between a poll and the
--- first callback behind it: the loop sees that only where the poll is woken, and then it is as a send in the poll
-abbrev pub is_free : Kept → Event → Bool
-is_free k (event.Io v) = not (owes k)
-is_free k (event.Tick ms) = not (owes k)
-is_free k (event.Send v) = not k.quiet
-is_free k e = true
+-- the loop has left its poll, and the after and async callbacks of its iteration are called
+abbrev pub is_behind_poll : Stage → Bool
+is_behind_poll stage.Done = true
+is_behind_poll stage.DoneUnwoken = true
+is_behind_poll (stage.Walking watcher.Async) = true
+is_behind_poll _ = false
+
+abbrev pub is_quiet : loop.Place → Bool
+is_quiet (Main line) = false
+is_quiet (Running run) = is_behind_poll run.stage
+
+-- a handle is held that closes
+abbrev pub is_closing : Option Content → Bool
+is_closing (Some (content.Handle h)) = h.closing
+is_closing _ = false
+
+abbrev pub closes : State → Option Id → Bool
+closes s None = false
+closes s (Some id) = is_closing (held s.arena.slots id)
+
+-- a send comes where libuv sees it as the loop does: neither between the lines `done` and `check` (there libuv wakes its next poll by it, also
+-- where the handle is still called in this iteration), nor to a handle that closes (uv_async_send returns 0)
+abbrev pub is_seen : State → Var → Bool
+is_seen s v = not (is_quiet s.place) && not (closes s (named s v).id)
+
+-- while a callback's time is still to go by, no callback of I/O begins, and no other time goes by
+abbrev pub is_free : State → Kept → Event → Bool
+is_free s k (event.Io v) = not (owes k)
+is_free s k (event.Tick ms) = not (owes k)
+is_free s k (event.Send v) = is_seen s v
+is_free s k e = true
 
 -- where the loop would go on, a callback's time goes by first
 abbrev pub spending : Kept → Event → Event
@@ -126,7 +154,7 @@ spending k event.Loop = if owes k then event.Tick k.owed else event.Loop
 spending k e = e
 
 abbrev pub step_of : State → Kept → Event → Option Event
-step_of s k e = if is_made s (aim e) && is_free k e then Some (spending k e) else None
+step_of s k e = if is_made s (aim e) && is_free s k e then Some (spending k e) else None
 
 -- a worker runs the request that this name is bound to
 abbrev pub is_run : State → Option Id → Bool

@@ -34,11 +34,8 @@ left_code [] = []
 left_code (None ∷ left) = left_code left
 left_code (Some n ∷ left) = number_code n ++ left_code left
 
-abbrev pub bit : Bool → ℕ
-bit b = if b then 1 else 0
-
 abbrev pub kept_code : Kept → List ℕ
-kept_code k = number_code k.due ++ (number_code k.owed ++ number_code (bit k.quiet))
+kept_code k = number_code k.due ++ number_code k.owed
 
 -- the key of a place: what decides what comes after
 abbrev pub place_code : Place → List ℕ

@@ -1,10 +1,10 @@
 //! What a search keeps beside the loop's state.
 ghost use Rattle.std.specs.Prelude.{◌≡◌};
 ghost use Rattle.uv_model.specs.After.{after};
-ghost use Rattle.uv_find.specs.Kept.{none_kept, due_in, kept_due, caller, is_over, is_of_calls, said_time, or_time, time_taken, takes_time, time_at_end, owed_in, owed_by, owed_after, quiet_by, quiet_after, kept_after, owes};
+ghost use Rattle.uv_find.specs.Kept.{none_kept, due_in, kept_due, caller, is_over, is_of_calls, said_time, or_time, time_taken, takes_time, time_at_end, owed_in, owed_by, owed_after, kept_after, owes};
 
 use uv_asking::{Question, Takes};
-use uv_ids::{Callback, Phase, Seen, Site, Var};
+use uv_ids::{Callback, Seen, Site, Var};
 use uv_model::{Machine, Place};
 use uv_work::Content;
 
@@ -15,19 +15,13 @@ pub struct Kept {
     pub due: u64,
     /// How many ms the callback still takes that has ended.
     pub owed: u64,
-    /// The loop has left its poll, and has called nobody since.
-    pub quiet: bool,
 }
 
 /// Nothing is kept.
 pub fn none_kept() -> Kept
     ensures { result ≡ none_kept }
 {
-    Kept {
-        due: 0,
-        owed: 0,
-        quiet: false,
-    }
+    Kept { due: 0, owed: 0 }
 }
 
 /// When an active timer is due; what is no active timer leaves what was kept.
@@ -166,20 +160,6 @@ fn owed_after<M: Machine>(machine: &M, takes: &[Takes], owed: u64, line: Option<
     }
 }
 
-/// Whether the loop has left its poll and called nobody since, behind a step with this line.
-fn quiet_after(was: bool, line: Option<Seen>) -> bool
-    ensures { result ≡ quiet_after was line }
-{
-    match line {
-        Some(Seen::Section(Phase::Done)) => true,
-        Some(Seen::Section(Phase::Async)) => was,
-        Some(Seen::Section(_)) => false,
-        Some(Seen::Call(_, _)) => false,
-        Some(Seen::After(_, _, _)) => false,
-        _ => was,
-    }
-}
-
 /// What is kept behind a step with this line, as the machine stands.
 pub fn kept_after<M: Machine>(
     machine: &M,
@@ -193,7 +173,6 @@ pub fn kept_after<M: Machine>(
     Kept {
         due: kept_due(machine, question, kept.due),
         owed: owed_after(machine, takes, kept.owed, line),
-        quiet: quiet_after(kept.quiet, line),
     }
 }
 

@@ -295,8 +295,7 @@ fn push_kept(out: &mut Vec<u8>, kept: Kept) -> Result<(), AllocError>
     ensures { OnOk result (out.new.items ≡ out.old.items ++ kept_code kept) }
 {
     push_number(out, kept.due)?;
-    push_number(out, kept.owed)?;
-    push_number(out, if kept.quiet { 1 } else { 0 })
+    push_number(out, kept.owed)
 }
 
 impl<M: Machine> Maze for Orders<M> {
