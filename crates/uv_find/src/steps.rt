@@ -1,7 +1,7 @@
 //! The event that an offer is, and one step of a session.
 ghost use Rattle.std.specs.Prelude.{◌≡◌, ◌<◌, ◌-◌, ◌&&◌, nat_le, take, length, IfOk};
 ghost use Rattle.uv_find.specs.Orders.{idle_among, take_by, aim, is_made, is_blocked, deadline_at, wait_until, is_behind_poll, is_quiet, is_closing, closes, is_seen, is_free, spending, step_of, is_run, event_of, keeps_clock, timed, may_take, offered_here, is_called_within, is_within};
-ghost use Rattle.uv_find.specs.Steps.{Stands, StepsWithin, TakesOffer, state_in};
+ghost use Rattle.uv_find.specs.Steps.{Stands, StepsWithin, state_in};
 ghost use Rattle.uv_model.specs.After.{after};
 ghost use Rattle.uv_script.specs.Program.{worker_count};
 
@@ -104,7 +104,7 @@ fn wait_until<M: Machine>(
 }
 
 /// The name that a send, a cancel or a callback of I/O is for.
-fn aim(event: Event) -> Option<Var>
+pub fn aim(event: Event) -> Option<Var>
     ensures { result ≡ aim event }
 {
     match event {
@@ -116,7 +116,7 @@ fn aim(event: Event) -> Option<Var>
 }
 
 /// Whether a name was bound to a handle or a request; any event may come that is for none.
-fn is_made<M: Machine>(machine: &M, name: Option<Var>) -> bool
+pub fn is_made<M: Machine>(machine: &M, name: Option<Var>) -> bool
     ensures { result ≡ is_made (after (M.program machine.now) (M.standing machine.now)) name }
 {
     match name {
@@ -168,7 +168,7 @@ fn is_seen<M: Machine>(machine: &M, name: Var) -> bool
 
 /// Whether a step may come now: while a callback's time is still to go by, no callback of I/O begins, and no other time goes by; a send
 /// comes where libuv sees it as the loop does.
-fn is_free<M: Machine>(machine: &M, kept: Kept, event: Event) -> bool
+pub fn is_free<M: Machine>(machine: &M, kept: Kept, event: Event) -> bool
     ensures { result ≡ is_free (after (M.program machine.now) (M.standing machine.now)) kept event }
 {
     match event {
@@ -259,7 +259,7 @@ fn keeps_clock(most: Option<u64>, clock: u64, event: Event) -> bool
 }
 
 /// An event that leaves the clock within its bound.
-fn timed(most: Option<u64>, clock: u64, event: Option<Event>) -> Option<Event>
+pub fn timed(most: Option<u64>, clock: u64, event: Option<Event>) -> Option<Event>
     ensures { result ≡ timed most clock event }
 {
     match event {
@@ -340,24 +340,5 @@ pub fn step_within<M: Machine>(
         }
         Err(Fault::Refused(_)) => Ok(None),
         Err(_) => Err(AllocError),
-    }
-}
-
-/// Takes an offer that may be taken so often, if the loop accepts it and the bounds hold then; nothing changes else.
-pub fn take_offer<M: Machine>(
-    session: &mut Session<M>,
-    clock: Option<u64>,
-    most: &[Most],
-    kept: Kept,
-    offer: Offer,
-    left: Option<u32>,
-) -> Result<Option<Outcome>, AllocError>
-    requires room { length session.old.standing < session.old.limit }
-    requires back { M.BackWantsMemory → ⊥ }
-    ensures { TakesOffer clock most.now session.old kept offer left result session.new }
-{
-    match offered_here(session, clock, kept, offer, left)? {
-        None => Ok(None),
-        Some(event) => step_within(session, event, most),
     }
 }
