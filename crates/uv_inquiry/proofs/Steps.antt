@@ -1,5 +1,5 @@
 -- What is said for the first time.
-use Rattle.std.proofs.Common.{◌≡◌, ℕ, ◌==◌, ◌||◌, Bool, true, false, not, nat_lt, nat_eq, List, [], ◌∷◌, length, Option, Some, None, refl, ap, ap₂, sym, subst}
+use Rattle.std.proofs.Common.{◌≡◌, ℕ, ◌==◌, ◌&&◌, ◌||◌, Bool, true, false, not, nat_lt, nat_eq, List, [], ◌∷◌, length, Option, Some, None, refl, ap, ap₂, sym, subst, arith}
 use Rattle.std.specs.Prelude.{is_none, is_some}
 use Rattle.std.specs.Option.{option_eq}
 use Rattle.std.specs.List.{list_any, AllByRecursion}
@@ -102,7 +102,7 @@ some_is (Some x) e = (x, refl)
 
 empty_is : {A : Type 0} (xs : List A) → (length xs == 0) ≡ true → xs ≡ []
 empty_is [] e = refl
-empty_is (x ∷ xs) e = absurd cc
+empty_is (x ∷ xs) e = absurd (omega (arith, eqb-true (length (x ∷ xs)) 0 e))
 
 is_empty : {A : Type 0} (xs : List A) → xs ≡ [] → (length xs == 0) ≡ true
 is_empty [] e = refl
