@@ -1,5 +1,5 @@
 -- What a search of spots says of orders.
-use Rattle.std.proofs.Common.{◌≡◌, ℕ, ◌≤◌, true, false, inl, inr, List, [], ◌∷◌, ◌++◌, length, refl, sym, subst, ◌∙◌, arith, append-nil}
+use Rattle.std.proofs.Common.{◌≡◌, ℕ, ◌≤◌, true, false, inl, inr, List, [], ◌∷◌, ◌++◌, refl, sym, subst, ◌∙◌, arith, append-nil}
 use Rattle.std.specs.List.{IsDistinct}
 use Rattle.uv_ids.specs.declared.event.Event.{Event}
 use Rattle.uv_model.proofs.Runs.{after-nil}

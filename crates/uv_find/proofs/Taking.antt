@@ -11,7 +11,7 @@ use Rattle.uv_find.specs.declared.orders.Made.{Made}
 use Rattle.uv_find.specs.declared.kept.Kept.{Kept}
 use Rattle.uv_find.specs.declared.terms.Terms.{Terms}
 use Rattle.uv_find.specs.Kept.{kept_after}
-use Rattle.uv_find.specs.Orders.{Rules, Place, led_by, placed, taken}
+use Rattle.uv_find.specs.Orders.{Rules, led_by, placed, taken}
 use Rattle.uv_find.specs.Spots.{IsSearched, searched, spots_before, rules_by, place_by}
 use Rattle.uv_find.specs.Steps.{Stands, Takes, MakesMove, choice_of, state_in}
 

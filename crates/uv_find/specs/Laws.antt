@@ -1,6 +1,5 @@
 -- Places that have one key go on alike, and moves lead to places.
-use Rattle.std.proofs.Common.{◌≡◌, ℕ, zero, suc, ◌<◌, Bool, true, false, List, [], ◌∷◌, ◌++◌, length, refl, sym, ap, ap₂, subst, ◌∙◌, Option, Some, None, if◌then◌else◌, append_assoc, arith}
-use Rattle.uv_ids.specs.declared.event.Event.{Event}
+use Rattle.std.proofs.Common.{◌≡◌, ℕ, ◌<◌, Bool, true, false, List, [], ◌∷◌, ◌++◌, length, refl, sym, ap, ap₂, subst, ◌∙◌, Option, Some, None, if◌then◌else◌, append_assoc, arith}
 use Rattle.uv_ids.specs.declared.seen.Seen.{Seen}
 use Rattle.uv_key.specs.Codes.{number_code}
 use Rattle.uv_key.proofs.Telling.{numbers_tell}

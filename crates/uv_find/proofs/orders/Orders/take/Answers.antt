@@ -1,4 +1,4 @@
-use Rattle.std.proofs.Common.{◌≡◌, refl, ◌∙◌, ap₂, ap}
+use Rattle.std.proofs.Common.{refl, ◌∙◌, ap₂, ap}
 use Rattle.std.specs.declared.alloc.AllocError.{AllocError}
 use Rattle.uv_model.specs.After.{after}
 use Rattle.uv_find.specs.declared.orders.Made.{Made}
