@@ -36,8 +36,9 @@ def read(text: str) -> Optional[Answer]:
 
 def bounds_of(asked: Asked) -> List[str]:
     """The bounds that an answer `never` names."""
+    moved = [] if asked.differ is None else ['%d moved' % asked.differ]
     clock = [] if asked.clock is None else ['clock %d' % asked.clock]
-    return clock + ['%d call%s of %s' % (calls, '' if calls == 1 else 's', name) for name, calls in asked.most.items()]
+    return moved + clock + ['%d call%s of %s' % (calls, '' if calls == 1 else 's', name) for name, calls in asked.most.items()]
 
 
 def recorded(program: str, script: List[str]) -> List[str]:

@@ -2,6 +2,8 @@
 import re
 from typing import Dict, List, NamedTuple, Optional, Tuple
 
+from recording import Recorded
+
 DEFAULT_WORKERS = 4
 
 
@@ -22,6 +24,9 @@ class Asked(NamedTuple):
     main: int
     workers: int
     offers: List[Offer]
+    # in place of the offers, what came in a recording, and how many of it may come at another place
+    differ: Optional[int]
+    recorded: List[Recorded]
     # how long the callback of a name takes, each time or that one
     takes: Dict[Tuple[str, Optional[int]], int]
     clock: Optional[int]
@@ -38,7 +43,7 @@ def read(text: str) -> Asked:
         raise ValueError('the input has no line `begin`')
     script = lines[:lines.index('begin')]
     asked = Asked(script, [line.split()[1] for line in script if line.startswith('var ')], sum(line.startswith('main ') for line in script),
-                  DEFAULT_WORKERS, [], {}, None, {}, None, ())
+                  DEFAULT_WORKERS, [], None, [], {}, None, {}, None, ())
     for line in script:
         if line.startswith('workers '):
             asked = asked._replace(workers=int(line.split()[1]))
@@ -54,6 +59,7 @@ def names_in(asked: Asked) -> List[str]:
     """The names that the lines behind `begin` name."""
     question = asked.question
     named = list(asked.most) + [offer.argument for offer in asked.offers if offer.word in ('send', 'cancel', 'io')]
+    named += [it.command.split()[1] for it in asked.recorded if it.command.split()[0] in ('send', 'cancel', 'io')]
     named += [offer.job for offer in asked.offers if offer.job is not None] + [name for name, _ in asked.takes]
     if len(question) == 3 and question[1] in ('before', 'after'):
         return named + [question[0], question[2]]
@@ -74,6 +80,10 @@ def read_line(asked: Asked, line: str) -> Asked:
         return asked
     if words == ['may', 'wait']:
         return asked._replace(offers=asked.offers + [Offer('wait', '', None)])
+    if words[:2] == ['may', 'differ'] and len(words) == 3:
+        return asked._replace(differ=int(words[2]))
+    if words[0] == 'recorded' and len(words) == 5:
+        return asked._replace(recorded=asked.recorded + [Recorded(int(words[1]), int(words[2]), ' '.join(words[3:]))])
     if words[0] == 'may' and len(words) == 4 and words[1] in ('send', 'cancel', 'io', 'tick'):
         return asked._replace(offers=asked.offers + [Offer(words[1], words[2], int(words[3]))])
     if words[:2] == ['may', 'send'] and len(words) == 6 and words[4] == 'during':

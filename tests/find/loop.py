@@ -29,6 +29,10 @@ class State(NamedTuple):
     jobs: List[str]
     # the callback whose body is under way: its list, and its name
     caller: Optional[Tuple[str, str]]
+    # the section in which a run is, by its first word
+    section: Optional[str]
+    # the names that are bound to a handle that closes
+    closing: List[str]
 
 
 class Reply(NamedTuple):
@@ -46,8 +50,9 @@ def read_state(lines: List[str]) -> State:
     main = int(place[2]) if place[1] == 'main' else None
     deadline = int(place[4]) if place[3:4] == ['poll'] and place[4] != 'infinite' and '+' not in place else None
     caller = (place[place.index('+') + 1], place[place.index('+') + 2]) if '+' in place else None
-    state = State('\n'.join([numbers[1]] + lines[1:]), int(numbers[2]), main, deadline, {}, [], {}, [], [], [], caller)
-    bound, run = {}, []
+    section = None if place[1] == 'main' else place[3]
+    state = State('\n'.join([numbers[1]] + lines[1:]), int(numbers[2]), main, deadline, {}, [], {}, [], [], [], caller, section, [])
+    bound, run, closing = {}, [], []
     for line in lines[2:]:
         words = line.split()
         if words[0] == 'name':
@@ -61,9 +66,12 @@ def read_state(lines: List[str]) -> State:
                 state.due[words[3]] = int(words[words.index('due') + 1])
         if words[0] == 'slot' and words[2] == 'work' and words[4] == 'running':
             run.append(words[1])
+        if words[0] == 'slot' and words[8:10] == ['closing', '1']:
+            closing.append(words[1])
         if words[0] == 'running':
             state.busy.extend(int(word.split(':')[0]) for word in words[1:])
     state.jobs.extend(name for name, slot in bound.items() if slot in run)
+    state.closing.extend(name for name, slot in bound.items() if slot in closing)
     return state
 
 

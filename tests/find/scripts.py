@@ -2,6 +2,9 @@
 from random import Random
 from typing import Dict, List
 
+from asked import Asked
+from recording import Recorded
+
 KINDS = ['timer', 'timer', 'timer', 'async', 'async', 'request', 'request', 'request', 'prepare', 'check', 'idle', 'io', 'io']
 CODES = ['ok', 'EINVAL', 'EBUSY', 'ECANCELED', 'EBOUND', 'EFULL', 'ESTALE', 'EKIND']
 SECTIONS = ['pending', 'idle', 'prepare', 'poll', 'done', 'async', 'check', 'closing', 'timers']
@@ -116,3 +119,18 @@ def script(draw: Random) -> str:
     question = question_of(draw, kinds)
     asked = offers_of(draw, kinds, question) + bounds_of(draw, kinds) + ['find ' + question]
     return '\n'.join(lines + asked) + '\n'
+
+
+def steps_of(draw: Random, asked: Asked) -> List[str]:
+    """The steps from outside of which a recording of this script may have some: workers take and finish, and what the script offers."""
+    offered = ['%s %s' % (offer.word, offer.argument) for offer in asked.offers if offer.word != 'wait']
+    workers = [word % worker for worker in range(asked.workers) for word in ('take %d', 'finish %d')]
+    return workers + offered + ['tick %d' % draw.choice([1, 3, 5])]
+
+
+def of_recording(draw: Random, text: str, came: List[Recorded]) -> str:
+    """The same script and question, asked of the orders that differ from this recording."""
+    front, behind = text.split('begin\n')
+    lines = [line for line in behind.splitlines() if not line.startswith(('may ', 'takes '))]
+    recorded = ['recorded %d %d %s' % one for one in came]
+    return '\n'.join([front + 'begin', 'may differ %d' % draw.choice([0, 1, 1, 1, 2])] + recorded + lines) + '\n'

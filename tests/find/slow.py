@@ -3,29 +3,30 @@ bounds, and what a question asks of a step."""
 from collections import deque
 from typing import Deque, Iterator, List, NamedTuple, Optional, Set, Tuple
 
+import recording
 from asked import Asked, Offer
 from loop import Loop, Reply, State
+from recording import Along
 
 CALLS = ['call', 'after', 'closed']
 # The callbacks that the words of a question mean.
 MEANT = {'call': CALLS, 'on': ['call'], 'after': ['after'], 'closed': ['closed']}
 # The words of `takes` don't count for the callback of a close.
 TAKING = {'on': 0, 'after': 1}
-SECTIONS = ['pending', 'idle', 'prepare', 'done', 'async', 'check', 'closing', 'timers']
 NAMELESS = ['stoploop', 'updatetime', 'now', 'alive', 'timeout', 'closeloop']
 
 
 class Place(NamedTuple):
-    """Where the search stands: the loop's state, how often each offer may still be taken, when the timer was due that is asked for, how many ms
-    the callback still takes that has ended, and whether the loop has left its poll and called neither a handle nor a request since."""
+    """Where the search stands: the loop's state, how often each offer may still be taken, when the timer was due that is asked for, and how
+    many ms the callback still takes that has ended; and of orders that differ from a recording, how far they are."""
     state: State
     left: Tuple[Optional[int], ...]
     due: int
     owed: int
-    quiet: bool
+    along: Optional[Along] = None
 
     def key(self) -> Tuple[object, ...]:
-        return self.state.text, self.left, self.due, self.owed, self.quiet
+        return self.state.text, self.left, self.due, self.owed, self.along
 
 
 class Move(NamedTuple):
@@ -49,15 +50,19 @@ def every_offer(asked: Asked) -> List[Offer]:
 
 
 def beginning(asked: Asked, state: State) -> Place:
-    return Place(state, tuple(offer.times for offer in every_offer(asked)), 0, 0, False)
+    if asked.differ is not None:
+        return Place(state, (), 0, 0, recording.beginning(asked.recorded, asked.differ))
+    return Place(state, tuple(offer.times for offer in every_offer(asked)), 0, 0)
 
 
 def may_come(offer: Offer, place: Place) -> bool:
-    """Whether something from outside may come here: not for what isn't made; no send between a poll and the first callback behind it, nor one
-    of a job that isn't run; and while a callback's time goes by no other time does, and no callback of I/O begins."""
+    """Whether something from outside may come here: not for what isn't made; no send between the lines `done` and `check`, nor to a handle that
+    closes, nor one of a job that isn't run; and while a callback's time goes by no other time does, and no callback of I/O begins."""
     if offer.word in ('send', 'cancel', 'io') and offer.argument not in place.state.made:
         return False
-    if offer.word == 'send' and (place.quiet or offer.job is not None and offer.job not in place.state.jobs):
+    if offer.word == 'send' and (place.state.section in ('done', 'async') or offer.argument in place.state.closing):
+        return False
+    if offer.job is not None and offer.job not in place.state.jobs:
         return False
     return not (offer.word in ('io', 'tick') and place.owed)
 
@@ -109,25 +114,38 @@ def owed_after(asked: Asked, place: Place, command: str, line: Optional[str], st
     return asked.takes.get((caller[1], call), asked.takes.get((caller[1], None), 0))
 
 
-def quiet_after(quiet: bool, command: str, line: Optional[str]) -> bool:
-    """Whether the loop is in the done or the async section, and has called no request and no handle there; handles of I/O don't count."""
-    if command.startswith('io '):
-        return quiet
-    words = (line or '').split(' ')
-    if line in SECTIONS:
-        return line == 'done' or quiet and line == 'async'
-    return quiet and not (words[0] in ('call', 'after') and len(words) > 1)
-
-
 def after(asked: Asked, place: Place, number: int, command: str, reply: Reply) -> Place:
     """Where that offer leads."""
     left = tuple(times if at != number or times is None else times - 1 for at, times in enumerate(place.left))
-    due = reply.state.due.get(asked.question[1], place.due) if asked.question[:1] == ('late',) else 0
-    return Place(reply.state, left, due, owed_after(asked, place, command, reply.line, reply.state), quiet_after(place.quiet, command, reply.line))
+    return Place(reply.state, left, due_after(asked, place, reply.state), owed_after(asked, place, command, reply.line, reply.state))
+
+
+def due_after(asked: Asked, place: Place, state: State) -> int:
+    return state.due.get(asked.question[1], place.due) if asked.question[:1] == ('late',) else 0
+
+
+def moves_of_recorded(loop: Loop, asked: Asked, place: Place, blocked: List[bool]) -> Iterator[Move]:
+    """The same of orders that differ from a recording."""
+    steps, state = loop.steps, loop.state
+    reply = loop.step('loop')
+    loop.go_back(steps, state)
+    blocked.append(reply.refused == 'blocked')
+    for number, (command, along) in enumerate(list(recording.coming(loop, asked.recorded, place.along, blocked[0] and state.section == 'poll'))):
+        ms = int(command.split()[1]) if command.startswith('tick ') else 0
+        if ms and asked.clock is not None and state.clock + ms > asked.clock:
+            continue
+        reply = loop.step(command)
+        if reply.refused is None and is_within(asked, reply.state):
+            along = recording.behind_loop(asked.recorded, along, reply.line) if command == 'loop' else along
+            yield Move(number, command, reply.line, Place(reply.state, (), due_after(asked, place, reply.state), 0, along))
+        loop.go_back(steps, state)
 
 
 def moves(loop: Loop, asked: Asked, place: Place, blocked: List[bool]) -> Iterator[Move]:
     """The steps that lead on from where the loop is. Behind each the loop is there still; whether it is blocked is told first."""
+    if asked.differ is not None:
+        yield from moves_of_recorded(loop, asked, place, blocked)
+        return
     steps, state = loop.steps, loop.state
     for number, offer in enumerate(every_offer(asked)):
         command = command_of(asked, offer, place.left[number], place, bool(blocked and blocked[0]))
@@ -243,18 +261,18 @@ def what_is_wrong(program: str, asked: Asked, steps: List[str]) -> Optional[str]
 
 
 def walk(loop: Loop, asked: Asked, steps: List[str]) -> Optional[str]:
-    place = beginning(asked, loop.state)
+    # (one step may be several moves, each of which leads to a place of its own)
+    places = [beginning(asked, loop.state)]
     answered = False
     for number, command in enumerate(steps, 1):
-        there = [move for move in moves(loop, asked, place, []) if move.command == command]
+        there = [(place, move) for place in places for move in moves(loop, asked, place, []) if move.command == command]
         if not there:
             return 'step %d, `%s`, is not offered there, or not accepted within the bounds' % (number, command)
-        # (of two offers that are one step, the one that may be taken more often)
-        move = max(there, key=lambda move: float('inf') if move.place.left[move.number] is None else move.place.left[move.number] or 0)
-        answered = answers(asked, place, move)
+        answered = any(answers(asked, place, move) for place, move in there)
         loop.go_to(tuple(steps[:number]))
-        place = move.place
-    blocked: List[bool] = []
-    leads = list(moves(loop, asked, place, blocked))
-    answered = answered or answers_here(asked, place, blocked, bool(leads))
+        places = list({move.place.key(): move.place for _, move in there}.values())
+    for place in places:
+        blocked: List[bool] = []
+        leads = list(moves(loop, asked, place, blocked))
+        answered = answered or answers_here(asked, place, blocked, bool(leads))
     return None if answered else 'the last step does not answer'

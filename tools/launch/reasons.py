@@ -48,11 +48,13 @@ REASONS = {
 # The same of the lines that ask a search.
 ASKED_REASONS = {
     'listed': '`{0}` is none of {1}',
-    'asked': 'no line behind `begin` begins with `{0}` here: it is may, takes, most or find',
+    'asked': 'no line behind `begin` begins with `{0}` here: it is may, recorded, takes, most or find',
     'form': 'no line says `{0}`: it has the form {1}',
     'again': '`{0}` stands in line {1} already, and a search has it once at most',
     'question': 'a second question: line {0} has the first, and one is asked at a time',
     'offers': 'at most 256 lines begin with `may`',
+    'differ': '`{0}` stands beside `may differ`: there what came in the recording may come, and nothing else',
+    'recorded': 'what came in a recording stands behind a line `may differ K`',
     'find': 'the line is missing that says what to look for: `find ..`',
     'two': '`{0}` is on both sides of `{1}`, which asks for two names',
 }
@@ -294,9 +296,11 @@ def of_recording(lines: List[bytes], number: int) -> None:
         of_words(words[1:], STEPS[words[0]], words[0], context(script, len(script) + 1))
 
 
-# What stands behind `may`, `takes`, `most` and `find`, and the word behind them; of two forms the longer one last.
+# What stands behind `may`, `recorded`, `takes`, `most` and `find`, and the word behind them; of two forms the longer one last.
 ASKED = {
-    'may': {'send': ['NAME N', 'NAME N during NAME'], 'cancel': ['NAME N'], 'io': ['NAME N'], 'tick': ['MS N'], 'wait': ['']},
+    'may': {'send': ['NAME N', 'NAME N during NAME'], 'cancel': ['NAME N'], 'io': ['NAME N'], 'tick': ['MS N'], 'wait': [''],
+            'differ': ['K']},
+    'recorded': {'P': ['P send NAME', 'P cancel NAME', 'P io NAME', 'P tick MS', 'P take W', 'P finish W']},
     'takes': {'NAME': ['MS', '@K MS']},
     'most': {'clock': ['MS'], 'states': ['N'], 'NAME': ['CALLS']},
     'find': {'call': ['NAME', 'NAME N'], 'on': ['NAME', 'NAME N'], 'after': ['NAME', 'NAME N'], 'closed': ['NAME', 'NAME N'],
@@ -304,7 +308,8 @@ ASKED = {
              'late': ['NAME MS'],
              'NAME': ['before NAME', 'after NAME']},
 }
-ASKED_RANGES = {'N': (1, 4294967295), 'may MS': (1, 2**62), 'MS': (0, 2**62), 'CALLS': (0, 4294967295)}
+ASKED_RANGES = {'N': (1, 4294967295), 'may MS': (1, 2**62), 'MS': (0, 2**62), 'CALLS': (0, 4294967295), 'K': (0, 4294967295), 'P': (0, 4294967295),
+                'W': (0, 65535), 'recorded MS': (1, 2**62)}
 
 
 def of_field(word: str, what: str, head: str, found: Context) -> None:
@@ -335,6 +340,8 @@ def of_asked_line(line: bytes, found: Context) -> None:
     second = words[1] if len(words) > 1 else ''
     if head == 'find' and len(words) == 4 and words[2] in ('before', 'after') or second not in forms and 'NAME' in forms:
         second = 'NAME'
+    if head == 'recorded':
+        second = 'P'
     shapes = [('%s %s %s' % (head, word, form)).strip() for word in ([second] if second in forms else forms) for form in forms[word]]
     for shape in shapes:
         fields = shape.split(' ')
@@ -351,7 +358,7 @@ def said(words: List[bytes]) -> bytes:
     """What a line that asks says once at most: its first fields, up to a number that may differ."""
     if words[0] == b'takes':
         return b' '.join(words[:-1])
-    return b' '.join(words[:2] if words[0] == b'most' or words[1:2] == [b'wait'] else words[:3] + words[4:])
+    return b' '.join(words[:2] if words[0] == b'most' or words[1] in (b'wait', b'differ') else words[:3] + words[4:])
 
 
 def of_inquiry(lines: List[bytes], number: int) -> None:
@@ -374,8 +381,17 @@ def of_inquiry(lines: List[bytes], number: int) -> None:
     words = line.split(b' ')
     if words[0] == b'find' and questions:
         raise Why('question', questions[0])
+    differs = any(it.startswith(b'may differ ') for _, it in before)
+    if words[0] == b'recorded' and not differs:
+        raise Why('recorded')
+    if words[0] in (b'may', b'takes') and words[1] != b'differ' and differs:
+        raise Why('differ', line.decode('ascii'))
+    if words[:2] == [b'may', b'differ']:
+        for _, it in before:
+            if it.startswith((b'may ', b'takes ')) and not it.startswith(b'may differ '):
+                raise Why('differ', it.decode('ascii'))
     for at, it in before:
-        if words[0] != b'find' and said(it.split(b' ')) == said(words):
+        if words[0] not in (b'find', b'recorded') and said(it.split(b' ')) == said(words):
             raise Why('again', said(words).decode('ascii'), at)
     if words[0] == b'may' and sum(it.startswith(b'may ') for _, it in before) >= 256:
         raise Why('offers')

@@ -95,6 +95,27 @@ def offered(script: Script, steps: list[str]) -> Offered:
     return found
 
 
+def recorded_lines(script: Script, steps: list[str]) -> list[str]:
+    """What came from outside in these steps, a line for each in their order, with its place: so many polls, and so many steps of the loop behind
+    the last of them, behind the place of the one before it."""
+    said: list[str] = []
+    polls = taken = 0
+    talk = Conversation(script)
+    try:
+        for step, lines in zip(steps, talk.ask_each(steps)):
+            if step != "loop":
+                if step != "tick 0":
+                    said.append(f"recorded {polls} {taken} {step}")
+                    polls = taken = 0
+            elif lines and lines[0].startswith("poll "):
+                polls, taken = polls + 1, 0
+            else:
+                taken += 1
+    finally:
+        talk.close()
+    return said
+
+
 def never_called(script: Script, calls: Counter[tuple[str, str]]) -> list[str]:
     """The names with a callback that the recording has no call of, so that nobody knows what it does."""
     ops = [it.split(" ") for it in script.lines if it.startswith(("main ", "on ", "after ", "closed "))]

@@ -20,6 +20,10 @@ enum Answer {
 const BOUNDED: &[u8] =
     b"var a\nvar b\nbegin\nmost b 1\nmost clock 60\nmost states 9\nmost a 3\nfind stuck\n";
 
+const DIFFERING: &[u8] = b"var a\nbegin\nmay differ 2\nfind stuck\n";
+
+const BOTH: &[u8] = b"var a\nbegin\nmay differ 0\nmost a 1\nmost clock 60\nfind stuck\n";
+
 const NAMED: &[u8] = b"var a\nbegin\nmost a 2\nfind stuck\n";
 
 const FREE: &[u8] = b"workers 1\nvar s\nbegin\nfind stuck\n";
@@ -33,7 +37,7 @@ const STEPS: &[Event] = &[
     Event::Send(Var(0)),
 ];
 
-const TEXTS: [(&[u8], Answer, &[u8]); 8] = [
+const TEXTS: [(&[u8], Answer, &[u8]); 10] = [
     (
         FREE,
         Answer::Found(STEPS, 58),
@@ -56,6 +60,16 @@ const TEXTS: [(&[u8], Answer, &[u8]); 8] = [
         b"never within 2 calls of a: 1 state, every order\n",
     ),
     (FREE, Answer::Never(2), b"never: 2 states, every order\n"),
+    (
+        DIFFERING,
+        Answer::Never(7),
+        b"never within 2 moved: 7 states, every order\n",
+    ),
+    (
+        BOTH,
+        Answer::Never(7),
+        b"never within 0 moved, clock 60, 1 call of a: 7 states, every order\n",
+    ),
     (
         FREE,
         Answer::Unsettled(1000),

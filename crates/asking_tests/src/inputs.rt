@@ -28,7 +28,7 @@ fn outcome(answer: Result<Inquiry, Fault>) -> Result<Became, Fault> {
     }
 }
 
-const INPUTS: [(&[u8], Became); 15] = [
+const INPUTS: [(&[u8], Became); 18] = [
     (b"var a\nbegin\nfind never a\n", Became::Read),
     (b"order 1.44\nbegin\n# nothing\n\nfind stuck", Became::Read),
     (b"", Became::Bad(1)),
@@ -64,6 +64,18 @@ const INPUTS: [(&[u8], Became); 15] = [
     (
         b"var a\nvar b\nbegin\nmay send a 1\nmay send a 1 during b\nmay send a 2 during b\nfind stuck\n",
         Became::Bad(6),
+    ),
+    (
+        b"var a\nbegin\nmay differ 1\nrecorded 0 0 send a\nrecorded 0 0 send a\nfind stuck\nmay wait\n",
+        Became::Bad(7),
+    ),
+    (
+        b"var a\nbegin\nrecorded 0 0 send a\nmay differ 1\nfind stuck\n",
+        Became::Bad(3),
+    ),
+    (
+        b"begin\nmay wait\nmay differ 1\nfind stuck\n",
+        Became::Bad(3),
     ),
 ];
 

@@ -1,7 +1,7 @@
 //! Lines whose words are also names.
 
 use std::test::Fail;
-use uv_asking::{Offer, Part, Question, Said, Takes, Which, read_part};
+use uv_asking::{Offer, Part, Question, Recorded, Said, Takes, Which, read_part};
 use uv_ids::{Code, Event, Phase, Var};
 use uv_script::{Names, Script};
 
@@ -10,6 +10,8 @@ use uv_script::{Names, Script};
 enum Says {
     Offers(Event, u32),
     SendsDuring(u32, u32, u32),
+    Differ(u32),
+    Recorded(u32, u32, Event),
     Takes(u32, Option<u32>, u64),
     Asks(Question),
     Clock(u64),
@@ -21,7 +23,7 @@ enum Says {
 /// The names `call`, `before`, `clock`, `states`, `of`, `stuck` and `x`, from 0.
 const NAMES: &[u8] = b"var call\nvar before\nvar clock\nvar states\nvar of\nvar stuck\nvar x\n";
 
-const LINES: [(&[u8], Says); 40] = [
+const LINES: [(&[u8], Says); 47] = [
     (
         b"find call x",
         Says::Asks(Question::Call(Which::Any, Var(6), None)),
@@ -75,6 +77,19 @@ const LINES: [(&[u8], Says); 40] = [
     (b"may io x 2 during of", Says::Bad),
     (b"may send x 2 while of", Says::Bad),
     (b"may send x 2 during", Says::Bad),
+    (b"may differ 2", Says::Differ(2)),
+    (b"may differ x", Says::Bad),
+    (
+        b"recorded 1 3 send x",
+        Says::Recorded(1, 3, Event::Send(Var(6))),
+    ),
+    (
+        b"recorded 0 0 finish 1",
+        Says::Recorded(0, 0, Event::Finish(1)),
+    ),
+    (b"recorded 0 0 take 65536", Says::Bad),
+    (b"recorded 0 0 loop", Says::Bad),
+    (b"recorded 0 send x", Says::Bad),
     (b"takes x 0", Says::Takes(6, None, 0)),
     (b"takes x @2 40", Says::Takes(6, Some(2), 40)),
     (b"takes x @0 40", Says::Bad),
@@ -108,6 +123,15 @@ fn is_said(names: &Names, line: &[u8], says: Says) -> bool {
         }
         (Said::One(Part::Offers(found)), Says::SendsDuring(name, job, times)) => {
             found.offer == Offer::SendDuring(Var(name), Var(job)) && found.times == Some(times)
+        }
+        (Said::One(Part::Differ(found)), Says::Differ(moved)) => found == moved,
+        (Said::One(Part::Recorded(found)), Says::Recorded(polls, steps, event)) => {
+            found
+                == Recorded {
+                    event,
+                    polls,
+                    steps,
+                }
         }
         (Said::One(Part::Takes(found)), Says::Takes(name, call, ms)) => {
             found

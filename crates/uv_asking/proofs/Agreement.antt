@@ -5,6 +5,7 @@ use Rattle.std.proofs.lemmas.Bool.{cond_both, both_ways}
 use Rattle.std.proofs.lemmas.Slice.Eq.{bytes_eq-Decides}
 use Rattle.uv_ids.specs.declared.id.Var.{Var}
 use Rattle.uv_ids.specs.declared.code.Code.{Code}
+use Rattle.uv_ids.specs.declared.event.Event.{Event}
 use Rattle.uv_ids.specs.declared.event.Event.TheVariants as event
 use Rattle.uv_ids.specs.declared.phase.Phase.{Phase}
 use Rattle.uv_ids.specs.declared.phase.Phase.TheVariants as phase
@@ -19,18 +20,18 @@ use Rattle.uv_script.proofs.AfterLines.{line_begins}
 use Rattle.uv_script.proofs.Checks.{is_line_decides, is_skipped_decides}
 use Rattle.uv_script.proofs.KindWords.{choice_other}
 use Rattle.uv_asking.specs.declared.asking.Offer.{Offer}
-use Rattle.uv_asking.specs.declared.asking.Offer.TheVariants.{Step, SendDuring}
+use Rattle.uv_asking.specs.declared.asking.Offer.TheVariants.{Step, SendDuring, Take, Wait}
 use Rattle.uv_asking.specs.declared.asking.Which.{Which}
 use Rattle.uv_asking.specs.declared.asking.Question.{Question}
 use Rattle.uv_asking.specs.declared.asking.Question.TheVariants as question
 use Rattle.uv_asking.specs.declared.part.Part.{Part}
-use Rattle.uv_asking.specs.declared.part.Part.TheVariants.{Offers, Takes, Clock, Calls, States, Finds}
+use Rattle.uv_asking.specs.declared.part.Part.TheVariants.{Offers, Differ, Recorded, Takes, Clock, Calls, States, Finds}
 use Rattle.uv_asking.specs.declared.part.Said.{Said}
 use Rattle.uv_asking.specs.declared.part.Said.TheVariants.{Nothing, Bad}
-use Rattle.uv_asking.specs.Limits.{MOST_COUNT, MOST_MS}
+use Rattle.uv_asking.specs.Limits.{MOST_COUNT, MOST_MS, MOST_WORKER}
 use Rattle.uv_asking.specs.Grammar as is
-use Rattle.uv_asking.specs.Grammar.{which_word, IsNoOrder, IsWithin, IsOffer, IsQuestion, IsPart, IsNoPart, Says, nothing, one, bad}
-use Rattle.uv_asking.specs.Tests.{number_in, call_in, which_named, offer_of, times_of, send_during, during_of, waits, may_of, takes_by, takes_of, calls_of, bound_of, most_of, stuck_of, section_of, named_of, plain_by, plain_of, nth_call_of, late_of, numbered_by, numbered_of, before_of, behind_of, three_of, code_name_of, four_of, question_of, part_by, part_of, said_by, said_of}
+use Rattle.uv_asking.specs.Grammar.{which_word, IsNoOrder, IsWithin, IsOffer, IsCame, IsQuestion, IsPart, IsNoPart, Says, nothing, one, bad}
+use Rattle.uv_asking.specs.Tests.{number_in, call_in, which_named, offer_of, times_of, send_during, during_of, waits, differ_of, may_of, came_by, came_of, recorded_by, recorded_of, takes_by, takes_of, calls_of, bound_of, most_of, stuck_of, section_of, named_of, plain_by, plain_of, nth_call_of, late_of, numbered_by, numbered_of, before_of, behind_of, three_of, code_name_of, four_of, question_of, part_by, part_of, said_by, said_of}
 use Rattle.uv_asking.proofs.Found.{Has, mapped, bound, Found, sure, found_is, found_map, found_both, found_three}
 use Rattle.uv_asking.proofs.FieldWords.{number_right, number_found, place_right, place_found, IsNth, nth_right, which_right, which_found}
 
@@ -102,14 +103,61 @@ during_right names head what name times word job h =
     (λ b. cond_both (bytes_eq name job) _ _ P (λ _. tt)
     (λ c. send_right names head what name times word job h (same _ _ a) (same _ _ b) (differs name job c))) (λ _. tt)) (λ _. tt)
 
+differ_right : (names : List (List ℕ)) (word what number : List ℕ) → word ≡ codes "may" →
+    Has (IsPart names (word ∷ what ∷ number ∷ [])) (differ_of what number)
+unfolding differ_of
+differ_right names word what number w =
+    let P = IsPart names (word ∷ what ∷ number ∷ []) in
+    cond_both (bytes_eq what (codes "differ")) _ _ (Has P)
+    (λ a. mapped (IsWithin 0 MOST_COUNT number) P _ (number_in 0 MOST_COUNT number) (number_right 0 MOST_COUNT number)
+    (λ k h. is.may_differ number k (two _ w (same _ _ a)) h)) (λ _. tt)
+
 may_right : (names : List (List ℕ)) (word : List ℕ) (rest : List (List ℕ)) → word ≡ codes "may" → Has (IsPart names (word ∷ rest)) (may_of names rest)
 may_right names word [] w = tt
 may_right names word (what ∷ []) w = waits_right names word what w
-may_right names word (what ∷ argument ∷ []) w = tt
+may_right names word (what ∷ argument ∷ []) w = differ_right names word what argument w
 may_right names word (what ∷ argument ∷ times ∷ []) w = times_right names word what argument times w
 may_right names word (what ∷ argument ∷ times ∷ more ∷ []) w = tt
 may_right names word (what ∷ argument ∷ times ∷ more ∷ job ∷ []) w = during_right names word what argument times more job w
 may_right names word (what ∷ argument ∷ times ∷ more ∷ job ∷ last ∷ rest) w = tt
+
+came_right : (names : List (List ℕ)) (what argument : List ℕ) → Has (IsCame names what argument) (came_of names what argument)
+unfolding came_of
+came_right names what argument =
+    let P : Option Event → Type 0 = Has (IsCame names what argument) in
+    cond_both (bytes_eq what (codes "take")) _ _ P
+    (λ a. mapped (IsWithin 0 MOST_WORKER argument) (IsCame names what argument) _ (number_in 0 MOST_WORKER argument)
+    (number_right 0 MOST_WORKER argument) (λ n h. is.take n (same _ _ a) h))
+    (λ _. cond_both (bytes_eq what (codes "finish")) _ _ P
+    (λ a. mapped (IsWithin 0 MOST_WORKER argument) (IsCame names what argument) _ (number_in 0 MOST_WORKER argument)
+    (number_right 0 MOST_WORKER argument) (λ n h. is.finish n (same _ _ a) h))
+    (λ _. by (offer_of names what argument) (offer_right names what argument)))
+  where
+    by : (o : Option Offer) → Has (IsOffer names what argument) o → Has (IsCame names what argument) (came_by o)
+    by None h = tt
+    by (Some (Step e)) h = is.outside e h
+    by (Some (SendDuring v w)) h = tt
+    by (Some Take) h = tt
+    by (Some Wait) h = tt
+
+recorded_by_right : (names : List (List ℕ)) (word polls steps what argument : List ℕ) → word ≡ codes "recorded" →
+    Has (IsPart names (word ∷ polls ∷ steps ∷ what ∷ argument ∷ [])) (recorded_by names polls steps what argument)
+unfolding recorded_by
+recorded_by_right names word polls steps what argument w =
+    let P = IsPart names (word ∷ polls ∷ steps ∷ what ∷ argument ∷ []) in
+    bound (IsCame names what argument) P _ (came_of names what argument) (came_right names what argument)
+    (λ e h. bound (IsWithin 0 MOST_COUNT polls) P _ (number_in 0 MOST_COUNT polls) (number_right 0 MOST_COUNT polls)
+    (λ m k. mapped (IsWithin 0 MOST_COUNT steps) P _ (number_in 0 MOST_COUNT steps) (number_right 0 MOST_COUNT steps)
+    (λ n l. is.recorded polls m steps n what argument e (front _ w) k l h)))
+
+recorded_right : (names : List (List ℕ)) (word : List ℕ) (rest : List (List ℕ)) → word ≡ codes "recorded" →
+    Has (IsPart names (word ∷ rest)) (recorded_of names rest)
+recorded_right names word [] w = tt
+recorded_right names word (polls ∷ []) w = tt
+recorded_right names word (polls ∷ steps ∷ []) w = tt
+recorded_right names word (polls ∷ steps ∷ what ∷ []) w = tt
+recorded_right names word (polls ∷ steps ∷ what ∷ argument ∷ []) w = recorded_by_right names word polls steps what argument w
+recorded_right names word (polls ∷ steps ∷ what ∷ argument ∷ more ∷ rest) w = tt
 
 takes_each_right : (names : List (List ℕ)) (word name ms : List ℕ) → word ≡ codes "takes" →
     Has (IsPart names (word ∷ name ∷ ms ∷ [])) (takes_by names name None ms)
@@ -282,11 +330,12 @@ part_right names [] = tt
 part_right names (word ∷ rest) =
     let P = IsPart names (word ∷ rest) in
     cond_both (bytes_eq word (codes "may")) _ _ (Has P) (λ a. may_right names word rest (same _ _ a))
+    (λ _. cond_both (bytes_eq word (codes "recorded")) _ _ (Has P) (λ a. recorded_right names word rest (same _ _ a))
     (λ _. cond_both (bytes_eq word (codes "takes")) _ _ (Has P) (λ a. takes_right names word rest (same _ _ a))
     (λ _. cond_both (bytes_eq word (codes "most")) _ _ (Has P) (λ a. most_right names word rest (same _ _ a))
     (λ _. cond_both (bytes_eq word (codes "find")) _ _ (Has P)
     (λ a. mapped (IsQuestion names rest) P _ (question_of names rest) (question_right names rest) (λ q h. is.finds rest q (front _ (same _ _ a)) h))
-    (λ _. tt))))
+    (λ _. tt)))))
 
 -- ---- what is so is found
 
@@ -301,6 +350,33 @@ offer_found names what argument o (is.io v w h) =
     found_is (ap (λ (x : List ℕ). offer_of names x argument) w) (found_map (λ (u : Var). Step (event.Io u)) (place_found names argument v h))
 offer_found names what argument o (is.tick ms w h) =
     found_is (ap (λ (x : List ℕ). offer_of names x argument) w) (found_map (λ (n : ℕ). Step (event.Tick n)) (number_found 1 MOST_MS argument ms h))
+
+-- a step that is offered is an event
+stepped : {A : Type 0} (f : A → Event) (o : Option A) → came_by (option_map (λ (x : A). Step (f x)) o) ≡ option_map f o
+stepped f None = refl
+stepped f (Some x) = refl
+
+came_found : (names : List (List ℕ)) (what argument : List ℕ) (e : Event) → IsCame names what argument e →
+    Found (came_of names what argument) (AreDistinct names) e
+unfolding came_of offer_of
+came_found names what argument e (is.take n w h) =
+    found_is (ap (λ (x : List ℕ). came_of names x argument) w)
+    (found_map (λ (m : ℕ). event.Take m) (number_found 0 MOST_WORKER argument n h))
+came_found names what argument e (is.finish n w h) =
+    found_is (ap (λ (x : List ℕ). came_of names x argument) w)
+    (found_map (λ (m : ℕ). event.Finish m) (number_found 0 MOST_WORKER argument n h))
+came_found names what argument e (is.outside _ (is.send v w h)) =
+    found_is (ap (λ (x : List ℕ). came_of names x argument) w ∙ stepped event.Send (place_of names argument))
+    (found_map event.Send (place_found names argument v h))
+came_found names what argument e (is.outside _ (is.cancel v w h)) =
+    found_is (ap (λ (x : List ℕ). came_of names x argument) w ∙ stepped event.Cancel (place_of names argument))
+    (found_map event.Cancel (place_found names argument v h))
+came_found names what argument e (is.outside _ (is.io v w h)) =
+    found_is (ap (λ (x : List ℕ). came_of names x argument) w ∙ stepped event.Io (place_of names argument))
+    (found_map event.Io (place_found names argument v h))
+came_found names what argument e (is.outside _ (is.tick ms w h)) =
+    found_is (ap (λ (x : List ℕ). came_of names x argument) w ∙ stepped event.Tick (number_in 1 MOST_MS argument))
+    (found_map event.Tick (number_found 1 MOST_MS argument ms h))
 
 section_found : (x : Phase) → section_of (phase_word x) ≡ Some (question.Section x)
 unfolding section_of phase_named
@@ -347,7 +423,7 @@ question_found names fields q (is.code_of c name v e h) =
     (found_both (λ (d : Code) (u : Var). question.Code d (Some u)) (sure (code_found c)) (place_found names name v h))
 
 part_found : (names fields : List (List ℕ)) (p : Part) → IsPart names fields p → Found (part_of names fields) (AreDistinct names) p
-unfolding part_by times_of during_of send_during waits takes_by bound_of calls_of
+unfolding part_by times_of during_of send_during waits differ_of recorded_by takes_by bound_of calls_of
 part_found names fields p (is.may what argument o times n e h k) =
     found_is (ap (part_of names) e)
     (found_both (λ (a : Offer) (m : ℕ). Offers (record { offer = a; times = Some m })) (offer_found names what argument o h)
@@ -357,6 +433,12 @@ part_found names fields p (is.may_during name v times n job w e other h k l) =
     (found_three (λ (a b : Var) (m : ℕ). Offers (record { offer = SendDuring a b; times = Some m })) (place_found names name v h)
     (place_found names job w k) (number_found 1 MOST_COUNT times n l))
 part_found names fields p (is.may_wait e) = sure (ap (part_of names) e)
+part_found names fields p (is.may_differ number k e h) =
+    found_is (ap (part_of names) e) (found_map Differ (number_found 0 MOST_COUNT number k h))
+part_found names fields p (is.recorded polls m steps n what argument e is_fields h k l) =
+    found_is (ap (part_of names) is_fields)
+    (found_three (λ (d : Event) (i j : ℕ). Recorded (record { event = d; polls = i; steps = j })) (came_found names what argument e l)
+    (number_found 0 MOST_COUNT polls m h) (number_found 0 MOST_COUNT steps n k))
 part_found names fields p (is.takes name v ms n e h k) =
     found_is (ap (part_of names) e)
     (found_both (λ (u : Var) (m : ℕ). Takes (record { name = u; call = None; ms = m })) (place_found names name v h) (number_found 0 MOST_MS ms n k))
@@ -394,6 +476,8 @@ pub says_something : (names : List (List ℕ)) (line : List ℕ) (p : Part) → 
 says_something names line p (is.may what argument o times n e h k) = line_begins line _ _ _ e
 says_something names line p (is.may_during name v times n job w e other h k l) = line_begins line _ _ _ e
 says_something names line p (is.may_wait e) = line_begins line _ _ _ e
+says_something names line p (is.may_differ number k e h) = line_begins line _ _ _ e
+says_something names line p (is.recorded polls m steps n what argument e is_fields h k l) = line_begins line _ _ _ is_fields
 says_something names line p (is.takes name v ms n e h k) = line_begins line _ _ _ e
 says_something names line p (is.takes_once name v call k ms n e h c l) = line_begins line _ _ _ e
 says_something names line p (is.most_clock number ms e h) = line_begins line _ _ _ e

@@ -2,6 +2,7 @@
 use Rattle.std.specs.Prelude.{◌≡◌, ◌≢◌, ℕ, ◌≤◌, List, [], ◌∷◌, Some, None, codes}
 use Rattle.uv_ids.specs.declared.id.Var.{Var}
 use Rattle.uv_ids.specs.declared.code.Code as ids
+use Rattle.uv_ids.specs.declared.event.Event.{Event}
 use Rattle.uv_ids.specs.declared.event.Event.TheVariants as event
 use Rattle.uv_ids.specs.declared.phase.Phase.{Phase}
 use Rattle.uv_ids.specs.Words.{code_word, phase_word}
@@ -14,10 +15,10 @@ use Rattle.uv_asking.specs.declared.asking.Which.TheVariants as which
 use Rattle.uv_asking.specs.declared.asking.Question.{Question}
 use Rattle.uv_asking.specs.declared.asking.Question.TheVariants as question
 use Rattle.uv_asking.specs.declared.part.Part.{Part}
-use Rattle.uv_asking.specs.declared.part.Part.TheVariants.{Offers, Takes, Clock, Calls, States, Finds}
+use Rattle.uv_asking.specs.declared.part.Part.TheVariants.{Offers, Differ, Recorded, Takes, Clock, Calls, States, Finds}
 use Rattle.uv_asking.specs.declared.part.Said.{Said}
 use Rattle.uv_asking.specs.declared.part.Said.TheVariants.{Nothing, One, Bad}
-use Rattle.uv_asking.specs.Limits.{MOST_COUNT, MOST_MS}
+use Rattle.uv_asking.specs.Limits.{MOST_COUNT, MOST_MS, MOST_WORKER}
 
 -- a number of this range, as it is written
 pub record IsWithin (low high : ℕ) (text : List ℕ) (n : ℕ) : Type 0 where
@@ -31,6 +32,12 @@ pub data IsOffer (names : List (List ℕ)) (what argument : List ℕ) : Offer �
   cancel : (v : Var) → what ≡ codes "cancel" → IsDeclared names argument v → IsOffer names what argument (Step (event.Cancel v))
   io : (v : Var) → what ≡ codes "io" → IsDeclared names argument v → IsOffer names what argument (Step (event.Io v))
   tick : (ms : ℕ) → what ≡ codes "tick" → IsWithin 1 MOST_MS argument ms → IsOffer names what argument (Step (event.Tick ms))
+
+-- the two fields of an event that came in a recording
+pub data IsCame (names : List (List ℕ)) (what argument : List ℕ) : Event → Type 0 where
+  take : (n : ℕ) → what ≡ codes "take" → IsWithin 0 MOST_WORKER argument n → IsCame names what argument (event.Take n)
+  finish : (n : ℕ) → what ≡ codes "finish" → IsWithin 0 MOST_WORKER argument n → IsCame names what argument (event.Finish n)
+  outside : (e : Event) → IsOffer names what argument (Step e) → IsCame names what argument e
 
 -- the word for these callbacks of a name
 abbrev pub which_word : Which → List ℕ
@@ -73,6 +80,11 @@ pub data IsPart (names fields : List (List ℕ)) : Part → Type 0 where
       fields ≡ codes "may" ∷ codes "send" ∷ name ∷ times ∷ codes "during" ∷ job ∷ [] → name ≢ job → IsDeclared names name v →
       IsDeclared names job w → IsWithin 1 MOST_COUNT times n → IsPart names fields (Offers (record { offer = SendDuring v w; times = Some n }))
   may_wait : fields ≡ codes "may" ∷ codes "wait" ∷ [] → IsPart names fields (Offers (record { offer = Wait; times = None }))
+  may_differ : (number : List ℕ) (k : ℕ) → fields ≡ codes "may" ∷ codes "differ" ∷ number ∷ [] → IsWithin 0 MOST_COUNT number k →
+      IsPart names fields (Differ k)
+  recorded : (polls : List ℕ) (m : ℕ) (steps : List ℕ) (n : ℕ) (what argument : List ℕ) (e : Event) →
+      fields ≡ codes "recorded" ∷ polls ∷ steps ∷ what ∷ argument ∷ [] → IsWithin 0 MOST_COUNT polls m → IsWithin 0 MOST_COUNT steps n →
+      IsCame names what argument e → IsPart names fields (Recorded (record { event = e; polls = m; steps = n }))
   takes : (name : List ℕ) (v : Var) (ms : List ℕ) (n : ℕ) → fields ≡ codes "takes" ∷ name ∷ ms ∷ [] → IsDeclared names name v →
       IsWithin 0 MOST_MS ms n → IsPart names fields (Takes (record { name = v; call = None; ms = n }))
   takes_once : (name : List ℕ) (v : Var) (call : List ℕ) (k : ℕ) (ms : List ℕ) (n : ℕ) →

@@ -9,6 +9,10 @@ MOST_COUNT = 4294967295
 abbrev pub MOST_MS : ℕ
 MOST_MS = 4611686018427387904
 
+-- the highest number of a worker
+abbrev pub MOST_WORKER : ℕ
+MOST_WORKER = 65535
+
 -- the most lines `may`
 abbrev pub MOST_OFFERS : ℕ
 MOST_OFFERS = 256

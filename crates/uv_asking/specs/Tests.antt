@@ -3,6 +3,7 @@ use Rattle.std.specs.Prelude.{ℕ, ◌==◌, List, [], ◌∷◌, ◌&&◌, nat_
 use Rattle.std.specs.Str.{bytes_eq}
 use Rattle.uv_ids.specs.declared.id.Var.{Var}
 use Rattle.uv_ids.specs.declared.code.Code as ids
+use Rattle.uv_ids.specs.declared.event.Event.{Event}
 use Rattle.uv_ids.specs.declared.event.Event.TheVariants as event
 use Rattle.uv_ids.specs.Words.{code_named, phase_named}
 use Rattle.uv_script.specs.Lines.{fields_of}
@@ -15,10 +16,10 @@ use Rattle.uv_asking.specs.declared.asking.Which.TheVariants as which
 use Rattle.uv_asking.specs.declared.asking.Question.{Question}
 use Rattle.uv_asking.specs.declared.asking.Question.TheVariants as question
 use Rattle.uv_asking.specs.declared.part.Part.{Part}
-use Rattle.uv_asking.specs.declared.part.Part.TheVariants.{Offers, Takes, Clock, Calls, States, Finds}
+use Rattle.uv_asking.specs.declared.part.Part.TheVariants.{Offers, Differ, Recorded, Takes, Clock, Calls, States, Finds}
 use Rattle.uv_asking.specs.declared.part.Said.{Said}
 use Rattle.uv_asking.specs.declared.part.Said.TheVariants.{Nothing, One, Bad}
-use Rattle.uv_asking.specs.Limits.{MOST_COUNT, MOST_MS}
+use Rattle.uv_asking.specs.Limits.{MOST_COUNT, MOST_MS, MOST_WORKER}
 
 -- a number, if it is of this range
 abbrev pub if_within : ℕ → ℕ → ℕ → Option ℕ
@@ -64,15 +65,47 @@ during_of names what name times word job =
 unfoldable pub waits : List ℕ → Option Part
 waits what = if bytes_eq what (codes "wait") then Some (Offers (record { offer = Wait; times = None })) else None
 
+-- the two fields behind `may` of how many recorded events may come at another place
+unfoldable pub differ_of : List ℕ → List ℕ → Option Part
+differ_of what number = if bytes_eq what (codes "differ") then option_map Differ (number_in 0 MOST_COUNT number) else None
+
 -- the fields behind `may`
 abbrev pub may_of : List (List ℕ) → List (List ℕ) → Option Part
 may_of names [] = None
 may_of names (what ∷ []) = waits what
-may_of names (what ∷ argument ∷ []) = None
+may_of names (what ∷ argument ∷ []) = differ_of what argument
 may_of names (what ∷ argument ∷ times ∷ []) = times_of names what argument times
 may_of names (what ∷ argument ∷ times ∷ word ∷ []) = None
 may_of names (what ∷ argument ∷ times ∷ word ∷ job ∷ []) = during_of names what argument times word job
 may_of names (what ∷ argument ∷ times ∷ word ∷ job ∷ more ∷ rest) = None
+
+-- the event that came in a recording
+abbrev pub came_by : Option Offer → Option Event
+came_by (Some (Step e)) = Some e
+came_by _ = None
+
+unfoldable pub came_of : List (List ℕ) → List ℕ → List ℕ → Option Event
+came_of names what argument =
+    if bytes_eq what (codes "take") then option_map (λ (n : ℕ). event.Take n) (number_in 0 MOST_WORKER argument)
+    else if bytes_eq what (codes "finish") then option_map (λ (n : ℕ). event.Finish n) (number_in 0 MOST_WORKER argument)
+    else came_by (offer_of names what argument)
+
+abbrev pub recorded_at : Event → ℕ → Option ℕ → Option Part
+recorded_at e polls steps = option_map (λ (n : ℕ). Recorded (record { event = e; polls = polls; steps = n })) steps
+
+unfoldable pub recorded_by : List (List ℕ) → List ℕ → List ℕ → List ℕ → List ℕ → Option Part
+recorded_by names polls steps what argument = option_and_then
+    (λ (e : Event). option_and_then (λ (m : ℕ). recorded_at e m (number_in 0 MOST_COUNT steps)) (number_in 0 MOST_COUNT polls))
+    (came_of names what argument)
+
+-- the fields behind `recorded`
+abbrev pub recorded_of : List (List ℕ) → List (List ℕ) → Option Part
+recorded_of names [] = None
+recorded_of names (polls ∷ []) = None
+recorded_of names (polls ∷ steps ∷ []) = None
+recorded_of names (polls ∷ steps ∷ what ∷ []) = None
+recorded_of names (polls ∷ steps ∷ what ∷ argument ∷ []) = recorded_by names polls steps what argument
+recorded_of names (polls ∷ steps ∷ what ∷ argument ∷ more ∷ rest) = None
 
 -- how long a name's callback takes
 abbrev pub time_by : Var → Option ℕ → Option ℕ → Option Part
@@ -210,6 +243,7 @@ question_of names (what ∷ word ∷ of ∷ name ∷ more ∷ rest) = None
 unfoldable pub part_by : List (List ℕ) → List ℕ → List (List ℕ) → Option Part
 part_by names word rest =
     if bytes_eq word (codes "may") then may_of names rest
+    else if bytes_eq word (codes "recorded") then recorded_of names rest
     else if bytes_eq word (codes "takes") then takes_of names rest
     else if bytes_eq word (codes "most") then most_of names rest
     else if bytes_eq word (codes "find") then option_map Finds (question_of names rest)

@@ -22,6 +22,15 @@ pub struct Offered {
     pub times: Option<u32>,
 }
 
+/// An event from outside that came in a recording, and its place there: so many polls began behind the place of the one before it (or behind
+/// the beginning), and behind the last of these the loop took so many steps.
+#[derive(Clone, Copy, PartialEq, Eq)]
+pub struct Recorded {
+    pub event: Event,
+    pub polls: u32,
+    pub steps: u32,
+}
+
 /// At most so many calls of each callback of a name.
 #[derive(Clone, Copy, PartialEq, Eq)]
 pub struct Most {
@@ -81,6 +90,10 @@ pub enum Question {
 pub struct Asking {
     /// `may send NAME N`, `may send NAME N during JOB`, `may cancel NAME N`, `may io NAME N`, `may tick MS N`, `may wait`.
     pub offers: Vec<Offered>,
+    /// `may differ K`: what comes is what came in a recording, at most so many of it at another place.
+    pub differ: Option<u32>,
+    /// `recorded POLLS STEPS EVENT`, in the order of the recording.
+    pub recorded: Vec<Recorded>,
     /// `takes NAME [@K] MS`.
     pub takes: Vec<Takes>,
     /// `most clock MS`: the clock goes no further.

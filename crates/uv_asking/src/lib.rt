@@ -9,6 +9,6 @@ mod part;
 mod question;
 mod words;
 
-pub use asking::{Asking, Most, Offer, Offered, Question, Takes, Which};
+pub use asking::{Asking, Most, Offer, Offered, Question, Recorded, Takes, Which};
 pub use line::{every_line_says, read_part};
 pub use part::{Part, Said};

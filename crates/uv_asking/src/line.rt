@@ -3,12 +3,12 @@ ghost use Rattle.std.specs.Prelude.{◌≡◌, ◌≢◌, ℕ, List, AllPairs, N
 ghost use Rattle.uv_script.specs.Lines.{fields_of};
 ghost use Rattle.uv_asking.specs.declared.part.Said.{Said};
 ghost use Rattle.uv_asking.specs.Grammar.{Says};
-ghost use Rattle.uv_asking.specs.Tests.{said_of, part_of, may_of, waits, times_of, offer_of, during_of, send_during, takes_of, takes_by, call_in, most_of, bound_of, calls_of};
+ghost use Rattle.uv_asking.specs.Tests.{said_of, part_of, may_of, waits, differ_of, times_of, came_by, came_of, recorded_by, recorded_of, offer_of, during_of, send_during, takes_of, takes_by, call_in, most_of, bound_of, calls_of};
 
-use crate::asking::{Most, Offer, Offered, Takes};
+use crate::asking::{Most, Offer, Offered, Recorded, Takes};
 use crate::part::{Part, Said};
 use crate::question::question;
-use crate::words::{MOST_MS, call_in, count_from, number_in};
+use crate::words::{MOST_MS, call_in, count_from, number_in, worker};
 use uv_ids::{Event, is};
 use uv_script::{Fields, Names, is_line, is_skipped};
 
@@ -43,6 +43,8 @@ fn part_in(names: &Names, mut fields: Fields<'_>) -> Option<Part>
     let word = fields.next()?;
     if is(word, b"may") {
         may(names, fields)
+    } else if is(word, b"recorded") {
+        recorded(names, fields)
     } else if is(word, b"takes") {
         takes(names, fields)
     } else if is(word, b"most") {
@@ -63,7 +65,9 @@ fn may(names: &Names, mut fields: Fields<'_>) -> Option<Part>
     let Some(argument) = fields.next() else {
         return waits(what);
     };
-    let times = fields.next()?;
+    let Some(times) = fields.next() else {
+        return differ(what, argument);
+    };
     let Some(word) = fields.next() else {
         return counted(names, what, argument, times);
     };
@@ -108,6 +112,79 @@ fn send_during(names: &Names, name: &[u8], times: &[u8], job: &[u8]) -> Option<P
         offer: Offer::SendDuring(name, job),
         times: Some(count),
     }))
+}
+
+/// How many recorded events may come at another place.
+#[tactic(auto, unfolding(crate::specs::Tests::differ_of))]
+fn differ(what: &[u8], argument: &[u8]) -> Option<Part>
+    ensures { result ≡ differ_of what.now argument.now }
+{
+    if is(what, b"differ") {
+        let moved = count_from(0, argument)?;
+        Some(Part::Differ(moved))
+    } else {
+        None
+    }
+}
+
+/// What stands behind `recorded`.
+fn recorded(names: &Names, mut fields: Fields<'_>) -> Option<Part>
+    ensures { result ≡ recorded_of names.now fields.entry }
+{
+    let polls = fields.next()?;
+    let steps = fields.next()?;
+    let what = fields.next()?;
+    let argument = fields.next()?;
+    match fields.next() {
+        None => recorded_at(names, polls, steps, what, argument),
+        Some(_) => None,
+    }
+}
+
+#[tactic(auto, unfolding(crate::specs::Tests::recorded_by))]
+fn recorded_at(
+    names: &Names,
+    polls: &[u8],
+    steps: &[u8],
+    what: &[u8],
+    argument: &[u8],
+) -> Option<Part>
+    ensures { result ≡ recorded_by names.now polls.now steps.now what.now argument.now }
+{
+    let event = came(names, what, argument)?;
+    let polls = count_from(0, polls)?;
+    let steps = count_from(0, steps)?;
+    Some(Part::Recorded(Recorded {
+        event,
+        polls,
+        steps,
+    }))
+}
+
+/// The step of an offer that is one.
+fn step_in(offer: Option<Offer>) -> Option<Event>
+    ensures { result ≡ came_by offer }
+{
+    match offer {
+        Some(Offer::Step(event)) => Some(event),
+        _ => None,
+    }
+}
+
+/// The event that came.
+#[tactic(auto, unfolding(crate::specs::Tests::came_of))]
+fn came(names: &Names, what: &[u8], argument: &[u8]) -> Option<Event>
+    ensures { result ≡ came_of names.now what.now argument.now }
+{
+    if is(what, b"take") {
+        let worker = worker(argument)?;
+        Some(Event::Take(worker))
+    } else if is(what, b"finish") {
+        let worker = worker(argument)?;
+        Some(Event::Finish(worker))
+    } else {
+        step_in(offer(names, what, argument))
+    }
 }
 
 /// What stands behind `takes`.

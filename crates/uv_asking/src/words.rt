@@ -9,6 +9,9 @@ use uv_script::number;
 /// The most that a count says.
 pub(crate) const MOST_COUNT: u64 = u32::MAX as u64;
 
+/// The highest number of a worker.
+const MOST_WORKER: u64 = u16::MAX as u64;
+
 /// The most ms that a line names.
 pub(crate) const MOST_MS: u64 = 4_611_686_018_427_387_904;
 
@@ -28,6 +31,14 @@ pub(crate) fn count_from(low: u64, field: &[u8]) -> Option<u32>
 {
     let n = number_in(low, MOST_COUNT, field)?;
     Some(n as u32)
+}
+
+/// The number of a worker that a field is.
+pub(crate) fn worker(field: &[u8]) -> Option<u16>
+    ensures { result ≡ number_in 0 65535 field.now }
+{
+    let n = number_in(0, MOST_WORKER, field)?;
+    Some(n as u16)
 }
 
 /// The number of a call that a field is: `@K`.

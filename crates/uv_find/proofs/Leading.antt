@@ -1,7 +1,10 @@
 -- Offers that lead on.
-use Rattle.std.proofs.Common.{◌≡◌, ℕ, zero, suc, ◌<◌, ◌⊎◌, inl, inr, Bool, true, false, ◌&&◌, Some, is_none, refl, ap, subst, arith}
+use Rattle.std.proofs.Common.{◌≡◌, ℕ, zero, suc, ◌<◌, ◌⊎◌, inl, inr, Bool, true, false, ◌&&◌, Some, Ok, is_none, refl, ap, subst, arith}
 use Rattle.uv_find.specs.Orders.{Rules, Place, Led, led}
 use Rattle.uv_find.specs.Questions.{none_leads}
+use Rattle.uv_find.specs.Spots.{Searched}
+use Rattle.uv_find.specs.Steps.{Takes}
+use Rattle.uv_model.specs.declared.machine.Outcome.{Outcome}
 
 or_last : (k n : ℕ) → k < suc n → (k ≡ n) ⊎ (k < n)
 or_last zero zero l = inl refl
@@ -23,3 +26,8 @@ leads_some r p k (suc n) l below goes = by (or_last k n below) (λ m. leads_some
         let here : led r p n ≡ Some l = subst (λ x. led r p x ≡ Some l) e goes in
         rw here (and_false (none_leads r p n))
     by (inr m) more = rw (more m) refl
+
+-- a move that was made is one of them
+pub takes_some : (E : Type 0) (s t : Searched) (number n : ℕ) (o : Outcome) → number < n → Takes {E = E} s number (Ok (Some o)) t
+    → none_leads s.rules s.spot.place n ≡ false
+takes_some E s t number n o below (l, goes) = leads_some s.rules s.spot.place number n l below goes.0

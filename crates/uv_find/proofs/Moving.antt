@@ -1,10 +1,11 @@
 -- Moves of a search are events of a loop, and events are moves.
-use Rattle.std.proofs.Common.{◌≡◌, ℕ, zero, suc, ◌<◌, Bool, true, List, [], ◌∷◌, ◌++◌, length, refl, sym, ap, subst, ◌∙◌, Option, Some, None, slice_get, append_assoc, arith}
+use Rattle.std.proofs.Common.{◌≡◌, ℕ, ◌<◌, nat_lt, if◌then◌else◌, Bool, true, false, List, [], ◌∷◌, ◌++◌, refl, sym, ap, subst, ◌∙◌, Option, Some, None, append_assoc, arith}
+use Rattle.std.proofs.lemmas.Bool.{ltb-true}
 use Rattle.std.proofs.lemmas.Grind.{common_steps}
 use Rattle.uv_ids.specs.declared.event.Event.{Event}
 use Rattle.uv_search.specs.Ways.{LeadTo, Answers}
-use Rattle.uv_asking.specs.declared.asking.Offered.{Offered}
-use Rattle.uv_find.specs.Orders.{Rules, Place, Led, led, leads_on, placed, event_at, offered_by}
+use Rattle.uv_model.specs.Next.{Moves, next}
+use Rattle.uv_find.specs.Orders.{Rules, Place, Choice, Led, led, led_by, placed, choice_at, choice_by, reached, move_count}
 use Rattle.uv_find.specs.Questions.{answers}
 use Rattle.uv_find.specs.Courses as courses
 use Rattle.uv_find.specs.Courses.{Course, LeadsOn}
@@ -17,7 +18,7 @@ after_event s l = record { place = l.place; steps = s.steps ++ l.event ∷ [] }
 
 module _ (r : Rules) where
   abbrev pub LeadsTo : Spot → List ℕ → Spot → Type 0
-  LeadsTo s is t = LeadTo (λ _. length r.offers) (next_spot r) s is t
+  LeadsTo s is t = LeadTo (λ _. move_count r) (next_spot r) s is t
 
   -- ---- a move is an event
 
@@ -51,25 +52,21 @@ module _ (r : Rules) where
 
   -- ---- an event is a move
 
-  offered_below : (n : ℕ) (offers : List Offered) (o : Offered) → slice_get offers n ≡ Some o → n < length offers
-  offered_below zero [] o e = absurd (let f : ⊥ = cc in f)
-  offered_below (suc n) [] o e = absurd (let f : ⊥ = cc in f)
-  offered_below zero (x ∷ xs) o e = omega arith
-  offered_below (suc n) (x ∷ xs) o e = let m = offered_below n xs o e in omega arith
-
-  event_below : (p : Place) (n : ℕ) (e : Event) → event_at r p n ≡ Some e → n < length r.offers
-  event_below p n e h = by (slice_get r.offers n) refl h
+  choice_below : (p : Place) (n : ℕ) (c : Choice) → choice_at r p n ≡ Some c → n < move_count r
+  unfolding choice_at
+  choice_below p n c h = by (nat_lt n (move_count r)) refl h
     where
-      by : (o : Option Offered) → slice_get r.offers n ≡ o → offered_by r p o (slice_get p.left n) ≡ Some e → n < length r.offers
-      by None is g = absurd (let f : ⊥ = cc in f)
-      by (Some o) is g = offered_below n r.offers o is
+      by : (b : Bool) → nat_lt n (move_count r) ≡ b → (if b then choice_by r p n r.differ else None) ≡ Some c → n < move_count r
+      by true is g = ltb-true n (move_count r) is
+      by false is g = absurd (let f : ⊥ = cc in f)
 
   leads_led : (p : Place) (l : Led) (on : LeadsOn r p l) → led r p on.number ≡ Some l
   leads_led p l on =
-      let event : leads_on r.most r.program p.state (event_at r p on.number) ≡ Some (l.event, l.place.state, l.line) =
-      rw (on.offered, on.accepted, on.within) refl in
-      ap (placed r p on.number) event
-      ∙ ap (λ (q : Place). Some (record l { place = q })) (sym on.taken)
+      let accepted : next r.program p.state on.choice.event ≡ Moves l.place.state l.line =
+      subst (λ e. next r.program p.state e ≡ Moves l.place.state l.line) on.event on.accepted in
+      let within : reached r.most (next r.program p.state on.choice.event) ≡ Some (l.place.state, l.line) = rw (accepted, on.within) refl in
+      ap (led_by r p) on.offered ∙ ap (placed r on.choice) within
+      ∙ (λ i. Some (record { event = sym on.event i; place = sym on.taken i; line = l.line }))
 
   -- a course is moves
   pub course_moves : (s : Spot) (es : List Event) (q : Place) → Course r s.place es q
@@ -80,7 +77,7 @@ module _ (r : Rules) where
   course_moves s (e ∷ es) q (l, is_event, on, rest) =
       let more = course_moves (after_event s l) es q rest in
       let goes : next_spot r s on.number ≡ Some (after_event s l, answers r s.place l) = ap (spot_of r s) (leads_led s.place l on) in
-      let below = event_below s.place on.number l.event on.offered in
+      let below = choice_below s.place on.number on.choice on.offered in
       let steps : (s.steps ++ l.event ∷ []) ++ es ≡ s.steps ++ e ∷ es =
       append_assoc s.steps (l.event ∷ []) es ∙ ap (λ x. s.steps ++ x ∷ es) is_event in (
         on.number ∷ more.0,
@@ -96,7 +93,7 @@ module _ (r : Rules) where
   -- ---- answers
 
   abbrev pub WayAnswers : Spot → List ℕ → ℕ → Spot → Type 0
-  WayAnswers s is i t = Answers (λ _. length r.offers) (next_spot r) s is i t
+  WayAnswers s is i t = Answers (λ _. move_count r) (next_spot r) s is i t
 
   pub moves_answer : (s : Spot) (is : List ℕ) (i : ℕ) (t : Spot) → WayAnswers s is i t
       → (es : List Event) × (l : Led) × (courses.Answers r s.place es l × (t.place ≡ l.place) × (t.steps ≡ s.steps ++ (es ++ l.event ∷ [])))
@@ -127,7 +124,7 @@ module _ (r : Rules) where
         record {
           place = here;
           way = way.1;
-          offered = event_below a.place a.leads.number l.event a.leads.offered;
+          offered = choice_below a.place a.leads.number a.leads.choice a.leads.offered;
           answers = subst (λ b. next_spot r here a.leads.number ≡ Some (after_event here l, b)) a.answers goes;
         },
       )

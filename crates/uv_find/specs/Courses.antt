@@ -2,16 +2,18 @@
 use Rattle.std.specs.Prelude.{◌≡◌, ℕ, true, false, ◌⊎◌, List, [], ◌∷◌, ◌++◌, Some}
 use Rattle.uv_ids.specs.declared.event.Event.{Event}
 use Rattle.uv_model.specs.Next.{Moves, next}
-use Rattle.uv_find.specs.Orders.{Rules, Place, Led, event_at, taken, is_within}
+use Rattle.uv_find.specs.Orders.{Rules, Place, Choice, Led, choice_at, taken, is_within}
 use Rattle.uv_find.specs.Questions.{answers, place_answers}
 
 -- from a place an event leads on: it is offered there, the loop accepts it, and the bounds hold then
 pub record LeadsOn (r : Rules) (p : Place) (l : Led) : Type 0 where
   pub number : ℕ
-  pub offered : event_at r p number ≡ Some l.event
+  pub choice : Choice
+  pub offered : choice_at r p number ≡ Some choice
+  pub event : l.event ≡ choice.event
   pub accepted : next r.program p.state l.event ≡ Moves l.place.state l.line
   pub within : is_within r.most l.place.state ≡ true
-  pub taken : l.place ≡ taken r p number l.place.state l.line
+  pub taken : l.place ≡ taken r choice l.place.state l.line
 
 -- these events, one after another, lead from one place to another
 abbrev pub Course : Rules → Place → List Event → Place → Type 0

@@ -1,9 +1,10 @@
 -- What a search keeps beside the loop's state: of the steps that led there.
-use Rattle.std.specs.Prelude.{ℕ, ◌==◌, ◌&&◌, Bool, true, false, is_none, nat_eq, nat_lt, unwrap_or, List, [], ◌∷◌, Option, Some, None, if◌then◌else◌}
+use Rattle.std.specs.Prelude.{ℕ, ◌+◌, ◌-◌, ◌==◌, ◌&&◌, Bool, true, false, is_none, nat_eq, nat_lt, unwrap_or, drop, length, List, [], ◌∷◌, Option, Some, None, if◌then◌else◌}
 use Rattle.std.specs.Option.{option_eq}
+use Rattle.uv_ids.specs.declared.event.Event.{Event}
+use Rattle.uv_ids.specs.declared.event.Event.TheVariants as event
 use Rattle.uv_ids.specs.declared.id.Id.{Id}
 use Rattle.uv_ids.specs.declared.id.Var.{Var}
-use Rattle.uv_ids.specs.declared.phase.Phase.TheVariants as phase
 use Rattle.uv_ids.specs.declared.seen.Callback.{Callback}
 use Rattle.uv_ids.specs.declared.seen.Callback.TheVariants as callback
 use Rattle.uv_ids.specs.declared.seen.Seen.{Seen}
@@ -19,12 +20,10 @@ use Rattle.uv_model.specs.declared.place.Place.TheVariants.{Main, Running}
 use Rattle.uv_model.specs.State.{State, named}
 use Rattle.uv_asking.specs.declared.asking.Question.{Question}
 use Rattle.uv_asking.specs.declared.asking.Question.TheVariants as asks
+use Rattle.uv_asking.specs.declared.asking.Recorded.{Recorded}
 use Rattle.uv_asking.specs.declared.asking.Takes.{Takes}
+use Rattle.uv_find.specs.declared.kept.Along.{Along}
 use Rattle.uv_find.specs.declared.kept.Kept.{Kept}
-
--- where a search begins
-abbrev pub none_kept : Kept
-none_kept = record { due = 0; owed = 0; quiet = false }
 
 -- ---- when the timer that is asked about is due
 
@@ -96,29 +95,53 @@ abbrev pub owed_after : List Takes → ℕ → State → Option Seen → ℕ
 owed_after takes owed s None = owed
 owed_after takes owed s (Some l) = owed_by takes owed s l
 
--- ---- where a send would come too late for the poll
+-- ---- how far an order is along the recording
 
--- the loop has left its poll, and has called no request and no handle since: the done section has begun, and the check section hasn't
-abbrev pub quiet_by : Bool → Seen → Bool
-quiet_by was (seen.Section phase.Done) = true
-quiet_by was (seen.Section phase.Async) = was
-quiet_by was (seen.Section x) = false
-quiet_by was (seen.Call v id) = false
-quiet_by was (seen.After digest v id) = false
-quiet_by was l = was
+-- behind the place of a recorded event, where these are behind it, the first of them of this number: the place of one that is no poll and no
+-- step away is here, too
+abbrev pub onward : List Recorded → ℕ → ℕ → Along
+onward [] next spare = record { next = next; polls = 0; steps = 0; spare = spare }
+onward (e ∷ es) next spare =
+    if e.polls == 0 && e.steps == 0 then onward es (next + 1) spare else record { next = next; polls = e.polls; steps = e.steps; spare = spare }
 
-abbrev pub quiet_after : Bool → Option Seen → Bool
-quiet_after was None = was
-quiet_after was (Some l) = quiet_by was l
+-- behind the place of the recorded event of this number
+abbrev pub behind : List Recorded → ℕ → ℕ → Along
+behind recorded number spare = onward (drop (number + 1) recorded) (number + 1) spare
+
+abbrev pub is_poll : Option Seen → Bool
+is_poll (Some (seen.Poll timeout)) = true
+is_poll _ = false
+
+-- a step of the loop is one of those to the next event's place: first the polls, and then the steps behind the last of them. A poll more is
+-- beyond that place
+abbrev pub nearer : Along → Bool → Along
+nearer a true = record a { polls = a.polls - 1; steps = if a.polls == 0 then 0 else a.steps }
+nearer a false = record a { steps = if a.polls == 0 then a.steps - 1 else a.steps }
+
+abbrev pub arrived : List Recorded → Along → Along
+arrived recorded a = if nat_lt a.next (length recorded) && (a.polls == 0 && a.steps == 0) then behind recorded a.next a.spare else a
+
+-- behind an event with this line
+abbrev pub along_after : List Recorded → Along → Event → Option Seen → Along
+along_after recorded a event.Loop line = arrived recorded (nearer a (is_poll line))
+along_after recorded a e line = a
+
+-- so many recorded events may still come at another place
+abbrev pub with_spare : Kept → ℕ → Kept
+with_spare k spare = record k { along = record k.along { spare = spare } }
 
 -- ---- the whole
 
--- what is kept after a step with this line that led to this state
-abbrev pub kept_after : List Takes → Question → Kept → State → Option Seen → Kept
-kept_after takes question k s line = record {
+-- where a search begins
+abbrev pub none_kept : List Recorded → Option ℕ → Kept
+none_kept recorded differ = record { due = 0; owed = 0; along = onward recorded 0 (unwrap_or differ 0) }
+
+-- what is kept after an event with this line that led to this state
+abbrev pub kept_after : List Recorded → List Takes → Question → Kept → Event → State → Option Seen → Kept
+kept_after recorded takes question k e s line = record {
   due = kept_due question s k.due;
   owed = owed_after takes k.owed s line;
-  quiet = quiet_after k.quiet line;
+  along = along_after recorded k.along e line;
 }
 
 -- a callback's time is still to go by

@@ -1,6 +1,5 @@
 -- Places that have one key go on alike, and moves lead to places.
-use Rattle.std.proofs.Common.{◌≡◌, ℕ, zero, suc, ◌<◌, Bool, true, false, List, [], ◌∷◌, ◌++◌, length, map, refl, sym, ap, ap₂, subst, ◌∙◌, Option, Some, None, is_some, slice_get, slice_set, if◌then◌else◌, append_assoc}
-use Rattle.uv_ids.specs.declared.event.Event.{Event}
+use Rattle.std.proofs.Common.{◌≡◌, ℕ, ◌<◌, Bool, true, false, List, [], ◌∷◌, ◌++◌, length, refl, sym, ap, ap₂, subst, ◌∙◌, Option, Some, None, if◌then◌else◌, append_assoc, arith}
 use Rattle.uv_ids.specs.declared.seen.Seen.{Seen}
 use Rattle.uv_key.specs.Codes.{number_code}
 use Rattle.uv_key.proofs.Telling.{numbers_tell}
@@ -11,43 +10,54 @@ use Rattle.uv_model.proofs.Runs.{after-push}
 use Rattle.uv_search.specs.Ways.{SameMoves, SameStep}
 use Rattle.uv_state_key.specs.Key.{state_code}
 use Rattle.uv_state_key.proofs.States as states
-use Rattle.uv_find.specs.Orders.{Rules, Place, Led, led, with_event, leads_on, placed, event_at, taken, lessened, lessened_by, less, reached, is_within}
+use Rattle.uv_find.specs.Orders.{Rules, Place, Choice, Led, led, led_by, placed, choice_at, move_count, taken, reached, is_within}
 use Rattle.uv_find.specs.Questions.{answers}
 use Rattle.uv_find.specs.Courses.{LeadsOn}
+use Rattle.uv_find.specs.declared.kept.Along.{Along}
 use Rattle.uv_find.specs.declared.kept.Kept.{Kept}
-use Rattle.uv_find.specs.Spots.{Spot, spot_of, next_spot, left_code, bit, kept_code, spot_code, IsSpot}
+use Rattle.uv_find.specs.Spots.{Spot, spot_of, next_spot, times_code, each_code, left_code, along_code, kept_code, spot_code, IsSpot}
 
--- how often the offers may be taken that have a bound, of those that have one in both
-lefts_tell : (a b : List (Option ℕ)) (x y : List ℕ) → map is_some a ≡ map is_some b → left_code a ++ x ≡ left_code b ++ y → (a ≡ b) × (x ≡ y)
-lefts_tell [] [] x y s e = (refl, e)
-lefts_tell [] (o ∷ os) x y s e = absurd (let f : ⊥ = cc in f)
-lefts_tell (o ∷ os) [] x y s e = absurd (let f : ⊥ = cc in f)
-lefts_tell (None ∷ as1) (None ∷ bs) x y s e =
-    let more : map is_some as1 ≡ map is_some bs = cc in
-    let r = lefts_tell as1 bs x y more e in
-    (ap (λ os. None ∷ os) r.0, r.1)
-lefts_tell (None ∷ as1) (Some n ∷ bs) x y s e = absurd (let f : ⊥ = cc in f)
-lefts_tell (Some n ∷ as1) (None ∷ bs) x y s e = absurd (let f : ⊥ = cc in f)
-lefts_tell (Some n ∷ as1) (Some m ∷ bs) x y s e =
-    let more : map is_some as1 ≡ map is_some bs = cc in
-    let first = numbers_tell n m (left_code as1 ++ x) (left_code bs ++ y)
-    (sym (append_assoc (number_code n) (left_code as1) x) ∙ e ∙ append_assoc (number_code m) (left_code bs) y) in
-    let r = lefts_tell as1 bs x y more first.1 in
-    (ap₂ (λ k os. Some k ∷ os) first.0 r.0, r.1)
+times_tell : (a b : Option ℕ) → times_code a ≡ times_code b → a ≡ b
+times_tell None None e = refl
+times_tell None (Some n) e = absurd (omega (arith, e))
+times_tell (Some m) None e = absurd (omega (arith, e))
+times_tell (Some m) (Some n) e =
+    let same : m ≡ n = omega (arith, e) in
+    ap Some same
 
-bits_tell : (a b : Bool) → bit a ≡ bit b → a ≡ b
-bits_tell false false e = refl
-bits_tell true true e = refl
-bits_tell false true e = absurd cc
-bits_tell true false e = absurd cc
+-- how often offers may be taken, of as many in both
+each_tells : (a b : List (Option ℕ)) (x y : List ℕ) → length a ≡ length b → each_code a ++ x ≡ each_code b ++ y → (a ≡ b) × (x ≡ y)
+each_tells [] [] x y s e = (refl, e)
+each_tells [] (o ∷ os) x y s e = absurd (omega (arith, s))
+each_tells (o ∷ os) [] x y s e = absurd (omega (arith, s))
+each_tells (a ∷ as1) (b ∷ bs) x y s e =
+    let more : length as1 ≡ length bs = omega (arith, s) in
+    let first = numbers_tell (times_code a) (times_code b) (each_code as1 ++ x) (each_code bs ++ y)
+    (sym (append_assoc (number_code (times_code a)) (each_code as1) x) ∙ e ∙ append_assoc (number_code (times_code b)) (each_code bs) y) in
+    let r = each_tells as1 bs x y more first.1 in
+    (ap₂ (λ o os. o ∷ os) (times_tell a b first.0) r.0, r.1)
+
+lefts_tell : (a b : List (Option ℕ)) (x y : List ℕ) → left_code a ++ x ≡ left_code b ++ y → (a ≡ b) × (x ≡ y)
+lefts_tell a b x y e =
+    let first = numbers_tell (length a) (length b) (each_code a ++ x) (each_code b ++ y)
+    (sym (append_assoc (number_code (length a)) (each_code a) x) ∙ e ∙ append_assoc (number_code (length b)) (each_code b) y) in
+    each_tells a b x y first.0 first.1
+
+along_tells : (a b : Along) → along_code a ≡ along_code b → a ≡ b
+along_tells a b e =
+    let next = numbers_tell a.next b.next (number_code a.polls ++ (number_code a.steps ++ number_code a.spare))
+    (number_code b.polls ++ (number_code b.steps ++ number_code b.spare)) e in
+    let polls = numbers_tell a.polls b.polls (number_code a.steps ++ number_code a.spare) (number_code b.steps ++ number_code b.spare) next.1 in
+    let steps = numbers_tell a.steps b.steps (number_code a.spare) (number_code b.spare) polls.1 in
+    let spare = numbers_tell a.spare b.spare [] [] (ap (λ xs. xs ++ []) steps.1) in
+    λ i. record { next = next.0 i; polls = polls.0 i; steps = steps.0 i; spare = spare.0 i }
 
 kept_tells : (a b : Kept) → kept_code a ≡ kept_code b → a ≡ b
 kept_tells a b e =
-    let due = numbers_tell a.due b.due (number_code a.owed ++ number_code (bit a.quiet)) (number_code b.owed ++ number_code (bit b.quiet)) e in
-    let owed = numbers_tell a.owed b.owed (number_code (bit a.quiet)) (number_code (bit b.quiet)) due.1 in
-    let quiet = numbers_tell (bit a.quiet) (bit b.quiet) [] [] (ap (λ xs. xs ++ []) owed.1) in
-    let same = bits_tell a.quiet b.quiet quiet.0 in
-    λ i. record { due = due.0 i; owed = owed.0 i; quiet = same i }
+    let due = numbers_tell a.due b.due (number_code a.owed ++ along_code a.along) (number_code b.owed ++ along_code b.along) e in
+    let owed = numbers_tell a.owed b.owed (along_code a.along) (along_code b.along) due.1 in
+    let along = along_tells a.along b.along owed.1 in
+    λ i. record { due = due.0 i; owed = owed.0 i; along = along i }
 
 -- a place is told by its key
 pub places_tell : (r : Rules) (s t : Spot) → IsSpot r s → IsSpot r t → spot_code s ≡ spot_code t → s.place ≡ t.place
@@ -63,7 +73,7 @@ places_tell r s t is js e =
     is.state
     (subst (λ x. state_code p.state ++ (left_code p.left ++ kept_code p.kept) ≡ state_code x ++ (left_code q.left ++ kept_code q.kept)) js.state
     one)) in
-    let lefts = lefts_tell p.left q.left (kept_code p.kept) (kept_code q.kept) (is.bounded ∙ sym js.bounded) same.1 in
+    let lefts = lefts_tell p.left q.left (kept_code p.kept) (kept_code q.kept) same.1 in
     let kept = kept_tells p.kept q.kept lefts.1 in
     let state : p.state ≡ q.state = is.state ∙ same.0 ∙ sym js.state in
     λ i. record { state = state i; left = lefts.0 i; kept = kept i }
@@ -73,7 +83,7 @@ same_spots r s t same None = tt
 same_spots r s t same (Some l) = (refl, ap (λ (p : Place). answers r p l) same)
 
 pub spots_alike : (r : Rules) (s t : Spot) → IsSpot r s → IsSpot r t → spot_code s ≡ spot_code t
-    → SameMoves (λ _. length r.offers) (next_spot r) spot_code s t
+    → SameMoves (λ _. move_count r) (next_spot r) spot_code s t
 spots_alike r s t is js e =
     let same = places_tell r s t is js e in (
       refl,
@@ -83,46 +93,34 @@ spots_alike r s t is js e =
 -- ---- where a move leads
 
 module _ (r : Rules) (p : Place) (number : ℕ) (l : Led) where
-  by_within : (e : Event) (s : State) (line : Option Seen) (b : Bool) → event_at r p number ≡ Some e → next r.program p.state e ≡ Moves s line
+  by_within : (c : Choice) (s : State) (line : Option Seen) (b : Bool) → choice_at r p number ≡ Some c → next r.program p.state c.event ≡ Moves s line
       → is_within r.most s ≡ b
-      → placed r p number (with_event e (if◌then◌else◌ {A = Option (State × Option Seen)} b (Some (s, line)) None)) ≡ Some l → LeadsOn r p l
-  by_within e s line true offered accepted within is =
-      let one : ◌≡◌ {A = Led} (record { event = e; place = taken r p number s line; line = line }) l = cc in
-      subst (LeadsOn r p) one (record { number = number; offered = offered; accepted = accepted; within = within; taken = refl })
-  by_within e s line false offered accepted within is = absurd (let f : ⊥ = cc in f)
+      → placed r c (if◌then◌else◌ {A = Option (State × Option Seen)} b (Some (s, line)) None) ≡ Some l → LeadsOn r p l
+  by_within c s line true offered accepted within is =
+      let one : ◌≡◌ {A = Led} (record { event = c.event; place = taken r c s line; line = line }) l = cc in
+      subst (LeadsOn r p) one (record {
+        number = number;
+        choice = c;
+        offered = offered;
+        event = refl;
+        accepted = accepted;
+        within = within;
+        taken = refl;
+      })
+  by_within c s line false offered accepted within is = absurd (let f : ⊥ = cc in f)
 
-  by_next : (e : Event) (x : Next) → event_at r p number ≡ Some e → next r.program p.state e ≡ x → placed r p number
-      (with_event e (reached r.most x)) ≡ Some l → LeadsOn r p l
-  by_next e (Refuses why) offered accepted is = absurd (let f : ⊥ = cc in f)
-  by_next e (Moves s line) offered accepted is = by_within e s line (is_within r.most s) offered accepted refl is
+  by_next : (c : Choice) (x : Next) → choice_at r p number ≡ Some c → next r.program p.state c.event ≡ x → placed r c (reached r.most x) ≡ Some l
+      → LeadsOn r p l
+  by_next c (Refuses why) offered accepted is = absurd (let f : ⊥ = cc in f)
+  by_next c (Moves s line) offered accepted is = by_within c s line (is_within r.most s) offered accepted refl is
 
-  by_event : (e : Option Event) → event_at r p number ≡ e → placed r p number (leads_on r.most r.program p.state e) ≡ Some l → LeadsOn r p l
-  by_event None offered is = absurd (let f : ⊥ = cc in f)
-  by_event (Some e) offered is = by_next e (next r.program p.state e) offered refl is
+  by_choice : (c : Option Choice) → choice_at r p number ≡ c → led_by r p c ≡ Some l → LeadsOn r p l
+  by_choice None offered is = absurd (let f : ⊥ = cc in f)
+  by_choice (Some c) offered is = by_next c (next r.program p.state c.event) offered refl is
 
-  -- an offer that leads on is an event that does
+  -- a choice that leads on is an event that does
   pub led_leads : led r p number ≡ Some l → LeadsOn r p l
-  led_leads is = by_event (event_at r p number) refl is
-
--- how often offers may be taken is bounded for the same ones
-less_bounded : (o : Option ℕ) → is_some (less o) ≡ is_some o
-less_bounded None = refl
-less_bounded (Some n) = refl
-
-set_bounded : (left : List (Option ℕ)) (number : ℕ) (n : Option ℕ) → slice_get left number ≡ Some n
-    → map is_some (slice_set left number (less n)) ≡ map is_some left
-set_bounded [] number n e = refl
-set_bounded (o ∷ os) zero n e =
-    let one : o ≡ n = cc in
-    ap (λ x. x ∷ map is_some os) (less_bounded n ∙ sym (ap is_some one))
-set_bounded (o ∷ os) (suc number) n e = ap (λ xs. is_some o ∷ xs) (set_bounded os number n e)
-
-pub lessened_bounded : (left : List (Option ℕ)) (number : ℕ) → map is_some (lessened left number) ≡ map is_some left
-lessened_bounded left number = by (slice_get left number) refl
-  where
-    by : (o : Option (Option ℕ)) → slice_get left number ≡ o → map is_some (lessened_by left number o) ≡ map is_some left
-    by None e = refl
-    by (Some n) e = set_bounded left number n e
+  led_leads is = by_choice (choice_at r p number) refl is
 
 -- a spot, with an event more that leads on
 pub leads_spot : (r : Rules) (s : Spot) (l : Led) → IsSpot r s → LeadsOn r s.place l
@@ -130,12 +128,9 @@ pub leads_spot : (r : Rules) (s : Spot) (l : Led) → IsSpot r s → LeadsOn r s
 leads_spot r s l is on =
     let accepted : next r.program (after r.program s.steps) l.event ≡ Moves l.place.state l.line =
     subst (λ x. next r.program x l.event ≡ Moves l.place.state l.line) is.state on.accepted in
-    record {
-      state = sym (after-push r.program s.steps l.event ∙ ap (state_of (after r.program s.steps)) accepted);
-      bounded = ap (λ (q : Place). map is_some q.left) on.taken ∙ lessened_bounded s.place.left on.number ∙ is.bounded;
-    }
+    record { state = sym (after-push r.program s.steps l.event ∙ ap (state_of (after r.program s.steps)) accepted) }
 
-pub spots_lead : (r : Rules) (s : Spot) (i : ℕ) (t : Spot) (b : Bool) → IsSpot r s → i < length r.offers → next_spot r s i ≡ Some (t, b) → IsSpot r t
+pub spots_lead : (r : Rules) (s : Spot) (i : ℕ) (t : Spot) (b : Bool) → IsSpot r s → i < move_count r → next_spot r s i ≡ Some (t, b) → IsSpot r t
 spots_lead r s i t b is below goes = by (led r s.place i) refl goes
   where
     by : (o : Option Led) → led r s.place i ≡ o → spot_of r s o ≡ Some (t, b) → IsSpot r t

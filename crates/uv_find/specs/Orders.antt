@@ -1,5 +1,5 @@
 -- The orders of what may come from outside of a loop: what is offered where a search stands, and where it leads.
-use Rattle.std.specs.Prelude.{ℕ, zero, suc, ◌+◌, ◌-◌, ◌&&◌, not, Bool, true, false, nat_lt, nat_le, is_none, is_some, map, List, [], ◌∷◌, ◌++◌, Option, Some, None, slice_get, slice_set, if◌then◌else◌}
+use Rattle.std.specs.Prelude.{ℕ, zero, suc, ◌+◌, ◌-◌, ◌&&◌, not, ◌==◌, ◌||◌, length, Bool, true, false, nat_lt, nat_le, is_none, is_some, map, List, [], ◌∷◌, ◌++◌, Option, Some, None, slice_get, slice_set, if◌then◌else◌}
 use Rattle.std.specs.List.{list_all}
 use Rattle.uv_ids.specs.declared.event.Event.{Event}
 use Rattle.uv_ids.specs.declared.event.Event.TheVariants as event
@@ -8,6 +8,10 @@ use Rattle.uv_ids.specs.declared.id.Var.{Var}
 use Rattle.uv_ids.specs.declared.seen.Seen.{Seen}
 use Rattle.uv_ids.specs.declared.fault.Why.TheVariants.{Blocked}
 use Rattle.uv_script.specs.Program.{Program, worker_count}
+use Rattle.uv_records.specs.Slots.{held}
+use Rattle.uv_records.specs.declared.lists.WatcherKind.TheVariants as watcher
+use Rattle.uv_work.specs.declared.content.Content.{Content}
+use Rattle.uv_work.specs.declared.content.Content.TheVariants as content
 use Rattle.uv_model.specs.declared.place.Place as loop
 use Rattle.uv_model.specs.declared.place.Place.TheVariants.{Main, Running}
 use Rattle.uv_model.specs.declared.place.Stage.{Stage}
@@ -18,16 +22,21 @@ use Rattle.uv_model.specs.Next.{Next, Moves, Refuses, next}
 use Rattle.uv_asking.specs.declared.asking.Offer.{Offer}
 use Rattle.uv_asking.specs.declared.asking.Offer.TheVariants.{Step, SendDuring, Take, Wait}
 use Rattle.uv_asking.specs.declared.asking.Offered.{Offered}
+use Rattle.uv_asking.specs.declared.asking.Recorded.{Recorded}
 use Rattle.uv_asking.specs.declared.asking.Most.{Most}
 use Rattle.uv_asking.specs.declared.asking.Takes.{Takes}
 use Rattle.uv_asking.specs.declared.asking.Question.{Question}
 use Rattle.uv_find.specs.declared.kept.Kept.{Kept}
-use Rattle.uv_find.specs.Kept.{none_kept, kept_after, owes}
+use Rattle.uv_find.specs.declared.kept.Along.{Along}
+use Rattle.uv_find.specs.Kept.{none_kept, kept_after, behind, with_spare, owes}
 
 -- what stays the same: the script, what is offered, how long callbacks take, how far the clock goes, how often names are called, and what is asked
 pub record Rules : Type 0 where
   pub program : Program
   pub offers : List Offered
+  -- in place of what is offered, what came in a recording: at most so many of it at another place
+  pub differ : Option ℕ
+  pub recorded : List Recorded
   pub takes : List Takes
   pub clock : Option ℕ
   pub most : List Most
@@ -36,7 +45,8 @@ pub record Rules : Type 0 where
 -- where a search stands
 pub record Place : Type 0 where
   pub state : State
-  -- how often each offer may still be taken; none is as often as one likes
+  -- how often each offer may still be taken; none is as often as one likes. Of a recorded event: 2 while it is ahead, 1 where it was held
+  -- back, 0 once it has come
   pub left : List (Option ℕ)
   pub kept : Kept
 
@@ -58,9 +68,27 @@ every_offer workers asked = (at_will (Step event.Loop) ∷ at_will Take ∷ []) 
 abbrev pub times_of : List Offered → List (Option ℕ)
 times_of offers = map (λ (offered : Offered). offered.times) offers
 
+-- of a recorded event is left: it is ahead, it was held back, it has come
+abbrev pub AHEAD : ℕ
+AHEAD = 2
+
+abbrev pub HELD : ℕ
+HELD = 1
+
+abbrev pub COME : ℕ
+COME = 0
+
+abbrev pub first_left : Option ℕ → List Offered → List Recorded → List (Option ℕ)
+first_left None offers recorded = times_of offers
+first_left (Some k) offers recorded = map (λ (e : Recorded). Some AHEAD) recorded
+
 -- where a search begins
 abbrev pub beginning : Rules → Place
-beginning r = record { state = fresh r.program; left = times_of r.offers; kept = none_kept }
+beginning r = record {
+  state = fresh r.program;
+  left = first_left r.differ r.offers r.recorded;
+  kept = none_kept r.recorded r.differ;
+}
 
 -- ---- the event of an offer
 
@@ -91,6 +119,10 @@ abbrev pub deadline_in : Stage → Option ℕ
 deadline_in (stage.Poll deadline) = deadline
 deadline_in _ = None
 
+abbrev pub is_poll_stage : Stage → Bool
+is_poll_stage (stage.Poll deadline) = true
+is_poll_stage _ = false
+
 abbrev pub deadline_at : loop.Place → Option ℕ
 deadline_at (Main line) = None
 deadline_at (Running run) = deadline_in run.stage
@@ -112,13 +144,37 @@ abbrev pub is_made : State → Option Var → Bool
 is_made s None = true
 is_made s (Some v) = is_some (named s v).id
 
--- while a callback's time is still to go by, no callback of I/O begins, and no other time goes by; and nothing is sent between a poll and the
--- first callback behind it: the loop sees that only where the poll is woken, and then it is as a send in the poll
-abbrev pub is_free : Kept → Event → Bool
-is_free k (event.Io v) = not (owes k)
-is_free k (event.Tick ms) = not (owes k)
-is_free k (event.Send v) = not k.quiet
-is_free k e = true
+-- the loop has left its poll, and the after and async callbacks of its iteration are called
+abbrev pub is_behind_poll : Stage → Bool
+is_behind_poll stage.Done = true
+is_behind_poll stage.DoneUnwoken = true
+is_behind_poll (stage.Walking watcher.Async) = true
+is_behind_poll _ = false
+
+abbrev pub is_quiet : loop.Place → Bool
+is_quiet (Main line) = false
+is_quiet (Running run) = is_behind_poll run.stage
+
+-- a handle is held that closes
+abbrev pub is_closing : Option Content → Bool
+is_closing (Some (content.Handle h)) = h.closing
+is_closing _ = false
+
+abbrev pub closes : State → Option Id → Bool
+closes s None = false
+closes s (Some id) = is_closing (held s.arena.slots id)
+
+-- a send comes where libuv sees it as the loop does: neither between the lines `done` and `check` (there libuv wakes its next poll by it, also
+-- where the handle is still called in this iteration), nor to a handle that closes (uv_async_send returns 0)
+abbrev pub is_seen : State → Var → Bool
+is_seen s v = not (is_quiet s.place) && not (closes s (named s v).id)
+
+-- while a callback's time is still to go by, no callback of I/O begins, and no other time goes by
+abbrev pub is_free : State → Kept → Event → Bool
+is_free s k (event.Io v) = not (owes k)
+is_free s k (event.Tick ms) = not (owes k)
+is_free s k (event.Send v) = is_seen s v
+is_free s k e = true
 
 -- where the loop would go on, a callback's time goes by first
 abbrev pub spending : Kept → Event → Event
@@ -126,7 +182,7 @@ spending k event.Loop = if owes k then event.Tick k.owed else event.Loop
 spending k e = e
 
 abbrev pub step_of : State → Kept → Event → Option Event
-step_of s k e = if is_made s (aim e) && is_free k e then Some (spending k e) else None
+step_of s k e = if is_made s (aim e) && is_free s k e then Some (spending k e) else None
 
 -- a worker runs the request that this name is bound to
 abbrev pub is_run : State → Option Id → Bool
@@ -160,11 +216,17 @@ abbrev pub offered_by : Rules → Place → Option Offered → Option (Option �
 offered_by r p (Some offered) (Some left) = offered_here r.program r.clock p.state p.kept offered.offer left
 offered_by r p _ _ = None
 
--- the event that the offer of this number is here, if it may still be taken
-abbrev pub event_at : Rules → Place → ℕ → Option Event
-event_at r p number = offered_by r p (slice_get r.offers number) (slice_get p.left number)
+-- ---- what may come at a place
 
--- ---- where an event leads
+-- an event that may come, with what is left and kept of the place where it does
+pub record Choice : Type 0 where
+  pub event : Event
+  pub left : List (Option ℕ)
+  pub kept : Kept
+
+abbrev pub chosen : List (Option ℕ) → Kept → Option Event → Option Choice
+chosen left kept None = None
+chosen left kept (Some e) = Some (record { event = e; left = left; kept = kept })
 
 -- an offer may be taken once less
 abbrev pub less : Option ℕ → Option ℕ
@@ -178,9 +240,170 @@ lessened_by left number (Some n) = slice_set left number (less n)
 abbrev pub lessened : List (Option ℕ) → ℕ → List (Option ℕ)
 lessened left number = lessened_by left number (slice_get left number)
 
--- the place after the offer of this number, with this state, where that appended this line
-abbrev pub taken : Rules → Place → ℕ → State → Option Seen → Place
-taken r p number s line = record { state = s; left = lessened p.left number; kept = kept_after r.takes r.question p.kept s line }
+-- the offer of this number, if it may still be taken
+abbrev pub offer_at : Rules → Place → ℕ → Option Choice
+offer_at r p number = chosen (lessened p.left number) p.kept (offered_by r p (slice_get r.offers number) (slice_get p.left number))
+
+-- ---- what came in a recording, with at most so many events at another place
+
+abbrev pub has_left : ℕ → Option (Option ℕ) → Bool
+has_left n (Some (Some m)) = m == n
+has_left n _ = false
+
+abbrev pub is_to_come : Option (Option ℕ) → Bool
+is_to_come (Some (Some m)) = nat_lt 0 m
+is_to_come _ = false
+
+-- two events of one source: for one name, of one worker, or of the clock
+abbrev pub is_akin : Event → Event → Bool
+is_akin (event.Take m) (event.Take n) = m == n
+is_akin (event.Finish m) (event.Finish n) = m == n
+is_akin (event.Cancel v) (event.Cancel w) = v.0 == w.0
+is_akin (event.Send v) (event.Send w) = v.0 == w.0
+is_akin (event.Io v) (event.Io w) = v.0 == w.0
+is_akin (event.Tick m) (event.Tick n) = true
+is_akin d e = false
+
+abbrev pub is_akin_to : Event → Option Recorded → Bool
+is_akin_to e None = false
+is_akin_to e (Some r) = is_akin r.event e
+
+-- one of the first recorded events is of this one's source, and hasn't come
+abbrev pub waits_for : List Recorded → List (Option ℕ) → Event → ℕ → Bool
+waits_for recorded left e zero = false
+waits_for recorded left e (suc n) = waits_for recorded left e n || (is_akin_to e (slice_get recorded n) && is_to_come (slice_get left n))
+
+abbrev pub comes_by : List Recorded → State → List (Option ℕ) → ℕ → Option Recorded → Option Event
+comes_by recorded s left number None = None
+comes_by recorded s left number (Some r) =
+    if is_made s (aim r.event) && not (waits_for recorded left r.event number) then Some r.event else None
+
+-- the recorded event of this number, where it may come at all: what it is for was made, and those of its source before it have come
+abbrev pub comes : List Recorded → State → List (Option ℕ) → ℕ → Option Event
+comes recorded s left number = comes_by recorded s left number (slice_get recorded number)
+
+abbrev pub moves : Next → Bool
+moves (Moves t line) = true
+moves (Refuses why) = false
+
+abbrev pub accepts : Program → State → Option Event → Bool
+accepts p s None = false
+accepts p s (Some e) = moves (next p s e)
+
+-- the recorded event of this number is ahead, and the loop accepts it here
+abbrev pub is_ready : Program → List Recorded → State → List (Option ℕ) → ℕ → Bool
+is_ready p recorded s left number = if has_left AHEAD (slice_get left number) then accepts p s (comes recorded s left number) else false
+
+-- what goes on past the first recorded events holds back those that are ready
+abbrev pub held_at : Bool → List (Option ℕ) → ℕ → List (Option ℕ)
+held_at true left number = slice_set left number (Some HELD)
+held_at false left number = left
+
+abbrev pub held_back : Program → List Recorded → State → List (Option ℕ) → ℕ → List (Option ℕ)
+held_back p recorded s left zero = left
+held_back p recorded s left (suc n) = held_at (is_ready p recorded s left n) (held_back p recorded s left n) n
+
+-- each comes at another place, if one more may
+abbrev pub spent : Option ℕ → Option ℕ
+spent None = None
+spent (Some spare) = if spare == 0 then None else Some (spare - 1)
+
+abbrev pub spent_if : Bool → Option ℕ → Option ℕ
+spent_if true spare = spent spare
+spent_if false spare = spare
+
+abbrev pub spare_behind : Program → List Recorded → State → List (Option ℕ) → ℕ → ℕ → Option ℕ
+spare_behind p recorded s left spare zero = Some spare
+spare_behind p recorded s left spare (suc n) = spent_if (is_ready p recorded s left n) (spare_behind p recorded s left spare n)
+
+-- the loop goes on, past all whose place was reached
+abbrev pub go_on_by : List (Option ℕ) → Kept → Option ℕ → Option Choice
+go_on_by left k None = None
+go_on_by left k (Some spare) = Some (record { event = event.Loop; left = left; kept = with_spare k spare })
+
+abbrev pub go_on : Rules → Place → Option Choice
+go_on r p =
+    let next = p.kept.along.next in
+    go_on_by (held_back r.program r.recorded p.state p.left next) p.kept
+    (spare_behind r.program r.recorded p.state p.left p.kept.along.spare next)
+
+abbrev pub is_in_poll : loop.Place → Bool
+is_in_poll (Main line) = false
+is_in_poll (Running run) = is_poll_stage run.stage
+
+-- the place of the recorded event of this number was reached, or the loop can't go on to it
+abbrev pub is_due : Rules → Place → ℕ → Bool
+is_due r p number = if nat_lt number p.kept.along.next then true else (if is_in_poll p.state.place then is_blocked r.program p.state else false)
+
+-- where that comes, its place is here
+abbrev pub along_at : List Recorded → Along → ℕ → ℕ → Along
+along_at recorded a number spare = if nat_lt number a.next then record a { spare = spare } else behind recorded number spare
+
+abbrev pub come_by : List Recorded → List (Option ℕ) → Kept → ℕ → Option ℕ → Option Event → Option Choice
+come_by recorded left k number (Some spare) (Some e) = Some (record {
+  event = e;
+  left = slice_set left number (Some COME);
+  kept = record k { along = along_at recorded k.along number spare };
+})
+come_by recorded left k number _ _ = None
+
+-- a recorded event comes at its place, or as soon after it as it may, past those before it
+abbrev pub in_place : Rules → Place → ℕ → Option Choice
+in_place r p number = if has_left AHEAD (slice_get p.left number) && is_due r p number
+    then come_by r.recorded (held_back r.program r.recorded p.state p.left number) p.kept number
+    (spare_behind r.program r.recorded p.state p.left p.kept.along.spare number)
+    (timed r.clock p.state.clock (comes r.recorded p.state p.left number))
+    else None
+
+-- what may still come at another place if this one does: it was held back, or it is ahead
+abbrev pub spare_of : ℕ → Option (Option ℕ) → Option ℕ
+spare_of spare (Some (Some left)) = if left == HELD then Some spare else (if left == AHEAD then spent (Some spare) else None)
+spare_of spare _ = None
+
+abbrev pub free_of : State → Kept → Option Event → Option Event
+free_of s k None = None
+free_of s k (Some e) = if is_free s k e then Some e else None
+
+abbrev pub elsewhere_by : List (Option ℕ) → Kept → ℕ → Option ℕ → Option Event → Option Choice
+elsewhere_by left k number (Some spare) (Some e) =
+    Some (record { event = e; left = slice_set left number (Some COME); kept = with_spare k spare })
+elsewhere_by left k number _ _ = None
+
+-- a recorded event comes at another place
+abbrev pub elsewhere : Rules → Place → ℕ → Option Choice
+elsewhere r p number = elsewhere_by p.left p.kept number (spare_of p.kept.along.spare (slice_get p.left number))
+    (timed r.clock p.state.clock (free_of p.state p.kept (comes r.recorded p.state p.left number)))
+
+-- by their numbers: the loop goes on, each recorded event comes at its place, each at another one
+abbrev pub recorded_at : Rules → Place → ℕ → Option Choice
+recorded_at r p number =
+    let count = length r.recorded in
+    if number == 0 then go_on r p
+    else if nat_le number count then in_place r p (number - 1)
+    else elsewhere r p (number - 1 - count)
+
+-- ---- the choices of a place
+
+abbrev pub move_count_by : Option ℕ → ℕ → ℕ → ℕ
+move_count_by None offers recorded = offers
+move_count_by (Some k) offers recorded = 1 + recorded + recorded
+
+abbrev pub move_count : Rules → ℕ
+move_count r = move_count_by r.differ (length r.offers) (length r.recorded)
+
+abbrev pub choice_by : Rules → Place → ℕ → Option ℕ → Option Choice
+choice_by r p number None = offer_at r p number
+choice_by r p number (Some k) = recorded_at r p number
+
+-- what the move of this number is here, if it is any
+unfoldable pub choice_at : Rules → Place → ℕ → Option Choice
+choice_at r p number = if nat_lt number (move_count r) then choice_by r p number r.differ else None
+
+-- ---- where an event leads
+
+-- the place after a choice, with this state, where that appended this line
+abbrev pub taken : Rules → Choice → State → Option Seen → Place
+taken r c s line = record { state = s; left = c.left; kept = kept_after r.recorded r.takes r.question c.kept c.event s line }
 
 -- each callback of the name was called so often at most
 abbrev pub is_called_within : State → Most → Bool
@@ -202,19 +425,14 @@ abbrev pub reached : List Most → Next → Option (State × Option Seen)
 reached most (Refuses why) = None
 reached most (Moves s line) = if is_within most s then Some (s, line) else None
 
-abbrev pub with_event : Event → Option (State × Option Seen) → Option (Event × State × Option Seen)
-with_event e None = None
-with_event e (Some t) = Some (e, t.0, t.1)
+abbrev pub placed : Rules → Choice → Option (State × Option Seen) → Option Led
+placed r c None = None
+placed r c (Some t) = Some (record { event = c.event; place = taken r c t.0 t.1; line = t.1 })
 
--- an event with the state and the line to which it leads within the bounds, if the loop accepts it
-abbrev pub leads_on : List Most → Program → State → Option Event → Option (Event × State × Option Seen)
-leads_on most p s None = None
-leads_on most p s (Some e) = with_event e (reached most (next p s e))
+-- where a choice leads, if the loop accepts it and the bounds hold then
+abbrev pub led_by : Rules → Place → Option Choice → Option Led
+led_by r p None = None
+led_by r p (Some c) = placed r c (reached r.most (next r.program p.state c.event))
 
-abbrev pub placed : Rules → Place → ℕ → Option (Event × State × Option Seen) → Option Led
-placed r p number None = None
-placed r p number (Some t) = Some (record { event = t.0; place = taken r p number t.1 t.2; line = t.2 })
-
--- where the offer of this number leads, if the loop accepts it and the bounds hold then
 abbrev pub led : Rules → Place → ℕ → Option Led
-led r p number = placed r p number (leads_on r.most r.program p.state (event_at r p number))
+led r p number = led_by r p (choice_at r p number)

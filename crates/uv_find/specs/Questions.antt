@@ -1,5 +1,5 @@
 -- What is asked of a step.
-use Rattle.std.specs.Prelude.{ℕ, zero, suc, ◌-◌, ◌==◌, ◌&&◌, not, Bool, true, false, nat_le, is_none, length, Option, Some, None, slice_get, if◌then◌else◌}
+use Rattle.std.specs.Prelude.{ℕ, zero, suc, ◌-◌, ◌==◌, ◌&&◌, not, Bool, true, false, nat_le, is_none, Option, Some, None, slice_get, if◌then◌else◌}
 use Rattle.uv_ids.specs.declared.id.Var.{Var}
 use Rattle.uv_ids.specs.declared.seen.Callback.{Callback}
 use Rattle.uv_ids.specs.declared.seen.Callback.TheVariants as callback
@@ -21,7 +21,7 @@ use Rattle.uv_asking.specs.declared.asking.Which.{Which}
 use Rattle.uv_asking.specs.declared.asking.Which.TheVariants as which
 use Rattle.uv_asking.specs.declared.asking.Question.{Question}
 use Rattle.uv_asking.specs.declared.asking.Question.TheVariants as asks
-use Rattle.uv_find.specs.Orders.{Rules, Place, Led, led, is_blocked}
+use Rattle.uv_find.specs.Orders.{Rules, Place, Led, led, is_blocked, move_count}
 
 -- ---- what a line says, and the state after it
 
@@ -138,7 +138,7 @@ none_leads r p (suc n) = none_leads r p n && is_none (led r p n)
 
 abbrev pub place_answers : Rules → Place → Question → Bool
 place_answers r p (asks.Never name) = has_ended r.program p.state.place && is_uncalled p.state name
-place_answers r p asks.Stuck = is_blocked r.program p.state && none_leads r p (length r.offers)
+place_answers r p asks.Stuck = is_blocked r.program p.state && none_leads r p (move_count r)
 place_answers r p _ = false
 
 -- a step with this line that led here answers the question, where that was kept of a due time before it

@@ -1,18 +1,16 @@
 -- What a search goes through: places, each with the steps that led there, and its key.
-use Rattle.std.specs.Prelude.{◌≡◌, ℕ, ◌+◌, ◌-◌, ◌≤◌, if◌then◌else◌, take, slice_get, slice_set, Bool, List, [], ◌∷◌, ◌++◌, length, map, reverse, Option, Some, None, is_some}
+use Rattle.std.specs.Prelude.{◌≡◌, ℕ, ◌+◌, ◌-◌, ◌≤◌, take, Bool, List, [], ◌∷◌, ◌++◌, length, reverse, Option, Some, None}
 use Rattle.uv_ids.specs.declared.event.Event.{Event}
 use Rattle.uv_key.specs.Codes.{number_code}
 use Rattle.uv_model.specs.After.{after, STEPS}
 use Rattle.uv_state_key.specs.Key.{state_code}
-use Rattle.uv_find.specs.Orders.{Rules, Place, Led, led, times_of, every_offer, beginning}
+use Rattle.uv_find.specs.Orders.{Rules, Place, Led, led, every_offer, beginning}
 use Rattle.uv_find.specs.Questions.{answers}
+use Rattle.uv_find.specs.declared.kept.Along.{Along}
 use Rattle.uv_find.specs.declared.kept.Kept.{Kept}
+use Rattle.uv_find.specs.declared.terms.Terms.{Terms}
 use Rattle.uv_find.specs.declared.orders.Made.{Made}
 use Rattle.uv_asking.specs.Asked.{Asked}
-use Rattle.uv_asking.specs.declared.asking.Offered.{Offered}
-use Rattle.uv_asking.specs.declared.asking.Takes.{Takes}
-use Rattle.uv_asking.specs.declared.asking.Most.{Most}
-use Rattle.uv_asking.specs.declared.asking.Question.{Question}
 use Rattle.uv_script.specs.Program.{Program, worker_count}
 use Rattle.uv_session.specs.Shown.{Shown}
 
@@ -28,17 +26,23 @@ spot_of r s (Some l) = Some (record { place = l.place; steps = s.steps ++ l.even
 abbrev pub next_spot : Rules → Spot → ℕ → Option (Spot × Bool)
 next_spot r s number = spot_of r s (led r s.place number)
 
--- how often the offers may be taken that have a bound
-abbrev pub left_code : List (Option ℕ) → List ℕ
-left_code [] = []
-left_code (None ∷ left) = left_code left
-left_code (Some n ∷ left) = number_code n ++ left_code left
+-- how often each offer may still be taken, and what is left of each recorded event: how many they are, and a number for each
+abbrev pub times_code : Option ℕ → ℕ
+times_code None = 0
+times_code (Some n) = n + 1
 
-abbrev pub bit : Bool → ℕ
-bit b = if b then 1 else 0
+abbrev pub each_code : List (Option ℕ) → List ℕ
+each_code [] = []
+each_code (times ∷ left) = number_code (times_code times) ++ each_code left
+
+abbrev pub left_code : List (Option ℕ) → List ℕ
+left_code left = number_code (length left) ++ each_code left
+
+abbrev pub along_code : Along → List ℕ
+along_code a = number_code a.next ++ (number_code a.polls ++ (number_code a.steps ++ number_code a.spare))
 
 abbrev pub kept_code : Kept → List ℕ
-kept_code k = number_code k.due ++ (number_code k.owed ++ number_code (bit k.quiet))
+kept_code k = number_code k.due ++ (number_code k.owed ++ along_code k.along)
 
 -- the key of a place: what decides what comes after
 abbrev pub place_code : Place → List ℕ
@@ -47,30 +51,16 @@ place_code p = state_code p.state ++ left_code p.left ++ kept_code p.kept
 abbrev pub spot_code : Spot → List ℕ
 spot_code s = place_code s.place
 
--- the steps led to the state, and the offers that have a bound are those of the rules
+-- the steps led to the state
 pub record IsSpot (r : Rules) (s : Spot) : Type 0 where
   pub state : s.place.state ≡ after r.program s.steps
-  pub bounded : map is_some s.place.left ≡ map is_some (times_of r.offers)
 
--- an offer may be taken so often again, if that is bounded
-abbrev pub again : ℕ → Option ℕ → Option ℕ
-again n None = None
-again n (Some m) = Some n
-
-abbrev pub put_back_by : List (Option ℕ) → ℕ → ℕ → Option (Option ℕ) → List (Option ℕ)
-put_back_by left number n None = left
-put_back_by left number n (Some times) = slice_set left number (again n times)
-
-abbrev pub put_back : List (Option ℕ) → ℕ → ℕ → List (Option ℕ)
-put_back left number n = put_back_by left number n (slice_get left number)
-
--- where one can go back to, from so many steps with these left, by what was taken, the last one first
-abbrev pub spots_before : Program → List Event → List (Option ℕ) → List Made → List Spot
-spots_before p es left [] = []
-spots_before p es left (m ∷ ms) =
+-- where one can go back to, from so many steps, by what stood before each that was taken, the last one first
+abbrev pub spots_before : Program → List Event → List Made → List Spot
+spots_before p es [] = []
+spots_before p es (m ∷ ms) =
     let fs = take (length es - 1) es in
-    let lefts = put_back left m.number m.left in
-    record { place = record { state = after p fs; left = lefts; kept = m.kept }; steps = fs } ∷ spots_before p fs lefts ms
+    record { place = record { state = after p fs; left = m.left.items; kept = m.kept }; steps = fs } ∷ spots_before p fs ms
 
 -- what is searched: where it stands, and where it can go back to
 pub record Searched : Type 0 where
@@ -83,6 +73,8 @@ abbrev pub rules_of : Program → Asked → Rules
 rules_of p asked = record {
   program = p;
   offers = every_offer (worker_count p) asked.offers;
+  differ = asked.differ;
+  recorded = asked.recorded;
   takes = asked.takes;
   clock = asked.clock;
   most = asked.most;
@@ -92,17 +84,33 @@ rules_of p asked = record {
 abbrev pub first_spot : Rules → Spot
 first_spot r = record { place = beginning r; steps = [] }
 
--- what the fields of a search stand for
-abbrev pub searched : Shown → List Offered → List Takes → Option ℕ → List Most → Question → List (Option ℕ) → Kept → List Made → Searched
-searched s offers takes clock most question left kept made = record {
-  rules = record { program = s.program; offers = offers; takes = takes; clock = clock; most = most; question = question };
-  spot = record { place = record { state = after s.program s.standing; left = left; kept = kept }; steps = s.standing };
-  before = spots_before s.program s.standing left (reverse made);
+-- the rules that a script and these terms make
+abbrev pub rules_by : Program → Terms → Rules
+rules_by p t = record {
+  program = p;
+  offers = t.offers.items;
+  differ = t.differ;
+  recorded = t.recorded.items;
+  takes = t.takes.items;
+  clock = t.clock;
+  most = t.most.items;
+  question = t.question;
 }
 
--- what the fields of a search keep: as many steps stand as offers were taken, a step back wants no memory
-pub record IsSearched (BackWantsMemory : Type 0) (s : Shown) (offers : List Offered) (left : List (Option ℕ)) (made : List Made) : Type 0 where
-  pub bounded : map is_some left ≡ map is_some (times_of offers)
+-- where a session stands
+abbrev pub place_by : Shown → List (Option ℕ) → Kept → Place
+place_by s left kept = record { state = after s.program s.standing; left = left; kept = kept }
+
+-- what the fields of a search stand for
+abbrev pub searched : Shown → Terms → List (Option ℕ) → Kept → List Made → Searched
+searched s terms left kept made = record {
+  rules = rules_by s.program terms;
+  spot = record { place = place_by s left kept; steps = s.standing };
+  before = spots_before s.program s.standing (reverse made);
+}
+
+-- what the fields of a search keep: as many steps stand as choices were taken, a step back wants no memory
+pub record IsSearched (BackWantsMemory : Type 0) (s : Shown) (made : List Made) : Type 0 where
   pub limit : s.limit ≡ STEPS
   pub taken : length made ≡ length s.standing
   pub back : BackWantsMemory → ⊥

@@ -1,5 +1,5 @@
 -- One step of a session, within bounds.
-use Rattle.std.specs.Prelude.{◌≡◌, ℕ, List, [], ◌∷◌, ◌++◌, Option, Some, None, Result, Ok, Err}
+use Rattle.std.specs.Prelude.{◌≡◌, ℕ, List, [], ◌∷◌, ◌++◌, Option, Some, None, option_map, Result, Ok, Err}
 use Rattle.uv_ids.specs.declared.event.Event.{Event}
 use Rattle.uv_model.specs.declared.machine.Outcome.{Outcome}
 use Rattle.uv_model.specs.After.{after}
@@ -7,10 +7,12 @@ use Rattle.uv_model.specs.Next.{next}
 use Rattle.uv_model.specs.State.{State}
 use Rattle.uv_session.specs.Shown.{Shown}
 use Rattle.uv_asking.specs.declared.asking.Most.{Most}
-use Rattle.uv_asking.specs.declared.asking.Offer.{Offer}
 use Rattle.uv_find.specs.declared.kept.Kept.{Kept}
-use Rattle.uv_find.specs.Orders.{Led, led, reached, leads_on, offered_here}
-use Rattle.uv_find.specs.Spots.{Searched}
+use Rattle.uv_find.specs.declared.choices.Choice as choices
+use Rattle.uv_find.specs.declared.choices.Moved as moved
+use Rattle.uv_find.specs.declared.terms.Terms.{Terms}
+use Rattle.uv_find.specs.Orders.{Rules, Place, Choice, Led, led, reached, choice_at}
+use Rattle.uv_find.specs.Spots.{Searched, rules_by, place_by}
 
 -- a session of the same script, with these steps
 pub record Stands (s : Shown) (steps : List Event) (t : Shown) : Type 0 where
@@ -29,14 +31,23 @@ StepsWithin most s e (Ok (Some outcome)) t =
 StepsWithin most s e (Ok None) t = Stands s s.standing t × (reached most (next s.program (state_in s) e) ≡ None)
 StepsWithin most s e (Err fault) t = Stands s s.standing t
 
--- what may be answered where an offer is to be taken that may be taken so often, and the session then
-abbrev pub TakesOffer : {E : Type 0} → Option ℕ → List Most → Shown → Kept → Offer → Option ℕ → Result (Option Outcome) E → Shown → Type 0
-TakesOffer clock most s k offer left (Ok (Some outcome)) t =
-    (e : Event) × (Stands s (s.standing ++ e ∷ []) t
-    × (leads_on most s.program (state_in s) (offered_here s.program clock (state_in s) k offer left) ≡ Some (e, state_in t, outcome.seen)))
-TakesOffer clock most s k offer left (Ok None) t =
-    Stands s s.standing t × (leads_on most s.program (state_in s) (offered_here s.program clock (state_in s) k offer left) ≡ None)
-TakesOffer clock most s k offer left (Err fault) t = Stands s s.standing t
+-- what a choice in the program stands for
+abbrev pub choice_of : choices.Choice → Choice
+choice_of c = record { event = c.event; left = c.left.items; kept = c.kept }
+
+-- what may be answered where a move is asked for by its number
+abbrev pub Chooses : {E : Type 0} → Rules → Place → ℕ → Result (Option choices.Choice) E → Type 0
+Chooses r p number (Ok choice) = option_map choice_of choice ≡ choice_at r p number
+Chooses r p number (Err fault) = Unit {0}
+
+-- what may be answered where a move is to be made, and the session then
+abbrev pub MakesMove : {E : Type 0} → Terms → Shown → List (Option ℕ) → Kept → ℕ → Result (Option moved.Moved) E → Shown → Type 0
+MakesMove terms s left kept number (Ok (Some m)) t =
+    let r = rules_by s.program terms in
+    Stands s (s.standing ++ m.choice.event ∷ []) t × (choice_at r (place_by s left kept) number ≡ Some (choice_of m.choice))
+    × (reached r.most (next s.program (state_in s) m.choice.event) ≡ Some (state_in t, m.outcome.seen))
+MakesMove terms s left kept number (Ok None) t = Stands s s.standing t × (led (rules_by s.program terms) (place_by s left kept) number ≡ None)
+MakesMove terms s left kept number (Err fault) t = Stands s s.standing t
 
 -- what may be answered where an offer is to be taken, and the search then
 abbrev pub Takes : {E : Type 0} → Searched → ℕ → Result (Option Outcome) E → Searched → Type 0

@@ -1,9 +1,10 @@
 //! Where a search of orders begins.
-ghost use Rattle.std.specs.Prelude.{◌≡◌, IfOk};
-ghost use Rattle.uv_find.specs.Orders.{at_will, every_offer, times_of};
+ghost use Rattle.std.specs.Prelude.{◌≡◌, IfOk, map, Some};
+ghost use Rattle.uv_asking.specs.declared.asking.Recorded.{Recorded};
+ghost use Rattle.uv_find.specs.Orders.{at_will, every_offer, times_of, first_left};
 
 use std::alloc::{AllocError, Global};
-use uv_asking::{Asking, Offer, Offered};
+use uv_asking::{Offer, Offered, Recorded};
 use uv_ids::Event;
 
 /// An offer that may be taken as often as one likes.
@@ -32,8 +33,30 @@ pub(crate) fn every_offer(
 }
 
 /// How often each offer may be taken.
-pub(crate) fn times_of(alloc: Global, offers: &[Offered]) -> Result<Vec<Option<u32>>, AllocError>
+fn times_of(alloc: Global, offers: &[Offered]) -> Result<Vec<Option<u32>>, AllocError>
     ensures { IfOk result (λ times. times.items ≡ times_of offers.now) }
 {
     offers.iter().map(|offered| offered.times).collect(alloc)
+}
+
+/// Each recorded event is ahead.
+fn all_ahead(alloc: Global, recorded: &[Recorded]) -> Result<Vec<Option<u32>>, AllocError>
+    ensures { IfOk result (λ left. left.items ≡ map (λ (e : Recorded). Some 2) recorded.now) }
+{
+    recorded.iter().map(|_event| Some(2)).collect(alloc)
+}
+
+/// What is left where a search begins.
+pub(crate) fn first_left(
+    alloc: Global,
+    differ: Option<u32>,
+    offers: &[Offered],
+    recorded: &[Recorded],
+) -> Result<Vec<Option<u32>>, AllocError>
+    ensures { IfOk result (λ left. left.items ≡ first_left differ offers.now recorded.now) }
+{
+    match differ {
+        None => times_of(alloc, offers),
+        Some(_) => all_ahead(alloc, recorded),
+    }
 }

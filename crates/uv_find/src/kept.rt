@@ -1,10 +1,11 @@
 //! What a search keeps beside the loop's state.
-ghost use Rattle.std.specs.Prelude.{◌≡◌};
+ghost use Rattle.std.specs.Prelude.{◌≡◌, ◌+◌, ◌<◌, ◌^◌, ◌==◌, ◌&&◌, length};
 ghost use Rattle.uv_model.specs.After.{after};
-ghost use Rattle.uv_find.specs.Kept.{none_kept, due_in, kept_due, caller, is_over, is_of_calls, said_time, or_time, time_taken, takes_time, time_at_end, owed_in, owed_by, owed_after, quiet_by, quiet_after, kept_after, owes};
+ghost use Rattle.uv_find.specs.Kept.{none_kept, due_in, kept_due, caller, is_over, is_of_calls, said_time, or_time, time_taken, takes_time, time_at_end, owed_in, owed_by, owed_after, onward, behind, is_poll, nearer, arrived, along_after, with_spare, kept_after, owes};
 
-use uv_asking::{Question, Takes};
-use uv_ids::{Callback, Phase, Seen, Site, Var};
+use crate::terms::Terms;
+use uv_asking::{Question, Recorded, Takes};
+use uv_ids::{Callback, Event, Seen, Site, Var};
 use uv_model::{Machine, Place};
 use uv_work::Content;
 
@@ -15,18 +16,142 @@ pub struct Kept {
     pub due: u64,
     /// How many ms the callback still takes that has ended.
     pub owed: u64,
-    /// The loop has left its poll, and has called nobody since.
-    pub quiet: bool,
+    /// How far the order is along the recording.
+    pub along: Along,
 }
 
-/// Nothing is kept.
-pub fn none_kept() -> Kept
-    ensures { result ≡ none_kept }
+/// How far an order is along the recording that it may differ from.
+#[derive(Clone, Copy, PartialEq, Eq)]
+pub struct Along {
+    /// The number of the next recorded event: the place of each before it was reached.
+    pub next: usize,
+    /// So many polls are still to come before its place.
+    pub polls: u32,
+    /// And behind the last of them so many steps of the loop.
+    pub steps: u32,
+    /// So many recorded events may still come at another place.
+    pub spare: u32,
+}
+
+/// Whether the place of a recorded event is that of the one before it.
+fn is_near(event: Recorded) -> bool
+    ensures { result ≡ ((event.polls == 0) && (event.steps == 0)) }
+{
+    event.polls == 0 && event.steps == 0
+}
+
+/// Behind the place of a recorded event, where these are behind it, the first of them of this number.
+fn onward(recorded: &[Recorded], first: usize, spare: u32) -> Along
+    requires { first + length recorded.now < 2 ^ 64 }
+    ensures { result ≡ onward recorded.now first spare }
+{
+    let mut next = first;
+    'events: for event in recorded {
+        if !is_near(*event) {
+            return Along {
+                next,
+                polls: event.polls,
+                steps: event.steps,
+                spare,
+            };
+        }
+        next += 1;
+    }
+    Along {
+        next,
+        polls: 0,
+        steps: 0,
+        spare,
+    }
+}
+
+/// Behind the place of the recorded event of this number.
+pub fn behind(recorded: &[Recorded], number: usize, spare: u32) -> Along
+    requires { number < length recorded.now }
+    ensures { result ≡ behind recorded.now number spare }
+{
+    onward(&recorded[number + 1..], number + 1, spare)
+}
+
+fn is_poll(line: Option<Seen>) -> bool
+    ensures { result ≡ is_poll line }
+{
+    match line {
+        Some(Seen::Poll(_)) => true,
+        _ => false,
+    }
+}
+
+/// One step of the loop nearer to the next event's place.
+fn nearer(along: Along, polls: bool) -> Along
+    ensures { result ≡ nearer along polls }
+{
+    if polls {
+        Along {
+            next: along.next,
+            polls: along.polls.saturating_sub(1),
+            steps: if along.polls == 0 { 0 } else { along.steps },
+            spare: along.spare,
+        }
+    } else {
+        Along {
+            next: along.next,
+            polls: along.polls,
+            steps: if along.polls == 0 {
+                along.steps.saturating_sub(1)
+            } else {
+                along.steps
+            },
+            spare: along.spare,
+        }
+    }
+}
+
+/// Past the places that are reached.
+fn arrived(recorded: &[Recorded], along: Along) -> Along
+    ensures { result ≡ arrived recorded.now along }
+{
+    if along.next < recorded.len() && (along.polls == 0 && along.steps == 0) {
+        behind(recorded, along.next, along.spare)
+    } else {
+        along
+    }
+}
+
+/// How far the order is behind an event with this line.
+fn along_after(recorded: &[Recorded], along: Along, event: Event, line: Option<Seen>) -> Along
+    ensures { result ≡ along_after recorded.now along event line }
+{
+    match event {
+        Event::Loop => arrived(recorded, nearer(along, is_poll(line))),
+        _ => along,
+    }
+}
+
+/// What is kept where so many recorded events may still come at another place.
+pub fn with_spare(kept: Kept, spare: u32) -> Kept
+    ensures { result ≡ with_spare kept spare }
+{
+    Kept {
+        due: kept.due,
+        owed: kept.owed,
+        along: Along {
+            next: kept.along.next,
+            polls: kept.along.polls,
+            steps: kept.along.steps,
+            spare,
+        },
+    }
+}
+
+/// What is kept where a search begins.
+pub fn none_kept(recorded: &[Recorded], differ: Option<u32>) -> Kept
+    ensures { result ≡ none_kept recorded.now differ }
 {
     Kept {
         due: 0,
         owed: 0,
-        quiet: false,
+        along: onward(recorded, 0, differ.unwrap_or(0)),
     }
 }
 
@@ -166,34 +291,20 @@ fn owed_after<M: Machine>(machine: &M, takes: &[Takes], owed: u64, line: Option<
     }
 }
 
-/// Whether the loop has left its poll and called nobody since, behind a step with this line.
-fn quiet_after(was: bool, line: Option<Seen>) -> bool
-    ensures { result ≡ quiet_after was line }
-{
-    match line {
-        Some(Seen::Section(Phase::Done)) => true,
-        Some(Seen::Section(Phase::Async)) => was,
-        Some(Seen::Section(_)) => false,
-        Some(Seen::Call(_, _)) => false,
-        Some(Seen::After(_, _, _)) => false,
-        _ => was,
-    }
-}
-
-/// What is kept behind a step with this line, as the machine stands.
+/// What is kept behind an event with this line, as the machine stands.
 pub fn kept_after<M: Machine>(
     machine: &M,
-    takes: &[Takes],
-    question: Question,
+    terms: &Terms,
     kept: Kept,
+    event: Event,
     line: Option<Seen>,
 ) -> Kept
-    ensures { result ≡ kept_after takes.now question kept (after (M.program machine.now) (M.standing machine.now)) line }
+    ensures { result ≡ kept_after terms.now.recorded.items terms.now.takes.items terms.now.question kept event (after (M.program machine.now) (M.standing machine.now)) line }
 {
     Kept {
-        due: kept_due(machine, question, kept.due),
-        owed: owed_after(machine, takes, kept.owed, line),
-        quiet: quiet_after(kept.quiet, line),
+        due: kept_due(machine, terms.question, kept.due),
+        owed: owed_after(machine, &terms.takes, kept.owed, line),
+        along: along_after(&terms.recorded, kept.along, event, line),
     }
 }
 

@@ -5,12 +5,17 @@
 #![tactic(auto)]
 
 mod beginning;
+mod choices;
 mod finding;
 mod kept;
 mod orders;
 mod questions;
+mod recorded;
 mod steps;
+mod terms;
 
+pub use choices::{Choice, Moved};
 pub use finding::{Answer, find, place_keys_tell};
-pub use kept::Kept;
+pub use kept::{Along, Kept};
 pub use orders::{Made, Orders};
+pub use terms::Terms;

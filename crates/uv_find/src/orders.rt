@@ -4,18 +4,21 @@ ghost use Rattle.uv_model.specs.After.{after, STEPS};
 ghost use Rattle.uv_asking.specs.Asked.{asked_in};
 ghost use Rattle.uv_asking.specs.declared.asking.Question.TheVariants.{Stuck};
 ghost use Rattle.uv_find.specs.Kept.{kept_after};
-ghost use Rattle.uv_find.specs.Orders.{less, lessened, is_blocked};
+ghost use Rattle.uv_find.specs.Orders.{is_blocked, move_count};
 ghost use Rattle.uv_find.specs.Questions.{none_leads, line_answers, place_answers, step_answers};
-ghost use Rattle.uv_find.specs.Spots.{Searched, IsSearched, IsSpot, searched, again, put_back, rules_of, first_spot, left_code, kept_code, next_spot, spot_code, IsDeep};
+ghost use Rattle.uv_find.specs.Spots.{Searched, IsSearched, IsSpot, searched, rules_of, first_spot, times_code, each_code, left_code, along_code, kept_code, next_spot, spot_code, IsDeep};
 ghost use Rattle.uv_find.specs.Steps.{Takes as TakesOne};
 
-use crate::beginning::{every_offer, times_of};
-use crate::kept::{Kept, kept_after, none_kept};
+use crate::beginning::first_left;
+use crate::choices::{Moved, make_move};
+use crate::kept::{Along, Kept, kept_after, none_kept};
 use crate::questions::{has_ended, is_uncalled, line_answers};
-use crate::steps::{is_blocked, take_back, take_offer};
+use crate::steps::{is_blocked, take_back};
+use crate::terms::{Terms, move_count, terms_of};
 use std::alloc::{AllocError, Global};
 use std::marker::Model;
-use uv_asking::{Asking, Most, Offer, Offered, Question, Takes};
+use std::mem;
+use uv_asking::{Asking, Question};
 use uv_ids::{Event, Seen};
 use uv_key::push_number;
 use uv_model::{Machine, Outcome, STEPS};
@@ -23,25 +26,18 @@ use uv_search::{Maze, Went};
 use uv_session::Session;
 use uv_state_key::push_key;
 
-/// An offer that was taken, by its number.
-#[derive(Clone, Copy)]
+/// What stood before a choice that was made.
+#[derive(Drop)]
 pub struct Made {
-    number: usize,
-    /// How often it could be taken before, where that is bounded.
-    left: u32,
-    /// What was kept before.
+    left: Vec<Option<u32>>,
     kept: Kept,
 }
 
-/// The orders of what is offered: a session that goes on by one offer after another, and exactly back.
+/// The orders of what may come: a session that goes on by one choice after another, and exactly back.
 #[derive(Drop)]
 pub struct Orders<M: Machine> {
     session: Session<M>,
-    offers: Vec<Offered>,
-    takes: Vec<Takes>,
-    clock: Option<u64>,
-    most: Vec<Most>,
-    question: Question,
+    terms: Terms,
     left: Vec<Option<u32>>,
     kept: Kept,
     made: Vec<Made>,
@@ -50,47 +46,9 @@ pub struct Orders<M: Machine> {
 impl<M: Machine> Model for Orders<M> {
     ghost Value = { Searched };
 
-    ghost view = { λ a. searched a.session a.offers.items a.takes.items a.clock a.most.items a.question a.left.items a.kept a.made.items };
+    ghost view = { λ a. searched a.session a.terms a.left.items a.kept a.made.items };
 
-    ghost invariant = { λ a. IsSearched M.BackWantsMemory a.session a.offers.items a.left.items a.made.items };
-}
-
-/// Once less.
-fn less(left: Option<u32>) -> Option<u32>
-    ensures { result ≡ less left }
-{
-    match left {
-        None => None,
-        Some(left) => Some(left.saturating_sub(1)),
-    }
-}
-
-/// The offer of this number may be taken once less.
-fn lessen(left: &mut Vec<Option<u32>>, number: usize)
-    ensures { left.new.items ≡ lessened left.old.items number }
-{
-    if number < left.len() {
-        left[number] = less(left[number]);
-    }
-}
-
-/// So often, if that is bounded.
-fn again(before: u32, left: Option<u32>) -> Option<u32>
-    ensures { result ≡ again before left }
-{
-    match left {
-        None => None,
-        Some(_) => Some(before),
-    }
-}
-
-/// The offer of this number may be taken as often as before.
-fn put_back(left: &mut Vec<Option<u32>>, number: usize, before: u32)
-    ensures { left.new.items ≡ put_back left.old.items number before }
-{
-    if number < left.len() {
-        left[number] = again(before, left[number]);
-    }
+    ghost invariant = { λ a. IsSearched M.BackWantsMemory a.session a.made.items };
 }
 
 impl<M: Machine> Orders<M> {
@@ -102,21 +60,14 @@ impl<M: Machine> Orders<M> {
         ensures spot { IfOk result (λ orders. orders.spot ≡ first_spot orders.rules) }
         ensures before { IfOk result (λ orders. orders.before ≡ []) }
     {
-        let offers = every_offer(alloc, machine.script().workers(), &asking.offers)?;
-        let left = times_of(alloc, &offers)?;
-        let mut most = Vec::new(alloc);
-        most.extend_from_slice(&asking.most)?;
-        let mut takes = Vec::new(alloc);
-        takes.extend_from_slice(&asking.takes)?;
+        let terms = terms_of(alloc, machine.script(), asking)?;
+        let left = first_left(alloc, terms.differ, &terms.offers, &terms.recorded)?;
+        let kept = none_kept(&terms.recorded, terms.differ);
         Ok(Orders {
             session: Session::new(alloc, machine, STEPS),
-            offers,
-            takes,
-            clock: asking.clock,
-            most,
-            question: asking.question,
+            terms,
             left,
-            kept: none_kept(),
+            kept,
             made: Vec::new(alloc),
         })
     }
@@ -128,36 +79,32 @@ impl<M: Machine> Orders<M> {
         self.session.steps()
     }
 
-    /// Takes an offer, if the loop accepts it and the bounds hold then. After an error all is as before.
+    /// Makes a move, if the loop accepts it and the bounds hold then. After an error all is as before.
     pub(crate) fn take(&mut self, number: usize) -> Result<Option<Outcome>, AllocError>
-        requires offered { number < length self.old.rules.offers }
         requires room { length self.old.spot.steps < STEPS }
         ensures { TakesOne self.old number result self.new }
     {
-        let left = self.left[number];
-        let offer = self.offers[number].offer;
         self.made.reserve(1)?;
-        match take_offer(
+        match make_move(
             &mut self.session,
-            self.clock,
-            &self.most,
+            &self.terms,
+            &self.left,
             self.kept,
-            offer,
-            left,
+            number,
         )? {
             None => Ok(None),
-            Some(outcome) => {
+            Some(moved) => {
+                let Moved { choice, outcome } = moved;
+                let left = mem::replace(&mut self.left, choice.left);
                 self.made.push_reserved(Made {
-                    number,
-                    left: left.unwrap_or(0),
+                    left,
                     kept: self.kept,
                 });
-                lessen(&mut self.left, number);
                 self.kept = kept_after(
                     self.session.machine(),
-                    &self.takes,
-                    self.question,
-                    self.kept,
+                    &self.terms,
+                    choice.kept,
+                    choice.event,
                     outcome.seen,
                 );
                 Ok(Some(outcome))
@@ -165,7 +112,7 @@ impl<M: Machine> Orders<M> {
         }
     }
 
-    /// Takes the last offer back.
+    /// Takes the last move back.
     pub(crate) fn untake(&mut self)
         requires { 0 < length self.old.before }
         ensures rules { self.new.rules ≡ self.old.rules }
@@ -173,7 +120,7 @@ impl<M: Machine> Orders<M> {
     {
         if let Some(made) = self.made.pop() {
             take_back(&mut self.session);
-            put_back(&mut self.left, made.number, made.left);
+            self.left = made.left;
             self.kept = made.kept;
         }
     }
@@ -187,21 +134,21 @@ impl<M: Machine> Orders<M> {
         is_blocked(&mut self.session)
     }
 
-    /// How many offers there are.
-    pub(crate) fn offer_count(&self) -> usize
-        ensures count { result ≡ length self.now.rules.offers }
+    /// How many moves there are.
+    pub(crate) fn move_count(&self) -> usize
+        ensures count { result ≡ move_count self.now.rules }
         ensures spot { IsSpot self.now.rules self.now.spot }
     {
-        self.offers.len()
+        move_count(&self.terms)
     }
 
-    /// Whether none of the offers leads on. Nothing changes.
+    /// Whether none of the moves leads on. Nothing changes.
     fn takes_none(&mut self) -> Result<bool, AllocError>
         requires room { length self.old.spot.steps < STEPS }
         ensures same { self.new ≡ self.old }
-        ensures none { IfOk result (λ none. none ≡ none_leads self.old.rules self.old.spot.place (length self.old.rules.offers)) }
+        ensures none { IfOk result (λ none. none ≡ none_leads self.old.rules self.old.spot.place (move_count self.old.rules)) }
     {
-        let count = self.offer_count();
+        let count = self.move_count();
         'offers: for number in 0..count {
             match self.take(number)? {
                 None => {}
@@ -214,7 +161,7 @@ impl<M: Machine> Orders<M> {
         Ok(true)
     }
 
-    /// Whether the loop is stuck: blocked, with no offer that leads on. Nothing changes.
+    /// Whether the loop is stuck: blocked, with no move that leads on. Nothing changes.
     fn is_stuck(&mut self) -> Result<bool, AllocError>
         requires room { length self.old.spot.steps < STEPS }
         ensures same { self.new ≡ self.old }
@@ -247,7 +194,7 @@ impl<M: Machine> Orders<M> {
         ensures same { self.new ≡ self.old }
         ensures answers { IfOk result (λ answers. answers ≡ place_answers self.old.rules self.old.spot.place self.old.rules.question) }
     {
-        match self.question {
+        match self.terms.question {
             Question::Never(name) => Ok(
                 has_ended(self.session.machine()) && is_uncalled(self.session.machine(), name),
             ),
@@ -260,7 +207,7 @@ impl<M: Machine> Orders<M> {
     fn line_answers(&self, due: u64, line: Option<Seen>) -> bool
         ensures { result ≡ line_answers self.now.rules.program self.now.rules.question due self.now.spot.place.state line }
     {
-        line_answers(self.session.machine(), self.question, due, line)
+        line_answers(self.session.machine(), self.terms.question, due, line)
     }
 
     /// Whether the last step, with this line, answers the question. Nothing changes.
@@ -277,17 +224,41 @@ impl<M: Machine> Orders<M> {
     }
 }
 
-/// Appends how often the offers may be taken that have a bound.
+/// How often an offer may be taken, as a number.
+fn times_code(times: Option<u32>) -> u64
+    ensures { result ≡ times_code times }
+{
+    match times {
+        None => 0,
+        Some(times) => u64::from(times) + 1,
+    }
+}
+
+fn push_each(out: &mut Vec<u8>, left: &[Option<u32>]) -> Result<(), AllocError>
+    ensures { OnOk result (out.new.items ≡ out.old.items ++ each_code left.now) }
+{
+    'offers: for times in left {
+        push_number(out, times_code(*times))?;
+    }
+    Ok(())
+}
+
+/// Appends how often each offer may be taken, and what is left of each recorded event.
 fn push_left(out: &mut Vec<u8>, left: &[Option<u32>]) -> Result<(), AllocError>
     ensures { OnOk result (out.new.items ≡ out.old.items ++ left_code left.now) }
 {
-    'offers: for times in left {
-        match *times {
-            None => {}
-            Some(times) => push_number(out, u64::from(times))?,
-        }
-    }
-    Ok(())
+    push_number(out, left.len() as u64)?;
+    push_each(out, left)
+}
+
+/// Appends how far the order is along the recording.
+fn push_along(out: &mut Vec<u8>, along: Along) -> Result<(), AllocError>
+    ensures { OnOk result (out.new.items ≡ out.old.items ++ along_code along) }
+{
+    push_number(out, along.next as u64)?;
+    push_number(out, u64::from(along.polls))?;
+    push_number(out, u64::from(along.steps))?;
+    push_number(out, u64::from(along.spare))
 }
 
 /// Appends what is kept.
@@ -296,7 +267,7 @@ fn push_kept(out: &mut Vec<u8>, kept: Kept) -> Result<(), AllocError>
 {
     push_number(out, kept.due)?;
     push_number(out, kept.owed)?;
-    push_number(out, if kept.quiet { 1 } else { 0 })
+    push_along(out, kept.along)
 }
 
 impl<M: Machine> Maze for Orders<M> {
@@ -315,7 +286,7 @@ impl<M: Machine> Maze for Orders<M> {
 
     ghost before = { λ s. s.before };
 
-    ghost moves = { λ r _. length r.offers };
+    ghost moves = { λ r _. orders.move_count r };
 
     ghost next = { spots.next_spot };
 
@@ -326,7 +297,7 @@ impl<M: Machine> Maze for Orders<M> {
     ghost IsDeep = { λ _ s. spots.IsDeep s };
 
     fn moves(&self) -> usize {
-        self.offer_count()
+        self.move_count()
     }
 
     fn go(&mut self, number: usize) -> Result<Went, AllocError> {

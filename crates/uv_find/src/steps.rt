@@ -1,7 +1,7 @@
 //! The event that an offer is, and one step of a session.
 ghost use Rattle.std.specs.Prelude.{◌≡◌, ◌<◌, ◌-◌, ◌&&◌, nat_le, take, length, IfOk};
-ghost use Rattle.uv_find.specs.Orders.{idle_among, take_by, aim, is_made, is_blocked, deadline_at, wait_until, is_free, spending, step_of, is_run, event_of, keeps_clock, timed, may_take, offered_here, is_called_within, is_within};
-ghost use Rattle.uv_find.specs.Steps.{Stands, StepsWithin, TakesOffer, state_in};
+ghost use Rattle.uv_find.specs.Orders.{idle_among, take_by, aim, is_made, is_blocked, deadline_at, wait_until, is_behind_poll, is_quiet, is_closing, closes, is_seen, is_free, spending, step_of, is_run, event_of, keeps_clock, timed, may_take, offered_here, is_called_within, is_within};
+ghost use Rattle.uv_find.specs.Steps.{Stands, StepsWithin, state_in};
 ghost use Rattle.uv_model.specs.After.{after};
 ghost use Rattle.uv_script.specs.Program.{worker_count};
 
@@ -10,8 +10,9 @@ use std::alloc::AllocError;
 use uv_asking::{Most, Offer};
 use uv_ids::{Event, Fault, Id, Var, Why};
 use uv_model::{Machine, Outcome, Place, Stage};
-use uv_records::Calls;
+use uv_records::{Calls, WatcherKind};
 use uv_session::Session;
+use uv_work::Content;
 
 /// Takes the last step back.
 pub fn take_back<M: Machine>(session: &mut Session<M>)
@@ -103,7 +104,7 @@ fn wait_until<M: Machine>(
 }
 
 /// The name that a send, a cancel or a callback of I/O is for.
-fn aim(event: Event) -> Option<Var>
+pub fn aim(event: Event) -> Option<Var>
     ensures { result ≡ aim event }
 {
     match event {
@@ -115,7 +116,7 @@ fn aim(event: Event) -> Option<Var>
 }
 
 /// Whether a name was bound to a handle or a request; any event may come that is for none.
-fn is_made<M: Machine>(machine: &M, name: Option<Var>) -> bool
+pub fn is_made<M: Machine>(machine: &M, name: Option<Var>) -> bool
     ensures { result ≡ is_made (after (M.program machine.now) (M.standing machine.now)) name }
 {
     match name {
@@ -124,15 +125,56 @@ fn is_made<M: Machine>(machine: &M, name: Option<Var>) -> bool
     }
 }
 
-/// Whether a step may come now: while a callback's time is still to go by, no callback of I/O begins, and no other time goes by; between a
-/// poll and the first callback behind it nothing is sent.
-fn is_free(kept: Kept, event: Event) -> bool
-    ensures { result ≡ is_free kept event }
+/// Whether the loop has left its poll, and the after and async callbacks of its iteration are called.
+fn is_quiet(place: Place) -> bool
+    ensures { result ≡ is_quiet place }
+{
+    match place {
+        Place::Main(_) => false,
+        Place::Running(run) => match run.stage {
+            Stage::Done => true,
+            Stage::DoneUnwoken => true,
+            Stage::Walking(WatcherKind::Async) => true,
+            _ => false,
+        },
+    }
+}
+
+/// Whether a handle is held that closes.
+fn is_closing(content: Option<Content>) -> bool
+    ensures { result ≡ is_closing content }
+{
+    match content {
+        Some(Content::Handle(handle)) => handle.closing,
+        _ => false,
+    }
+}
+
+fn closes<M: Machine>(machine: &M, id: Option<Id>) -> bool
+    ensures { result ≡ closes (after (M.program machine.now) (M.standing machine.now)) id }
+{
+    match id {
+        None => false,
+        Some(id) => is_closing(machine.held(id)),
+    }
+}
+
+/// Whether libuv sees a send to this name as the loop does.
+fn is_seen<M: Machine>(machine: &M, name: Var) -> bool
+    ensures { result ≡ is_seen (after (M.program machine.now) (M.standing machine.now)) name }
+{
+    !is_quiet(machine.place()) && !closes(machine, machine.named(name).id)
+}
+
+/// Whether a step may come now: while a callback's time is still to go by, no callback of I/O begins, and no other time goes by; a send
+/// comes where libuv sees it as the loop does.
+pub fn is_free<M: Machine>(machine: &M, kept: Kept, event: Event) -> bool
+    ensures { result ≡ is_free (after (M.program machine.now) (M.standing machine.now)) kept event }
 {
     match event {
         Event::Io(_) => !owes(kept),
         Event::Tick(_) => !owes(kept),
-        Event::Send(_) => !kept.quiet,
+        Event::Send(name) => is_seen(machine, name),
         _ => true,
     }
 }
@@ -157,7 +199,7 @@ fn spending(kept: Kept, event: Event) -> Event
 fn step_of<M: Machine>(machine: &M, kept: Kept, event: Event) -> Option<Event>
     ensures { result ≡ step_of (after (M.program machine.now) (M.standing machine.now)) kept event }
 {
-    if is_made(machine, aim(event)) && is_free(kept, event) {
+    if is_made(machine, aim(event)) && is_free(machine, kept, event) {
         Some(spending(kept, event))
     } else {
         None
@@ -217,7 +259,7 @@ fn keeps_clock(most: Option<u64>, clock: u64, event: Event) -> bool
 }
 
 /// An event that leaves the clock within its bound.
-fn timed(most: Option<u64>, clock: u64, event: Option<Event>) -> Option<Event>
+pub fn timed(most: Option<u64>, clock: u64, event: Option<Event>) -> Option<Event>
     ensures { result ≡ timed most clock event }
 {
     match event {
@@ -298,24 +340,5 @@ pub fn step_within<M: Machine>(
         }
         Err(Fault::Refused(_)) => Ok(None),
         Err(_) => Err(AllocError),
-    }
-}
-
-/// Takes an offer that may be taken so often, if the loop accepts it and the bounds hold then; nothing changes else.
-pub fn take_offer<M: Machine>(
-    session: &mut Session<M>,
-    clock: Option<u64>,
-    most: &[Most],
-    kept: Kept,
-    offer: Offer,
-    left: Option<u32>,
-) -> Result<Option<Outcome>, AllocError>
-    requires room { length session.old.standing < session.old.limit }
-    requires back { M.BackWantsMemory → ⊥ }
-    ensures { TakesOffer clock most.now session.old kept offer left result session.new }
-{
-    match offered_here(session, clock, kept, offer, left)? {
-        None => Ok(None),
-        Some(event) => step_within(session, event, most),
     }
 }

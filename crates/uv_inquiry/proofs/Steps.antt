@@ -1,6 +1,6 @@
 -- What is said for the first time.
-use Rattle.std.proofs.Common.{◌≡◌, ℕ, ◌==◌, ◌||◌, Bool, true, false, not, nat_lt, nat_eq, List, [], ◌∷◌, length, Option, Some, None, refl, ap, ap₂, sym, subst}
-use Rattle.std.specs.Prelude.{is_none}
+use Rattle.std.proofs.Common.{◌≡◌, ℕ, ◌==◌, ◌&&◌, ◌||◌, Bool, true, false, not, nat_lt, nat_eq, List, [], ◌∷◌, length, Option, Some, None, refl, ap, ap₂, sym, subst, arith}
+use Rattle.std.specs.Prelude.{is_none, is_some}
 use Rattle.std.specs.Option.{option_eq}
 use Rattle.std.specs.List.{list_any, AllByRecursion}
 use Rattle.std.proofs.lemmas.Bool.{and_parts, and_from, ltb-true, lt-ltb, eqb-true, both_ways}
@@ -14,7 +14,7 @@ use Rattle.uv_asking.specs.declared.asking.Offered.{Offered}
 use Rattle.uv_asking.specs.declared.asking.Takes as asking
 use Rattle.uv_asking.specs.declared.asking.Most.{Most}
 use Rattle.uv_asking.specs.declared.part.Part.{Part}
-use Rattle.uv_asking.specs.declared.part.Part.TheVariants.{Offers, Takes, Clock, Calls, States, Finds}
+use Rattle.uv_asking.specs.declared.part.Part.TheVariants.{Offers, Differ, Recorded, Takes, Clock, Calls, States, Finds}
 use Rattle.uv_asking.specs.Limits.{MOST_OFFERS}
 use Rattle.uv_inquiry.specs.Drafts.{Draft, IsNew}
 use Rattle.uv_inquiry.specs.Tests.{same_step, same_offer, has_offer, same_calls, has_time, has_bound, is_new}
@@ -96,6 +96,18 @@ none_is : {A : Type 0} (o : Option A) → is_none o ≡ true → o ≡ None
 none_is None e = refl
 none_is (Some x) e = absurd cc
 
+some_is : {A : Type 0} (o : Option A) → is_some o ≡ true → (x : A) × (o ≡ Some x)
+some_is None e = absurd cc
+some_is (Some x) e = (x, refl)
+
+empty_is : {A : Type 0} (xs : List A) → (length xs == 0) ≡ true → xs ≡ []
+empty_is [] e = refl
+empty_is (x ∷ xs) e = absurd (omega (arith, eqb-true (length (x ∷ xs)) 0 e))
+
+is_empty : {A : Type 0} (xs : List A) → xs ≡ [] → (length xs == 0) ≡ true
+is_empty [] e = refl
+is_empty (x ∷ xs) e = absurd (let f : ⊥ = cc in f)
+
 is_offer : (o : Offer) (p : Offered) → p.offer ≡ o → same_offer p.offer o ≡ true
 is_offer o p e = subst (λ (x : Offer). same_offer x o ≡ true) (sym e) (offer_self o)
 
@@ -129,12 +141,23 @@ is_bound v m e = subst (λ (w : Var). (w.0 == v.0) ≡ true) (sym e) (itself v.0
 
 pub new_sound : (d : Draft) (part : Part) → is_new d part ≡ true → IsNew d part
 new_sound d (Offers o) e =
-    let tests = and_parts (nat_lt (length d.offers) MOST_OFFERS) (not (has_offer o.offer d.offers)) e in (
+    let all = and_parts (nat_lt (length d.offers) MOST_OFFERS && not (has_offer o.offer d.offers)) (is_none d.differ) e in
+    let tests = and_parts (nat_lt (length d.offers) MOST_OFFERS) (not (has_offer o.offer d.offers)) all.0 in (
       ltb-true (length d.offers) MOST_OFFERS tests.0,
       none_so (λ (p : Offered). same_offer p.offer o.offer) (λ (p : Offered). p.offer ≡ o.offer) (is_offer o.offer) d.offers
           (not_true (has_offer o.offer d.offers) tests.1),
+      none_is d.differ all.1,
     )
-new_sound d (Takes t) e = none_so (λ (u : asking.Takes). same_calls u t) (AreSame t) (times_same t) d.takes (not_true (has_time t d.takes) e)
+new_sound d (Differ k) e =
+    let all = and_parts (is_none d.differ && (length d.offers == 0)) (length d.takes == 0) e in
+    let tests = and_parts (is_none d.differ) (length d.offers == 0) all.0 in
+    (none_is d.differ tests.0, empty_is d.offers tests.1, empty_is d.takes all.1)
+new_sound d (Recorded r) e = some_is d.differ e
+new_sound d (Takes t) e =
+    let tests = and_parts (not (has_time t d.takes)) (is_none d.differ) e in (
+      none_so (λ (u : asking.Takes). same_calls u t) (AreSame t) (times_same t) d.takes (not_true (has_time t d.takes) tests.0),
+      none_is d.differ tests.1,
+    )
 new_sound d (Clock ms) e = none_is d.clock e
 new_sound d (Calls m) e =
     none_so (λ (n : Most). n.name.0 == m.name.0) (λ (n : Most). n.name ≡ m.name) (is_bound m.name) d.most
@@ -143,11 +166,18 @@ new_sound d (States n) e = none_is d.states e
 new_sound d (Finds q) e = none_is d.question e
 
 pub new_complete : (d : Draft) (part : Part) → IsNew d part → is_new d part ≡ true
-new_complete d (Offers o) (few, none) =
-    and_from (nat_lt (length d.offers) MOST_OFFERS) (not (has_offer o.offer d.offers)) (lt-ltb (length d.offers) MOST_OFFERS few)
+new_complete d (Offers o) (few, none, alone) =
+    and_from (nat_lt (length d.offers) MOST_OFFERS && not (has_offer o.offer d.offers)) (is_none d.differ)
+    (and_from (nat_lt (length d.offers) MOST_OFFERS) (not (has_offer o.offer d.offers)) (lt-ltb (length d.offers) MOST_OFFERS few)
     (ap not (none_found (λ (p : Offered). same_offer p.offer o.offer) (λ (p : Offered). p.offer ≡ o.offer) (λ p e. offer_is p.offer o.offer e)
-    d.offers none))
-new_complete d (Takes t) h = ap not (none_found (λ (u : asking.Takes). same_calls u t) (AreSame t) (times_are t) d.takes h)
+    d.offers none))) (ap is_none alone)
+new_complete d (Differ k) (none, offers, takes) =
+    and_from (is_none d.differ && (length d.offers == 0)) (length d.takes == 0)
+    (and_from (is_none d.differ) (length d.offers == 0) (ap is_none none) (is_empty d.offers offers)) (is_empty d.takes takes)
+new_complete d (Recorded r) h = ap is_some h.1
+new_complete d (Takes t) (none, alone) =
+    and_from (not (has_time t d.takes)) (is_none d.differ)
+    (ap not (none_found (λ (u : asking.Takes). same_calls u t) (AreSame t) (times_are t) d.takes none)) (ap is_none alone)
 new_complete d (Clock ms) h = ap is_none h
 new_complete d (Calls m) h =
     ap not (none_found (λ (n : Most). n.name.0 == m.name.0) (λ (n : Most). n.name ≡ m.name) (λ n e. var_is n.name m.name e) d.most h)

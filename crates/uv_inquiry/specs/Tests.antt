@@ -1,6 +1,6 @@
 -- How the lines behind `begin` are read, as functions that the code computes. They serve private clauses; that they agree with the grammar is
 -- proved.
-use Rattle.std.specs.Prelude.{◌≡◌, ℕ, ◌+◌, ◌==◌, ◌&&◌, Bool, true, false, not, nat_lt, nat_eq, List, length, Option, Some, None, is_none, Result, Ok, Err, if◌then◌else◌}
+use Rattle.std.specs.Prelude.{◌≡◌, ℕ, ◌+◌, ◌==◌, ◌&&◌, Bool, true, false, not, nat_lt, nat_eq, List, length, Option, Some, None, is_none, is_some, Result, Ok, Err, if◌then◌else◌}
 use Rattle.std.specs.Option.{option_eq}
 use Rattle.std.specs.List.{list_any}
 use Rattle.uv_ids.specs.declared.event.Event.{Event}
@@ -15,7 +15,7 @@ use Rattle.uv_asking.specs.declared.asking.Takes as asking
 use Rattle.uv_asking.specs.declared.asking.Most.{Most}
 use Rattle.uv_asking.specs.declared.asking.Asking.{Asking}
 use Rattle.uv_asking.specs.declared.part.Part.{Part}
-use Rattle.uv_asking.specs.declared.part.Part.TheVariants.{Offers, Takes, Clock, Calls, States, Finds}
+use Rattle.uv_asking.specs.declared.part.Part.TheVariants.{Offers, Differ, Recorded, Takes, Clock, Calls, States, Finds}
 use Rattle.uv_asking.specs.declared.part.Said.{Said}
 use Rattle.uv_asking.specs.declared.part.Said.TheVariants.{Nothing, One, Bad}
 use Rattle.uv_asking.specs.Limits.{MOST_OFFERS}
@@ -58,8 +58,10 @@ has_bound v most = list_any (λ (m : Most). m.name.0 == v) most
 
 -- whether that is said for the first time, and there is room for it
 abbrev pub is_new : Draft → Part → Bool
-is_new d (Offers o) = nat_lt (length d.offers) MOST_OFFERS && not (has_offer o.offer d.offers)
-is_new d (Takes t) = not (has_time t d.takes)
+is_new d (Offers o) = nat_lt (length d.offers) MOST_OFFERS && not (has_offer o.offer d.offers) && is_none d.differ
+is_new d (Differ k) = is_none d.differ && (length d.offers == 0) && (length d.takes == 0)
+is_new d (Recorded e) = is_some d.differ
+is_new d (Takes t) = not (has_time t d.takes) && is_none d.differ
 is_new d (Clock ms) = is_none d.clock
 is_new d (Calls m) = not (has_bound m.name.0 d.most)
 is_new d (States n) = is_none d.states

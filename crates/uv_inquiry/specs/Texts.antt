@@ -43,9 +43,22 @@ within_text names (Some ms) most = codes " within clock " ++ decimal ms ++ more_
 within_text names None [] = []
 within_text names None (m ∷ most) = codes " within " ++ bound_text names m ++ more_bounds names most
 
+-- the clock's bound behind another one
+abbrev pub clock_too : Option ℕ → List ℕ
+clock_too (Some ms) = codes ", clock " ++ decimal ms
+clock_too None = []
+
+-- how many recorded events were moved at the most, and then the others
+unfoldable pub moved_text : List (List ℕ) → ℕ → Option ℕ → List Most → List ℕ
+moved_text names k clock most = codes " within " ++ decimal k ++ codes " moved" ++ clock_too clock ++ more_bounds names most
+
+abbrev pub bounds_text : List (List ℕ) → Option ℕ → Option ℕ → List Most → List ℕ
+bounds_text names (Some k) clock most = moved_text names k clock most
+bounds_text names None clock most = within_text names clock most
+
 -- no order of steps within the bounds answers the question, and so many states were seen
 unfoldable pub never_text : Program → Asked → ℕ → List ℕ
-never_text p a states = codes "never" ++ within_text p.names a.clock a.most ++ codes ": " ++ states_text states ++ codes ", every order\n"
+never_text p a states = codes "never" ++ bounds_text p.names a.differ a.clock a.most ++ codes ": " ++ states_text states ++ codes ", every order\n"
 
 -- there are more states than were to be kept
 unfoldable pub unsettled_text : ℕ → List ℕ

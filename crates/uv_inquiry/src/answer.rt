@@ -2,7 +2,7 @@
 ghost use Rattle.std.specs.Prelude.{◌≡◌, ◌++◌, None, IfOk, IfErr, OnOk};
 ghost use Rattle.uv_ids.specs.declared.fault.Fault.TheVariants.{Memory};
 ghost use Rattle.uv_asking.specs.Asked.{asked_in};
-ghost use Rattle.uv_inquiry.specs.Texts.{steps_text, states_text, calls_text, found_text, bound_text, more_bound, more_bounds, within_text, never_text, unsettled_text, out_of_memory_text, too_deep_text, no_end_text};
+ghost use Rattle.uv_inquiry.specs.Texts.{steps_text, states_text, calls_text, found_text, bound_text, more_bound, more_bounds, within_text, bounds_text, moved_text, clock_too, never_text, unsettled_text, out_of_memory_text, too_deep_text, no_end_text};
 
 use crate::inquiry::Inquiry;
 use crate::session::push_session;
@@ -61,7 +61,7 @@ pub fn push_never(text: &mut Vec<u8>, inquiry: &Inquiry, states: u64) -> Result<
     ensures { OnOk result (text.new.items ≡ text.old.items ++ never_text inquiry.now.script (asked_in inquiry.now.asking) states) }
 {
     text.extend_from_slice(b"never")?;
-    push_within(text, inquiry.script.names(), &inquiry.asking)?;
+    push_every_bound(text, inquiry.script.names(), &inquiry.asking)?;
     text.extend_from_slice(b": ")?;
     push_states(text, states)?;
     text.extend_from_slice(b", every order\n")
@@ -197,6 +197,47 @@ fn push_more_bounds(text: &mut Vec<u8>, names: &Names, most: &[Most]) -> Result<
 }
 
 /// The bounds, behind the word `within`.
+fn push_every_bound(text: &mut Vec<u8>, names: &Names, asking: &Asking) -> Result<(), AllocError>
+    ensures { OnOk result (text.new.items ≡ text.old.items ++ bounds_text names.now asking.now.differ asking.now.clock asking.now.most.items) }
+{
+    match asking.differ {
+        Some(moved) => push_moved(text, names, moved, asking.clock, &asking.most),
+        None => push_within(text, names, asking),
+    }
+}
+
+/// How many events were moved at the most, and then the other bounds.
+#[tactic(auto, unfolding(crate::specs::Texts::moved_text))]
+fn push_moved(
+    text: &mut Vec<u8>,
+    names: &Names,
+    moved: u32,
+    clock: Option<u64>,
+    most: &[Most],
+) -> Result<(), AllocError>
+    ensures { OnOk result (text.new.items ≡ text.old.items ++ moved_text names.now moved clock most.now) }
+{
+    text.extend_from_slice(b" within ")?;
+    push_number(text, moved as u64)?;
+    text.extend_from_slice(b" moved")?;
+    push_clock_too(text, clock)?;
+    push_more_bounds(text, names, most)
+}
+
+/// The clock's bound, behind another one.
+fn push_clock_too(text: &mut Vec<u8>, clock: Option<u64>) -> Result<(), AllocError>
+    ensures { OnOk result (text.new.items ≡ text.old.items ++ clock_too clock) }
+{
+    match clock {
+        Some(ms) => {
+            text.extend_from_slice(b", clock ")?;
+            push_number(text, ms)
+        }
+        None => Ok(()),
+    }
+}
+
+/// The bounds where no event was recorded, behind the word `within`.
 fn push_within(text: &mut Vec<u8>, names: &Names, asking: &Asking) -> Result<(), AllocError>
     ensures { OnOk result (text.new.items ≡ text.old.items ++ within_text names.now asking.now.clock asking.now.most.items) }
 {

@@ -8,7 +8,7 @@ ghost use Rattle.uv_inquiry.specs.Tests.{same_step, same_offer, has_offer, same_
 
 use std::alloc::{AllocError, Global};
 use std::marker::Model;
-use uv_asking::{Asking, Most, Offer, Offered, Part, Question, Said, Takes, read_part};
+use uv_asking::{Asking, Most, Offer, Offered, Part, Question, Recorded, Said, Takes, read_part};
 use uv_ids::{Event, Fault, Var};
 use uv_script::{Lines, Names, line_count};
 
@@ -22,6 +22,8 @@ const DEFAULT_STATES: u32 = 10_000_000;
 #[derive(Drop)]
 pub(crate) struct Draft {
     offers: Vec<Offered>,
+    differ: Option<u32>,
+    recorded: Vec<Recorded>,
     takes: Vec<Takes>,
     clock: Option<u64>,
     most: Vec<Most>,
@@ -36,6 +38,8 @@ impl Model for Draft {
 
     ghost view = { λ d. record {
       offers = d.offers.items;
+      differ = d.differ;
+      recorded = d.recorded.items;
       takes = d.takes.items;
       clock = d.clock;
       most = d.most.items;
@@ -99,6 +103,8 @@ impl Draft {
     {
         Draft {
             offers: Vec::new(alloc),
+            differ: None,
+            recorded: Vec::new(alloc),
             takes: Vec::new(alloc),
             clock: None,
             most: Vec::new(alloc),
@@ -113,9 +119,15 @@ impl Draft {
     {
         match part {
             Part::Offers(offered) => {
-                self.offers.len() < MOST_OFFERS && !has_offer(&self.offers, offered.offer)
+                self.offers.len() < MOST_OFFERS
+                    && !has_offer(&self.offers, offered.offer)
+                    && self.differ.is_none()
             }
-            Part::Takes(takes) => !has_time(&self.takes, takes),
+            Part::Differ(_) => {
+                self.differ.is_none() && self.offers.len() == 0 && self.takes.len() == 0
+            }
+            Part::Recorded(_) => self.differ.is_some(),
+            Part::Takes(takes) => !has_time(&self.takes, takes) && self.differ.is_none(),
             Part::Clock(_) => self.clock.is_none(),
             Part::Calls(most) => !has_bound(&self.most, most.name),
             Part::States(_) => self.states.is_none(),
@@ -129,6 +141,8 @@ impl Draft {
     {
         match part {
             Part::Offers(offered) => self.offers.push(offered)?,
+            Part::Differ(moved) => self.differ = Some(moved),
+            Part::Recorded(recorded) => self.recorded.push(recorded)?,
             Part::Takes(takes) => self.takes.push(takes)?,
             Part::Clock(ms) => self.clock = Some(ms),
             Part::Calls(most) => self.most.push(most)?,
@@ -161,6 +175,8 @@ impl Draft {
         let question = self.question?;
         Some(Asking {
             offers: self.offers,
+            differ: self.differ,
+            recorded: self.recorded,
             takes: self.takes,
             clock: self.clock,
             most: self.most,

@@ -12,6 +12,7 @@ Of a recording that ./uvt record --lift made NAME may be a line of JavaScript, t
 The lines behind `begin` (docs/FIND.md has each):
   may send NAME N [during JOB], may cancel NAME N, may io NAME N, may tick MS N, may wait   what may come, beside the workers, which take and
                                                                   finish at any time. Of a recording, without such a line: what came in it
+  may differ K                                                    what came in the recording, at most K of it at another place
   takes NAME [@K] MS                                              how long a callback takes
   most clock MS, most NAME CALLS, most states N                   how far it is searched
   find call NAME [N], find on NAME [N], find after NAME [N], find closed NAME [N], find code CODE [of NAME], find section WORD, find never NAME,
@@ -36,11 +37,11 @@ from pathlib import Path
 
 from launch import reasons
 from launch.tool import START, run_tool
-from uvt.conversation import INSTALLED, Fault, read_input
+from uvt.conversation import INSTALLED, Fault, Script, read_input
 from uvt.find_javascript import named
 from uvt.joined import Recorded, joined
 from uvt.notes import harmless
-from uvt.offered import never_called, offered
+from uvt.offered import never_called, offered, recorded_lines
 from uvt.searching import BAD_LINE, UNSETTLED, Search
 
 FOUND, NEVER, OWN_FAULT = 0, 1, 70
@@ -58,13 +59,28 @@ def inquiry(paths: list[Path], lines: list[str]) -> tuple[bytes, list[str]]:
         except OSError as fault:
             raise Fault(f"{paths[0]}: {fault.strerror}") from None
     read = [read_input(path) for path in paths]
+    differing = next((it for it in lines if it.split(" ")[:2] == ["may", "differ"]), None)
+    if differing and not read[0][1]:
+        raise Fault(f"`{differing}`: no steps stand behind `begin` in {paths[0]} from which an order might differ")
     if not all(script.is_recorded() for script, _ in read):
         if len(paths) > 1:
             raise Fault(f"{next(path for path, (script, _) in zip(paths, read) if not script.is_recorded())} is no recording, and several files are")
-        return text_of(read[0][0].lines, lines), []
+        return text_of(read[0][0].lines, differed(*read[0], lines, differing)), []
     whole, said = joined([Recorded(path, script, offered(script, steps)) for path, (script, steps) in zip(paths, read)])
     brought = [] if any(it.startswith("may ") for it in lines) else whole.offered.lines(lines)
-    return text_of(whole.script.lines, brought + lines), said + of_recording(whole, bool(brought))
+    said += of_recording(whole, bool(brought))
+    if differing:
+        said.append(f"`{differing}`: so many of the steps from outside in {paths[0]} may come at another place, those of one name, of one worker or "
+                    "of the clock in their order; each other one comes at its place, or as soon after it as the loop accepts it")
+    return text_of(whole.script.lines, brought + differed(*read[0], lines, differing)), said
+
+
+def differed(script: Script, steps: list[str], lines: list[str], differing: str | None) -> list[str]:
+    """These lines, with what came in the steps behind `may differ`."""
+    if not differing:
+        return lines
+    at = lines.index(differing) + 1
+    return lines[:at] + recorded_lines(script, steps) + lines[at:]
 
 
 def text_of(script: list[str], lines: list[str]) -> bytes:

@@ -1,0 +1,164 @@
+//! The choices of a place.
+ghost use Rattle.std.specs.Prelude.{◌≡◌, ◌<◌, IfOk, length, slice_get, option_map};
+ghost use Rattle.uv_asking.specs.declared.asking.Offered.{Offered};
+ghost use Rattle.uv_find.specs.Orders.{less, lessened, chosen, offered_by, offer_at, choice_at};
+ghost use Rattle.uv_find.specs.Spots.{rules_by, place_by};
+ghost use Rattle.uv_find.specs.Steps.{Stands, MakesMove, choice_of};
+
+use crate::kept::Kept;
+use crate::recorded::{choose_recorded, left_at};
+use crate::steps::{offered_here, step_within};
+use crate::terms::{Terms, move_count};
+use std::alloc::AllocError;
+use uv_asking::Offered;
+use uv_ids::Event;
+use uv_model::{Machine, Outcome};
+use uv_session::Session;
+
+/// An event that may come, with what is left and kept of the place where it does.
+#[derive(Drop)]
+pub struct Choice {
+    pub event: Event,
+    pub left: Vec<Option<u32>>,
+    pub kept: Kept,
+}
+
+/// A choice that was made, and what its step did.
+#[derive(Drop)]
+pub struct Moved {
+    pub choice: Choice,
+    pub outcome: Outcome,
+}
+
+/// Once less.
+fn less(left: Option<u32>) -> Option<u32>
+    ensures { result ≡ less left }
+{
+    match left {
+        None => None,
+        Some(left) => Some(left.saturating_sub(1)),
+    }
+}
+
+/// The offer of this number may be taken once less.
+fn lessen(left: &mut Vec<Option<u32>>, number: usize)
+    ensures { left.new.items ≡ lessened left.old.items number }
+{
+    if number < left.len() {
+        left[number] = less(left[number]);
+    }
+}
+
+/// The event of an offer, with what is left where it is taken.
+fn chosen(
+    left: &Vec<Option<u32>>,
+    kept: Kept,
+    number: usize,
+    event: Option<Event>,
+) -> Result<Option<Choice>, AllocError>
+    ensures { IfOk result (λ choice. option_map choice_of choice ≡ chosen (lessened left.now.items number) kept event) }
+{
+    match event {
+        None => Ok(None),
+        Some(event) => {
+            let mut left = left.clone()?;
+            lessen(&mut left, number);
+            Ok(Some(Choice { event, left, kept }))
+        }
+    }
+}
+
+/// The offer of this number.
+fn offer_of(offers: &[Offered], number: usize) -> Option<Offered>
+    ensures { result ≡ slice_get offers.now number }
+{
+    if number < offers.len() {
+        Some(offers[number])
+    } else {
+        None
+    }
+}
+
+/// The event of an offer, if it may still be taken. Nothing changes.
+fn offered<M: Machine>(
+    session: &mut Session<M>,
+    terms: &Terms,
+    left: &Vec<Option<u32>>,
+    kept: Kept,
+    number: usize,
+) -> Result<Option<Event>, AllocError>
+    requires room { length session.old.standing < session.old.limit }
+    requires back { M.BackWantsMemory → ⊥ }
+    ensures same { Stands session.old session.old.standing session.new }
+    ensures event { IfOk result (λ event. event ≡ offered_by (rules_by session.old.program terms.now) (place_by session.old left.now.items kept)
+        (slice_get terms.now.offers.items number) (slice_get left.now.items number)) }
+{
+    match (offer_of(&terms.offers, number), left_at(left, number)) {
+        (Some(offered), Some(times)) => {
+            offered_here(session, terms.clock, kept, offered.offer, times)
+        }
+        _ => Ok(None),
+    }
+}
+
+/// The offer of this number, if it may still be taken. Nothing changes.
+fn choose_offer<M: Machine>(
+    session: &mut Session<M>,
+    terms: &Terms,
+    left: &Vec<Option<u32>>,
+    kept: Kept,
+    number: usize,
+) -> Result<Option<Choice>, AllocError>
+    requires room { length session.old.standing < session.old.limit }
+    requires back { M.BackWantsMemory → ⊥ }
+    ensures same { Stands session.old session.old.standing session.new }
+    ensures choice { IfOk result (λ choice. option_map choice_of choice ≡ offer_at (rules_by session.old.program terms.now) (place_by session.old left.now.items kept) number) }
+{
+    let event = offered(session, terms, left, kept, number)?;
+    chosen(left, kept, number, event)
+}
+
+/// What the move of this number is here, if it is any. Nothing changes.
+#[tactic(auto, unfolding(crate::specs::Orders::choice_at))]
+fn choose<M: Machine>(
+    session: &mut Session<M>,
+    terms: &Terms,
+    left: &Vec<Option<u32>>,
+    kept: Kept,
+    number: usize,
+) -> Result<Option<Choice>, AllocError>
+    requires room { length session.old.standing < session.old.limit }
+    requires back { M.BackWantsMemory → ⊥ }
+    ensures same { Stands session.old session.old.standing session.new }
+    ensures choice { IfOk result (λ choice. option_map choice_of choice ≡ choice_at (rules_by session.old.program terms.now) (place_by session.old left.now.items kept) number) }
+{
+    if number < move_count(terms) {
+        match terms.differ {
+            None => choose_offer(session, terms, left, kept, number),
+            Some(_) => choose_recorded(session, terms, left, kept, number),
+        }
+    } else {
+        Ok(None)
+    }
+}
+
+/// Makes the move of this number, if it is one, the loop accepts it and the bounds hold then; nothing changes else.
+pub fn make_move<M: Machine>(
+    session: &mut Session<M>,
+    terms: &Terms,
+    left: &Vec<Option<u32>>,
+    kept: Kept,
+    number: usize,
+) -> Result<Option<Moved>, AllocError>
+    requires room { length session.old.standing < session.old.limit }
+    requires back { M.BackWantsMemory → ⊥ }
+    ensures { MakesMove terms.now session.old left.now.items kept number result session.new }
+{
+    match choose(session, terms, left, kept, number)? {
+        None => Ok(None),
+        Some(choice) => match step_within(session, choice.event, &terms.most)? {
+            None => Ok(None),
+            Some(outcome) => Ok(Some(Moved { choice, outcome })),
+        },
+    }
+}

@@ -1,0 +1,55 @@
+//! What stays the same in a search, beside its script.
+ghost use Rattle.std.specs.Prelude.{IfOk, ◌≡◌, length};
+ghost use Rattle.uv_asking.specs.Asked.{asked_in};
+ghost use Rattle.uv_find.specs.Orders.{move_count_by};
+ghost use Rattle.uv_find.specs.Spots.{rules_by, rules_of};
+
+use crate::beginning::every_offer;
+use std::alloc::{AllocError, Global};
+use uv_asking::{Asking, Most, Offered, Question, Recorded, Takes};
+use uv_script::Script;
+
+/// What may come, how long callbacks take, how far it is searched, and what is asked.
+#[derive(Drop)]
+pub struct Terms {
+    pub offers: Vec<Offered>,
+    /// In place of what is offered, what came in a recording: at most so many of it at another place.
+    pub differ: Option<u32>,
+    pub recorded: Vec<Recorded>,
+    pub takes: Vec<Takes>,
+    pub clock: Option<u64>,
+    pub most: Vec<Most>,
+    pub question: Question,
+}
+
+/// The terms of what is asked of a script.
+pub(crate) fn terms_of(alloc: Global, script: &Script, asking: &Asking) -> Result<Terms, AllocError>
+    ensures { IfOk result (λ terms. rules_by script.now terms ≡ rules_of script.now (asked_in asking.now)) }
+{
+    let offers = every_offer(alloc, script.workers(), &asking.offers)?;
+    let mut recorded = Vec::new(alloc);
+    recorded.extend_from_slice(&asking.recorded)?;
+    let mut takes = Vec::new(alloc);
+    takes.extend_from_slice(&asking.takes)?;
+    let mut most = Vec::new(alloc);
+    most.extend_from_slice(&asking.most)?;
+    Ok(Terms {
+        offers,
+        differ: asking.differ,
+        recorded,
+        takes,
+        clock: asking.clock,
+        most,
+        question: asking.question,
+    })
+}
+
+/// How many moves there are.
+pub(crate) fn move_count(terms: &Terms) -> usize
+    ensures { result ≡ move_count_by terms.now.differ (length terms.now.offers.items) (length terms.now.recorded.items) }
+{
+    match terms.differ {
+        None => terms.offers.len(),
+        Some(_) => 1 + terms.recorded.len() + terms.recorded.len(),
+    }
+}
