@@ -3,7 +3,7 @@
 
 The tools stand in four rooms, each of them a package beside this file, where Python finds them: `launch` (what ./uvt takes), `uvt` (what a person
 calls), `make` (for who changes the repository) and `package`. NAME is a module of a room, or of uvt/commands, whose `main` returns the status.
-A link to this file is the tool that it is named after: uvt/uvt-why is `why`, and make/claims is `claims`.
+uvt/uvt-why, make/claims and their like are scripts of one line that call it.
 """
 
 from __future__ import annotations
@@ -36,7 +36,7 @@ def main() -> int:
     if module is None:
         print(f"start.py: there is no tool `{name}`" if name else __doc__, file=sys.stderr)
         return 2
-    # (so a tool's own words name it as they did where it was called by a link)
+    # (so a tool's own words name it as it was called)
     sys.argv[0] = f"uvt-{name}" if module.startswith("uvt.") else name
     status: int = importlib.import_module(module).main()
     return status
