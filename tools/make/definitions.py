@@ -53,9 +53,10 @@ CLAIMS = (
     Claim("By the lines alone each handle closes once and is called only where it was started, and each request calls back once, with ECANCELED "
           "only if no worker took it.", (Clause("uv_order", "once", "closes_once", ""),)),
     Claim("Each handle is what the lines tell of it: made under its name, closing where a `close` was accepted, active where it was started and not "
-          "stopped since, and a timer due as its last start says; and the loop's step is refused only at its end and in a poll that may wait.",
+          "stopped since, and a timer due as its last start says; each op answers what the lines before it tell; and the loop's step is "
+          "refused only at its end and in a poll that may wait.",
           (Clause("uv_order", "told", "handles_told", ""), Clause("uv_order", "dues", "dues_told", ""),
-           Clause("uv_order", "waits", "loop_goes_on", ""))),
+           Clause("uv_order", "answers", "answers_told", ""), Clause("uv_order", "waits", "loop_goes_on", ""))),
     Claim("The events of the thread pool that the lines say are possible by the pool's rules, and lead to the pool of the state.",
           (Clause("uv_order", "pool", "pool_follows", ""),)),
     Claim("An accepted event is one more step of a session, and discards what was taken back; steps are taken back and run again in any number.",
