@@ -8,7 +8,7 @@ import threading
 from collections.abc import Callable, Iterable
 from pathlib import Path
 
-from said import Said
+from tests.edits.said import Said
 
 PARTS = ("src", "specs", "proofs")
 

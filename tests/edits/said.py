@@ -5,7 +5,7 @@ from collections.abc import Iterable, Mapping
 from dataclasses import dataclass
 from enum import Enum
 
-from edit import Edit
+from tests.edits.edit import Edit
 
 
 class Word(Enum):
@@ -71,7 +71,8 @@ def is_unread(line: str, files: Iterable[str]) -> bool:
 def judged(said: Said, files: Iterable[str]) -> Verdict:
     """What became of an edit of these files that was tried alone, by the rules of the kit's `rt must-fail`.
 
-    Beyond these, one is refused that a check of a constant stops before the prover comes to it, as that of a size. And one says little, too, that makes a function which the prover doesn't cover: no clause refuses that.
+    Beyond these, one is refused that a check of a constant stops before the prover comes to it, as that of a size. And one says little, too, that
+    makes a function which the prover doesn't cover: no clause refuses that.
     """
     lines = said.lines()
     if unread := [it for it in lines if is_unread(it, files)]:

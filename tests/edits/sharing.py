@@ -5,7 +5,7 @@ from collections import Counter
 from collections.abc import Iterable
 from dataclasses import dataclass, field
 
-from edit import Edit
+from tests.edits.edit import Edit
 
 # So many edits are tried in one check at most: what a check costs before its first function is then paid for once.
 TOGETHER = 12

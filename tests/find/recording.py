@@ -2,13 +2,14 @@
 from random import Random
 from typing import Iterator, List, NamedTuple, Optional, Tuple
 
-from loop import Loop, Reply, State
+from tests.find.loop import Loop, Reply, State
 
-AHEAD, HELD, COME = 'ahead', 'held', 'come'
+AHEAD, HELD, COME = "ahead", "held", "come"
 
 
 class Recorded(NamedTuple):
     """A step from outside, and how many polls, and steps of the loop behind the last of them, its place is away from that of the one before it."""
+
     polls: int
     steps: int
     command: str
@@ -17,6 +18,7 @@ class Recorded(NamedTuple):
 class Along(NamedTuple):
     """How far an order is: how each recorded step stands, how many places are passed, how far the next one is away, and how many steps may still
     come at another place."""
+
     stands: Tuple[str, ...]
     passed: int
     polls: int
@@ -26,6 +28,7 @@ class Along(NamedTuple):
 
 class Coming(NamedTuple):
     """A step that may come, and how far the order is then."""
+
     command: str
     along: Along
 
@@ -35,7 +38,7 @@ def passing(recorded: List[Recorded], along: Along, number: int) -> Along:
     number += 1
     while number < len(recorded) and not recorded[number].polls and not recorded[number].steps:
         number += 1
-    there = recorded[number] if number < len(recorded) else Recorded(0, 0, '')
+    there = recorded[number] if number < len(recorded) else Recorded(0, 0, "")
     return along._replace(passed=number, polls=there.polls, steps=there.steps)
 
 
@@ -48,7 +51,7 @@ def behind_loop(recorded: List[Recorded], along: Along, line: Optional[str]) -> 
     if along.passed == len(recorded):
         return along
     polls, steps = along.polls, along.steps
-    if (line or '').startswith('poll '):
+    if (line or "").startswith("poll "):
         polls, steps = (polls - 1, steps) if polls else (0, 0)
     elif not polls:
         steps = max(steps - 1, 0)
@@ -58,22 +61,21 @@ def behind_loop(recorded: List[Recorded], along: Along, line: Optional[str]) -> 
 
 def source(command: str) -> str:
     """Whose step it is: a name's, a worker's, or the clock's."""
-    return 'tick' if command.startswith('tick ') else command
+    return "tick" if command.startswith("tick ") else command
 
 
 def may_come(recorded: List[Recorded], along: Along, number: int, state: State) -> bool:
     """Whether a recorded step may come at all: what it is for was made, and what came from its source before it has come."""
-    word, argument = recorded[number].command.split(' ')
-    if word in ('send', 'cancel', 'io') and argument not in state.made:
+    word, argument = recorded[number].command.split(" ")
+    if word in ("send", "cancel", "io") and argument not in state.made:
         return False
-    return not any(stands != COME and source(one.command) == source(recorded[number].command)
-                   for one, stands in zip(recorded[:number], along.stands))
+    return not any(stands != COME and source(one.command) == source(recorded[number].command) for one, stands in zip(recorded[:number], along.stands))
 
 
 def is_seen(command: str, state: State) -> bool:
     """Whether libuv sees a send here as the loop does."""
-    word, argument = command.split(' ')
-    return word != 'send' or state.section not in ('done', 'async') and argument not in state.closing
+    word, argument = command.split(" ")
+    return word != "send" or state.section not in ("done", "async") and argument not in state.closing
 
 
 def is_accepted(loop: Loop, command: str) -> bool:
@@ -99,7 +101,7 @@ def coming(loop: Loop, recorded: List[Recorded], along: Along, is_blocked: bool)
 
     on = past(along.passed)
     if on is not None:
-        yield Coming('loop', on)
+        yield Coming("loop", on)
     for number in possible:
         command = recorded[number].command
         here = past(number) if along.stands[number] == AHEAD and (number < along.passed or is_blocked) else None
@@ -116,14 +118,14 @@ def recording(loop: Loop, commands: List[str], draw: Random, count: int) -> List
     found: List[Recorded] = []
     polls = steps = 0
     for _ in range(count):
-        command = draw.choice(['loop'] * (2 * len(commands) + 2) + commands)
+        command = draw.choice(["loop"] * (2 * len(commands) + 2) + commands)
         reply: Reply = loop.step(command)
         if reply.refused is not None:
             continue
-        if command != 'loop':
+        if command != "loop":
             found.append(Recorded(polls, steps, command))
             polls = steps = 0
-        elif (reply.line or '').startswith('poll '):
+        elif (reply.line or "").startswith("poll "):
             polls, steps = polls + 1, 0
         else:
             steps += 1

@@ -3,22 +3,23 @@ bounds, and what a question asks of a step."""
 from collections import deque
 from typing import Deque, Iterator, List, NamedTuple, Optional, Set, Tuple
 
-import recording
-from asked import Asked, Offer
-from loop import Loop, Reply, State
-from recording import Along
+from tests.find import recording
+from tests.find.asked import Asked, Offer
+from tests.find.loop import Loop, Reply, State
+from tests.find.recording import Along
 
-CALLS = ['call', 'after', 'closed']
+CALLS = ["call", "after", "closed"]
 # The callbacks that the words of a question mean.
-MEANT = {'call': CALLS, 'on': ['call'], 'after': ['after'], 'closed': ['closed']}
+MEANT = {"call": CALLS, "on": ["call"], "after": ["after"], "closed": ["closed"]}
 # The words of `takes` don't count for the callback of a close.
-TAKING = {'on': 0, 'after': 1}
-NAMELESS = ['stoploop', 'updatetime', 'now', 'alive', 'timeout', 'closeloop']
+TAKING = {"on": 0, "after": 1}
+NAMELESS = ["stoploop", "updatetime", "now", "alive", "timeout", "closeloop"]
 
 
 class Place(NamedTuple):
     """Where the search stands: the loop's state, how often each offer may still be taken, when the timer was due that is asked for, and how
     many ms the callback still takes that has ended; and of orders that differ from a recording, how far they are."""
+
     state: State
     left: Tuple[Optional[int], ...]
     due: int
@@ -31,6 +32,7 @@ class Place(NamedTuple):
 
 class Move(NamedTuple):
     """A step that leads on: which offer it is, its command and its line, and where it leads."""
+
     number: int
     command: str
     line: Optional[str]
@@ -39,14 +41,15 @@ class Move(NamedTuple):
 
 class Settled(NamedTuple):
     """How many steps the first answer has, if there is one; and how many places there are, unless there are more than were looked at."""
+
     steps: Optional[int]
     places: Optional[int]
 
 
 def every_offer(asked: Asked) -> List[Offer]:
     """The loop goes on, the idle worker of the least number takes, each worker may finish, and then what may come from outside."""
-    finishes = [Offer('finish', str(worker), None) for worker in range(asked.workers)]
-    return [Offer('loop', '', None), Offer('take', '', None)] + finishes + asked.offers
+    finishes = [Offer("finish", str(worker), None) for worker in range(asked.workers)]
+    return [Offer("loop", "", None), Offer("take", "", None)] + finishes + asked.offers
 
 
 def beginning(asked: Asked, state: State) -> Place:
@@ -58,13 +61,13 @@ def beginning(asked: Asked, state: State) -> Place:
 def may_come(offer: Offer, place: Place) -> bool:
     """Whether something from outside may come here: not for what isn't made; no send between the lines `done` and `check`, nor to a handle that
     closes, nor one of a job that isn't run; and while a callback's time goes by no other time does, and no callback of I/O begins."""
-    if offer.word in ('send', 'cancel', 'io') and offer.argument not in place.state.made:
+    if offer.word in ("send", "cancel", "io") and offer.argument not in place.state.made:
         return False
-    if offer.word == 'send' and (place.state.section in ('done', 'async') or offer.argument in place.state.closing):
+    if offer.word == "send" and (place.state.section in ("done", "async") or offer.argument in place.state.closing):
         return False
     if offer.job is not None and offer.job not in place.state.jobs:
         return False
-    return not (offer.word in ('io', 'tick') and place.owed)
+    return not (offer.word in ("io", "tick") and place.owed)
 
 
 def command_of(asked: Asked, offer: Offer, left: Optional[int], place: Place, is_blocked: bool) -> Optional[str]:
@@ -72,21 +75,21 @@ def command_of(asked: Asked, offer: Offer, left: Optional[int], place: Place, is
     state = place.state
     if left == 0 or not may_come(offer, place):
         return None
-    if offer.word == 'loop' and place.owed:
-        offer = Offer('tick', str(place.owed), None)
-    if offer.word == 'take':
+    if offer.word == "loop" and place.owed:
+        offer = Offer("tick", str(place.owed), None)
+    if offer.word == "take":
         idle = [worker for worker in range(asked.workers) if worker not in state.busy]
-        return 'take %d' % idle[0] if idle else None
+        return "take %d" % idle[0] if idle else None
     ms = None
-    if offer.word == 'tick':
+    if offer.word == "tick":
         ms = int(offer.argument)
-    if offer.word == 'wait':
+    if offer.word == "wait":
         if not is_blocked or state.deadline is None:
             return None
         ms = state.deadline - state.clock
     if ms is not None:
-        return 'tick %d' % ms if asked.clock is None or state.clock + ms <= asked.clock else None
-    return (offer.word + ' ' + offer.argument).strip()
+        return "tick %d" % ms if asked.clock is None or state.clock + ms <= asked.clock else None
+    return (offer.word + " " + offer.argument).strip()
 
 
 def is_within(asked: Asked, state: State) -> bool:
@@ -95,17 +98,17 @@ def is_within(asked: Asked, state: State) -> bool:
 
 def caller_of(before: State, line: Optional[str]) -> Optional[Tuple[str, str]]:
     """The callback of a step of the loop: the one that it begins, or whose op it does."""
-    words = (line or '').split(' ')
+    words = (line or "").split(" ")
     if words[0] in CALLS and len(words) > 1:
-        return {'call': 'on'}.get(words[0], words[0]), words[1]
+        return {"call": "on"}.get(words[0], words[0]), words[1]
     return before.caller
 
 
 def owed_after(asked: Asked, place: Place, command: str, line: Optional[str], state: State) -> int:
     """How many ms a callback still takes behind a step: as soon as it has ended, all of its time, and none once the clock has gone on."""
-    if command.startswith('tick '):
+    if command.startswith("tick "):
         return 0
-    caller = caller_of(place.state, line) if command.split(' ')[0] in ('loop', 'io') else None
+    caller = caller_of(place.state, line) if command.split(" ")[0] in ("loop", "io") else None
     if caller is None:
         return place.owed
     if state.caller is not None or caller[0] not in TAKING:
@@ -121,22 +124,22 @@ def after(asked: Asked, place: Place, number: int, command: str, reply: Reply) -
 
 
 def due_after(asked: Asked, place: Place, state: State) -> int:
-    return state.due.get(asked.question[1], place.due) if asked.question[:1] == ('late',) else 0
+    return state.due.get(asked.question[1], place.due) if asked.question[:1] == ("late",) else 0
 
 
 def moves_of_recorded(loop: Loop, asked: Asked, place: Place, blocked: List[bool]) -> Iterator[Move]:
     """The same of orders that differ from a recording."""
     steps, state = loop.steps, loop.state
-    reply = loop.step('loop')
+    reply = loop.step("loop")
     loop.go_back(steps, state)
-    blocked.append(reply.refused == 'blocked')
-    for number, (command, along) in enumerate(list(recording.coming(loop, asked.recorded, place.along, blocked[0] and state.section == 'poll'))):
-        ms = int(command.split()[1]) if command.startswith('tick ') else 0
+    blocked.append(reply.refused == "blocked")
+    for number, (command, along) in enumerate(list(recording.coming(loop, asked.recorded, place.along, blocked[0] and state.section == "poll"))):
+        ms = int(command.split()[1]) if command.startswith("tick ") else 0
         if ms and asked.clock is not None and state.clock + ms > asked.clock:
             continue
         reply = loop.step(command)
         if reply.refused is None and is_within(asked, reply.state):
-            along = recording.behind_loop(asked.recorded, along, reply.line) if command == 'loop' else along
+            along = recording.behind_loop(asked.recorded, along, reply.line) if command == "loop" else along
             yield Move(number, command, reply.line, Place(reply.state, (), due_after(asked, place, reply.state), 0, along))
         loop.go_back(steps, state)
 
@@ -152,8 +155,8 @@ def moves(loop: Loop, asked: Asked, place: Place, blocked: List[bool]) -> Iterat
         if command is None:
             continue
         reply: Reply = loop.step(command)
-        if offer.word == 'loop':
-            blocked.append(reply.refused == 'blocked')
+        if offer.word == "loop":
+            blocked.append(reply.refused == "blocked")
         if reply.refused is None and is_within(asked, reply.state):
             yield Move(number, command, reply.line, after(asked, place, number, command, reply))
         loop.go_back(steps, state)
@@ -161,53 +164,55 @@ def moves(loop: Loop, asked: Asked, place: Place, blocked: List[bool]) -> Iterat
 
 # ---- what is asked of a step
 
+
 def named_in(line: str) -> Optional[str]:
     """The name of a line that has an answer: of an op, of a step from outside, of an after callback."""
-    words = line.split(' ')
-    if words[0] == 'out':
+    words = line.split(" ")
+    if words[0] == "out":
         return words[2]
     return None if words[0] in NAMELESS else words[1]
 
 
 def code_in(line: str) -> Optional[str]:
     """What a line answers."""
-    words = line.split(' ')
-    if words[0] == 'after':
+    words = line.split(" ")
+    if words[0] == "after":
         return words[3]
-    return words[-1] if words[-2:-1] == ['='] else None
+    return words[-1] if words[-2:-1] == ["="] else None
 
 
 def begins_call(line: str, name: str) -> bool:
-    words = line.split(' ')
+    words = line.split(" ")
     return words[0] in CALLS and len(words) > 1 and words[1] == name
 
 
 def line_answers(question: Tuple[str, ...], before: Place, line: str, then: State) -> bool:
-    words = line.split(' ')
-    if question[1:2] in (('before',), ('after',)) and len(question) == 3:
-        return begins_call(line, question[0]) and any(before.state.calls[question[2]]) == (question[1] == 'after')
+    words = line.split(" ")
+    if question[1:2] in (("before",), ("after",)) and len(question) == 3:
+        return begins_call(line, question[0]) and any(before.state.calls[question[2]]) == (question[1] == "after")
     if question[0] in MEANT:
         meant = begins_call(line, question[1]) and words[0] in MEANT[question[0]]
         number = then.calls[question[1]][CALLS.index(words[0])] if meant else 0
         return number > 0 and (len(question) == 2 or number == int(question[2]))
-    if question[0] == 'code':
+    if question[0] == "code":
         return code_in(line) == question[1] and (len(question) == 2 or named_in(line) == question[3])
-    if question[0] == 'section':
-        return len(words) == 1 and words[0] == question[1] or question[1] == 'poll' and words[0] == 'poll'
-    if question[0] == 'late':
-        is_timers = words[0] == 'call' and words[1] == question[1] and question[1] in before.state.timers
+    if question[0] == "section":
+        return len(words) == 1 and words[0] == question[1] or question[1] == "poll" and words[0] == "poll"
+    if question[0] == "late":
+        is_timers = words[0] == "call" and words[1] == question[1] and question[1] in before.state.timers
         return is_timers and then.clock >= before.due + int(question[2])
     return False
 
 
 def answers(asked: Asked, before: Place, move: Move) -> bool:
     """Whether the step's line answers the question. (`never` and `stuck` are asked of the place: `answers_here`.)"""
-    if asked.question[:1] == ('never',) and len(asked.question) == 2:
+    if asked.question[:1] == ("never",) and len(asked.question) == 2:
         return False
     return move.line is not None and asked.question != () and line_answers(asked.question, before, move.line, move.place.state)
 
 
 # ---- the search
+
 
 def search(program: str, asked: Asked, cap: int) -> Settled:
     """All places, up to so many, and the least steps to an answer among them."""
@@ -220,9 +225,9 @@ def search(program: str, asked: Asked, cap: int) -> Settled:
 
 def answers_here(asked: Asked, place: Place, blocked: List[bool], leads: bool) -> bool:
     """Whether the place answers the question by itself."""
-    if asked.question == ('stuck',):
+    if asked.question == ("stuck",):
         return blocked[:1] == [True] and not leads
-    is_never = asked.question[:1] == ('never',) and len(asked.question) == 2
+    is_never = asked.question[:1] == ("never",) and len(asked.question) == 2
     return is_never and place.state.main == asked.main and not any(place.state.calls[asked.question[1]])
 
 
@@ -267,7 +272,7 @@ def walk(loop: Loop, asked: Asked, steps: List[str]) -> Optional[str]:
     for number, command in enumerate(steps, 1):
         there = [(place, move) for place in places for move in moves(loop, asked, place, []) if move.command == command]
         if not there:
-            return 'step %d, `%s`, is not offered there, or not accepted within the bounds' % (number, command)
+            return "step %d, `%s`, is not offered there, or not accepted within the bounds" % (number, command)
         answered = any(answers(asked, place, move) for place, move in there)
         loop.go_to(tuple(steps[:number]))
         places = list({move.place.key(): move.place for _, move in there}.values())
@@ -275,4 +280,4 @@ def walk(loop: Loop, asked: Asked, steps: List[str]) -> Optional[str]:
         blocked: List[bool] = []
         leads = list(moves(loop, asked, place, blocked))
         answered = answered or answers_here(asked, place, blocked, bool(leads))
-    return None if answered else 'the last step does not answer'
+    return None if answered else "the last step does not answer"

@@ -10,15 +10,12 @@
 from __future__ import annotations
 
 import re
-import sys
 from dataclasses import dataclass, field
 from fnmatch import fnmatchcase
 from pathlib import Path
 
 HERE = Path(__file__).resolve().parent
-sys.path.insert(0, str(HERE.parent.parent / "tools"))
-
-from uvt.libuv.runner import common  # noqa: E402
+from uvt.libuv.runner import common
 
 FOLDER = HERE / "cases"
 ASKS = re.compile(r"# asks (\d+|some|in order|then): (.*)")

@@ -6,10 +6,10 @@ import subprocess
 from collections import Counter
 from dataclasses import dataclass, field
 
+from tests.libuv.model import SWITCHES, Model, switches_of
+from tests.libuv.planted import obey
+from tests.libuv.programs import Program
 from uvt.libuv.runner import Library, common, run_programs
-from model import SWITCHES, Model, switches_of
-from planted import obey
-from programs import Program
 
 SECONDS = 60
 

@@ -6,13 +6,13 @@ libuv's lines up to the first one that isn't the same.
 
 from __future__ import annotations
 
-from uvt.libuv.runner import Library, run_programs
-from comparing import first_parting
+from tests.libuv.comparing import first_parting
+from tests.libuv.model import SWITCHES, Model, switches_of
+from tests.libuv.programs import Program
 from uvt.conversation import Script
-from uvt.libuv.session import lead
-from model import SWITCHES, Model, switches_of
 from uvt.libuv.differences import Cause, parting
-from programs import Program
+from uvt.libuv.runner import Library, run_programs
+from uvt.libuv.session import lead
 from uvt.walk import Walk, longest_way
 
 

@@ -8,7 +8,7 @@ from __future__ import annotations
 
 import bisect
 
-from programs import WAKE, Program
+from tests.libuv.programs import WAKE, Program
 
 # What each switch is, by the headings of docs/LIBUV.md. `order` is libuv's before 1.45.
 SWITCHES = {
@@ -55,7 +55,22 @@ class Item:
     """A handle or a request."""
 
     __slots__ = (
-        "name", "kind", "slot", "generation", "ref", "active", "closing", "begun", "due", "start", "repeat", "pending", "outcome", "stops", "told")
+        "name",
+        "kind",
+        "slot",
+        "generation",
+        "ref",
+        "active",
+        "closing",
+        "begun",
+        "due",
+        "start",
+        "repeat",
+        "pending",
+        "outcome",
+        "stops",
+        "told",
+    )
 
     def __init__(self, name: str, kind: str, slot: int, generation: int) -> None:
         self.name, self.kind, self.slot, self.generation = name, kind, slot, generation

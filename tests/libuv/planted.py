@@ -5,8 +5,8 @@ Each obeys the commands of `uvt debug` by which a script is run, as the program 
 
 from __future__ import annotations
 
-from model import Item, Model
-from programs import Program
+from tests.libuv.model import Item, Model
+from tests.libuv.programs import Program
 
 
 class WatchersFromTheBack(Model):
@@ -64,8 +64,15 @@ class SetAside(Model):
 
 
 # (with `nothing` the rules are right, and nothing may be noticed)
-PLANTED = {"nothing": Model, "watchers": WatchersFromTheBack, "closing": ClosingInTheirOrder, "idle": IdleWaits, "io": NobodyWoke,
-           "look": LooksAgain, "timers": SetAside}
+PLANTED = {
+    "nothing": Model,
+    "watchers": WatchersFromTheBack,
+    "closing": ClosingInTheirOrder,
+    "idle": IdleWaits,
+    "io": NobodyWoke,
+    "look": LooksAgain,
+    "timers": SetAside,
+}
 
 
 def obey(planted: str, text: str, commands: list[str]) -> list[str]:

@@ -8,7 +8,7 @@ from __future__ import annotations
 import random
 from dataclasses import dataclass
 
-from programs import WAKE
+from tests.libuv.programs import WAKE
 
 WATCHERS = ("idle", "prepare", "check")
 FAR = (2147483646, 2147483647, 2147483648, 2**32, 2**63 - 1, 2**64 - 2, 2**64 - 1)

@@ -2,9 +2,9 @@
 
 from __future__ import annotations
 
+from tests.libuv.comparing import Tested, see
+from tests.libuv.programs import Program
 from uvt.libuv.runner import Library
-from comparing import Tested, see
-from programs import Program
 
 
 def is_needed(lines: list[str], at: int) -> bool:

@@ -9,97 +9,113 @@ import re
 import shutil
 import signal
 import subprocess
-import sys
 import tempfile
 import threading
 import time
-from typing import Callable, List, NamedTuple
+from typing import Any, List, NamedTuple, Set, Tuple
 
 HERE = os.path.dirname(os.path.realpath(__file__))
 ROOT = os.path.dirname(os.path.dirname(HERE))
-sys.path.insert(0, os.path.join(ROOT, 'tools'))
+
 from launch import reasons
-import scripts
+from tests.helper import Check, Tries, run
+from tests.program import scripts
 
 SECONDS = 60
-BAD_COMMAND = b'uvt: bad command line\n'
-SCRIPT = b'var t\nmain init t timer\nbegin\nloop\n'
+BAD_COMMAND = b"uvt: bad command line\n"
+SCRIPT = b"var t\nmain init t timer\nbegin\nloop\n"
 # A plain file whose first byte can't be read, whoever asks.
-UNREADABLE = '/proc/1/mem'
-NO_KIT = tempfile.TemporaryDirectory(prefix='uvt-path-')
-Check = Callable[..., None]
-
-
-def run(words: List, text: bytes = b'', **how) -> 'tuple[int, bytes, bytes]':
-    ended = subprocess.run(words, input=text, stdout=subprocess.PIPE, stderr=subprocess.PIPE, timeout=how.pop('timeout', SECONDS), **how)
-    return ended.returncode, ended.stdout, ended.stderr
+UNREADABLE = "/proc/1/mem"
+NO_KIT = tempfile.TemporaryDirectory(prefix="uvt-path-")
 
 
 def same(check: Check, what: str, real: object, due: object) -> None:
-    check(what, real == due, 'wanted %r, got %r' % (due, real))
+    check(what, real == due, "wanted %r, got %r" % (due, real))
 
 
 # Words that are no command line, and what the launcher says of them behind the program's own line: the beginning of its text.
-HELPED = [
-    ([], b'uvt runs a script'), (['debug', 'help'], b'uvt: there is no file help\n'),
-    (['run'], b'uvt: the words may be: '), (['--version'], b'uvt: the words may be: '), (['debug', '--help'], b'uvt: the words may be: '),
-    (['debug', 'no-such-file'], b'uvt: there is no file no-such-file\nuvt: the words may be: '),
-    (['replay', 'no-such-file'], b'uvt: there is no file no-such-file\n'), (['live', 'more'], b'uvt: there is no file more\n'),
-    (['live', '--workers', '2', 'none'], b'uvt: there is no file none\n'), (['debug', '/'], b'uvt: / is a folder, and no file\n'),
-    (['replay', '/dev/null'], b'uvt: /dev/null: this file cannot be taken as input'), (['debug', b'\xff'], b'uvt: there is no file \xff\n'),
-    ([b'\xff'], b'uvt: the words may be: '), ([b'debug\xff'], b'uvt: the words may be: '), ([''], b'uvt runs a script'),
-    (['build', 'x'], b'uvt: the words may be: '), (['install'], b'uvt: the words may be: '), (['kept'], b'uvt: the words may be: '),
-    (['../tools/uvt/uvt-why'], b'uvt: the words may be: '), (['live', '--workers=2', '--workers=2'], b'uvt: the words may be: '),
-    (['debug', '--workers=2'], b'uvt: the words may be: '), (['live', '--workers'], b'uvt: the words may be: '),
-    (['live', '--help'], b'uvt: the words may be: '),
+HELPED: List[Tuple[List[Any], bytes]] = [
+    ([], b"uvt runs a script"),
+    (["debug", "help"], b"uvt: there is no file help\n"),
+    (["run"], b"uvt: the words may be: "),
+    (["--version"], b"uvt: the words may be: "),
+    (["debug", "--help"], b"uvt: the words may be: "),
+    (["debug", "no-such-file"], b"uvt: there is no file no-such-file\nuvt: the words may be: "),
+    (["replay", "no-such-file"], b"uvt: there is no file no-such-file\n"),
+    (["live", "more"], b"uvt: there is no file more\n"),
+    (["live", "--workers", "2", "none"], b"uvt: there is no file none\n"),
+    (["debug", "/"], b"uvt: / is a folder, and no file\n"),
+    (["replay", "/dev/null"], b"uvt: /dev/null: this file cannot be taken as input"),
+    (["debug", b"\xff"], b"uvt: there is no file \xff\n"),
+    ([b"\xff"], b"uvt: the words may be: "),
+    ([b"debug\xff"], b"uvt: the words may be: "),
+    ([""], b"uvt runs a script"),
+    (["build", "x"], b"uvt: the words may be: "),
+    (["install"], b"uvt: the words may be: "),
+    (["kept"], b"uvt: the words may be: "),
+    (["../tools/uvt/uvt-why"], b"uvt: the words may be: "),
+    (["live", "--workers=2", "--workers=2"], b"uvt: the words may be: "),
+    (["debug", "--workers=2"], b"uvt: the words may be: "),
+    (["live", "--workers"], b"uvt: the words may be: "),
+    (["live", "--help"], b"uvt: the words may be: "),
 ]
 # The same of words that only the program knows to be none: it has the only line.
-REFUSED = [['live', '--workers', '0'], ['live', '--workers', '1025'], ['live', '--workers=04']]
+REFUSED = [["live", "--workers", "0"], ["live", "--workers", "1025"], ["live", "--workers=04"]]
 
 
 def try_words(check: Check, uvt: str) -> None:
     for words, said in HELPED:
         status, output, errors = run([uvt] + words, SCRIPT)
-        check('the words %r' % words, (status, output) == (2, b'') and errors.startswith(BAD_COMMAND + said), 'got %r' % errors)
+        check("the words %r" % words, (status, output) == (2, b"") and errors.startswith(BAD_COMMAND + said), "got %r" % errors)
     for words in REFUSED:
-        same(check, 'the words %r' % words, run([uvt] + words, SCRIPT), (2, b'', BAD_COMMAND))
-    with open(os.path.join(ROOT, 'tools', 'launch', 'usage'), 'rb') as usage:
+        same(check, "the words %r" % words, run([uvt] + words, SCRIPT), (2, b"", BAD_COMMAND))
+    with open(os.path.join(ROOT, "tools", "launch", "usage"), "rb") as usage:
         text = usage.read()
-    for words in (['help'], ['-h'], ['--help'], ['help', 'nothing']):
-        same(check, 'the usage alone, by %r' % words, run([uvt] + words), (0, text, b''))
-    same(check, 'help of a tool', run([uvt, 'help', 'why']), run([uvt, 'why', '--help']))
-    search = os.path.join(os.path.dirname(uvt), 'out', 'uvt_find', 'uvt_find')
+    for words in (["help"], ["-h"], ["--help"], ["help", "nothing"]):
+        same(check, "the usage alone, by %r" % words, run([uvt] + words), (0, text, b""))
+    same(check, "help of a tool", run([uvt, "help", "why"]), run([uvt, "why", "--help"]))
+    search = os.path.join(os.path.dirname(uvt), "out", "uvt_find", "uvt_find")
     if os.path.exists(search):
-        same(check, 'the path of the search', run([uvt, 'path', 'find']), (0, search.encode() + b'\n', b''))
-    tools = sorted(it[4:] for it in os.listdir(os.path.join(ROOT, 'tools', 'uvt')) if it.startswith('uvt-'))
-    same(check, 'the usage names each tool', [it for it in tools if b'./uvt %s ' % it.encode() not in text], [])
+        same(check, "the path of the search", run([uvt, "path", "find"]), (0, search.encode() + b"\n", b""))
+    tools = sorted(it[4:] for it in os.listdir(os.path.join(ROOT, "tools", "uvt")) if it.startswith("uvt-"))
+    same(check, "the usage names each tool", [it for it in tools if b"./uvt %s " % it.encode() not in text], [])
     for it in tools:
-        status, output, errors = run([uvt, it, '--help'])
-        check('%s --help' % it, status == 0 and output.startswith(b'usage: ') and not errors, 'got %r' % ((status, output, errors),))
+        status, output, errors = run([uvt, it, "--help"])
+        check("%s --help" % it, status == 0 and output.startswith(b"usage: ") and not errors, "got %r" % ((status, output, errors),))
 
 
 def try_recordings(check: Check, uvt: str, folder: str) -> None:
     """A recording that is given for a script: it is said what it is, and what to do with it."""
-    path = os.path.join(folder, 'session.rec')
-    shutil.copy(os.path.join(ROOT, 'examples', 'sent-session.rec'), path)
-    for word in ('debug', 'live'):
-        status, output, errors = run([uvt, word, path], b'loop\n')
-        check('%s of a recording' % word, (status, output) == (2, b'') and errors.startswith(b'uvt: this is a recording, and no script: ')
-              and errors.count(b'\n') == 1 and b' shell %s`' % path.encode() in errors, 'got %r' % ((status, output, errors),))
-        with open(path, 'rb') as file:
+    path = os.path.join(folder, "session.rec")
+    shutil.copy(os.path.join(ROOT, "examples", "sent-session.rec"), path)
+    for word in ("debug", "live"):
+        status, output, errors = run([uvt, word, path], b"loop\n")
+        check(
+            "%s of a recording" % word,
+            (status, output) == (2, b"")
+            and errors.startswith(b"uvt: this is a recording, and no script: ")
+            and errors.count(b"\n") == 1
+            and b" shell %s`" % path.encode() in errors,
+            "got %r" % ((status, output, errors),),
+        )
+        with open(path, "rb") as file:
             ended = subprocess.run([uvt, word], stdin=file, stdout=subprocess.PIPE, stderr=subprocess.PIPE, timeout=SECONDS)
-        check('%s of a recording, redirected' % word, (ended.returncode, ended.stdout) == (2, b'')
-              and ended.stderr.startswith(b'uvt: bad script line 1\nuvt: this is a recording, and no script: '), 'got %r' % ended.stderr)
+        check(
+            "%s of a recording, redirected" % word,
+            (ended.returncode, ended.stdout) == (2, b"")
+            and ended.stderr.startswith(b"uvt: bad script line 1\nuvt: this is a recording, and no script: "),
+            "got %r" % ended.stderr,
+        )
 
 
-def at_terminal(words: List[str], typed: List[bytes]) -> 'tuple[int, bytes, bytes]':
+def at_terminal(words: List[str], typed: List[bytes]) -> "tuple[int, bytes, bytes]":
     """What is printed, and what is written to standard error, where these lines are typed at a terminal."""
     ours, theirs = pty.openpty()
     with tempfile.TemporaryFile() as output, tempfile.TemporaryFile() as errors:
         call = subprocess.Popen(words, stdin=theirs, stdout=output, stderr=errors, start_new_session=True)
         os.close(theirs)
         # (the terminal keeps what comes before it is read)
-        os.write(ours, b''.join(typed))
+        os.write(ours, b"".join(typed))
         status = call.wait(SECONDS)
         os.close(ours)
         output.seek(0)
@@ -107,23 +123,23 @@ def at_terminal(words: List[str], typed: List[bytes]) -> 'tuple[int, bytes, byte
         return status, output.read(), errors.read()
 
 
-def interrupted(words: List[str], typed: bytes) -> 'tuple[int, bytes]':
+def interrupted(words: List[str], typed: bytes) -> "tuple[int, bytes]":
     """The status where Ctrl-C is typed behind this, and what the terminal shows then."""
     child, terminal = pty.fork()
     if child == 0:
         # (what is started in the background may have interrupts ignored)
         signal.signal(signal.SIGINT, signal.SIG_DFL)
         os.execv(words[0], words)
-    seen = b''
+    seen = b""
     try:
-        while b'you may type' not in seen:
+        while b"you may type" not in seen:
             seen += os.read(terminal, 4096)
         # (what reads the lines starts behind that word)
         time.sleep(1)
         os.write(terminal, typed)
-        while typed and b'call i' not in seen:
+        while typed and b"call i" not in seen:
             seen += os.read(terminal, 4096)
-        os.write(terminal, b'\x03')
+        os.write(terminal, b"\x03")
         while True:
             seen += os.read(terminal, 65536)
     except OSError:
@@ -135,240 +151,331 @@ def interrupted(words: List[str], typed: bytes) -> 'tuple[int, bytes]':
 
 # What is typed behind a script with one name `t`, and what is said of it behind the program's `bad command`.
 MISTYPED = [
-    (b'lop', b'`lop` is no command: did you mean `loop`?'), (b'nonsense', b'`nonsense` is no command; help has them all'),
-    (b'loop 0', b'`0` is out of range: N is 1 to 16777216'), (b'back 16777217', b'`16777217` is out of range: N is 0 to 16777216'),
-    (b'take x', b'`x` is no number: digits alone, with no sign and no zero in front'), (b'take 65536', b'`65536` is out of range: K is 0 to 65535'),
-    (b'tick', b'the command has the form `tick MS`'), (b'rback 1', b'the command has the form `rback`'),
-    (b'send u', b'`u` is no name of the script'), (b'io t', b'`io NAME` is the callback of a handle of I/O, and the script has no line `io`'),
-    (b'break call u', b'`u` is no name of the script'),
-    (b'break code EBUZY', b'`EBUZY` is none of ok, EINVAL, EBUSY, ECANCELED, EBOUND, EFULL, ESTALE, EKIND'),
-    (b'break section timer', b'`timer` is none of pending, idle, prepare, poll, done, async, check, closing, timers'),
-    (b'break', b'the command has the form `break call NAME` or `break code CODE` or `break section WORD` or `break clear`'),
-    (b'main now', b'`main` is a line of a script, and the script has ended with `begin`'),
-    (b'loop  1', b'fields are separated by one space, and no line begins or ends with one'),
-    (b'#' + 256 * b'x', b'a line has at most 256 bytes, and this one has 257'),
+    (b"lop", b"`lop` is no command: did you mean `loop`?"),
+    (b"nonsense", b"`nonsense` is no command; help has them all"),
+    (b"loop 0", b"`0` is out of range: N is 1 to 16777216"),
+    (b"back 16777217", b"`16777217` is out of range: N is 0 to 16777216"),
+    (b"take x", b"`x` is no number: digits alone, with no sign and no zero in front"),
+    (b"take 65536", b"`65536` is out of range: K is 0 to 65535"),
+    (b"tick", b"the command has the form `tick MS`"),
+    (b"rback 1", b"the command has the form `rback`"),
+    (b"send u", b"`u` is no name of the script"),
+    (b"io t", b"`io NAME` is the callback of a handle of I/O, and the script has no line `io`"),
+    (b"break call u", b"`u` is no name of the script"),
+    (b"break code EBUZY", b"`EBUZY` is none of ok, EINVAL, EBUSY, ECANCELED, EBOUND, EFULL, ESTALE, EKIND"),
+    (b"break section timer", b"`timer` is none of pending, idle, prepare, poll, done, async, check, closing, timers"),
+    (b"break", b"the command has the form `break call NAME` or `break code CODE` or `break section WORD` or `break clear`"),
+    (b"main now", b"`main` is a line of a script, and the script has ended with `begin`"),
+    (b"loop  1", b"fields are separated by one space, and no line begins or ends with one"),
+    (b"#" + 256 * b"x", b"a line has at most 256 bytes, and this one has 257"),
 ]
 
 
 def try_terminal(check: Check, uvt: str, folder: str) -> None:
     """What somebody meets who types: why a line is bad, at once; help; the rest is the program's."""
-    status, output, errors = at_terminal([uvt, 'debug'], [b'var t\n', b'main stat t\n', b'help\n', b'main stop u\n', b'main init t timer\n',
-                                                          b'begin\n', b'loop\n', b'help\n', b'loop\n', b'quit\n'])
-    same(check, 'a script that is typed', (status, output), (0, b'init t timer = 0.0\nrefused ended\n'))
+    status, output, errors = at_terminal(
+        [uvt, "debug"],
+        [b"var t\n", b"main stat t\n", b"help\n", b"main stop u\n", b"main init t timer\n", b"begin\n", b"loop\n", b"help\n", b"loop\n", b"quit\n"],
+    )
+    same(check, "a script that is typed", (status, output), (0, b"init t timer = 0.0\nrefused ended\n"))
     said = errors.decode().splitlines()
-    for due in ('`stat` is no op', "`u` isn't declared before this line"):
-        check('a bad line that is typed: ' + due, "uvt: line 2 isn't taken: " + due in said, 'got %r' % said)
-    for due in ('  main OP  ', '  rback  '):
-        check('help, with the line %s' % due.strip(), sum(it.startswith(due) for it in said) == 1, 'got %r' % said)
-    script = os.path.join(folder, 'typed.uvt')
-    with open(script, 'wb') as file:
+    for due in ("`stat` is no op", "`u` isn't declared before this line"):
+        check("a bad line that is typed: " + due, "uvt: line 2 isn't taken: " + due in said, "got %r" % said)
+    for due in ("  main OP  ", "  rback  "):
+        check("help, with the line %s" % due.strip(), sum(it.startswith(due) for it in said) == 1, "got %r" % said)
+    script = os.path.join(folder, "typed.uvt")
+    with open(script, "wb") as file:
         file.write(SCRIPT)
-    status, output, errors = at_terminal([uvt, 'debug', script], [line + b'\n' for line, _ in MISTYPED] + [b'back 1\n', b'\x04'])
-    same(check, 'bad commands that are typed', (status, output), (0, b'init t timer = 0.0\n' + len(MISTYPED) * b'bad command\n' + b'at 0\n'))
-    same(check, 'why they are bad', [it for it in errors.splitlines() if b'you may type' not in it], [b'uvt: ' + why for _, why in MISTYPED])
-    with open(script, 'wb') as file:
-        file.write(b'var a\nmain stop b\nbegin\n')
-    status, output, errors = at_terminal([uvt, 'debug', script], [b'loop\n'])
-    check('a bad file at a terminal', (status, output) == (2, b'') and
-          errors.endswith(b"\nuvt: bad script line 2\nuvt: line 2 is: main stop b\nuvt: `b` isn't declared before this line\n"), 'got %r' % errors)
-    with open(script, 'wb') as file:
-        file.write(b'var i\nmain init i idle\nmain start i\nmain run default\nbegin\nloop 20000\n')
-    status, output, errors = at_terminal([uvt, 'debug', script], [b'back 20000\n', b'\x04'])
-    check('a long answer at a terminal', status == 0 and output.count(b'\n') > 10000 and output.endswith(b'\nat 0\n'), 'got %r' % output[-100:])
-    with open(script, 'wb') as file:
-        file.write(b'var i\nmain init i idle\nmain start i\nmain run default\nbegin\n')
-    for typed in (b'', b'loop 16000000\n'):
-        status, seen = interrupted([uvt, 'debug', script], typed)
-        check('Ctrl-C behind %r' % typed, status in (130, -signal.SIGINT) and b'Traceback' not in seen, 'status %d, seen %r' % (status, seen[-300:]))
-    same(check, 'a script that ends without begin', at_terminal([uvt, 'debug'], [b'var t\n', b'\x04'])[:2], (2, b''))
+    status, output, errors = at_terminal([uvt, "debug", script], [line + b"\n" for line, _ in MISTYPED] + [b"back 1\n", b"\x04"])
+    same(check, "bad commands that are typed", (status, output), (0, b"init t timer = 0.0\n" + len(MISTYPED) * b"bad command\n" + b"at 0\n"))
+    same(check, "why they are bad", [it for it in errors.splitlines() if b"you may type" not in it], [b"uvt: " + why for _, why in MISTYPED])
+    with open(script, "wb") as file:
+        file.write(b"var a\nmain stop b\nbegin\n")
+    status, output, errors = at_terminal([uvt, "debug", script], [b"loop\n"])
+    check(
+        "a bad file at a terminal",
+        (status, output) == (2, b"")
+        and errors.endswith(b"\nuvt: bad script line 2\nuvt: line 2 is: main stop b\nuvt: `b` isn't declared before this line\n"),
+        "got %r" % errors,
+    )
+    with open(script, "wb") as file:
+        file.write(b"var i\nmain init i idle\nmain start i\nmain run default\nbegin\nloop 20000\n")
+    status, output, errors = at_terminal([uvt, "debug", script], [b"back 20000\n", b"\x04"])
+    check("a long answer at a terminal", status == 0 and output.count(b"\n") > 10000 and output.endswith(b"\nat 0\n"), "got %r" % output[-100:])
+    with open(script, "wb") as file:
+        file.write(b"var i\nmain init i idle\nmain start i\nmain run default\nbegin\n")
+    for typed in (b"", b"loop 16000000\n"):
+        status, seen = interrupted([uvt, "debug", script], typed)
+        check("Ctrl-C behind %r" % typed, status in (130, -signal.SIGINT) and b"Traceback" not in seen, "status %d, seen %r" % (status, seen[-300:]))
+    same(check, "a script that ends without begin", at_terminal([uvt, "debug"], [b"var t\n", b"\x04"])[:2], (2, b""))
 
 
 def try_files(check: Check, uvt: str, folder: str) -> None:
     """The three commands with FILE are the same with FILE as their input."""
-    recording = os.path.join(ROOT, 'examples', 'sent-session.rec')
-    changed = os.path.join(ROOT, 'examples', 'changed-program.rec')
-    script = os.path.join(folder, 'a script.uvt')
-    with open(script, 'wb') as file:
+    recording = os.path.join(ROOT, "examples", "sent-session.rec")
+    changed = os.path.join(ROOT, "examples", "changed-program.rec")
+    script = os.path.join(folder, "a script.uvt")
+    with open(script, "wb") as file:
         file.write(SCRIPT)
-    same(check, 'replay FILE', run([uvt, 'replay', recording]), (0, b'same\n', b''))
-    same(check, 'replay of a changed FILE', run([uvt, 'replay', changed]), (3, b'differs at 1\n', b'uvt: differs at 1\n'))
-    same(check, 'debug FILE', run([uvt, 'debug', script], b'loop\n'), (0, b'init t timer = 0.0\nrefused ended\n', b''))
-    same(check, 'debug with the end of the options', run([uvt, 'debug', '--'], SCRIPT), (0, b'init t timer = 0.0\n', b''))
-    same(check, 'debug with it and FILE', run([uvt, 'debug', '--', script]), (0, b'init t timer = 0.0\n', b''))
-    same(check, 'debug of two files', run([uvt, 'debug', script, script])[0], 2)
-    for word in ('debug', 'replay', 'live'):
+    same(check, "replay FILE", run([uvt, "replay", recording]), (0, b"same\n", b""))
+    same(check, "replay of a changed FILE", run([uvt, "replay", changed]), (3, b"differs at 1\n", b"uvt: differs at 1\n"))
+    same(check, "debug FILE", run([uvt, "debug", script], b"loop\n"), (0, b"init t timer = 0.0\nrefused ended\n", b""))
+    same(check, "debug with the end of the options", run([uvt, "debug", "--"], SCRIPT), (0, b"init t timer = 0.0\n", b""))
+    same(check, "debug with it and FILE", run([uvt, "debug", "--", script]), (0, b"init t timer = 0.0\n", b""))
+    same(check, "debug of two files", run([uvt, "debug", script, script])[0], 2)
+    for word in ("debug", "replay", "live"):
         status, output, errors = run([uvt, word, UNREADABLE], SCRIPT)
-        check('%s of a file that cannot be read' % word, (status, output) == (2, b'') and b'cannot be taken as input' in errors,
-              'got %r' % ((status, output, errors),))
-        closed = subprocess.run(['sh', '-c', 'exec "$@" <&-', 'sh', uvt, word], stdout=subprocess.PIPE, stderr=subprocess.PIPE)
-        same(check, '%s of a closed input' % word, (closed.returncode, closed.stdout, closed.stderr), (4, b'', b'uvt: read failed\n'))
-    closed = subprocess.run(['sh', '-c', 'exec "$@" <&-', 'sh', uvt, 'debug', script], stdout=subprocess.PIPE, stderr=subprocess.PIPE)
-    same(check, 'debug FILE with a closed input', (closed.returncode, closed.stdout, closed.stderr), (0, b'init t timer = 0.0\n', b''))
-    status, output, errors = run([uvt, 'live', script])
-    check('live FILE', (status, errors) == (0, b'') and output.startswith(b'uvt 2\norder 1.45\nworkers 4\n'), 'got %r' % ((status, output, errors),))
-    for words in (['live', '--workers', '3', script], ['live', script, '--workers', '3'], ['live', '--workers=3', script]):
+        check(
+            "%s of a file that cannot be read" % word,
+            (status, output) == (2, b"") and b"cannot be taken as input" in errors,
+            "got %r" % ((status, output, errors),),
+        )
+        closed = subprocess.run(["sh", "-c", 'exec "$@" <&-', "sh", uvt, word], stdout=subprocess.PIPE, stderr=subprocess.PIPE)
+        same(check, "%s of a closed input" % word, (closed.returncode, closed.stdout, closed.stderr), (4, b"", b"uvt: read failed\n"))
+    closed = subprocess.run(["sh", "-c", 'exec "$@" <&-', "sh", uvt, "debug", script], stdout=subprocess.PIPE, stderr=subprocess.PIPE)
+    same(check, "debug FILE with a closed input", (closed.returncode, closed.stdout, closed.stderr), (0, b"init t timer = 0.0\n", b""))
+    status, output, errors = run([uvt, "live", script])
+    check("live FILE", (status, errors) == (0, b"") and output.startswith(b"uvt 2\norder 1.45\nworkers 4\n"), "got %r" % ((status, output, errors),))
+    for words in (["live", "--workers", "3", script], ["live", script, "--workers", "3"], ["live", "--workers=3", script]):
         status, output, errors = run([uvt] + words)
-        check('live with workers and FILE', (status, errors) == (0, b'') and output.startswith(b'uvt 2\norder 1.45\nworkers 3\n'), 'got %r' % errors)
+        check("live with workers and FILE", (status, errors) == (0, b"") and output.startswith(b"uvt 2\norder 1.45\nworkers 3\n"), "got %r" % errors)
 
 
 # The rest of the rows of reasons.py, each with the whole sentence: the command's word, its input, the bad line, the row, the sentence.
 TOLD = [
-    ('debug', b'main run default\n', 2, 'begin', b'the line `begin` is missing, which ends the script'),
-    ('debug', b'#' + 256 * b'a' + b'\nbegin\n', 1, 'long', b'a line has at most 256 bytes, and this one has 257'),
-    ('debug', b'var a\r\nbegin\r\n', 1, 'byte', b'it has a byte that no line may have: a carriage return, as in the line ends of Windows'),
-    ('debug', b'#\tx\nbegin\n', 1, 'byte', b'it has a byte that no line may have: a tab'),
-    ('debug', '# é\nbegin\n'.encode(), 1, 'byte', b'it has a byte that no line may have: one of a character beyond ASCII'),
-    ('debug', b'main stop a\nvar a\nbegin\n', 1, 'undeclared', b'`a` isn\'t declared before this line, but only in line 2'),
-    ('debug', b'var a\nmain stop b\nbegin\n', 2, 'undeclared', b'`b` isn\'t declared before this line'),
-    ('debug', b'workers 4\n\nworkers 4\nbegin\n', 3, 'second', b'a second `workers`: a script has it once at most, and line 1 is the first'),
-    ('debug', b'var a\non a run once\nbegin\n', 2, 'main', b'`run` is an op of the main program alone: `main run ..`'),
-    ('debug', b'var a\nmain fly a\nbegin\n', 2, 'op', b'`fly` is no op'),
-    ('debug', b'var a\nmain queue a 1001 x\nbegin\n', 2, 'range', b'`1001` is out of range: ROUNDS is 1 to 1000'),
-    ('live', b'workers 0\n', 1, 'range', b'`0` is out of range: N is 1 to 1024'),
-    ('debug', b'var a\nvar a\nbegin\n', 2, 'twice', b'`a` is declared already, in line 1'),
-    ('debug', b'let a\nbegin\n', 1, 'word',
-     b'no line begins with `let`; the first word is order, io, timers, slots, workers, var, main, on, after, closed, thread or begin'),
-    ('debug', b'var a\nmain init a pipe\nbegin\n', 2, 'kind', b'`pipe` is no kind of handle: timer, idle, prepare, check, async or io'),
-    ('debug', b'var a\nmain init a io\nio\nbegin\n', 2, 'made',
-     b'the line `io` has to stand before it: `init NAME io` makes a handle of I/O, which only a script with that line has'),
-    ('debug', b'timers late\nbegin\n', 1, 'exact', b'`late` stands where `heap` has to: the line has the form `timers heap`'),
-    ('debug', b'timers\nbegin\n', 1, 'few', b'something is missing: the line has the form `timers heap`'),
-    ('debug', b'io on\nbegin\n', 1, 'many', b'`on` is too much: the line has the form `io`'),
-    ('debug', b'io\ntimers heap\nio\nbegin\n', 3, 'second', b'a second `io`: a script has it once at most, and line 1 is the first'),
-    ('replay', b'uvt 4\nbegin\ncalls\nend\n', 1, 'format', b'a recording begins with the line `uvt 1`, `uvt 2` or `uvt 3`'),
-    ('replay', b'uvt 2\nvar a\nmain init a io\nbegin\ncalls\nend\n', 3, 'old',
-     b'a recording that begins with `uvt 2` has no line `io`: its script has no handles of I/O'),
-    ('replay', b'uvt 2\nio\nbegin\ncalls\nend\n', 2, 'old',
-     b'a recording that begins with `uvt 2` has no line `io`: its script has no handles of I/O'),
-    ('replay', b'uvt 1\ntimers heap\nbegin\ncalls\nend\n', 2, 'old',
-     b'a recording that begins with `uvt 1` has no line `timers`: its due timers are set aside, all of them, before the first is called'),
-    ('replay', b'uvt 3\nvar a\nmain init a io\nio\nbegin\ncalls\nend\n', 3, 'made',
-     b'the line `io` has to stand before it: `init NAME io` makes a handle of I/O, which only a script with that line has'),
-    ('replay', b'uvt 3\ntimers heap\nvar a\nbegin\nio a\ncalls\nend\n', 5, 'outside',
-     b'`io NAME` is the callback of a handle of I/O, and the script has no line `io`'),
-    ('replay', b'uvt 2\nvar a\nbegin\nio a\ncalls\nend\n', 4, 'outside',
-     b'`io NAME` is the callback of a handle of I/O, and the script has no line `io`'),
-    ('replay', b'uvt 3\nio\nvar a\nbegin\nio b\ncalls\nend\n', 5, 'undeclared', b'`b` isn\'t declared before this line'),
-    ('replay', b'uvt 1\norder 1.45\nbegin\ncalls\nend\n', 2, 'old',
-     b'a recording that begins with `uvt 1` has no line `order`: its runs are in the order of 1.45'),
-    ('replay', b'uvt 2\norder 1.43\nbegin\ncalls\nend\n', 2, 'version', b'`1.43` is no version of an order: 1.44 or 1.45'),
-    ('debug', b'order 1.44\n# once\norder 1.44\nbegin\n', 3, 'second', b'a second `order`: a script has it once at most, and line 1 is the first'),
-    ('replay', b'uvt 1\nvar A\nbegin\ncalls\nend\n', 2, 'name',
-     b'`A` is no name: a lower case letter, and then up to 31 lower case letters, digits or _'),
-    ('replay', b'uvt 1\nvar a\n', 3, 'begin', b'the line `begin` is missing, which ends the script'),
-    ('replay', b'uvt 1\nbegin\nback 1\ncalls\nend\n', 3, 'step',
-     b'between `begin` and `calls` each line is a step: loop, take K, finish K, cancel NAME, send NAME, tick MS or io NAME'),
-    ('replay', b'uvt 1\nbegin\nloop 5\ncalls\nend\n', 3, 'many', b'`5` is too much: the line has the form `loop`'),
-    ('replay', b'uvt 1\nbegin\ntake 65536\ncalls\nend\n', 3, 'range', b'`65536` is out of range: K is 0 to 65535'),
-    ('replay', b'uvt 1\nvar a\nbegin\nsend b\ncalls\nend\n', 4, 'undeclared', b'`b` isn\'t declared before this line'),
-    ('replay', b'uvt 1\nbegin\nloop\n', 4, 'calls', b'the line `calls` is missing, which ends the steps'),
-    ('replay', b'uvt 1\nbegin\ncalls\nloop\nend\n', 4, 'callback',
-     b'behind `calls` each line begins with `call `, `after ` or `closed `, and the last one is `end`'),
-    ('replay', b'uvt 1\nbegin\ncalls\n', 4, 'end', b'the line `end` is missing, which ends the recording'),
-    ('replay', b'uvt 1\nbegin\ncalls\nend\nend\n', 5, 'behind', b'nothing may stand behind the line `end`'),
+    ("debug", b"main run default\n", 2, "begin", b"the line `begin` is missing, which ends the script"),
+    ("debug", b"#" + 256 * b"a" + b"\nbegin\n", 1, "long", b"a line has at most 256 bytes, and this one has 257"),
+    ("debug", b"var a\r\nbegin\r\n", 1, "byte", b"it has a byte that no line may have: a carriage return, as in the line ends of Windows"),
+    ("debug", b"#\tx\nbegin\n", 1, "byte", b"it has a byte that no line may have: a tab"),
+    ("debug", "# é\nbegin\n".encode(), 1, "byte", b"it has a byte that no line may have: one of a character beyond ASCII"),
+    ("debug", b"main stop a\nvar a\nbegin\n", 1, "undeclared", b"`a` isn't declared before this line, but only in line 2"),
+    ("debug", b"var a\nmain stop b\nbegin\n", 2, "undeclared", b"`b` isn't declared before this line"),
+    ("debug", b"workers 4\n\nworkers 4\nbegin\n", 3, "second", b"a second `workers`: a script has it once at most, and line 1 is the first"),
+    ("debug", b"var a\non a run once\nbegin\n", 2, "main", b"`run` is an op of the main program alone: `main run ..`"),
+    ("debug", b"var a\nmain fly a\nbegin\n", 2, "op", b"`fly` is no op"),
+    ("debug", b"var a\nmain queue a 1001 x\nbegin\n", 2, "range", b"`1001` is out of range: ROUNDS is 1 to 1000"),
+    ("live", b"workers 0\n", 1, "range", b"`0` is out of range: N is 1 to 1024"),
+    ("debug", b"var a\nvar a\nbegin\n", 2, "twice", b"`a` is declared already, in line 1"),
+    (
+        "debug",
+        b"let a\nbegin\n",
+        1,
+        "word",
+        b"no line begins with `let`; the first word is order, io, timers, slots, workers, var, main, on, after, closed, thread or begin",
+    ),
+    ("debug", b"var a\nmain init a pipe\nbegin\n", 2, "kind", b"`pipe` is no kind of handle: timer, idle, prepare, check, async or io"),
+    (
+        "debug",
+        b"var a\nmain init a io\nio\nbegin\n",
+        2,
+        "made",
+        b"the line `io` has to stand before it: `init NAME io` makes a handle of I/O, which only a script with that line has",
+    ),
+    ("debug", b"timers late\nbegin\n", 1, "exact", b"`late` stands where `heap` has to: the line has the form `timers heap`"),
+    ("debug", b"timers\nbegin\n", 1, "few", b"something is missing: the line has the form `timers heap`"),
+    ("debug", b"io on\nbegin\n", 1, "many", b"`on` is too much: the line has the form `io`"),
+    ("debug", b"io\ntimers heap\nio\nbegin\n", 3, "second", b"a second `io`: a script has it once at most, and line 1 is the first"),
+    ("replay", b"uvt 4\nbegin\ncalls\nend\n", 1, "format", b"a recording begins with the line `uvt 1`, `uvt 2` or `uvt 3`"),
+    (
+        "replay",
+        b"uvt 2\nvar a\nmain init a io\nbegin\ncalls\nend\n",
+        3,
+        "old",
+        b"a recording that begins with `uvt 2` has no line `io`: its script has no handles of I/O",
+    ),
+    (
+        "replay",
+        b"uvt 2\nio\nbegin\ncalls\nend\n",
+        2,
+        "old",
+        b"a recording that begins with `uvt 2` has no line `io`: its script has no handles of I/O",
+    ),
+    (
+        "replay",
+        b"uvt 1\ntimers heap\nbegin\ncalls\nend\n",
+        2,
+        "old",
+        b"a recording that begins with `uvt 1` has no line `timers`: its due timers are set aside, all of them, before the first is called",
+    ),
+    (
+        "replay",
+        b"uvt 3\nvar a\nmain init a io\nio\nbegin\ncalls\nend\n",
+        3,
+        "made",
+        b"the line `io` has to stand before it: `init NAME io` makes a handle of I/O, which only a script with that line has",
+    ),
+    (
+        "replay",
+        b"uvt 3\ntimers heap\nvar a\nbegin\nio a\ncalls\nend\n",
+        5,
+        "outside",
+        b"`io NAME` is the callback of a handle of I/O, and the script has no line `io`",
+    ),
+    (
+        "replay",
+        b"uvt 2\nvar a\nbegin\nio a\ncalls\nend\n",
+        4,
+        "outside",
+        b"`io NAME` is the callback of a handle of I/O, and the script has no line `io`",
+    ),
+    ("replay", b"uvt 3\nio\nvar a\nbegin\nio b\ncalls\nend\n", 5, "undeclared", b"`b` isn't declared before this line"),
+    (
+        "replay",
+        b"uvt 1\norder 1.45\nbegin\ncalls\nend\n",
+        2,
+        "old",
+        b"a recording that begins with `uvt 1` has no line `order`: its runs are in the order of 1.45",
+    ),
+    ("replay", b"uvt 2\norder 1.43\nbegin\ncalls\nend\n", 2, "version", b"`1.43` is no version of an order: 1.44 or 1.45"),
+    ("debug", b"order 1.44\n# once\norder 1.44\nbegin\n", 3, "second", b"a second `order`: a script has it once at most, and line 1 is the first"),
+    (
+        "replay",
+        b"uvt 1\nvar A\nbegin\ncalls\nend\n",
+        2,
+        "name",
+        b"`A` is no name: a lower case letter, and then up to 31 lower case letters, digits or _",
+    ),
+    ("replay", b"uvt 1\nvar a\n", 3, "begin", b"the line `begin` is missing, which ends the script"),
+    (
+        "replay",
+        b"uvt 1\nbegin\nback 1\ncalls\nend\n",
+        3,
+        "step",
+        b"between `begin` and `calls` each line is a step: loop, take K, finish K, cancel NAME, send NAME, tick MS or io NAME",
+    ),
+    ("replay", b"uvt 1\nbegin\nloop 5\ncalls\nend\n", 3, "many", b"`5` is too much: the line has the form `loop`"),
+    ("replay", b"uvt 1\nbegin\ntake 65536\ncalls\nend\n", 3, "range", b"`65536` is out of range: K is 0 to 65535"),
+    ("replay", b"uvt 1\nvar a\nbegin\nsend b\ncalls\nend\n", 4, "undeclared", b"`b` isn't declared before this line"),
+    ("replay", b"uvt 1\nbegin\nloop\n", 4, "calls", b"the line `calls` is missing, which ends the steps"),
+    (
+        "replay",
+        b"uvt 1\nbegin\ncalls\nloop\nend\n",
+        4,
+        "callback",
+        b"behind `calls` each line begins with `call `, `after ` or `closed `, and the last one is `end`",
+    ),
+    ("replay", b"uvt 1\nbegin\ncalls\n", 4, "end", b"the line `end` is missing, which ends the recording"),
+    ("replay", b"uvt 1\nbegin\ncalls\nend\nend\n", 5, "behind", b"nothing may stand behind the line `end`"),
 ]
 
 
 def shown(line: bytes) -> bytes:
-    text = b''.join(bytes([byte]) if 0x20 <= byte <= 0x7e else b'\\x%02x' % byte for byte in line[:120])
-    return text + (b' ..' if len(line) > 120 else b'')
+    text = b"".join(bytes([byte]) if 0x20 <= byte <= 0x7E else b"\\x%02x" % byte for byte in line[:120])
+    return text + (b" .." if len(line) > 120 else b"")
 
 
-def try_bad_file(check: Check, uvt: str, path: str, what: str, told: 'tuple[str, bytes, int, bytes]') -> bytes:
+def try_bad_file(check: Check, uvt: str, path: str, what: str, told: "tuple[str, bytes, int, bytes]") -> bytes:
     """Of a bad line of a file the errors have the program's line, the line itself if there is one, and why. It gives them."""
     word, text, number, sentence = told
-    with open(path, 'wb') as file:
+    with open(path, "wb") as file:
         file.write(text)
-    lines = text.split(b'\n')
-    due = b'uvt: bad script line %d\n' % number
+    lines = text.split(b"\n")
+    due = b"uvt: bad script line %d\n" % number
     if number < len(lines):
-        due += b'uvt: line %d is: %s\n' % (number, shown(lines[number - 1]))
-    due += b'uvt: %s\n' % sentence
-    with open(path, 'rb') as file:
+        due += b"uvt: line %d is: %s\n" % (number, shown(lines[number - 1]))
+    due += b"uvt: %s\n" % sentence
+    with open(path, "rb") as file:
         ended = subprocess.run([uvt, word], stdin=file, stdout=subprocess.PIPE, stderr=subprocess.PIPE, timeout=SECONDS)
-    same(check, what + ', redirected', (ended.returncode, ended.stdout, ended.stderr), (2, b'', due))
+    same(check, what + ", redirected", (ended.returncode, ended.stdout, ended.stderr), (2, b"", due))
     return due
 
 
 def try_reasons(check: Check, uvt: str, folder: str) -> None:
-    path, seen = os.path.join(folder, 'bad.uvt'), set()
+    path, seen = os.path.join(folder, "bad.uvt"), set()
     for at, (script, number, row) in enumerate(scripts.bad_scripts(), 1):
         text = scripts.begun(script)
-        found = reasons.why('debug', text.split(b'\n')[:-1], number)
-        same(check, 'why script %d of bad-scripts is bad' % at, found and found.row, row)
+        found = reasons.why("debug", text.split(b"\n")[:-1], number)
+        same(check, "why script %d of bad-scripts is bad" % at, found and found.row, row)
         if found:
             seen.add(found.row)
-            try_bad_file(check, uvt, path, 'bad script %d' % at, ('debug', text, number, found.sentence().encode()))
+            try_bad_file(check, uvt, path, "bad script %d" % at, ("debug", text, number, found.sentence().encode()))
     for what, script, number, row in scripts.LIMITS:
         if number is not None:
-            found = reasons.why('debug', scripts.begun(script).split(b'\n')[:-1], number)
-            same(check, 'why it is bad: ' + what, found and found.row, row)
+            found = reasons.why("debug", scripts.begun(script).split(b"\n")[:-1], number)
+            same(check, "why it is bad: " + what, found and found.row, row)
             seen.add(row)
     for word, text, number, row, sentence in TOLD:
-        what = 'a bad line, %s' % row
+        what = "a bad line, %s" % row
         due = try_bad_file(check, uvt, path, what, (word, text, number, sentence))
-        if number < len(text.split(b'\n')) or word == 'replay':
-            same(check, what + ', as FILE', run([uvt, word, path]), (2, b'', due))
-        same(check, what + ', from a pipe', run([uvt, word], text), (2, b'', b'uvt: bad script line %d\n' % number))
+        if number < len(text.split(b"\n")) or word == "replay":
+            same(check, what + ", as FILE", run([uvt, word, path]), (2, b"", due))
+        same(check, what + ", from a pipe", run([uvt, word], text), (2, b"", b"uvt: bad script line %d\n" % number))
         seen.add(row)
-    same(check, 'each row of the table of reasons is tried', sorted(seen), sorted(reasons.REASONS))
-    with open(path, 'wb') as file:
-        file.write(b'var t\n')
-    same(check, 'a file without begin, and more behind it', run([uvt, 'debug', path], b'none\nbegin\n'),
-         (2, b'', b'uvt: bad script line 2\nuvt: %s has no line `begin`, so what came behind it was read as a part of the script\n' % path.encode()))
+    same(check, "each row of the table of reasons is tried", sorted(seen), sorted(reasons.REASONS))
+    with open(path, "wb") as file:
+        file.write(b"var t\n")
+    same(
+        check,
+        "a file without begin, and more behind it",
+        run([uvt, "debug", path], b"none\nbegin\n"),
+        (2, b"", b"uvt: bad script line 2\nuvt: %s has no line `begin`, so what came behind it was read as a part of the script\n" % path.encode()),
+    )
 
 
 class StandIn(NamedTuple):
     """A copy of the repository whose kit is the stand-in."""
+
     folder: str
     room: str
 
     def uvt(self) -> str:
-        return os.path.join(self.folder, 'uvt')
+        return os.path.join(self.folder, "uvt")
 
-    def env(self) -> 'dict[str, str]':
-        return {**os.environ, 'PATH': os.path.join(HERE, 'kit') + ':' + os.environ['PATH'], 'STAND_IN': self.room,
-                'XDG_CACHE_HOME': os.path.join(self.room, 'cache'), 'RT_JOBS': '4'}
+    def env(self) -> "dict[str, str]":
+        return {
+            **os.environ,
+            "PATH": os.path.join(HERE, "kit") + ":" + os.environ["PATH"],
+            "STAND_IN": self.room,
+            "XDG_CACHE_HOME": os.path.join(self.room, "cache"),
+            "RT_JOBS": "4",
+        }
 
     def write(self, name: str, text: str) -> None:
-        with open(os.path.join(self.room, name), 'w', encoding='ascii') as file:
+        with open(os.path.join(self.room, name), "w", encoding="ascii") as file:
             file.write(text)
 
     def log(self) -> List[List[str]]:
-        path = os.path.join(self.room, 'log')
+        path = os.path.join(self.room, "log")
         if not os.path.exists(path):
             return []
-        with open(path, encoding='ascii') as file:
+        with open(path, encoding="ascii") as file:
             return [line.split() for line in file]
 
-    def call(self, words: List[str], text: bytes = b'') -> 'tuple[int, bytes, bytes]':
+    def call(self, words: List[str], text: bytes = b"") -> "tuple[int, bytes, bytes]":
         return run([self.uvt()] + words, text, env=self.env())
 
 
 def stand_in(folder: str, program: str) -> StandIn:
-    made = StandIn(os.path.join(folder, 'copy'), os.path.join(folder, 'room'))
+    made = StandIn(os.path.join(folder, "copy"), os.path.join(folder, "room"))
     os.makedirs(made.room)
-    shutil.copy(program, os.path.join(made.room, 'program'))
-    for name in ('uvt', 'crates.txt'):
+    shutil.copy(program, os.path.join(made.room, "program"))
+    for name in ("uvt", "crates.txt"):
         os.makedirs(made.folder, exist_ok=True)
         shutil.copy(os.path.join(ROOT, name), os.path.join(made.folder, name))
-    shutil.copytree(os.path.join(ROOT, 'tools'), os.path.join(made.folder, 'tools'), symlinks=True)
-    shutil.copytree(os.path.join(ROOT, 'crates'), os.path.join(made.folder, 'crates'),
-                    ignore=lambda at, names: [name for name in names if name in ('out', 'must-fail', 'data', 'specs', 'proofs')])
+    shutil.copytree(os.path.join(ROOT, "tools"), os.path.join(made.folder, "tools"), symlinks=True)
+    shutil.copytree(
+        os.path.join(ROOT, "crates"),
+        os.path.join(made.folder, "crates"),
+        ignore=lambda at, names: [name for name in names if name in ("out", "must-fail", "data", "specs", "proofs")],
+    )
     return made
 
 
 def try_first_call(check: Check, kit: StandIn) -> None:
     """Without a built program: the answer of the one before its proofs, and the words that go with it. It is compiled once."""
-    for words, said in (([], b'uvt runs a script'), (['replay', 'none'], b'uvt: there is no file none\n'),
-                        (['debug', os.path.join(ROOT, 'examples', 'sent-session.rec')], b'uvt: this is a recording')):
+    asked: List[Tuple[List[str], bytes]] = [
+        ([], b"uvt runs a script"),
+        (["replay", "none"], b"uvt: there is no file none\n"),
+        (["debug", os.path.join(ROOT, "examples", "sent-session.rec")], b"uvt: this is a recording"),
+    ]
+    for words, said in asked:
         status, output, errors = kit.call(words)
-        check('%r before a build' % words, (status, output) == (2, b'') and errors.startswith(said), 'got %r' % errors)
-    same(check, 'help before a build', kit.call(['help'])[0], 0)
+        check("%r before a build" % words, (status, output) == (2, b"") and errors.startswith(said), "got %r" % errors)
+    same(check, "help before a build", kit.call(["help"])[0], 0)
     ended: List = [None, None]
 
     def call(at: int) -> None:
-        ended[at] = kit.call(['debug'], SCRIPT)
+        ended[at] = kit.call(["debug"], SCRIPT)
 
     both = [threading.Thread(target=call, args=(at,)) for at in (0, 1)]
     for it in both:
@@ -376,72 +483,83 @@ def try_first_call(check: Check, kit: StandIn) -> None:
     for it in both:
         it.join()
     for at, real in enumerate(ended):
-        check('first call %d of two at once' % at, real[:2] == (0, b'init t timer = 0.0\n'), 'got %r' % (real,))
-        check('first call %d of two, what is said' % at,
-              b'before its proofs' in real[2] and b'./uvt build' in real[2] and b'none of it proved' in real[2], 'got %r' % real[2])
-    check('one of two first calls waits', sum(b'another call is building' in it[2] for it in ended) == 1, 'got %r' % ended)
-    script = os.path.join(kit.room, 'script.uvt')
-    with open(script, 'wb') as file:
+        check("first call %d of two at once" % at, real[:2] == (0, b"init t timer = 0.0\n"), "got %r" % (real,))
+        check(
+            "first call %d of two, what is said" % at,
+            b"before its proofs" in real[2] and b"./uvt build" in real[2] and b"none of it proved" in real[2],
+            "got %r" % real[2],
+        )
+    check("one of two first calls waits", sum(b"another call is building" in it[2] for it in ended) == 1, "got %r" % ended)
+    script = os.path.join(kit.room, "script.uvt")
+    with open(script, "wb") as file:
         file.write(SCRIPT)
-    same(check, 'a first call of debug FILE', kit.call(['debug', script], b'loop\n')[:2], (0, b'init t timer = 0.0\nrefused ended\n'))
-    with open(script, 'wb') as file:
-        file.write(b'var a\nmain stop b\nbegin\n')
-    status, output, errors = kit.call(['debug', script])
-    check('a first call of a bad FILE', (status, output) == (2, b'') and errors.endswith(b'\nuvt: `b` isn\'t declared before this line\n'),
-          'got %r' % errors)
-    status, output, errors = kit.call(['debug'], b'var a\nmain stop b\nbegin\n')
-    check('a first call of a bad script', (status, output) == (2, b'') and b'\nuvt: bad script line 2\n' in errors, 'got %r' % errors)
-    status, output, errors = kit.call(['replay', os.path.join(ROOT, 'examples', 'changed-program.rec')])
-    check('a first call of replay FILE', (status, output) == (3, b'differs at 1\n') and b'\nuvt: differs at 1\n' in errors, 'got %r' % errors)
-    text = b'var i\nmain init i idle\nmain start i\nmain run default\nbegin\nloop 30000\n'
-    status, output, errors = kit.call(['debug'], text)
-    check('a first call with a long output', status == 0 and output.count(b'\n') > 20000, 'status %d, %d lines' % (status, output.count(b'\n')))
-    with open(os.path.join(ROOT, 'examples', 'late-timer.uvt'), 'rb') as file:
-        status, output, errors = kit.call(['why', 'beat'], file.read())
-    check('a first call of a tool', status == 0 and b'late by 35 ms' in output and b'none of it proved' in errors,
-          'got %r' % ((status, output, errors),))
-    status, output, errors = kit.call(['path'])
-    same(check, 'the path of the program before its proofs', output, os.path.join(kit.folder, 'out', 'uvt', 'unproved', 'uvt').encode() + b'\n')
-    same(check, 'first answers build nothing, and compile once', [line[0] for line in kit.log()], ['tries'])
-    source = os.path.join(kit.folder, 'crates', 'uv_cli', 'src', 'lib.rt')
-    with open(source, 'ab') as file:
-        file.write(b'// changed before a build\n')
-    kit.write('took', '2')
-    call = subprocess.Popen([kit.uvt(), 'debug'], env=kit.env(), stdin=subprocess.PIPE, stdout=subprocess.PIPE, stderr=subprocess.DEVNULL)
+    same(check, "a first call of debug FILE", kit.call(["debug", script], b"loop\n")[:2], (0, b"init t timer = 0.0\nrefused ended\n"))
+    with open(script, "wb") as file:
+        file.write(b"var a\nmain stop b\nbegin\n")
+    status, output, errors = kit.call(["debug", script])
+    check(
+        "a first call of a bad FILE",
+        (status, output) == (2, b"") and errors.endswith(b"\nuvt: `b` isn't declared before this line\n"),
+        "got %r" % errors,
+    )
+    status, output, errors = kit.call(["debug"], b"var a\nmain stop b\nbegin\n")
+    check("a first call of a bad script", (status, output) == (2, b"") and b"\nuvt: bad script line 2\n" in errors, "got %r" % errors)
+    status, output, errors = kit.call(["replay", os.path.join(ROOT, "examples", "changed-program.rec")])
+    check("a first call of replay FILE", (status, output) == (3, b"differs at 1\n") and b"\nuvt: differs at 1\n" in errors, "got %r" % errors)
+    text = b"var i\nmain init i idle\nmain start i\nmain run default\nbegin\nloop 30000\n"
+    status, output, errors = kit.call(["debug"], text)
+    check("a first call with a long output", status == 0 and output.count(b"\n") > 20000, "status %d, %d lines" % (status, output.count(b"\n")))
+    with open(os.path.join(ROOT, "examples", "late-timer.uvt"), "rb") as late:
+        status, output, errors = kit.call(["why", "beat"], late.read())
+    check(
+        "a first call of a tool",
+        status == 0 and b"late by 35 ms" in output and b"none of it proved" in errors,
+        "got %r" % ((status, output, errors),),
+    )
+    status, output, errors = kit.call(["path"])
+    same(check, "the path of the program before its proofs", output, os.path.join(kit.folder, "out", "uvt", "unproved", "uvt").encode() + b"\n")
+    same(check, "first answers build nothing, and compile once", [line[0] for line in kit.log()], ["tries"])
+    source = os.path.join(kit.folder, "crates", "uv_cli", "src", "lib.rt")
+    with open(source, "ab") as out:
+        out.write(b"// changed before a build\n")
+    kit.write("took", "2")
+    changed = subprocess.Popen([kit.uvt(), "debug"], env=kit.env(), stdin=subprocess.PIPE, stdout=subprocess.PIPE, stderr=subprocess.DEVNULL)
     until = time.monotonic() + SECONDS
     while len(kit.log()) < 2 and time.monotonic() < until:
         time.sleep(0.05)
-    with open(source, 'ab') as file:
-        file.write(b'// changed while it is compiled\n')
-    same(check, 'a first call behind a change', (call.communicate(SCRIPT, timeout=SECONDS)[0], call.returncode), (b'init t timer = 0.0\n', 0))
-    same(check, 'it compiles anew', [line[0] for line in kit.log()], ['tries', 'tries'])
-    kit.write('took', '0.05')
-    same(check, 'a call behind a change while it was compiled', kit.call(['debug'], SCRIPT)[:2], (0, b'init t timer = 0.0\n'))
-    same(check, 'it compiles anew again', [line[0] for line in kit.log()], ['tries', 'tries', 'tries'])
+    with open(source, "ab") as out:
+        out.write(b"// changed while it is compiled\n")
+    same(check, "a first call behind a change", (changed.communicate(SCRIPT, timeout=SECONDS)[0], changed.returncode), (b"init t timer = 0.0\n", 0))
+    same(check, "it compiles anew", [line[0] for line in kit.log()], ["tries", "tries"])
+    kit.write("took", "0.05")
+    same(check, "a call behind a change while it was compiled", kit.call(["debug"], SCRIPT)[:2], (0, b"init t timer = 0.0\n"))
+    same(check, "it compiles anew again", [line[0] for line in kit.log()], ["tries", "tries", "tries"])
 
 
-def order_faults(log: List[List[str]], below: 'dict[str, List[str]]') -> List[str]:
+def order_faults(log: List[List[str]], below: "dict[str, List[str]]") -> List[str]:
     """The crates that began before one that they depend on had ended, or began twice."""
-    ended, begun, faults = set(), set(), []
+    ended: Set[str] = set()
+    begun: Set[str] = set()
+    faults: List[str] = []
     for what, crate in log:
-        if what == 'begins':
+        if what == "begins":
             faults += [crate] * (crate in begun or not ended.issuperset(below[crate]))
             begun.add(crate)
-        elif what == 'ends':
+        elif what == "ends":
             ended.add(crate)
     return faults
 
 
-def crates_below(kit: StandIn) -> 'dict[str, List[str]]':
-    with open(os.path.join(kit.folder, 'crates.txt'), encoding='utf-8') as file:
-        rows = [line.partition('#')[0].partition(':') for line in file]
+def crates_below(kit: StandIn) -> "dict[str, List[str]]":
+    with open(os.path.join(kit.folder, "crates.txt"), encoding="utf-8") as file:
+        rows = [line.partition("#")[0].partition(":") for line in file]
     uses = {row[0].split()[0]: row[2].split() for row in rows if row[0].split()}
     return {name: [word for word in words if word in uses] for name, words in uses.items()}
 
 
-def needed(below: 'dict[str, List[str]]') -> List[str]:
+def needed(below: "dict[str, List[str]]") -> List[str]:
     """The crates that the program depends on, and itself."""
-    found, left = set(), ['uvt']
+    found, left = set(), ["uvt"]
     while left:
         name = left.pop()
         if name not in found:
@@ -453,64 +571,70 @@ def needed(below: 'dict[str, List[str]]') -> List[str]:
 def most_at_once(log: List[List[str]]) -> int:
     at_once = most = 0
     for what, _ in log:
-        at_once += {'begins': 1, 'ends': -1}.get(what, 0)
+        at_once += {"begins": 1, "ends": -1}.get(what, 0)
         most = max(most, at_once)
     return most
 
 
 def try_builds(check: Check, kit: StandIn) -> None:
     """A build that is stopped and taken up again, one that fails, two at once, and a call while one is under way."""
-    kit.write('took', '0.3')
-    kit.write('log', '')
-    build = subprocess.Popen([kit.uvt(), 'build'], env=kit.env(), stderr=subprocess.PIPE, start_new_session=True)
+    kit.write("took", "0.3")
+    kit.write("log", "")
+    build = subprocess.Popen([kit.uvt(), "build"], env=kit.env(), stderr=subprocess.PIPE, start_new_session=True)
     until = time.monotonic() + SECONDS
-    while len([1 for what, _ in kit.log() if what == 'ends']) < 6 and time.monotonic() < until:
+    while len([1 for what, _ in kit.log() if what == "ends"]) < 6 and time.monotonic() < until:
         time.sleep(0.05)
     build.send_signal(signal.SIGTERM)
     errors = build.communicate(timeout=SECONDS)[1]
-    check('a build that is stopped', build.returncode == 70 and b'stopped' in errors, 'status %d, errors %r' % (build.returncode, errors))
+    check("a build that is stopped", build.returncode == 70 and b"stopped" in errors, "status %d, errors %r" % (build.returncode, errors))
     time.sleep(1)
-    done = {crate for what, crate in kit.log() if what == 'ends'}
+    done = {crate for what, crate in kit.log() if what == "ends"}
     time.sleep(1)
-    same(check, 'nothing goes on behind it', {crate for what, crate in kit.log() if what == 'ends'}, done)
-    check('it is stopped in its midst', 6 <= len(done) < len(needed(crates_below(kit))), 'done %r' % done)
+    same(check, "nothing goes on behind it", {crate for what, crate in kit.log() if what == "ends"}, done)
+    check("it is stopped in its midst", 6 <= len(done) < len(needed(crates_below(kit))), "done %r" % done)
 
-    kit.write('took', '0.05')
-    kit.write('log', '')
-    kit.write('fails', 'uv_step')
-    status, output, errors = kit.call(['build'])
-    check('a build that fails', (status, output) == (70, b'') and b'uv_step was not built' in errors and b'fn a::c: not proved' in errors
-          and b'fn a::b: proved' not in errors, 'got %r' % errors)
-    again = {crate for what, crate in kit.log() if what == 'begins'}
-    check('what was proved before it was stopped is not proved again', not again & done, 'again %r' % (again & done))
+    kit.write("took", "0.05")
+    kit.write("log", "")
+    kit.write("fails", "uv_step")
+    status, output, errors = kit.call(["build"])
+    check(
+        "a build that fails",
+        (status, output) == (70, b"")
+        and b"uv_step was not built" in errors
+        and b"fn a::c: not proved" in errors
+        and b"fn a::b: proved" not in errors,
+        "got %r" % errors,
+    )
+    again = {crate for what, crate in kit.log() if what == "begins"}
+    check("what was proved before it was stopped is not proved again", not again & done, "again %r" % (again & done))
 
-    kit.write('fails', '')
-    both = [subprocess.Popen([kit.uvt(), 'build'], env=kit.env(), stdout=subprocess.DEVNULL, stderr=subprocess.PIPE) for _ in (1, 2)]
+    kit.write("fails", "")
+    both = [subprocess.Popen([kit.uvt(), "build"], env=kit.env(), stdout=subprocess.DEVNULL, stderr=subprocess.PIPE) for _ in (1, 2)]
     said = [it.communicate(timeout=SECONDS)[1] for it in both]
-    same(check, 'two builds at once', [it.returncode for it in both], [0, 0])
-    check('one of them waits', any(b'another call is building the program' in it for it in said), 'errors %r' % said)
+    same(check, "two builds at once", [it.returncode for it in both], [0, 0])
+    check("one of them waits", any(b"another call is building the program" in it for it in said), "errors %r" % said)
     log = kit.log()
-    same(check, 'no crate is proved twice by them', len([1 for what, crate in log if (what, crate) == ('begins', 'uvt')]), 1)
-    same(check, 'the built program', kit.call(['debug'], SCRIPT), (0, b'init t timer = 0.0\n', b''))
-    same(check, 'a further build', kit.call(['build']), (0, b'', b'uvt: the program is built already, and nothing has changed since\n'))
-    same(check, 'no copy is left', os.listdir(os.path.join(kit.room, 'cache')), [])
+    same(check, "no crate is proved twice by them", len([1 for what, crate in log if (what, crate) == ("begins", "uvt")]), 1)
+    same(check, "the built program", kit.call(["debug"], SCRIPT), (0, b"init t timer = 0.0\n", b""))
+    same(check, "a further build", kit.call(["build"]), (0, b"", b"uvt: the program is built already, and nothing has changed since\n"))
+    same(check, "no copy is left", os.listdir(os.path.join(kit.room, "cache")), [])
 
 
 def begin_anew(kit: StandIn) -> None:
     for name in os.listdir(kit.room):
-        if name.startswith('done-') or name == 'log':
+        if name.startswith("done-") or name == "log":
             os.remove(os.path.join(kit.room, name))
-    shutil.rmtree(os.path.join(kit.folder, 'out'), ignore_errors=True)
+    shutil.rmtree(os.path.join(kit.folder, "out"), ignore_errors=True)
 
 
 def try_order(check: Check, kit: StandIn) -> None:
     """Crates side by side, each after those that it depends on; the line at a terminal is rewritten."""
     begin_anew(kit)
-    kit.write('took', '0.1')
+    kit.write("took", "0.1")
     ours, theirs = pty.openpty()
-    build = subprocess.Popen([kit.uvt(), 'build'], env=kit.env(), stdout=subprocess.DEVNULL, stderr=theirs)
+    build = subprocess.Popen([kit.uvt(), "build"], env=kit.env(), stdout=subprocess.DEVNULL, stderr=theirs)
     os.close(theirs)
-    said = b''
+    said = b""
     try:
         while True:
             more = os.read(ours, 4096)
@@ -520,56 +644,70 @@ def try_order(check: Check, kit: StandIn) -> None:
     except OSError:
         pass
     os.close(ours)
-    same(check, 'a build at a terminal', build.wait(SECONDS), 0)
-    line = rb'\r\x1b\[Kuvt: \d+ of \d+ crates, \d+ functions proved, \d+:\d\d, about '
-    check('its line is rewritten', re.search(line, said) is not None, 'got %r' % said[-500:])
-    first = re.search(rb'of (\d+) crates, 4 at a time: about (\d+) minutes from nothing', said)
-    check('its first line says how long it will be', first and int(first[1]) == len(needed(crates_below(kit))) and 15 < int(first[2]) < 60,
-          'got %r' % said[:300])
-    same(check, 'each crate after those that it depends on', order_faults(kit.log(), crates_below(kit)), [])
-    same(check, 'the crates that it needs, and no other', sorted(crate for what, crate in kit.log() if what == 'ends'), needed(crates_below(kit)))
-    check('several at a time', 3 <= most_at_once(kit.log()) <= 4, 'most %d' % most_at_once(kit.log()))
+    same(check, "a build at a terminal", build.wait(SECONDS), 0)
+    line = rb"\r\x1b\[Kuvt: \d+ of \d+ crates, \d+ functions proved, \d+:\d\d, about "
+    check("its line is rewritten", re.search(line, said) is not None, "got %r" % said[-500:])
+    first = re.search(rb"of (\d+) crates, 4 at a time: about (\d+) minutes from nothing", said)
+    check(
+        "its first line says how long it will be",
+        first and int(first[1]) == len(needed(crates_below(kit))) and 15 < int(first[2]) < 60,
+        "got %r" % said[:300],
+    )
+    same(check, "each crate after those that it depends on", order_faults(kit.log(), crates_below(kit)), [])
+    same(check, "the crates that it needs, and no other", sorted(crate for what, crate in kit.log() if what == "ends"), needed(crates_below(kit)))
+    check("several at a time", 3 <= most_at_once(kit.log()) <= 4, "most %d" % most_at_once(kit.log()))
 
 
 def try_unanswered(check: Check, kit: StandIn) -> None:
     """Where the program before its proofs can't be had it is said, and nothing is built; one that is interrupted keeps nothing."""
-    kit.write('took', '0.01')
-    for fails, said in (('try', b"doesn't compile it"), ('link', b'leaves no program behind')):
+    kit.write("took", "0.01")
+    for fails, said in (("try", b"doesn't compile it"), ("link", b"leaves no program behind")):
         begin_anew(kit)
-        kit.write('fails', fails)
-        status, output, errors = kit.call(['debug'], SCRIPT)
-        check('a first call where %s fails' % fails, (status, output) == (70, b'') and said in errors and errors.count(b'./uvt build') == 1,
-              'got %r' % ((status, output, errors),))
-        check('what a try says that %s' % fails, errors.count(b'\n') == (2004 if fails == 'try' else 3), 'got %d lines' % errors.count(b'\n'))
-        same(check, 'nothing is built where %s fails' % fails, [line[0] for line in kit.log()], ['tries'])
-    status, output, errors = kit.call(['why', 't'], SCRIPT)
-    check('a tool where there is no program', status == 1 and not output and errors.endswith(b'uvt-why: there is no program to talk with\n'),
-          'got %r' % ((status, output, errors),))
+        kit.write("fails", fails)
+        status, output, errors = kit.call(["debug"], SCRIPT)
+        check(
+            "a first call where %s fails" % fails,
+            (status, output) == (70, b"") and said in errors and errors.count(b"./uvt build") == 1,
+            "got %r" % ((status, output, errors),),
+        )
+        check("what a try says that %s" % fails, errors.count(b"\n") == (2004 if fails == "try" else 3), "got %d lines" % errors.count(b"\n"))
+        # (one try with optimization, and where that fails one of the kit as it is)
+        same(check, "nothing is built where %s fails" % fails, {line[0] for line in kit.log()}, {"tries"})
+    status, output, errors = kit.call(["why", "t"], SCRIPT)
+    check(
+        "a tool where there is no program",
+        status == 1 and not output and errors.endswith(b"uvt-why: there is no program to talk with\n"),
+        "got %r" % ((status, output, errors),),
+    )
     begin_anew(kit)
-    no_kit = {**kit.env(), 'PATH': without('rt')}
-    status, output, errors = run([kit.uvt(), 'debug'], SCRIPT, env=no_kit)
-    check('a first call without the kit', (status, output) == (70, b'') and b"rt, isn't on the PATH. README.md says what to do" in errors,
-          'got %r' % ((status, output, errors),))
-    status, output, errors = kit.call(['install', os.path.join(kit.room, 'prefix')])
-    check('install without a proved program', (status, output) == (70, b'') and b'./uvt build' in errors, 'got %r' % ((status, output, errors),))
-    kit.write('fails', '')
-    kit.write('took', '20')
-    call = subprocess.Popen([kit.uvt(), 'debug'], env=kit.env(), stdin=subprocess.DEVNULL, stdout=subprocess.PIPE, stderr=subprocess.PIPE,
-                            start_new_session=True)
+    no_kit = {**kit.env(), "PATH": without("rt")}
+    status, output, errors = run([kit.uvt(), "debug"], SCRIPT, env=no_kit)
+    check(
+        "a first call without the kit",
+        (status, output) == (70, b"") and b"rt, isn't on the PATH. README.md says what to do" in errors,
+        "got %r" % ((status, output, errors),),
+    )
+    status, output, errors = kit.call(["install", os.path.join(kit.room, "prefix")])
+    check("install without a proved program", (status, output) == (70, b"") and b"./uvt build" in errors, "got %r" % ((status, output, errors),))
+    kit.write("fails", "")
+    kit.write("took", "20")
+    call = subprocess.Popen(
+        [kit.uvt(), "debug"], env=kit.env(), stdin=subprocess.DEVNULL, stdout=subprocess.PIPE, stderr=subprocess.PIPE, start_new_session=True
+    )
     until = time.monotonic() + SECONDS
     while not kit.log() and time.monotonic() < until:
         time.sleep(0.05)
     os.killpg(call.pid, signal.SIGINT)
     output, errors = call.communicate(timeout=SECONDS)
-    same(check, 'a first call that is interrupted', (call.returncode, output, [line[0] for line in kit.log()]), (130, b'', ['tries']))
-    same(check, 'what it leaves', sorted(os.listdir(os.path.join(kit.folder, 'out', 'uvt', 'unproved'))), ['lock'])
-    kit.write('took', '0.05')
+    same(check, "a first call that is interrupted", (call.returncode, output, [line[0] for line in kit.log()]), (130, b"", ["tries"]))
+    same(check, "what it leaves", sorted(os.listdir(os.path.join(kit.folder, "out", "uvt", "unproved"))), ["lock"])
+    kit.write("took", "0.05")
 
 
 def without(name: str) -> str:
     """The PATH without this command: a folder of links to the others."""
-    folder = tempfile.mkdtemp(prefix='uvt-path-', dir=NO_KIT.name)
-    for it in os.environ['PATH'].split(':'):
+    folder = tempfile.mkdtemp(prefix="uvt-path-", dir=NO_KIT.name)
+    for it in os.environ["PATH"].split(":"):
         for command in os.listdir(it) if os.path.isdir(it) else []:
             if command != name and not os.path.lexists(os.path.join(folder, command)):
                 os.symlink(os.path.join(it, command), os.path.join(folder, command))
@@ -579,41 +717,41 @@ def without(name: str) -> str:
 def try_typed(check: Check, kit: StandIn) -> None:
     """What is typed is answered by the program before its proofs too: at a terminal behind a file, and over a pipe a line at a time."""
     begin_anew(kit)
-    script = os.path.join(kit.room, 'script.uvt')
-    with open(script, 'wb') as file:
+    script = os.path.join(kit.room, "script.uvt")
+    with open(script, "wb") as file:
         file.write(SCRIPT)
     ours, theirs = pty.openpty()
-    call = subprocess.Popen([kit.uvt(), 'debug', script], env=kit.env(), stdin=theirs, stdout=subprocess.PIPE, stderr=subprocess.PIPE)
+    call = subprocess.Popen([kit.uvt(), "debug", script], env=kit.env(), stdin=theirs, stdout=subprocess.PIPE, stderr=subprocess.PIPE)
     os.close(theirs)
-    os.write(ours, b'loop\nquit\n')
+    os.write(ours, b"loop\nquit\n")
     output, errors = call.communicate(timeout=SECONDS)
     os.close(ours)
-    same(check, 'a first call at a terminal', (call.returncode, output), (0, b'init t timer = 0.0\nrefused ended\n'))
-    check('a first call at a terminal, what is said', b'before its proofs' in errors and b'after the file you may type' in errors, 'got %r' % errors)
+    same(check, "a first call at a terminal", (call.returncode, output), (0, b"init t timer = 0.0\nrefused ended\n"))
+    check("a first call at a terminal, what is said", b"before its proofs" in errors and b"after the file you may type" in errors, "got %r" % errors)
     begin_anew(kit)
-    call = subprocess.Popen([kit.uvt(), 'debug'], env=kit.env(), stdin=subprocess.PIPE, stdout=subprocess.PIPE, stderr=subprocess.DEVNULL)
+    call = subprocess.Popen([kit.uvt(), "debug"], env=kit.env(), stdin=subprocess.PIPE, stdout=subprocess.PIPE, stderr=subprocess.DEVNULL)
     call.stdin.write(SCRIPT)
     call.stdin.flush()
-    same(check, 'a first call over an open pipe', call.stdout.readline(), b'init t timer = 0.0\n')
-    call.stdin.write(b'loop\n')
-    same(check, 'a first call over an open pipe, the rest', call.communicate(timeout=SECONDS)[0], b'refused ended\n')
+    same(check, "a first call over an open pipe", call.stdout.readline(), b"init t timer = 0.0\n")
+    call.stdin.write(b"loop\n")
+    same(check, "a first call over an open pipe, the rest", call.communicate(timeout=SECONDS)[0], b"refused ended\n")
 
 
 def try_changes(check: Check, kit: StandIn) -> None:
     """A source that changed is no longer what was built; one that was only touched is."""
-    same(check, 'a build behind first answers', kit.call(['build'])[:2], (0, b''))
-    check('a build leaves no program before its proofs', not os.path.exists(os.path.join(kit.folder, 'out', 'uvt', 'unproved')))
-    source = os.path.join(kit.folder, 'crates', 'uv_cli', 'src', 'lib.rt')
+    same(check, "a build behind first answers", kit.call(["build"])[:2], (0, b""))
+    check("a build leaves no program before its proofs", not os.path.exists(os.path.join(kit.folder, "out", "uvt", "unproved")))
+    source = os.path.join(kit.folder, "crates", "uv_cli", "src", "lib.rt")
     os.utime(source)
-    same(check, 'a source that was touched', kit.call(['debug'], SCRIPT), (0, b'init t timer = 0.0\n', b''))
-    with open(source, 'ab') as file:
-        file.write(b'// changed\n')
-    status, output, errors = kit.call(['debug'], SCRIPT)
-    check('a source that changed', (status, output) == (0, b'init t timer = 0.0\n') and b'before its proofs' in errors, 'got %r' % errors)
+    same(check, "a source that was touched", kit.call(["debug"], SCRIPT), (0, b"init t timer = 0.0\n", b""))
+    with open(source, "ab") as file:
+        file.write(b"// changed\n")
+    status, output, errors = kit.call(["debug"], SCRIPT)
+    check("a source that changed", (status, output) == (0, b"init t timer = 0.0\n") and b"before its proofs" in errors, "got %r" % errors)
 
 
 def try_with_stand_in(check: Check, program: str) -> None:
-    folder = tempfile.mkdtemp(prefix='uvt-launcher-')
+    folder = tempfile.mkdtemp(prefix="uvt-launcher-")
     try:
         kit = stand_in(folder, program)
         try_first_call(check, kit)
@@ -628,23 +766,26 @@ def try_with_stand_in(check: Check, program: str) -> None:
 
 def try_with_kit(check: Check, copy: str, folder: str) -> None:
     """In a copy without a built program: the first commands of docs/TOUR.md and README.md, and a build that is stopped and taken up again."""
-    uvt, env = os.path.join(copy, 'uvt'), {**os.environ, 'XDG_CACHE_HOME': os.path.join(folder, 'cache')}
-    with open(os.path.join(copy, 'examples', 'late-timer.uvt'), 'rb') as script, open(os.path.join(copy, 'examples', 'late-timer.out'), 'rb') as due:
-        ended = subprocess.run([uvt, 'debug'], stdin=script, stdout=subprocess.PIPE, stderr=subprocess.PIPE, timeout=600, env=env)
-        same(check, 'the first answer', (ended.returncode, ended.stdout), (0, due.read()))
-    check('the first answer, what is said', ended.stderr.count(b'\n') == 2 and ended.stderr.count(b'uvt: ') == 2, 'got %r' % ended.stderr)
-    with open(os.path.join(copy, 'examples', 'late-timer.uvt'), 'rb') as script:
+    uvt, env = os.path.join(copy, "uvt"), {**os.environ, "XDG_CACHE_HOME": os.path.join(folder, "cache")}
+    with open(os.path.join(copy, "examples", "late-timer.uvt"), "rb") as script, open(os.path.join(copy, "examples", "late-timer.out"), "rb") as due:
+        ended = subprocess.run([uvt, "debug"], stdin=script, stdout=subprocess.PIPE, stderr=subprocess.PIPE, timeout=600, env=env)
+        same(check, "the first answer", (ended.returncode, ended.stdout), (0, due.read()))
+    check("the first answer, what is said", ended.stderr.count(b"\n") == 2 and ended.stderr.count(b"uvt: ") == 2, "got %r" % ended.stderr)
+    with open(os.path.join(copy, "examples", "late-timer.uvt"), "rb") as script:
         began = time.monotonic()
-        again = subprocess.run([uvt, 'why', 'beat'], stdin=script, stdout=subprocess.PIPE, stderr=subprocess.PIPE, timeout=600, env=env)
-        check('a second answer, by a tool', again.returncode == 0 and b'late by 35 ms' in again.stdout and time.monotonic() - began < 10,
-              'got %r after %d seconds' % ((again.returncode, again.stderr), time.monotonic() - began))
+        again = subprocess.run([uvt, "why", "beat"], stdin=script, stdout=subprocess.PIPE, stderr=subprocess.PIPE, timeout=600, env=env)
+        check(
+            "a second answer, by a tool",
+            again.returncode == 0 and b"late by 35 ms" in again.stdout and time.monotonic() - began < 10,
+            "got %r after %d seconds" % ((again.returncode, again.stderr), time.monotonic() - began),
+        )
     for turn in (1, 2):
-        build = subprocess.Popen([uvt, 'build'], stderr=subprocess.PIPE, env=env)
+        build = subprocess.Popen([uvt, "build"], stderr=subprocess.PIPE, env=env)
         # (a build that ends ends the lines)
-        first = next((line for line in build.stderr if re.match(rb'uvt: [1-9]\d* of \d+ crates, ', line)), b'')
+        first = next((line for line in build.stderr if re.match(rb"uvt: [1-9]\d* of \d+ crates, ", line)), b"")
         build.terminate()
         build.stderr.read()
-        same(check, 'a real build that is stopped, turn %d' % turn, build.wait(SECONDS), 70)
-        proved = re.search(rb', (\d+) functions proved', first)
+        same(check, "a real build that is stopped, turn %d" % turn, build.wait(SECONDS), 70)
+        proved = re.search(rb", (\d+) functions proved", first)
         # (what is taken over isn't proved now; in the first turn that is so where another copy on this machine had proved it)
-        check('a real build, turn %d: its first crate' % turn, proved is not None and (turn == 1 or proved[1] == b'0'), 'got %r' % first)
+        check("a real build, turn %d: its first crate" % turn, proved is not None and (turn == 1 or proved[1] == b"0"), "got %r" % first)

@@ -23,46 +23,77 @@ import shutil
 import subprocess
 import tempfile
 from pathlib import Path
-from typing import Callable, NamedTuple, Optional
+from typing import NamedTuple, Optional
+
+from tests.helper import Check
 
 PAGES = ("README.md", "docs/TOUR.md", "docs/TOOLS.md", "docs/RECORD.md", "docs/FIND.md", "docs/HUNT.md")
-COMMANDS = ('./uvt ', 'uvt ', 'tools/', 'tests/', 'make ', 'cc ', 'cp ', 'ln ', 'mkdir ', 'cd ', 'tar ', 'printf ', 'grep ', 'sed ', 'cat ',
-            'apt-get ', 'git ', 'rt ', 'parallel ', './upload')
+COMMANDS = (
+    "./uvt ",
+    "uvt ",
+    "tools/",
+    "tests/",
+    "make ",
+    "cc ",
+    "cp ",
+    "ln ",
+    "mkdir ",
+    "cd ",
+    "tar ",
+    "printf ",
+    "grep ",
+    "sed ",
+    "cat ",
+    "apt-get ",
+    "git ",
+    "rt ",
+    "parallel ",
+    "./upload",
+)
 # What doesn't end with status 0: on the real libuv the example goes another way, and the page shows which.
 # And a search that answers `never` ends with status 1.
 ENDS = {
-    'libuv examples/cancel-in-time.uvt': 3,
+    "libuv examples/cancel-in-time.uvt": 3,
     # (its callbacks are others now)
-    'replay examples/changed-program.rec': 3,
+    "replay examples/changed-program.rec": 3,
     "find examples/late-timer.uvt 'may tick 40 1' 'may wait' 'find late beat 41'": 1,
-    'find examples/debounce.find': 1,
+    "find examples/debounce.find": 1,
     # (what is hunted ends badly)
-    'hunt ./upload': 3,
-    'force upload.hunt.uvt ./upload 2>&1': 3,
+    "hunt ./upload": 3,
+    "force upload.hunt.uvt ./upload 2>&1": 3,
     "find examples/frame.rec 'find late vsync 52'": 1,
 }
-STATUS = {'%s %s' % (uvt, words): status for words, status in ENDS.items() for uvt in ('./uvt', 'uvt')}
+STATUS = {"%s %s" % (uvt, words): status for words, status in ENDS.items() for uvt in ("./uvt", "uvt")}
 # What says something on the errors, and is well.
-SAYS = {'./uvt build': 'uvt: the program is built already, and nothing has changed since\n'}
-BROUGHT = ("uvt find: no line says `may`, so what came in the recording may come at other places: %s; the clock goes to %d ms, and a "
-           "callback's time goes by at its end\n"
-           "uvt find: each callback does what it did in the recording, also where the program would do something else\n")
-ECHO = BROUGHT % ('14 callbacks of I/O, 1 time that went by in no callback, 3 callbacks that took time', 106)
-FRAME = BROUGHT % ('3 times that went by in no callback, 1 callback that took time', 144)
-SAYS.update({'%s replay examples/changed-program.rec' % uvt: 'uvt: differs at 1\n' for uvt in ('./uvt', 'uvt')})
-SAYS.update({'%s %s' % (uvt, words): said for uvt in ('./uvt', 'uvt') for words, said in (
-    ("find examples/echo.rec 'find late heartbeat 25' -o beat.uvt", ECHO), ("find examples/frame.rec 'find late vsync 51' -o frame.uvt", FRAME),
-    ("find examples/frame.rec 'find late vsync 52'", FRAME))})
+SAYS = {"./uvt build": "uvt: the program is built already, and nothing has changed since\n"}
+BROUGHT = (
+    "uvt find: no line says `may`, so what came in the recording may come at other places: %s; the clock goes to %d ms, and a "
+    "callback's time goes by at its end\n"
+    "uvt find: each callback does what it did in the recording, also where the program would do something else\n"
+)
+ECHO = BROUGHT % ("14 callbacks of I/O, 1 time that went by in no callback, 3 callbacks that took time", 106)
+FRAME = BROUGHT % ("3 times that went by in no callback, 1 callback that took time", 144)
+SAYS.update({"%s replay examples/changed-program.rec" % uvt: "uvt: differs at 1\n" for uvt in ("./uvt", "uvt")})
+SAYS.update(
+    {
+        "%s %s" % (uvt, words): said
+        for uvt in ("./uvt", "uvt")
+        for words, said in (
+            ("find examples/echo.rec 'find late heartbeat 25' -o beat.uvt", ECHO),
+            ("find examples/frame.rec 'find late vsync 51' -o frame.uvt", FRAME),
+            ("find examples/frame.rec 'find late vsync 52'", FRAME),
+        )
+    }
+)
 # The line of a program that was compiled before its proofs.
-NOTICE = re.compile(r'uvt: this is the program before its proofs: .*\n')
-LOG = Path(__file__).resolve().parent.parent / 'tools' / 'logs' / 'late.log'
-HUNG = Path(__file__).resolve().parent.parent / 'tools' / 'truths' / 'hangup.log'
+NOTICE = re.compile(r"uvt: this is the program before its proofs: .*\n")
+LOG = Path(__file__).resolve().parent.parent / "tools" / "logs" / "late.log"
+HUNG = Path(__file__).resolve().parent.parent / "tools" / "truths" / "hangup.log"
 # What is said of a time of a real run where others had the processor meanwhile.
-BUSY = re.compile(r', (\d+|none) of them on the processor')
+BUSY = re.compile(r", (\d+|none) of them on the processor")
 SECONDS = 120
 # Of README.md.
 MOST_LINES = 200
-Check = Callable[..., None]
 
 
 class Block(NamedTuple):
@@ -74,21 +105,23 @@ class Block(NamedTuple):
 
 def without_comments(text: str) -> str:
     """The page as its readers see it, with as many lines."""
-    return re.sub(r'^<!--.*?-->$', lambda it: it[0].count('\n') * '\n', text, flags=re.DOTALL | re.MULTILINE)
+    return re.sub(r"^<!--.*?-->$", lambda it: it[0].count("\n") * "\n", text, flags=re.DOTALL | re.MULTILINE)
 
 
 def blocks_of(text: str, page: str) -> list[Block]:
     """The blocks of commands of a page, each with what it prints if that stands behind it. What only installed pages show stands in comments."""
     text = without_comments(text)
-    blocks = [(text[:it.start()].count('\n') + 1, it[1]) for it in re.finditer(r'^```text\n(.*?)^```$', text, re.DOTALL | re.MULTILINE)]
+    blocks = [(text[: it.start()].count("\n") + 1, it[1]) for it in re.finditer(r"^```text\n(.*?)^```$", text, re.DOTALL | re.MULTILINE)]
     found = []
     for at, (line, block) in enumerate(blocks):
         if not block.startswith(COMMANDS):
             continue
-        behind = blocks[at + 1][1] if at + 1 < len(blocks) else ''
+        behind = blocks[at + 1][1] if at + 1 < len(blocks) else ""
         lines = block.splitlines()
-        writes = any(' > ' in it for it in lines) or all(it.startswith(('cp ', 'ln ', 'mkdir ', 'cd ', 'apt-get ', 'cc ', 'tools/package/pack', 'tar '))
-                                                       or it == './uvt build' for it in lines[-1:])
+        writes = any(" > " in it for it in lines) or all(
+            it.startswith(("cp ", "ln ", "mkdir ", "cd ", "apt-get ", "cc ", "tools/package/pack", "tar ")) or it == "./uvt build"
+            for it in lines[-1:]
+        )
         found.append(Block(page, line, lines, None if writes or behind.startswith(COMMANDS) else behind))
     return found
 
@@ -96,7 +129,7 @@ def blocks_of(text: str, page: str) -> list[Block]:
 def mixed_lines(text: str) -> list[str]:
     """Lines of commands in blocks that don't begin with one, or the other way round: nobody would run them."""
     found = []
-    for block in re.findall(r'^```text\n(.*?)^```$', without_comments(text), re.DOTALL | re.MULTILINE):
+    for block in re.findall(r"^```text\n(.*?)^```$", without_comments(text), re.DOTALL | re.MULTILINE):
         are = [it.startswith(COMMANDS) for it in block.splitlines()]
         if any(are) and not all(are):
             found += [it for it, is_one in zip(block.splitlines(), are) if is_one != are[0]]
@@ -104,32 +137,32 @@ def mixed_lines(text: str) -> list[str]:
 
 
 def has_libuv() -> bool:
-    if not shutil.which('cc'):
+    if not shutil.which("cc"):
         return False
-    return subprocess.run(['cc', '-E', '-x', 'c', '-'], input='#include <uv.h>\n', capture_output=True, text=True).returncode == 0
+    return subprocess.run(["cc", "-E", "-x", "c", "-"], input="#include <uv.h>\n", capture_output=True, text=True).returncode == 0
 
 
 def is_shown(shown: str, output: str) -> bool:
     """Whether the parts, with lines `..` between them, stand in the output one behind the other; all of it where there is no `..`."""
-    if '\n..\n' not in '\n' + shown:
+    if "\n..\n" not in "\n" + shown:
         return shown == output
     at = 0
-    for part in filter(None, (it.strip('\n') for it in ('\n' + shown).split('\n..\n'))):
-        at = ('\n' + output).find('\n' + part + '\n', at)
+    for part in filter(None, (it.strip("\n") for it in ("\n" + shown).split("\n..\n"))):
+        at = ("\n" + output).find("\n" + part + "\n", at)
         if at < 0:
             return False
     return True
 
 
 def without_numbers(text: str) -> str:
-    return re.sub(r'\d+(, \d+)*', 'N', BUSY.sub('', text))
+    return re.sub(r"\d+(, \d+)*", "N", BUSY.sub("", text))
 
 
 def is_like(shown: str, output: str) -> bool:
     """The same of a real run: each line that is shown stands in the output, in this order, numbers aside."""
     lines, at = without_numbers(output).splitlines(), 0
     for line in without_numbers(shown).splitlines():
-        if line == '..':
+        if line == "..":
             continue
         if line not in lines[at:]:
             return False
@@ -142,81 +175,87 @@ class Walker:
 
     def __init__(self, check: Check, command: str, folder: str, home: str, env: dict[str, str], proved: bool) -> None:
         self.check, self.folder, self.proved = check, folder, proved
-        self.env = {**env, 'HOME': home, 'LC_ALL': 'C'}
+        self.env = {**env, "HOME": home, "LC_ALL": "C"}
         self.left_out: list[str] = []
         self.libuv = has_libuv()
-        self.recorded = ''
+        self.recorded = ""
         self.command = command
-        self.has_search = os.path.exists(os.path.join(folder, 'out', 'uvt_find', 'uvt_find'))
+        self.has_search = os.path.exists(os.path.join(folder, "out", "uvt_find", "uvt_find"))
         self.count = 0
 
     def why_left_out(self, command: str) -> str:
-        if command.startswith('apt-get '):
-            return 'it changes the machine'
-        if not self.libuv and re.search(r'^cc |record |late\.rec|hangup\.rec|uvt libuv |upload', command):
-            return 'there is no C compiler `cc` with libuv\'s header'
-        for word, package in (('gdb', 'gdb'), ('parallel', 'parallel')):
-            if re.search(r'(^| )%s ' % word, command) and not shutil.which(word):
-                return 'there is no %s (Debian: %s)' % (word, package)
-        if ' --join ' in command and not shutil.which('parallel'):
-            return 'what it joins is made by parallel, which isn\'t there'
-        if not self.proved and re.match(r'tools/package/pack |tar ', command):
-            return 'the program is none that was proved'
-        return ''
+        if command.startswith("apt-get "):
+            return "it changes the machine"
+        if not self.libuv and re.search(r"^cc |record |late\.rec|hangup\.rec|uvt libuv |upload", command):
+            return "there is no C compiler `cc` with libuv's header"
+        for word, package in (("gdb", "gdb"), ("parallel", "parallel")):
+            if re.search(r"(^| )%s " % word, command) and not shutil.which(word):
+                return "there is no %s (Debian: %s)" % (word, package)
+        if " --join " in command and not shutil.which("parallel"):
+            return "what it joins is made by parallel, which isn't there"
+        if not self.proved and re.match(r"tools/package/pack |tar ", command):
+            return "the program is none that was proved"
+        return ""
 
     def type(self, block: Block) -> str:
         """Runs the lines of a block, and gives what they print."""
-        output = ''
+        output = ""
         for command in block.commands:
             why = self.why_left_out(command)
             if why:
-                self.left_out.append('%s (%s)' % (command, why))
+                self.left_out.append("%s (%s)" % (command, why))
                 continue
             # (whoever is given a package stands where its file is)
-            folder = os.path.join(self.folder, 'out', 'packages') if command.startswith('tar ') else self.folder
+            folder = os.path.join(self.folder, "out", "packages") if command.startswith("tar ") else self.folder
             ended = self.run(self.of_kept_program(command), folder)
             self.count += 1
-            what = '%s:%d: %s' % (block.page, block.line, command)
-            self.check(what, ended.returncode == STATUS.get(command, 0), 'got %r' % ((ended.returncode, ended.stdout, ended.stderr),))
-            errors = NOTICE.sub('', ended.stderr) if re.search('uvt (find|hunt) ', command) and not self.has_search else ended.stderr
-            self.check(what + ', its errors', errors == SAYS.get(command, ''), 'got %r' % errors)
+            what = "%s:%d: %s" % (block.page, block.line, command)
+            self.check(what, ended.returncode == STATUS.get(command, 0), "got %r" % ((ended.returncode, ended.stdout, ended.stderr),))
+            errors = NOTICE.sub("", ended.stderr) if re.search("uvt (find|hunt) ", command) and not self.has_search else ended.stderr
+            self.check(what + ", its errors", errors == SAYS.get(command, ""), "got %r" % errors)
             output += ended.stdout
-            if command.endswith('uvt record ./late'):
+            if command.endswith("uvt record ./late"):
                 self.recorded = command
         return output
 
     def of_kept_program(self, command: str) -> str:
         """The same with a kept log in place of the run, where the program is one of the tests."""
-        if not command.endswith(' record ./hangup'):
+        if not command.endswith(" record ./hangup"):
             return command
         shutil.copy(HUNG, self.folder)
-        return command.replace('./hangup', '-o hangup --log %s' % HUNG.name)
+        return command.replace("./hangup", "-o hangup --log %s" % HUNG.name)
 
     def of_kept_log(self, block: Block) -> None:
-        shutil.copy(LOG, os.path.join(self.folder, 'kept.log'))
-        made = self.run(self.command + ' record -o late --log kept.log', self.folder)
-        self.check('%s:%d: the recording of the kept log' % (block.page, block.line), made.returncode == 0, 'got %r' % (made,))
+        shutil.copy(LOG, os.path.join(self.folder, "kept.log"))
+        made = self.run(self.command + " record -o late --log kept.log", self.folder)
+        self.check("%s:%d: the recording of the kept log" % (block.page, block.line), made.returncode == 0, "got %r" % (made,))
         output = self.type(block)
-        holds = is_shown(block.shown or '', output)
-        self.check('%s:%d: what is shown behind it' % (block.page, block.line), holds, 'wanted %r, got %r' % (block.shown, output))
+        holds = is_shown(block.shown or "", output)
+        self.check("%s:%d: what is shown behind it" % (block.page, block.line), holds, "wanted %r, got %r" % (block.shown, output))
 
-    def run(self, command: str, folder: str) -> 'subprocess.CompletedProcess[str]':
-        with tempfile.NamedTemporaryFile('r') as where:
-            ended = subprocess.run(['sh', '-c', '%s\nstatus=$?\npwd >"$WHERE"\nexit $status' % command], cwd=folder,
-                                   env={**self.env, 'WHERE': where.name}, capture_output=True, text=True, timeout=SECONDS)
-            if command.startswith('cd '):
+    def run(self, command: str, folder: str) -> "subprocess.CompletedProcess[str]":
+        with tempfile.NamedTemporaryFile("r") as where:
+            ended = subprocess.run(
+                ["sh", "-c", '%s\nstatus=$?\npwd >"$WHERE"\nexit $status' % command],
+                cwd=folder,
+                env={**self.env, "WHERE": where.name},
+                capture_output=True,
+                text=True,
+                timeout=SECONDS,
+            )
+            if command.startswith("cd "):
                 self.folder = where.read().strip() or self.folder
         return ended
 
     def walk(self, block: Block) -> None:
         before = len(self.left_out)
-        if any('tick' in it and 'late.rec' in it for it in block.commands):
+        if any("tick" in it and "late.rec" in it for it in block.commands):
             self.of_kept_log(block)
             return
         output = self.type(block)
         if block.shown is None or len(self.left_out) > before:
             return
-        real = any(it in command for it in ('./late', 'late.rec', './upload', 'upload.hunt') for command in block.commands)
+        real = any(it in command for it in ("./late", "late.rec", "./upload", "upload.hunt") for command in block.commands)
         holds = is_like(block.shown, output) if real else is_shown(block.shown, output)
         for _ in range(2):
             # (on a machine that does much else a run may go another way: it is recorded once more)
@@ -224,27 +263,27 @@ class Walker:
                 self.run(self.recorded, self.folder)
                 output = self.type(block)
                 holds = is_like(block.shown, output)
-        self.check('%s:%d: what is shown behind it' % (block.page, block.line), holds, 'wanted %r, got %r' % (block.shown, output))
+        self.check("%s:%d: what is shown behind it" % (block.page, block.line), holds, "wanted %r, got %r" % (block.shown, output))
 
 
 def try_commands(check: Check, copy: str, room: str, proved: bool) -> None:
     """The copy has a program already, as behind the first command."""
-    folder, home = os.path.join(room, 'clone'), os.path.join(room, 'home')
+    folder, home = os.path.join(room, "clone"), os.path.join(room, "home")
     os.mkdir(home)
     shutil.copytree(copy, folder, symlinks=True)
-    walker = Walker(check, './uvt', folder, home, dict(os.environ), proved)
-    lines = Path(folder, 'README.md').read_text(encoding='utf-8').count('\n')
-    check('README.md is a front page', lines <= MOST_LINES, 'it has %d lines' % lines)
-    named = set(re.findall(r'[a-z-]+\.uvt', Path(folder, 'docs', 'TOUR.md').read_text(encoding='utf-8')))
-    scripts = {it.name for it in Path(folder, 'examples').glob('*.uvt')}
-    check('docs/TOUR.md has each script of examples/, and no other', named == scripts, 'got %r' % sorted(named ^ scripts))
+    walker = Walker(check, "./uvt", folder, home, dict(os.environ), proved)
+    lines = Path(folder, "README.md").read_text(encoding="utf-8").count("\n")
+    check("README.md is a front page", lines <= MOST_LINES, "it has %d lines" % lines)
+    named = set(re.findall(r"[a-z-]+\.uvt", Path(folder, "docs", "TOUR.md").read_text(encoding="utf-8")))
+    scripts = {it.name for it in Path(folder, "examples").glob("*.uvt")}
+    check("docs/TOUR.md has each script of examples/, and no other", named == scripts, "got %r" % sorted(named ^ scripts))
     for name in PAGES:
-        text = Path(folder, name).read_text(encoding='utf-8')
-        check('%s: lines of commands among others' % name, not mixed_lines(text), 'got %r' % mixed_lines(text))
+        text = Path(folder, name).read_text(encoding="utf-8")
+        check("%s: lines of commands among others" % name, not mixed_lines(text), "got %r" % mixed_lines(text))
         blocks = blocks_of(text, name)
-        check('%s shows commands' % name, len(blocks) > 2)
+        check("%s shows commands" % name, len(blocks) > 2)
         for block in blocks:
             walker.walk(block)
     for it in walker.left_out:
-        print('program: the pages: not run: ' + it, flush=True)
-    check('the pages: most commands were run', walker.count > 12, 'only %d' % walker.count)
+        print("program: the pages: not run: " + it, flush=True)
+    check("the pages: most commands were run", walker.count > 12, "only %d" % walker.count)

@@ -9,6 +9,7 @@ import tempfile
 import time
 from pathlib import Path
 
+from tests.helper import Check, Tries
 from uvt.conversation import Conversation, read_input
 
 ROOT = Path(__file__).resolve().parent.parent.parent
@@ -25,22 +26,43 @@ SECONDS = 60
 SOURCE = {"name": str, "path": str}
 BREAKPOINT = {"verified": bool, "line?": int, "message?": str}
 BODIES: dict[str, dict | None] = {
-    "initialize": {"supportsConfigurationDoneRequest": bool, "supportsFunctionBreakpoints": bool, "supportsStepBack": bool,
-                   "supportsConditionalBreakpoints": bool, "supportsHitConditionalBreakpoints": bool, "supportsLogPoints": bool,
-                   "supportsTerminateRequest": bool, "supportsGotoTargetsRequest": bool,
-                   "exceptionBreakpointFilters": [{"filter": str, "label": str}]},
-    "launch": None, "configurationDone": None, "disconnect": None, "terminate": None, "setExceptionBreakpoints": None, "pause": None,
-    "next": None, "stepIn": None, "stepOut": None, "stepBack": None, "reverseContinue": None, "continue": {"allThreadsContinued": bool},
-    "setBreakpoints": {"breakpoints": [BREAKPOINT]}, "setFunctionBreakpoints": {"breakpoints": [BREAKPOINT]},
+    "initialize": {
+        "supportsConfigurationDoneRequest": bool,
+        "supportsFunctionBreakpoints": bool,
+        "supportsStepBack": bool,
+        "supportsConditionalBreakpoints": bool,
+        "supportsHitConditionalBreakpoints": bool,
+        "supportsLogPoints": bool,
+        "supportsTerminateRequest": bool,
+        "supportsGotoTargetsRequest": bool,
+        "exceptionBreakpointFilters": [{"filter": str, "label": str}],
+    },
+    "launch": None,
+    "configurationDone": None,
+    "disconnect": None,
+    "terminate": None,
+    "setExceptionBreakpoints": None,
+    "pause": None,
+    "next": None,
+    "stepIn": None,
+    "stepOut": None,
+    "stepBack": None,
+    "reverseContinue": None,
+    "continue": {"allThreadsContinued": bool},
+    "setBreakpoints": {"breakpoints": [BREAKPOINT]},
+    "setFunctionBreakpoints": {"breakpoints": [BREAKPOINT]},
     "threads": {"threads": [{"id": int, "name": str}]},
     "stackTrace": {"stackFrames": [{"id": int, "name": str, "line": int, "column": int, "source?": SOURCE}], "totalFrames": int},
     "scopes": {"scopes": [{"name": str, "variablesReference": int, "expensive": bool}]},
     "variables": {"variables": [{"name": str, "value": str, "variablesReference": int}]},
-    "gotoTargets": {"targets": [{"id": int, "label": str, "line": int}]}, "goto": None,
+    "gotoTargets": {"targets": [{"id": int, "label": str, "line": int}]},
+    "goto": None,
     "evaluate": {"result": str, "variablesReference": int},
 }
 EVENTS: dict[str, dict] = {
-    "initialized": {}, "stopped": {"reason": str, "threadId": int, "allThreadsStopped": bool}, "output": {"category": str, "output": str},
+    "initialized": {},
+    "stopped": {"reason": str, "threadId": int, "allThreadsStopped": bool},
+    "output": {"category": str, "output": str},
 }
 
 
@@ -73,7 +95,7 @@ def is_message(message: dict) -> bool:
 class Client:
     """A client with an adapter of its own."""
 
-    def __init__(self, check, adapter: str = ADAPTER) -> None:
+    def __init__(self, check: Check, adapter: str = ADAPTER) -> None:
         self.check = check
         self.process = subprocess.Popen([adapter], stdin=subprocess.PIPE, stdout=subprocess.PIPE, stderr=subprocess.PIPE, env=os.environ)
         self.number = 0
@@ -137,7 +159,7 @@ class Client:
         return self.process.wait(SECONDS), told
 
 
-def try_breakpoints(check) -> None:
+def try_breakpoints(check: Check) -> None:
     client = Client(check)
     client.begin(EXAMPLES / "late-timer.uvt")
     path = {"path": str(EXAMPLES / "late-timer.uvt")}
@@ -168,7 +190,7 @@ def try_breakpoints(check) -> None:
     check("adapter, the end of the input", ended == (0, ""), ended)
 
 
-def try_conditions(check) -> None:
+def try_conditions(check: Check) -> None:
     """Conditions, counts of hits and messages; and what isn't known is refused."""
     client = Client(check)
     path = EXAMPLES / "falls-behind.uvt"
@@ -209,7 +231,7 @@ def try_conditions(check) -> None:
     check("adapter, the end behind conditions", client.end() == (0, ""))
 
 
-def try_io(check) -> None:
+def try_io(check: Check) -> None:
     """A callback of I/O is one of the steps of what was launched: a breakpoint on its name stops there, and another one may be done by hand."""
     client = Client(check)
     client.begin(CONVERSATIONS / f"{BEFORE_SENDS}.uvt")
@@ -235,7 +257,7 @@ def try_io(check) -> None:
     check("adapter, the end of I/O", client.end() == (0, ""))
 
 
-def try_stacks(check) -> None:
+def try_stacks(check: Check) -> None:
     """Step by step to the end, and back to the start: the same stacks."""
     client = Client(check)
     client.begin(EXAMPLES / "sent-session.rec")
@@ -255,7 +277,7 @@ def try_stacks(check) -> None:
     check("adapter, disconnect", client.end() == (0, ""))
 
 
-def try_faults(check) -> None:
+def try_faults(check: Check) -> None:
     client = Client(check)
     check("adapter, nothing was launched", "refused" in client.ask("threads"))
     check("adapter, an unknown request", "refused" in client.ask("what"))
@@ -265,8 +287,12 @@ def try_faults(check) -> None:
     check("adapter, no such variables", "refused" in client.ask("variables", variablesReference=99))
     check("adapter, no such command", "refused" in client.ask("evaluate", expression="what"))
     check("adapter, no such length", "refused" in client.ask("evaluate", expression="goto 99"))
-    for wrong in (b"Content-Length: x\r\n\r\n", b"Content-Length: 3\r\n\r\n{{{", b"Content-Length: 2\r\n\r\n[]",
-                  b"Content-Length: 100000\r\n\r\n" + b"[" * 100000):
+    for wrong in (
+        b"Content-Length: x\r\n\r\n",
+        b"Content-Length: 3\r\n\r\n{{{",
+        b"Content-Length: 2\r\n\r\n[]",
+        b"Content-Length: 100000\r\n\r\n" + b"[" * 100000,
+    ):
         other = Client(check)
         other.write(wrong)
         status, told = other.end()
@@ -279,7 +305,7 @@ def try_faults(check) -> None:
 ODD: list[object] = [None, 5, -1, True, "x", "\0", "\n", [], [5], [{}], [None], [[]], {}, {"path": 5}, 1 << 70, "\u00e9", "x" * 300]
 
 
-def try_odd(check) -> None:
+def try_odd(check: Check) -> None:
     """Requests with arguments of no sense: each is answered, and nothing ends."""
     client = Client(check)
     client.begin(EXAMPLES / "two-timers.uvt")
@@ -307,7 +333,7 @@ def are_gone(children: list[int]) -> bool:
     return False
 
 
-def try_gone(check) -> None:
+def try_gone(check: Check) -> None:
     """A client that goes away, and one that asks for a pause, while the loop goes on without an end; and a long script."""
     with tempfile.TemporaryDirectory() as folder:
         spin, long = Path(folder) / "spin.uvt", Path(folder) / "long.uvt"
@@ -336,13 +362,17 @@ def try_gone(check) -> None:
 SPIN = ["var i", "main init i idle", "main start i", "main run default"]
 
 
-def try_long(check) -> None:
+def try_long(check: Check) -> None:
     """A `loop N` that is evaluated answers as the program does, however long it is; of a very long one the last lines."""
     with tempfile.TemporaryDirectory() as folder:
         spin = Path(folder) / "spin.uvt"
         spin.write_text("".join(f"{it}\n" for it in SPIN))
-        cases = [(spin, ["loop 1000", "loop 1001", "loop 2500"]), (spin, ["break section check", "loop 5000", "loop 5000"]), (spin, ["loop 11000"]),
-                 (EXAMPLES / "late-timer.uvt", ["loop 5000", "tick 20", "loop 5000", "loop 16777217", "loop 05000"])]
+        cases = [
+            (spin, ["loop 1000", "loop 1001", "loop 2500"]),
+            (spin, ["break section check", "loop 5000", "loop 5000"]),
+            (spin, ["loop 11000"]),
+            (EXAMPLES / "late-timer.uvt", ["loop 5000", "tick 20", "loop 5000", "loop 16777217", "loop 05000"]),
+        ]
         for path, commands in cases:
             client = Client(check)
             client.begin(path)
@@ -364,7 +394,7 @@ def try_long(check) -> None:
         try_mixed(check, spin)
 
 
-def try_mixed(check, path: Path) -> None:
+def try_mixed(check: Check, path: Path) -> None:
     """Steps of the editor, and then one that is evaluated: from the start they come again, each in its place."""
     client = Client(check)
     client.begin(path)
@@ -402,7 +432,7 @@ def paused(client: Client, command: str, wait: float, **arguments: object) -> di
     return responses[first]
 
 
-def try_pause(check) -> None:
+def try_pause(check: Check) -> None:
     """A long `loop N`, `continue` and `reverseContinue` end at a pause, and the session goes on from there."""
     with tempfile.TemporaryDirectory() as folder:
         spin = Path(folder) / "spin.uvt"
@@ -432,11 +462,11 @@ def try_pause(check) -> None:
         client.begin(spin)
         client.send("evaluate", expression="loop 16777216")
         client.write(b"Content-Length: 3\r\n\r\n{{{")
-        status, told = client.end()
-        check("adapter, a wrong message in a long loop", status == 1 and told == "uvt-dap: what came is no message: its body is no JSON\n", told)
+        status, said = client.end()
+        check("adapter, a wrong message in a long loop", status == 1 and said == "uvt-dap: what came is no message: its body is no JSON\n", said)
 
 
-def try_javascript(check) -> None:
+def try_javascript(check: Check) -> None:
     """Of a program in node its own source: a breakpoint in it, and frames with its lines. What took the time in json.js is its line 8, in `load`,
     which begins at line 6."""
     with tempfile.TemporaryDirectory() as folder:
@@ -469,6 +499,6 @@ def try_javascript(check) -> None:
         check("adapter, the end of JavaScript", client.end() == (0, ""))
 
 
-def try_adapter(tries) -> None:
+def try_adapter(tries: Tries) -> None:
     for part in (try_breakpoints, try_conditions, try_io, try_stacks, try_faults, try_odd, try_gone, try_long, try_pause, try_javascript):
         part(tries.check)

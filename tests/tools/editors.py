@@ -8,9 +8,11 @@ import re
 import shutil
 import tempfile
 from pathlib import Path
+from typing import Any
 
+from tests.helper import Check, Tries
+from tests.tools.daps import EXAMPLES, Client, fits
 from uvt.conversation import Conversation, Fault, Script, read_input
-from daps import EXAMPLES, Client, fits
 
 ROOT = Path(__file__).resolve().parent.parent.parent
 FOLDER = ROOT / "tools" / "uvt" / "vscode"
@@ -20,21 +22,50 @@ FOLDER = ROOT / "tools" / "uvt" / "vscode"
 LANGUAGE = {"id": str, "aliases?": [str], "extensions?": [str], "filenames?": [str], "firstLine?": str, "configuration?": str}
 SNIPPET = {"label": str, "description?": str, "body": dict}
 DEBUGGER = {
-    "type": str, "label?": str, "languages?": [str], "program?": str, "args?": [str], "runtime?": str, "runtimeArgs?": [str],
-    "variables?": dict, "configurationAttributes?": {"launch?": {"required?": [str], "properties?": dict}, "attach?": dict},
-    "initialConfigurations?": [dict], "configurationSnippets?": [SNIPPET],
+    "type": str,
+    "label?": str,
+    "languages?": [str],
+    "program?": str,
+    "args?": [str],
+    "runtime?": str,
+    "runtimeArgs?": [str],
+    "variables?": dict,
+    "configurationAttributes?": {"launch?": {"required?": [str], "properties?": dict}, "attach?": dict},
+    "initialConfigurations?": [dict],
+    "configurationSnippets?": [SNIPPET],
 }
 MANIFEST = {
-    "name": str, "displayName?": str, "description?": str, "version": str, "publisher": str, "engines": {"vscode": str},
-    "categories?": [str], "activationEvents?": [str], "main?": str,
-    "contributes": {"languages?": [LANGUAGE], "grammars?": [{"language?": str, "scopeName": str, "path": str, "embeddedLanguages?": dict}],
-                    "breakpoints?": [{"language": str}], "debuggers?": [DEBUGGER]},
+    "name": str,
+    "displayName?": str,
+    "description?": str,
+    "version": str,
+    "publisher": str,
+    "engines": {"vscode": str},
+    "categories?": [str],
+    "activationEvents?": [str],
+    "main?": str,
+    "contributes": {
+        "languages?": [LANGUAGE],
+        "grammars?": [{"language?": str, "scopeName": str, "path": str, "embeddedLanguages?": dict}],
+        "breakpoints?": [{"language": str}],
+        "debuggers?": [DEBUGGER],
+    },
 }
 CATEGORIES = {"Programming Languages", "Snippets", "Linters", "Themes", "Debuggers", "Formatters", "Keymaps", "Other"}
 CONFIGURATION = {"comments?": {"lineComment?": str, "blockComment?": [str]}, "brackets?": [[str]], "wordPattern?": str}
 ROOT_OF_GRAMMAR = {"name?": str, "scopeName": str, "fileTypes?": [str], "firstLineMatch?": str, "patterns": [dict], "repository?": dict}
-RULE = {"name?": str, "contentName?": str, "match?": str, "captures?": dict, "begin?": str, "end?": str, "beginCaptures?": dict,
-        "endCaptures?": dict, "patterns?": [dict], "include?": str}
+RULE = {
+    "name?": str,
+    "contentName?": str,
+    "match?": str,
+    "captures?": dict,
+    "begin?": str,
+    "end?": str,
+    "beginCaptures?": dict,
+    "endCaptures?": dict,
+    "patterns?": [dict],
+    "include?": str,
+}
 # What of a regular expression Oniguruma, Python and JavaScript have in common, and in the same sense.
 COMMON = re.compile(r"(\\[.]|\(\?[:!=]|[()^$|+*?.]|\[[a-zA-Z0-9_-]+\]|\{\d+(,\d+)?\}|[A-Za-z0-9_ @#])*")
 
@@ -43,7 +74,7 @@ def read_json(path: Path) -> dict:
     return json.loads(path.read_text(encoding="utf-8"))
 
 
-def try_manifest(check) -> None:
+def try_manifest(check: Check) -> None:
     found = read_json(FOLDER / "package.json")
     check("vscode, the manifest's fields", fits(found, MANIFEST), found)
     check("vscode, its name and version", re.fullmatch("[a-z0-9-]+", found["name"]) and re.fullmatch(r"\d+\.\d+\.\d+", found["version"]))
@@ -72,12 +103,16 @@ def try_manifest(check) -> None:
 # ---- the colours
 
 
-def rules_in(value: object) -> list[dict]:
+def rules_in(value: Any) -> list[dict]:
     """Each rule of a grammar, wherever it stands."""
     if isinstance(value, list):
         return [it for part in value for it in rules_in(part)]
-    rows = [it for name, part in value.items() if name in ("patterns", "repository") for it in
-            (rules_in(list(part.values()) if isinstance(part, dict) else part))]
+    rows = [
+        it
+        for name, part in value.items()
+        if name in ("patterns", "repository")
+        for it in (rules_in(list(part.values()) if isinstance(part, dict) else part))
+    ]
     return [value, *rows]
 
 
@@ -99,9 +134,10 @@ class Colours:
         # (an editor hands a line over with its line feed)
         text, at, scopes = line + "\n", 0, [""] * len(line)
         while True:
-            ends = [{"match": self.stack[-1]["end"], "closes": True}] if "end" in self.stack[-1] else []
+            ends: list[dict] = [{"match": self.stack[-1]["end"], "closes": True}] if "end" in self.stack[-1] else []
             found = [(re.compile(it.get("match", it.get("begin"))).search(text, at), it) for it in [*ends, *self.at_hand(self.stack[-1]["patterns"])]]
-            match, rule = min((it for it in found if it[0]), key=lambda it: it[0].start(), default=(None, {}))
+            none: tuple[Any, dict] = (None, {})
+            match, rule = min((it for it in found if it[0]), key=lambda it: it[0].start(), default=none)
             if match is None or (match.end() == at and "begin" not in rule):
                 return scopes
             scopes[match.start() : match.end()] = [rule.get("name", "")] * len(match[0])
@@ -129,7 +165,7 @@ def is_bad(scopes: list[str]) -> bool:
     return all(it.startswith("invalid") for it in scopes)
 
 
-def try_grammar(check, grammar: dict) -> None:
+def try_grammar(check: Check, grammar: dict) -> None:
     check("vscode, the grammar's fields", fits(grammar, ROOT_OF_GRAMMAR), list(grammar))
     for rule in rules_in(grammar["patterns"]) + rules_in(list(grammar["repository"].values())):
         check("vscode, a rule's fields", fits(rule, RULE) and ("begin" in rule) == ("end" in rule), rule)
@@ -146,27 +182,135 @@ def try_grammar(check, grammar: dict) -> None:
 
 
 # Lines that are none, by the rules of scripts and of commands, with one declared name, `a`, behind the line `io`. The program refuses them too.
-WRONG_LINES = ["order", "order 1.43", "order 1.44 1.45",
-               "main strat a 1 0", "main init a tmier", "on a run default", "on a closeloop", "main start a 1", "var A", "main  now", "main now ",
-               "workers", "slots", "after a @ now", "thread 0 close a", "uvt 4", "io a", "timers", "timers late", "main io a", "heap", "main", "on now", "main queue a", "main repeat a", "loop",
-               "main run", "main run forever", "main stoploop a", "slots 1 2 3", " # a space in front", "on a @2", "main queue a 5  " + "x" * 64]
-WRONG_COMMANDS = ["lop", "loop x", "break code EBUZY", "break section timer", "rback 1", "step", "tick", "take", "send", "break", "break call",
-                  "main now", "begin", "state now", "finish", "cancel", "forward", "back", "io", "io 1", "timers heap"]
+WRONG_LINES = [
+    "order",
+    "order 1.43",
+    "order 1.44 1.45",
+    "main strat a 1 0",
+    "main init a tmier",
+    "on a run default",
+    "on a closeloop",
+    "main start a 1",
+    "var A",
+    "main  now",
+    "main now ",
+    "workers",
+    "slots",
+    "after a @ now",
+    "thread 0 close a",
+    "uvt 4",
+    "io a",
+    "timers",
+    "timers late",
+    "main io a",
+    "heap",
+    "main",
+    "on now",
+    "main queue a",
+    "main repeat a",
+    "loop",
+    "main run",
+    "main run forever",
+    "main stoploop a",
+    "slots 1 2 3",
+    " # a space in front",
+    "on a @2",
+    "main queue a 5  " + "x" * 64,
+]
+WRONG_COMMANDS = [
+    "lop",
+    "loop x",
+    "break code EBUZY",
+    "break section timer",
+    "rback 1",
+    "step",
+    "tick",
+    "take",
+    "send",
+    "break",
+    "break call",
+    "main now",
+    "begin",
+    "state now",
+    "finish",
+    "cancel",
+    "forward",
+    "back",
+    "io",
+    "io 1",
+    "timers heap",
+]
 # And one of each kind that is.
 RIGHT_LINES = [
-    "order 1.44", "order 1.45", "timers heap", "main init a io", "on a @3 init a io",
-    "slots 5", "slots 5 2", "workers 3", "var b", "thread 3 send a", "main run once", "main run nowait", "main run default", "main closeloop",
-    *(f"{front} {op}" for front in ("main", "on a", "after a @2", "closed a @13") for op in (
-        "init a timer", "init a idle", "init a prepare", "init a check", "init a async", "start a 5 10", "start a", "stop a", "again a",
-        "repeat a 5", "due a", "ref a", "unref a", "hasref a", "active a", "closing a", "close a", "send a", "queue a 5", "queue a 5 a  text ",
-        "queue a 5 on a now", "cancel a", "stoploop", "updatetime", "now", "alive", "timeout")),
+    "order 1.44",
+    "order 1.45",
+    "timers heap",
+    "main init a io",
+    "on a @3 init a io",
+    "slots 5",
+    "slots 5 2",
+    "workers 3",
+    "var b",
+    "thread 3 send a",
+    "main run once",
+    "main run nowait",
+    "main run default",
+    "main closeloop",
+    *(
+        f"{front} {op}"
+        for front in ("main", "on a", "after a @2", "closed a @13")
+        for op in (
+            "init a timer",
+            "init a idle",
+            "init a prepare",
+            "init a check",
+            "init a async",
+            "start a 5 10",
+            "start a",
+            "stop a",
+            "again a",
+            "repeat a 5",
+            "due a",
+            "ref a",
+            "unref a",
+            "hasref a",
+            "active a",
+            "closing a",
+            "close a",
+            "send a",
+            "queue a 5",
+            "queue a 5 a  text ",
+            "queue a 5 on a now",
+            "cancel a",
+            "stoploop",
+            "updatetime",
+            "now",
+            "alive",
+            "timeout",
+        )
+    ),
 ]
 # (`calls` is a bad command of a script, and begins a part of a recording. The colours don't tell the two apart.)
 RIGHT_COMMANDS = [
-    "loop", "loop 5", "tick 5", "take 0", "finish 1", "cancel a", "send a", "io a", "back 1", "forward 1", "break call a", "break clear", "rback",
+    "loop",
+    "loop 5",
+    "tick 5",
+    "take 0",
+    "finish 1",
+    "cancel a",
+    "send a",
+    "io a",
+    "back 1",
+    "forward 1",
+    "break call a",
+    "break clear",
+    "rback",
     *(f"break code {it}" for it in ("ok", "EINVAL", "EBUSY", "ECANCELED", "EBOUND", "EFULL", "ESTALE", "EKIND")),
     *(f"break section {it}" for it in ("pending", "idle", "prepare", "poll", "done", "async", "check", "closing", "timers")),
-    "trace", "state", "image", "record",
+    "trace",
+    "state",
+    "image",
+    "record",
 ]
 
 
@@ -178,7 +322,7 @@ def is_script(lines: list[str]) -> bool:
         return False
 
 
-def try_lines(check, grammar: dict) -> None:
+def try_lines(check: Check, grammar: dict) -> None:
     """Lines that are one, and lines that are none: the program and the colours agree."""
     for line in RIGHT_LINES:
         check(f"vscode, `{line}`", is_script(["io", "var a", line]) and is_told(line, coloured(grammar, [line])[0]), coloured(grammar, [line]))
@@ -192,7 +336,7 @@ def try_lines(check, grammar: dict) -> None:
                 check(f"vscode, the command `{line}`", good and (talk.ask(line) != ["bad command"]) == right, scopes)
 
 
-def try_files(check, grammar: dict) -> None:
+def try_files(check: Check, grammar: dict) -> None:
     """Each line of each example, and of the recording of each."""
     for path in sorted(it for it in EXAMPLES.iterdir() if it.suffix in (".uvt", ".live", ".rec")):
         script, commands = read_input(path)
@@ -210,8 +354,10 @@ def try_files(check, grammar: dict) -> None:
 SCOPES = [
     ("var beat", ["storage.type.name", "variable.other.declaration"]),
     ("main start beat 15 0", ["keyword.control.main", "support.function.op", "variable.other", "constant.numeric", "constant.numeric"]),
-    ("closed a @2 init b check", ["keyword.control.list", "variable.other", "constant.numeric.call", "support.function.op", "variable.other",
-                                  "support.type.kind"]),
+    (
+        "closed a @2 init b check",
+        ["keyword.control.list", "variable.other", "constant.numeric.call", "support.function.op", "variable.other", "support.type.kind"],
+    ),
     ("main queue a 5 now", ["keyword.control.main", "support.function.op", "variable.other", "constant.numeric", "string.unquoted.text"]),
     ("io", ["storage.modifier.io"]),
     ("timers heap", ["storage.modifier.timers", "constant.language.heap"]),
@@ -226,7 +372,7 @@ SCOPES = [
 ]
 
 
-def try_scopes(check, grammar: dict) -> None:
+def try_scopes(check: Check, grammar: dict) -> None:
     lines = [it for it, _ in SCOPES]
     for (line, wanted), scopes in zip(SCOPES, coloured(grammar, lines)):
         begins = [0, *(at + 1 for at, letter in enumerate(line) if letter == " ")]
@@ -237,7 +383,7 @@ def try_scopes(check, grammar: dict) -> None:
 # ---- the adapter
 
 
-def try_copied(check) -> None:
+def try_copied(check: Check) -> None:
     """The folder copied as the page says, and then what the editor asks of the adapter that its manifest names."""
     with tempfile.TemporaryDirectory() as name:
         folder = Path(name) / "uvt"
@@ -246,8 +392,18 @@ def try_copied(check) -> None:
         debugger = read_json(folder / "package.json")["contributes"]["debuggers"][0]
         client = Client(check, str(folder / debugger["program"]))
         path = EXAMPLES / "late-timer.uvt"
-        client.ask("initialize", clientID="vscode", clientName="Visual Studio Code", adapterID=debugger["type"], pathFormat="path",
-                   linesStartAt1=True, columnsStartAt1=True, supportsVariableType=True, supportsRunInTerminalRequest=True, locale="en")
+        client.ask(
+            "initialize",
+            clientID="vscode",
+            clientName="Visual Studio Code",
+            adapterID=debugger["type"],
+            pathFormat="path",
+            linesStartAt1=True,
+            columnsStartAt1=True,
+            supportsVariableType=True,
+            supportsRunInTerminalRequest=True,
+            locale="en",
+        )
         configuration = {name: value.replace("${file}", str(path)) for name, value in debugger["initialConfigurations"][0].items()}
         client.ask("launch", **configuration, __sessionId="1")
         client.until("initialized")
@@ -264,7 +420,7 @@ def try_copied(check) -> None:
         check("vscode, the end", client.end() == (0, ""))
 
 
-def try_editors(tries) -> None:
+def try_editors(tries: Tries) -> None:
     for path in sorted(FOLDER.rglob("*.json")):
         tries.check(f"vscode, {path.name} is an object", isinstance(read_json(path), dict))
     grammar = read_json(FOLDER / "syntaxes" / "uvt.tmLanguage.json")

@@ -9,27 +9,25 @@ import os
 import re
 import signal
 import subprocess
-import sys
 import tempfile
 import time
 from pathlib import Path
-from typing import Callable, NamedTuple
+from typing import NamedTuple
 
 ROOT = Path(__file__).resolve().parent.parent.parent
 EXAMPLES = ROOT / "crates" / "examples" / "data"
 TOOL = str(ROOT / "tools" / "uvt" / "uvt-find")
-sys.path.insert(0, str(ROOT / "tools"))
-
-from launch import reasons  # noqa: E402
+from tests.helper import Check, Tries
+from launch import reasons
 
 SECONDS = 300
 FOUND, NEVER, BAD, UNSETTLED, INTERRUPTED = 0, 1, 2, 3, 130
 # A pool of eight with eight requests, whose orders no search settles within some seconds.
-ENDLESS = "\n".join(["workers 8", *(f"var r{at}" for at in range(8)), *(f"main queue r{at} 1" for at in range(8)), "main run default", "begin",
-                     "find code EBUSY", ""])
+ENDLESS = "\n".join(
+    ["workers 8", *(f"var r{at}" for at in range(8)), *(f"main queue r{at} 1" for at in range(8)), "main run default", "begin", "find code EBUSY", ""]
+)
 # So many seconds behind its start a search is interrupted: it has passed a thousand states by then, also before its proofs.
 INTERRUPTED_AFTER = 10
-Check = Callable[..., None]
 
 
 class Due(NamedTuple):
@@ -51,11 +49,17 @@ ANSWERS = {
 # What recorded programs did, and what none of their orders does, by the recording's name: an echo server whose writes took 35 ms and made a
 # heartbeat late, two signals of three that a timer raised, and a frame that was 39 ms late behind a callback of 50.
 RECORDED = [
-    ("echo", "find on server", FOUND), ("echo", "find on client 7", FOUND), ("echo", "find late heartbeat 25", FOUND),
+    ("echo", "find on server", FOUND),
+    ("echo", "find on client 7", FOUND),
+    ("echo", "find late heartbeat 25", FOUND),
     ("echo", "find peer after server", FOUND),
-    ("signals", "find on usr 2", FOUND), ("signals", "find on usr 3", NEVER), ("signals", "find on term", FOUND),
+    ("signals", "find on usr 2", FOUND),
+    ("signals", "find on usr 3", NEVER),
+    ("signals", "find on term", FOUND),
     ("signals", "find closed poke", FOUND),
-    ("frame", "find late vsync 39", FOUND), ("frame", "find late vsync 52", NEVER), ("frame", "find closed load", FOUND),
+    ("frame", "find late vsync 39", FOUND),
+    ("frame", "find late vsync 52", NEVER),
+    ("frame", "find closed load", FOUND),
 ]
 # A timer and an async handle, in one run of which nothing was sent, and in the other one a send closed both.
 MAIN = ["var t", "var a", "main init t timer", "main init a async", "main start t 5 0", "main run default"]
@@ -71,8 +75,11 @@ BAD_LINES = [
     ("var a\nbegin\nmay send a 1 during a\nfind stuck\n", 3, "`a` is on both sides of `during`, which asks for two names"),
     ("var a\nbegin\ntakes a 2 5\nfind stuck\n", 3, "no line says `takes a 2 5`: it has the form `takes NAME MS` or `takes NAME @K MS`"),
     ("var a\nbegin\ntakes a @0 5\nfind stuck\n", 3, "`0` is out of range: K is 1 to 4294967295"),
-    ("var a\nbegin\ntakes a @2 5\ntakes a 5\ntakes a @2 6\nfind stuck\n", 5,
-     "`takes a @2` stands in line 3 already, and a search has it once at most"),
+    (
+        "var a\nbegin\ntakes a @2 5\ntakes a 5\ntakes a @2 6\nfind stuck\n",
+        5,
+        "`takes a @2` stands in line 3 already, and a search has it once at most",
+    ),
     ("var a\nbegin\nmay send a 0\nfind stuck\n", 3, "`0` is out of range: N is 1 to 4294967295"),
     ("var a\nbegin\nmay wait\n", 4, "the line is missing that says what to look for: `find ..`"),
     ("var a\nbegin\nmay wait\nmay wait\nfind stuck\n", 4, "`may wait` stands in line 3 already, and a search has it once at most"),
@@ -121,10 +128,19 @@ def try_lines(check: Check, folder: str) -> None:
     kept = os.path.join(folder, "several")
     ran = run([str(EXAMPLES / "late-timer.uvt"), *asked[:2], *questions, "-j", "2", "-o", kept])
     said = [line.partition(": ") for line in ran.stdout.splitlines()]
-    check("find, several questions", ran.returncode == FOUND and [it[0] for it in said] == questions
-          and [it[2].split(" ")[0].rstrip(":") for it in said] == ["found", "never", "found"], ran)
-    check("find, the sessions of several questions", [os.path.exists(f"{kept}.{at}") for at in (1, 2, 3)] == [True, False, True]
-          and debugged(Path(f"{kept}.1").read_text(encoding="ascii"))[-1:] == ["call beat 2.0"], os.listdir(folder))
+    check(
+        "find, several questions",
+        ran.returncode == FOUND
+        and [it[0] for it in said] == questions
+        and [it[2].split(" ")[0].rstrip(":") for it in said] == ["found", "never", "found"],
+        ran,
+    )
+    check(
+        "find, the sessions of several questions",
+        [os.path.exists(f"{kept}.{at}") for at in (1, 2, 3)] == [True, False, True]
+        and debugged(Path(f"{kept}.1").read_text(encoding="ascii"))[-1:] == ["call beat 2.0"],
+        os.listdir(folder),
+    )
     ran = run([str(EXAMPLES / "late-timer.uvt"), *asked[:2], questions[0], "find call nobody", "-j", "2"])
     check("find, a bad line of several", ran.returncode == BAD and "`nobody` isn't declared before this line" in ran.stderr, ran)
     ran = run([str(EXAMPLES / "sent-session.rec"), "may wait", "most states 1", "find stuck"])
@@ -134,17 +150,25 @@ def try_lines(check: Check, folder: str) -> None:
         with open(path, "w", encoding="ascii") as file:
             file.write(text)
         ran = run([path])
-        said = ran.stderr.splitlines()
-        check(f"find, a bad line: {why}", (ran.returncode, ran.stdout) == (BAD, "") and f"uvt: bad script line {line}" in said
-              and any(it.startswith(f"uvt: {why}") for it in said), ran)
+        lines = ran.stderr.splitlines()
+        check(
+            f"find, a bad line: {why}",
+            (ran.returncode, ran.stdout) == (BAD, "")
+            and f"uvt: bad script line {line}" in lines
+            and any(it.startswith(f"uvt: {why}") for it in lines),
+            ran,
+        )
     path = os.path.join(folder, "endless")
     Path(path).write_text(ENDLESS, encoding="ascii")
     search = subprocess.Popen([TOOL, path], stdout=subprocess.PIPE, stderr=subprocess.PIPE, text=True)
     time.sleep(INTERRUPTED_AFTER)
     search.send_signal(signal.SIGINT)
     out, errors = search.communicate(timeout=SECONDS)
-    check("find, interrupted", search.returncode == INTERRUPTED and re.fullmatch(r"not settled within 10+ states: interrupted\n", out) is not None,
-          (search.returncode, out, errors))
+    check(
+        "find, interrupted",
+        search.returncode == INTERRUPTED and re.fullmatch(r"not settled within 10+ states: interrupted\n", out) is not None,
+        (search.returncode, out, errors),
+    )
     rows = {reasons.why("find", text.encode().split(b"\n")[:-1], line).row for text, line, _ in BAD_LINES}
     check("find, each row of the table of reasons is tried", not set(reasons.ASKED_REASONS) - rows, set(reasons.ASKED_REASONS) - rows)
     ran = run([os.path.join(folder, "nowhere")])
@@ -155,15 +179,16 @@ def try_recorded(check: Check) -> None:
     """Recordings that are asked without a line `may`: what their programs did is found."""
     for name, question, status in RECORDED:
         ran = run([str(EXAMPLES / f"{name}.rec"), question])
-        check(f"find, {name}, {question}", ran.returncode == status
-              and "no line says `may`, so what came in the recording may come" in ran.stderr, ran)
+        check(
+            f"find, {name}, {question}", ran.returncode == status and "no line says `may`, so what came in the recording may come" in ran.stderr, ran
+        )
     ran = run([str(EXAMPLES / "echo.rec"), "may wait", "most clock 40", "find on server"])
     check("find, a recording with a line `may`", ran.returncode == NEVER and "so what came in the recording" not in ran.stderr, ran)
 
 
 def recording_of(script: list[str], commands: list[str]) -> str:
     lines = debugged("\n".join([*script, "begin", *commands, "record", ""]))
-    return "\n".join([*lines[lines.index("uvt 2"):], ""])
+    return "\n".join([*lines[lines.index("uvt 2") :], ""])
 
 
 def try_joined(check: Check, folder: str) -> None:
@@ -177,8 +202,11 @@ def try_joined(check: Check, folder: str) -> None:
     check("find, a callback that never ran", ran.returncode == NEVER and unknown in ran.stderr, ran)
     ran = run([paths["quiet"], paths["sent"], "find closed t"])
     check("find, two recordings", ran.returncode == FOUND and unknown not in ran.stderr, ran)
-    check("find, where they differ",
-          f"call 1 of `on t`: nothing in {paths['quiet']}, `now` in {paths['sent']}; it is as in {paths['quiet']}" in ran.stderr, ran)
+    check(
+        "find, where they differ",
+        f"call 1 of `on t`: nothing in {paths['quiet']}, `now` in {paths['sent']}; it is as in {paths['quiet']}" in ran.stderr,
+        ran,
+    )
     ran = run([paths["sent"], paths["quiet"], "find on t", "-o", os.path.join(folder, "both.uvt")])
     with open(os.path.join(folder, "both.uvt"), encoding="ascii") as file:
         check("find, the first recording has the word", ran.returncode == FOUND and "on t now\n" in file.read(), ran)
@@ -188,7 +216,7 @@ def try_joined(check: Check, folder: str) -> None:
     check("find, recordings that nothing is asked of", ran.returncode == 70 and "no line asks anything" in ran.stderr, ran)
 
 
-def try_find(tries) -> None:
+def try_find(tries: Tries) -> None:
     with tempfile.TemporaryDirectory() as folder:
         try_recorded(tries.check)
         try_joined(tries.check, folder)

@@ -14,7 +14,8 @@ import tempfile
 import time
 from pathlib import Path
 
-from records import ROOT, archive, has_libuv
+from tests.helper import Check, Tries
+from tests.tools.records import ROOT, archive, has_libuv
 
 FOLDER = Path(__file__).resolve().parent / "forces"
 PROGRAMS = ROOT / "tools" / "uvt" / "record" / "programs"
@@ -24,8 +25,13 @@ WELL, DEPARTS, FAULT, BADLY = 0, 1, 2, 3
 REPORT = "heap-use-after-free"
 # Of each whether it touches memory that is gone, and whether that is its last step.
 FORCED = {
-    "cancel": (False, False), "send": (True, True), "starve": (False, False), "retry": (True, False), "server": (True, False),
-    "lookup": (True, False), "order": (True, False),
+    "cancel": (False, False),
+    "send": (True, True),
+    "starve": (False, False),
+    "retry": (True, False),
+    "server": (True, False),
+    "lookup": (True, False),
+    "order": (True, False),
 }
 FLAGS = ["-O1", "-g", "-w"]
 
@@ -43,7 +49,9 @@ def has_sanitizer(folder: str) -> bool:
 
 
 def tool(word: str, words: list[str], folder: str) -> tuple[int, str]:
-    ran = subprocess.run([str(ROOT / "tools" / "uvt" / f"uvt-{word}"), *words], capture_output=True, text=True, errors="replace", cwd=folder, timeout=SECONDS)
+    ran = subprocess.run(
+        [str(ROOT / "tools" / "uvt" / f"uvt-{word}"), *words], capture_output=True, text=True, errors="replace", cwd=folder, timeout=SECONDS
+    )
     return ran.returncode, ran.stdout + ran.stderr
 
 
@@ -55,7 +63,7 @@ def is_whole(said: str) -> bool:
     return bool(re.search(r"^all \d+ steps, 0 departures, same$", said, re.MULTILINE))
 
 
-def try_one(check, name: str, folder: str, sanitizer: bool) -> None:
+def try_one(check: Check, name: str, folder: str, sanitizer: bool) -> None:
     gone, last = FORCED[name]
     program = compiled(name, folder, *(["-fsanitize=address"] if gone and sanitizer else []), "-luv")
     status, said = forced(["-o", f"{name}.forced", str(FOLDER / f"{name}.uvt"), program], folder)
@@ -66,7 +74,7 @@ def try_one(check, name: str, folder: str, sanitizer: bool) -> None:
         check(f"force, {name}: its status", status == (BADLY if gone else WELL), f"{status} {said}")
 
 
-def try_faults(check, folder: str) -> None:
+def try_faults(check: Check, folder: str) -> None:
     program = compiled("starve", folder, "-luv")
     status, said = forced(["-o", "other.forced", str(FOLDER / "cancel.uvt"), program], folder)
     check("force, another program departs, and it is said where", status == DEPARTS and "departs at step " in said, f"{status} {said}")
@@ -80,7 +88,7 @@ def try_faults(check, folder: str) -> None:
         check(f"force, a fault: {why}", status == FAULT and why in said and "Traceback" not in said, f"{status} {said}")
 
 
-def try_locked(check, folder: str) -> None:
+def try_locked(check: Check, folder: str) -> None:
     """The loop's thread waits for a lock, which a thread has that waits for its step: that is let through, and it is said."""
     program = compiled("locked", folder, "-luv")
     status, said = forced(["-o", "locked.forced", str(FOLDER / "locked.uvt"), program], folder)
@@ -88,7 +96,7 @@ def try_locked(check, folder: str) -> None:
     check("force, a thread that has a lock", status == DEPARTS and f": {why}\n" in said and "value 1\n" in said, f"{status} {said}")
 
 
-def try_slow(check, folder: str) -> None:
+def try_slow(check: Check, folder: str) -> None:
     """However long the loop's thread is at work, or gets no processor: who waits for its step waits on."""
     status, said = forced(["-o", "slow.forced", str(FOLDER / "slow.uvt"), compiled("slow", folder, "-luv")], folder)
     check("force, a callback of four seconds", status == WELL and is_whole(said) and "heard 0\n" in said, f"{status} {said}")
@@ -98,7 +106,7 @@ def try_slow(check, folder: str) -> None:
 JOINED = "the session has no send there: the program waits for that thread"
 
 
-def try_own(check, folder: str) -> None:
+def try_own(check: Check, folder: str) -> None:
     """Programs in the order of their own recordings."""
     for name in ("late", "mixed", "threads", "starved", "zero"):
         program = compiled(name, folder, "-luv")
@@ -114,7 +122,7 @@ def try_own(check, folder: str) -> None:
         check(f"force, {name}: its own recording", status == WELL and is_whole(said), f"{status} {said}")
 
 
-def try_sanitizer(check, folder: str) -> None:
+def try_sanitizer(check: Check, folder: str) -> None:
     """Memory that is gone and that libuv looks at: no sanitizer sees that, and the recorder tells it."""
     program = compiled("late-send", folder, "-fsanitize=address", "-luv")
     alone = subprocess.run([program], capture_output=True, text=True, errors="replace")
@@ -123,7 +131,7 @@ def try_sanitizer(check, folder: str) -> None:
     check("record, a use after free in libuv", REPORT in said and bool(re.search(r"in main \S+late-send.c:11$", said, re.MULTILINE)), said)
 
 
-def try_random(check, folder: str) -> None:
+def try_random(check: Check, folder: str) -> None:
     program = compiled("upload", folder, "-fsanitize=address", "-luv")
     status, said = forced(["--random", "200", "-o", "found", program], folder)
     check("force at random, until one ends badly", status == BADLY and REPORT in said and "its order: " in said, f"{status} {said}")
@@ -134,7 +142,7 @@ def try_random(check, folder: str) -> None:
     check("force at random, a healthy program", status == WELL and said == "30 runs, and each ended well\n", f"{status} {said}")
 
 
-def try_hunts(check, folder: str) -> None:
+def try_hunts(check: Check, folder: str) -> None:
     program = compiled("lookup", folder, "-fsanitize=address", "-luv")
     status, said = tool("hunt", ["-o", "found", program], folder)
     good = status == BADLY and REPORT in said and "in 2 of 2 further runs in the same order" in said
@@ -148,16 +156,23 @@ def try_hunts(check, folder: str) -> None:
     check("hunt, a healthy program", status == WELL and said.startswith("each run ended well\n    "), f"{status} {said}")
     check("hunt, the time that is given", 5 < time.monotonic() - began < 30, f"{time.monotonic() - began:.0f} s")
     for words, why in (
-        ([f"{folder}/missing"], "could not be started"), (["--part", "3/2", healthy], "a part is K/N"), (["--for", "soon", healthy], "a time is 60s"),
-        (["--join", str(FOLDER / "lookup.c")], "no report of a part"), (["/bin/true"], "called nothing of libuv"),
+        ([f"{folder}/missing"], "could not be started"),
+        (["--part", "3/2", healthy], "a part is K/N"),
+        (["--for", "soon", healthy], "a time is 60s"),
+        (["--join", str(FOLDER / "lookup.c")], "no report of a part"),
+        (["/bin/true"], "called nothing of libuv"),
     ):
         status, said = tool("hunt", words, folder)
         check(f"hunt, a fault: {why}", status == FAULT and why in said and "Traceback" not in said, f"{status} {said}")
 
 
-def try_interrupt(check, folder: str) -> None:
+def try_interrupt(check: Check, folder: str) -> None:
     hunting = subprocess.Popen(
-        [str(ROOT / "tools" / "uvt" / "uvt-hunt"), "--for", "10m", f"{folder}/zero"], cwd=folder, stdout=subprocess.PIPE, stderr=subprocess.STDOUT, text=True
+        [str(ROOT / "tools" / "uvt" / "uvt-hunt"), "--for", "10m", f"{folder}/zero"],
+        cwd=folder,
+        stdout=subprocess.PIPE,
+        stderr=subprocess.STDOUT,
+        text=True,
     )
     time.sleep(6)
     hunting.send_signal(signal.SIGINT)
@@ -167,13 +182,29 @@ def try_interrupt(check, folder: str) -> None:
     check("hunt, an interrupt", good and "Traceback" not in said, f"{hunting.returncode} {said}")
 
 
-def try_parts(check, folder: str) -> None:
+def try_parts(check: Check, folder: str) -> None:
     """Three parts by GNU parallel, and what they found together."""
     if not shutil.which("parallel"):
         print("tools: a hunt in parts: not tried, since there is no GNU parallel (Debian: parallel)", flush=True)
         return
     program = f"{folder}/lookup"
-    words = ["parallel", "-j", "3", str(ROOT / "tools" / "uvt" / "uvt-hunt"), "--for", "20s", "-o", "parts", "--part", "{}/3", program, ":::", "1", "2", "3"]
+    words = [
+        "parallel",
+        "-j",
+        "3",
+        str(ROOT / "tools" / "uvt" / "uvt-hunt"),
+        "--for",
+        "20s",
+        "-o",
+        "parts",
+        "--part",
+        "{}/3",
+        program,
+        ":::",
+        "1",
+        "2",
+        "3",
+    ]
     subprocess.run(words, cwd=folder, capture_output=True, timeout=SECONDS)
     reports = sorted(it.name for it in Path(folder).glob("parts.*.report"))
     check("hunt, a report of each part", reports == [f"parts.{it}-of-3.report" for it in (1, 2, 3)], f"{reports}")
@@ -183,7 +214,7 @@ def try_parts(check, folder: str) -> None:
     check("hunt, a part is missing", said.startswith("part 3 of 3 is missing\n"), f"{status} {said}")
 
 
-def try_forces(tries) -> None:
+def try_forces(tries: Tries) -> None:
     if not has_libuv():
         print("tools: orders that are forced: not tried, since there is no C compiler `cc` with libuv's header", flush=True)
         return
@@ -203,19 +234,3 @@ def try_forces(tries) -> None:
             return
         for part in (try_sanitizer, try_random, try_hunts, try_interrupt, try_parts):
             part(tries.check, folder)
-
-
-if __name__ == "__main__":
-
-    class Tries:
-        count = failed = 0
-
-        def check(self, what, holds, why=""):
-            self.count += 1
-            if not holds:
-                self.failed += 1
-                print(f"tools: {what}: {why}", flush=True)
-
-    tries = Tries()
-    try_forces(tries)
-    print(f"{tries.count} tried, {tries.failed} failed")

@@ -4,7 +4,7 @@ Each is what a tool was made for with a few things changed: a line less, two lin
 no number or too large, bytes that steer a terminal. Whatever comes, the tool ends with a status of its own and a sentence, or with
 its answer; nothing that steers a terminal reaches it.
 
-    tests/tools/fuzz.py --program PATH [--inputs N] [--seed S] [--kind KIND]    by hand; the tests of the tools have 1,000 of each kind
+    tests/tools/fuzz --program PATH [--inputs N] [--seed S] [--kind KIND]    by hand; the tests of the tools have 1,000 of each kind
 """
 
 from __future__ import annotations
@@ -26,12 +26,10 @@ from concurrent.futures import ProcessPoolExecutor
 from pathlib import Path
 from typing import Any, Iterator
 
-sys.dont_write_bytecode = True
+from tests.helper import Tries
+
 HERE = Path(__file__).resolve().parent
 ROOT = HERE.parent.parent
-TOOLS = ROOT / "tools"
-if str(TOOLS) not in sys.path:
-    sys.path.insert(0, str(TOOLS))
 
 KINDS = ("recording", "notes", "log", "script", "message")
 LOGS = ("late", "starved", "mixed", "threads", "accepted", "datagrams", "luv", "node-late", "ctest", "watchers")
@@ -42,8 +40,35 @@ SCRIPTS = ("late-timer", "never-called", "two-timers", "live-run-back", "sends-a
 PATIENCE = 60
 # What steers a terminal; a line feed and a tab don't.
 STEERS = re.compile(r"[\x00-\x08\x0b-\x1f\x7f-\x9f]")
-ODD = ("", "-1", "0", "01", "1e9", "999999999999999999999", "18446744073709551616", "4294967296", "\x1b[31m", "\x1b]0;X\x07", "\x9b2J", "\x00", "\xff",
-       "\u202e", "\r", "\t", "..", "/", "__proto__", "constructor", "%s", "{}", "`", "'", '"', "é", "a" * 300)
+ODD = (
+    "",
+    "-1",
+    "0",
+    "01",
+    "1e9",
+    "999999999999999999999",
+    "18446744073709551616",
+    "4294967296",
+    "\x1b[31m",
+    "\x1b]0;X\x07",
+    "\x9b2J",
+    "\x00",
+    "\xff",
+    "\u202e",
+    "\r",
+    "\t",
+    "..",
+    "/",
+    "__proto__",
+    "constructor",
+    "%s",
+    "{}",
+    "`",
+    "'",
+    '"',
+    "é",
+    "a" * 300,
+)
 
 
 def log_of(name: str) -> Path:
@@ -120,6 +145,7 @@ class Wire:
     def receive(self) -> dict[str, Any]:
         if not self.messages:
             from uvt import dap
+
             raise dap.Gone
         return self.messages.pop(0)
 
@@ -128,15 +154,50 @@ class Wire:
 
 
 REQUESTS: list[tuple[str, dict[str, Any]]] = [
-    ("initialize", {"linesStartAt1": True}), ("setBreakpoints", {"source": {"path": "FILE"}, "breakpoints": [{"line": 2}]}),
-    ("setFunctionBreakpoints", {"breakpoints": [{"name": "beat"}]}), ("setExceptionBreakpoints", {"filters": ["code"]}),
-    ("configurationDone", {}), ("threads", {}), ("stackTrace", {"threadId": 1}), ("scopes", {"frameId": 0}), ("variables", {"variablesReference": 1}),
-    ("continue", {"threadId": 1}), ("next", {"threadId": 1}), ("stepIn", {"threadId": 1}), ("stepOut", {"threadId": 1}), ("stepBack", {"threadId": 1}),
-    ("reverseContinue", {"threadId": 1}), ("pause", {"threadId": 1}), ("evaluate", {"expression": "state", "context": "repl"}),
-    ("evaluate", {"expression": "loop 10"}), ("gotoTargets", {"source": {"path": "FILE"}, "line": 3}), ("goto", {"threadId": 1, "targetId": 4}),
-    ("completions", {"text": "br", "column": 2}), ("source", {"sourceReference": 1}), ("disconnect", {}),
+    ("initialize", {"linesStartAt1": True}),
+    ("setBreakpoints", {"source": {"path": "FILE"}, "breakpoints": [{"line": 2}]}),
+    ("setFunctionBreakpoints", {"breakpoints": [{"name": "beat"}]}),
+    ("setExceptionBreakpoints", {"filters": ["code"]}),
+    ("configurationDone", {}),
+    ("threads", {}),
+    ("stackTrace", {"threadId": 1}),
+    ("scopes", {"frameId": 0}),
+    ("variables", {"variablesReference": 1}),
+    ("continue", {"threadId": 1}),
+    ("next", {"threadId": 1}),
+    ("stepIn", {"threadId": 1}),
+    ("stepOut", {"threadId": 1}),
+    ("stepBack", {"threadId": 1}),
+    ("reverseContinue", {"threadId": 1}),
+    ("pause", {"threadId": 1}),
+    ("evaluate", {"expression": "state", "context": "repl"}),
+    ("evaluate", {"expression": "loop 10"}),
+    ("gotoTargets", {"source": {"path": "FILE"}, "line": 3}),
+    ("goto", {"threadId": 1, "targetId": 4}),
+    ("completions", {"text": "br", "column": 2}),
+    ("source", {"sourceReference": 1}),
+    ("disconnect", {}),
 ]
-VALUES: list[Any] = [None, True, -1, 0, 10**30, 1.5, "", "\ud800", "\x1b[31m", [], {}, [None], {"line": None}, "goto 99999999", "FILE", "beat", {"path": None}, "x" * 1000]
+VALUES: list[Any] = [
+    None,
+    True,
+    -1,
+    0,
+    10**30,
+    1.5,
+    "",
+    "\ud800",
+    "\x1b[31m",
+    [],
+    {},
+    [None],
+    {"line": None},
+    "goto 99999999",
+    "FILE",
+    "beat",
+    {"path": None},
+    "x" * 1000,
+]
 
 
 def replaced(draw: random.Random, value: Any, path: str) -> Any:
@@ -179,10 +240,16 @@ class Tried:
     def asked(self, draw: random.Random, path: Path) -> Iterator[tuple[str, list[str], str]]:
         """A tool, its words and its input, about a file."""
         names = re.findall(r"(?m)^var (\S+)$", path.read_text("latin-1")) or ["beat"]
-        yield draw.choice([
-            ("why", [str(path)], ""), ("why", [draw.choice(names), str(path)], ""), ("why", ["app.js:3", str(path)], ""), ("view", [str(path)], ""),
-            ("view", ["--trace-event", str(path)], ""), ("shell", [str(path)], f"where\ninfo\nwhy {draw.choice(names)}\nback 3\nlist\n"),
-        ])
+        yield draw.choice(
+            [
+                ("why", [str(path)], ""),
+                ("why", [draw.choice(names), str(path)], ""),
+                ("why", ["app.js:3", str(path)], ""),
+                ("view", [str(path)], ""),
+                ("view", ["--trace-event", str(path)], ""),
+                ("shell", [str(path)], f"where\ninfo\nwhy {draw.choice(names)}\nback 3\nlist\n"),
+            ]
+        )
 
     def recording(self, draw: random.Random) -> Iterator[tuple[str, list[str], str]]:
         path = self.folder / "any.rec"
@@ -218,6 +285,7 @@ class Tried:
 
     def message(self, draw: random.Random) -> Iterator[tuple[str, list[str], str]]:
         from uvt import dap
+
         path = self.folder / "launched.uvt"
         path.write_bytes((ROOT / "examples" / f"{draw.choice(SCRIPTS)}.uvt").read_bytes())
         asked = messages_for(draw, str(path))
@@ -269,7 +337,7 @@ def lane(asked: tuple[str, int, int, int]) -> tuple[int, list[str]]:
     return len(range(seed, seed + inputs, step)), found
 
 
-def try_fuzz(tries: Any, inputs: int = 1000, kinds: tuple[str, ...] = KINDS, seed: int = 0) -> None:
+def try_fuzz(tries: Tries, inputs: int = 1000, kinds: tuple[str, ...] = KINDS, seed: int = 0) -> None:
     """So many of each kind, by as many processes as there are processors. The program is that of UVT."""
     lanes = max(1, min(4, os.cpu_count() or 1))
     work = [(kind, seed + at, inputs - at, lanes) for kind in kinds for at in range(lanes)]
@@ -278,17 +346,6 @@ def try_fuzz(tries: Any, inputs: int = 1000, kinds: tuple[str, ...] = KINDS, see
             for number in range(count):
                 wrong = found[number] if number < len(found) else ""
                 tries.check("files at random", not wrong, wrong)
-
-
-class Tries:
-    def __init__(self) -> None:
-        self.count = self.failed = 0
-
-    def check(self, what: str, holds: bool, why: object = "") -> None:
-        self.count += 1
-        if not holds:
-            self.failed += 1
-            print(f"fuzz: {what}: {why}", flush=True)
 
 
 def main() -> int:
@@ -300,11 +357,6 @@ def main() -> int:
     asked = parser.parse_args()
     if asked.program:
         os.environ["UVT"] = str(asked.program.resolve())
-    tries = Tries()
+    tries = Tries("fuzz")
     try_fuzz(tries, asked.inputs, (asked.kind,) if asked.kind else KINDS, asked.seed)
-    print(f"fuzz: {tries.count} tried, {tries.failed} failed")
-    return 1 if tries.failed else 0
-
-
-if __name__ == "__main__":
-    sys.exit(main())
+    return tries.end()

@@ -9,9 +9,11 @@ import os
 import re
 import tempfile
 from pathlib import Path
+from typing import Any
 
+from tests.helper import Tries
+from tests.tools.javascripts import ALLOWED, answer, made, try_asked, unfolded
 from uvt.conversation import read_input
-from javascripts import ALLOWED, answer, made, try_asked, unfolded
 from uvt.notes import read_notes
 from uvt.overview import Overview
 from uvt.record.log import read_log
@@ -26,57 +28,87 @@ WRITTEN = 110
 # itself calls that timer, where it is another name, and how many times of the answer the program has printed, at the least.
 PYTHON = {
     "timer": (
-        "beat", "timer_3",
+        "beat",
+        "timer_3",
         r"call 2: late by \d+ ms: load \(timer\.py:13\) took \d+ ms, (?:nearly all|most) of it in loads, which it calls"
-        r".*load \(timer\.py:13\): a timer of 33 ms, started at timer\.py:34", "", 2,
+        r".*load \(timer\.py:13\): a timer of 33 ms, started at timer\.py:34",
+        "",
+        2,
     ),
     "coroutine": (
-        "coroutine.py:25", "timer_3",
+        "coroutine.py:25",
+        "timer_3",
         r"beat \(coroutine\.py:20\): a timer of 20 ms.*late by \d+ ms: import_all \(coroutine\.py:13\) took \d+ ms, nearly all of it in"
-        r" score \(coroutine\.py:9\), at line 10: `return sum\(.*import_all \(coroutine\.py:13\): a step of a task", "beat", 2,
+        r" score \(coroutine\.py:9\), at line 10: `return sum\(.*import_all \(coroutine\.py:13\): a step of a task",
+        "beat",
+        2,
     ),
     "sleep": (
-        "remind", "timer",
+        "remind",
+        "timer",
         r"late by \d+ ms: refresh \(sleep\.py:15\) took \d+ ms, nearly all of it in fetch \(sleep\.py:10\), at line 11: `time\.sleep\(0\.06\)`"
-        r".*refresh \(sleep\.py:15\): a step of a task, started at sleep\.py:29", "", 2,
+        r".*refresh \(sleep\.py:15\): a step of a task, started at sleep\.py:29",
+        "",
+        2,
     ),
     "server": (
-        "timeout", "timer",
+        "timeout",
+        "timer",
         r"late by \d+ ms: Pages\.data_received \(server\.py:17\), from an event, took about \d+ ms,"
-        r" nearly all of it in render \(server\.py:9\), at line 10", "", 2,
+        r" nearly all of it in render \(server\.py:9\), at line 10",
+        "",
+        2,
     ),
     "soon": (
-        "save", "timer",
+        "save",
+        "timer",
         r"late by \d+ ms: flush \(soon\.py:11\) took \d+ ms, nearly all of it at line 14"
-        r".*flush \(soon\.py:11\): a call_soon, started at soon\.py:30", "", 2,
+        r".*flush \(soon\.py:11\): a call_soon, started at soon\.py:30",
+        "",
+        2,
     ),
     "cancelled": ("remind", "timer", r"never called: cancelled at cancelled\.py:15, in answered, at \d+ ms", "", 0),
     "thread": (
-        "through", "async",
+        "through",
+        "async",
         r"a call_soon, started at thread\.py:24, in work.*late by \d+ ms: index \(thread\.py:16\) took \d+ ms, .*at line 18: `sorted\(rows"
-        r".*index \(thread\.py:16\): a timer of 30 ms, started at thread\.py:31", "", 2,
+        r".*index \(thread\.py:16\): a timer of 30 ms, started at thread\.py:31",
+        "",
+        2,
     ),
 }
 LUA = {
     "timer": (
-        "beat", "timer",
+        "beat",
+        "timer",
         r"call 2: late by \d+ ms: sort \(timer\.lua:6\) took \d+ ms.*sort \(timer\.lua:6\): a timer of 33 ms, started at timer\.lua:19"
-        r".*drift: call 8 .*no further call: stopped at timer\.lua:14, in beat", "", 2,
+        r".*drift: call 8 .*no further call: stopped at timer\.lua:14, in beat",
+        "",
+        2,
     ),
     "idle": (
-        "save", "timer",
-        r"late by \d+ ms: index \(idle\.lua:6\) took \d+ ms.*index \(idle\.lua:6\): a callback, started at idle\.lua:18", "", 2,
+        "save",
+        "timer",
+        r"late by \d+ ms: index \(idle\.lua:6\) took \d+ ms.*index \(idle\.lua:6\): a callback, started at idle\.lua:18",
+        "",
+        2,
     ),
     "pool": (
-        "fs_stat", "fs_stat",
+        "fs_stat",
+        "fs_stat",
         r"ms it waited for a worker.*the workers had \d requests, asked for at pool\.lua:15, in fill"
-        r".*asked for at pool\.lua:19, in read_settings", "", 1,
+        r".*asked for at pool\.lua:19, in read_settings",
+        "",
+        1,
     ),
     "async": ("async", "async", r"for the send at step \d+, \d+ ms later: .*: render \(async\.lua:6\) took \d+ ms", "", 1),
     "server": (
-        "timeout", "timer",
+        "timeout",
+        "timer",
         r"late by \d+ ms: on_request \(server\.lua:16\) took \d+ ms"
-        r".*on_request \(server\.lua:16\): a callback, started at server\.lua:21, in connected", "", 2,
+        r".*on_request \(server\.lua:16\): a callback, started at server\.lua:21, in connected",
+        "",
+        2,
     ),
     "unref": ("cleanup", "timer", r"never called: `unref` at unref\.lua:14, ", "", 0),
     "stopped": ("remind", "timer", r"never called: stopped at stopped\.lua:13, in answered, at \d+ ms", "", 0),
@@ -88,7 +120,7 @@ LANGUAGES = {
 }
 
 
-def try_one(tries: object, language: str, name: str) -> None:
+def try_one(tries: Tries, language: str, name: str) -> None:
     questions, suffix, _, _ = LANGUAGES[language]
     function, handle, wanted, timer, least = questions[name]
     what, before = f"{language} {name}", tries.count
@@ -97,7 +129,7 @@ def try_one(tries: object, language: str, name: str) -> None:
     tries.check(f"{what}: times that the program printed, too", tries.count - before >= 4 + least, tries.count - before)
 
 
-def try_notes(tries: object, language: str, latest: str, functions: set[str]) -> None:
+def try_notes(tries: Tries, language: str, latest: str, functions: set[str]) -> None:
     """What is written is what is read; and the overview and the page have the functions, and no word of JavaScript."""
     path = made("timer", (FOLDER / language / "timer.log").read_bytes())
     recording = path.read_bytes()
@@ -108,7 +140,8 @@ def try_notes(tries: object, language: str, latest: str, functions: set[str]) ->
         told = unfolded("\n".join(Overview(walk).answer("why NAME")))
         tries.check(f"{language}: the overview", f"the latest timers of {language.capitalize()} {latest}" in told, told)
         tries.check(f"{language}: no word of another language", "JavaScript" not in told and "node" not in told, told)
-        lanes = {it["name"] for it in Page(walk).values()["lanes"]}
+        page: dict[str, Any] = Page(walk).values()
+        lanes = {it["name"] for it in page["lanes"]}
         tries.check(f"{language}: lanes", functions <= lanes, lanes)
     data = (FOLDER / language / "timer.log").read_bytes()
     lines, whole = from_data(data, read_log(data), "timer", lifts=True)
@@ -116,7 +149,7 @@ def try_notes(tries: object, language: str, latest: str, functions: set[str]) ->
     tries.check(f"{language}: --lift is for node", whole and not lifted and lines[-1].startswith("--lift is for programs in node"), lines)
 
 
-def try_killed(tries: object) -> None:
+def try_killed(tries: Tries) -> None:
     """A program in Python that was in a `while True` as SIGKILL ended it: what was looked at is there, up to its last tenth of a second."""
     path, truth = made("forever", (FOLDER / "python" / "forever.log").read_bytes()), (FOLDER / "python" / "forever.said").read_text()
     said = unfolded(answer(path, "spin"))
@@ -126,7 +159,7 @@ def try_killed(tries: object) -> None:
     tries.check("python, killed: how long", found is not None and took - WRITTEN <= int(found[1]) <= took + ALLOWED, (said, truth))
 
 
-def try_interpreters(tries: object) -> None:
+def try_interpreters(tries: Tries) -> None:
     before = os.getcwd()
     for language, (questions, suffix, latest, functions) in LANGUAGES.items():
         with tempfile.TemporaryDirectory() as folder:

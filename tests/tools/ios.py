@@ -3,20 +3,25 @@
 
 from __future__ import annotations
 
-import sys
 from pathlib import Path
 
 ROOT = Path(__file__).resolve().parent.parent.parent
-sys.path.insert(0, str(ROOT / "tools"))
-
-from uvt.notes import Notes, read_notes, sentence  # noqa: E402
-from uvt.record.differences import IO  # noqa: E402
-from uvt.record.log import read_log  # noqa: E402
-from uvt.record.run import Made, make, notes_of, where_it_stops  # noqa: E402
+from tests.helper import Check
+from uvt.notes import Notes, read_notes, sentence
+from uvt.record.differences import IO
+from uvt.record.log import read_log
+from uvt.record.run import Made, make, notes_of, where_it_stops
 
 # A tcp, an async handle and a check handle; the tcp is started, and the others don't count.
-MADE = ["O 0 init %1 tcp = ok", "O 0 init %2 async = ok", "O 0 init %3 check = ok", "O 0 start %1 = ok", "O 0 start %3 = ok", "O 0 unref %2 = ok",
-        "O 0 unref %3 = ok"]
+MADE = [
+    "O 0 init %1 tcp = ok",
+    "O 0 init %2 async = ok",
+    "O 0 init %3 check = ok",
+    "O 0 start %1 = ok",
+    "O 0 start %3 = ok",
+    "O 0 unref %2 = ok",
+    "O 0 unref %3 = ok",
+]
 CHECK = ["B 0 0 on 3 check", "E 0 0 3"]
 ASYNC = ["B 0 0 on 2 async", "E 0 0 2"]
 
@@ -51,7 +56,9 @@ PLACES = {
     "a write behind the section check, that was put off": (run(["P 0 -1"], came("read 5", True), CHECK[:1], ["E 0 0 3 +"], came("write ok")), True),
     "one that wasn't": (run(["P 0 -1"], came("read 5", True), CHECK, came("write ok")), False),
     "a second one that was put off": (
-        run(["P 0 -1"], came("read 5"), CHECK[:1], ["E 0 0 3 +"], came("write ok"), came("write ok"), came("shutdown ok")), True),
+        run(["P 0 -1"], came("read 5"), CHECK[:1], ["E 0 0 3 +"], came("write ok"), came("write ok"), came("shutdown ok")),
+        True,
+    ),
     "a read among those": (run(["P 0 -1"], came("read 5"), CHECK[:1], ["E 0 0 3 +"], came("write ok"), came("read 5")), False),
     "an async handle in a poll, before I/O": (run(["P 0 -1"], ASYNC, came("read 5"), CHECK), True),
     "an async handle in a poll, behind I/O": (run(["P 0 -1"], came("read 5"), ASYNC, came("read 5"), CHECK), True),
@@ -59,11 +66,13 @@ PLACES = {
     "a read twice in a row": (run(["P 0 -1"], came("read 5"), came("read EOF"), CHECK), True),
     "a handle that was stopped": (run(["P 0 -1"], ["B 0 0 on 1 read 5", "O 0 stop %1 = ok", "E 0 0 1"], came("read 5")), False),
     "one that libuv stops before its last callback": (
-        run(["P 0 -1"], ["B 0 0 on 1 read EOF", "O 0 stop %1 = ok", "E 0 0 1"], CHECK, ["r 0 0"]), True),
+        run(["P 0 -1"], ["B 0 0 on 1 read EOF", "O 0 stop %1 = ok", "E 0 0 1"], CHECK, ["r 0 0"]),
+        True,
+    ),
 }
 
 
-def try_places(check) -> None:
+def try_places(check: Check) -> None:
     for what, (lines, whole) in PLACES.items():
         it = made(lines)
         check(f"I/O, {what}", it.is_whole() == whole and it.verdict == "same" and it.agrees, (it.outcome.why, it.outcome.recording))
@@ -75,18 +84,22 @@ def try_places(check) -> None:
         check(f"I/O, {what}: its steps", recording.count("io tcp") == sum(line.startswith("call tcp ") for line in recording), recording)
 
 
-def try_settings(check) -> None:
+def try_settings(check: Check) -> None:
     """Which lines a script begins with, by libuv's version and by whether there is I/O."""
     lines = ["O 0 init %1 timer = ok", "O 0 start %1 0 0 = ok", "R 0 default", "B 0 0 on 1 timer", "E 0 0 1", "r 0 0"]
-    for version, wanted in (("1.44.2", ["uvt 3", "order 1.44", "timers heap"]), ("1.45.0", ["uvt 3", "order 1.45", "timers heap"]),
-                            ("1.47.1", ["uvt 3", "order 1.45", "timers heap"]), ("1.48.0", ["uvt 2", "order 1.45"])):
+    for version, wanted in (
+        ("1.44.2", ["uvt 3", "order 1.44", "timers heap"]),
+        ("1.45.0", ["uvt 3", "order 1.45", "timers heap"]),
+        ("1.47.1", ["uvt 3", "order 1.45", "timers heap"]),
+        ("1.48.0", ["uvt 2", "order 1.45"]),
+    ):
         recording = made(lines, version=version).outcome.recording
         check(f"I/O, a script of {version}", recording[: recording.index("workers 4")] == wanted, recording)
     recording = made(run(["P 0 -1"], came("read 5")), version="1.50.0").outcome.recording
     check("I/O, a script of 1.50.0 with I/O", recording[: recording.index("workers 4")] == ["uvt 3", "order 1.45", "io"], recording)
 
 
-def try_old(check) -> None:
+def try_old(check: Check) -> None:
     """Logs of the earlier form: `ref` and `unref` say whether a handle of I/O counts, and it may always be called."""
     old = ["O 0 init %1 tcp = ok", "O 0 ref %1 = ok", "R 0 default", "P 0 -1", "B 0 0 on 1 read", "E 0 0 1", "O 0 unref %1 = ok", "r 0 0"]
     it = made(old, 1)
@@ -96,7 +109,7 @@ def try_old(check) -> None:
     check("I/O, no start is in such a log", not made([*old[:-1], "O 0 start %1 = ok", old[-1]], 1).is_whole())
 
 
-def try_ops(check) -> None:
+def try_ops(check: Check) -> None:
     """What libuv does by itself about a callback stands in it, be there a send of another thread between."""
     lines = run(["P 0 -1"], came("read EOF"), ["S 0 0 2 77", "O 0 stop %1 = ok", "O 0 unref %1 = ok", "P 0 -1"], ASYNC)
     it = made(lines)
@@ -117,19 +130,51 @@ AFTER = [["B 0 0 after 5 ok", "E 0 0 5"], ["B 0 0 after 6 ok", "E 0 0 6"]]
 LATE = {
     "a send": run(["P 0 -1", "S 0 0 2 77"], came("read 5"), CHECK, ["P 0 -1"], ASYNC, CHECK),
     "a send, and a request that is cancelled": run(
-        ["P 0 -1", "S 0 0 2 77", "B 0 0 on 1 read 5"], QUEUED[:1], ["O 0 cancel %5 = ok", "E 0 0 1"], CHECK,
-        ["P 0 -1", "B 0 0 after 5 ECANCELED", "E 0 0 5"], ASYNC, CHECK),
+        ["P 0 -1", "S 0 0 2 77", "B 0 0 on 1 read 5"],
+        QUEUED[:1],
+        ["O 0 cancel %5 = ok", "E 0 0 1"],
+        CHECK,
+        ["P 0 -1", "B 0 0 after 5 ECANCELED", "E 0 0 5"],
+        ASYNC,
+        CHECK,
+    ),
     "two requests": [*MADE, *QUEUED, "R 0 default", *TAKEN, "P 0 -1", *THROUGH, *came("read 5"), *CHECK, "P 0 -1", *AFTER[0], *AFTER[1], *CHECK],
     "a send by I/O behind an after callback": [
-        *MADE, *QUEUED[:1], "R 0 default", *TAKEN[:1], "P 0 -1", *THROUGH[:1], *AFTER[0], "B 0 0 on 1 read 5", "O 0 send %2 = ok", "E 0 0 1", *CHECK,
-        "P 0 -1", *ASYNC, *CHECK],
+        *MADE,
+        *QUEUED[:1],
+        "R 0 default",
+        *TAKEN[:1],
+        "P 0 -1",
+        *THROUGH[:1],
+        *AFTER[0],
+        "B 0 0 on 1 read 5",
+        "O 0 send %2 = ok",
+        "E 0 0 1",
+        *CHECK,
+        "P 0 -1",
+        *ASYNC,
+        *CHECK,
+    ],
     "a request that is cancelled behind a file that is through": [
-        *MADE, "O 0 queue %5 fs_stat = ok", "R 0 default", "P 0 -1", "B 0 0 on 1 read 5", QUEUED[1], "O 0 cancel %6 = ok", "E 0 0 1", *CHECK,
-        "P 0 -1", *AFTER[0], "B 0 0 after 6 ECANCELED", "E 0 0 6", *CHECK],
+        *MADE,
+        "O 0 queue %5 fs_stat = ok",
+        "R 0 default",
+        "P 0 -1",
+        "B 0 0 on 1 read 5",
+        QUEUED[1],
+        "O 0 cancel %6 = ok",
+        "E 0 0 1",
+        *CHECK,
+        "P 0 -1",
+        *AFTER[0],
+        "B 0 0 after 6 ECANCELED",
+        "E 0 0 6",
+        *CHECK,
+    ],
 }
 
 
-def try_late(check) -> None:
+def try_late(check: Check) -> None:
     for what, lines in LATE.items():
         it = made(lines)
         check(f"I/O, {what} for the next poll", it.is_whole(), (where_it_stops(it), it.outcome.recording))
@@ -142,20 +187,25 @@ POLLS = {
     "one that was interrupted": (run(["P 0 -1", "p 0 -1"], came("read 5")), "1 poll, as in the program; the timeouts are the same"),
     "one with more events than libuv takes at once": (
         ["O 0 init %1 tcp = ok", "O 0 start %1 = ok", "R 0 default", "P 0 -1", *came("read 5"), "p 0 0", *came("read 5")],
-        "2 polls, and 1 in the program; the timeouts are the same in the 1 that can be compared"),
+        "2 polls, and 1 in the program; the timeouts are the same in the 1 that can be compared",
+    ),
     "such a one, where a check handle comes behind it": (
-        run(["P 0 -1"], came("read 5"), ["p 0 0"], came("read 5"), CHECK), "1 poll, as in the program; the timeouts are the same"),
-    "one that calls nobody": (
-        run(["P 0 -1", "P 0 -1"], came("read 5")), "1 poll, and 2 in the program"),
+        run(["P 0 -1"], came("read 5"), ["p 0 0"], came("read 5"), CHECK),
+        "1 poll, as in the program; the timeouts are the same",
+    ),
+    "one that calls nobody": (run(["P 0 -1", "P 0 -1"], came("read 5")), "1 poll, and 2 in the program"),
     "one that doesn't wait for what was put off": (
         run(["P 0 0"], came("write ok"), first="R 0 default +"),
-        "1 poll, as in the program; 1 of 1 timeouts are others, first: infinite at step 13, and 0 in the program (line 10 of the log)"),
+        "1 poll, as in the program; 1 of 1 timeouts are others, first: infinite at step 13, and 0 in the program (line 10 of the log)",
+    ),
     "one that only looks, in a run once": (
-        run(["P 0 0", "P 0 -1"], came("read 5"), first="R 0 once"), "1 poll, as in the program; the timeouts are the same"),
+        run(["P 0 0", "P 0 -1"], came("read 5"), first="R 0 once"),
+        "1 poll, as in the program; the timeouts are the same",
+    ),
 }
 
 
-def try_polls(check) -> None:
+def try_polls(check: Check) -> None:
     for what, (lines, wanted) in POLLS.items():
         it = made(lines)
         check(f"polls, {what}", it.is_whole() and it.polls.said() == wanted, (it.polls.said(), it.outcome.why))
@@ -164,18 +214,37 @@ def try_polls(check) -> None:
 
 # What came, in the log's words and in a person's.
 WORDS = {
-    "read:512": "512 bytes were read", "read:1": "1 byte was read", "read:EOF": "the end of the stream", "read": "a read",
-    "read:ECONNRESET": "a read failed, ECONNRESET", "write:ok": "a write is done", "write:ECANCELED": "a write was cancelled", "write": "a write",
-    "connect:ok": "it is connected", "connect:ECONNREFUSED": "the connect failed, ECONNREFUSED", "connection:ok": "a connection",
-    "shutdown:ok": "the shutdown is done", "send:ok": "a datagram is sent", "receive:30": "a datagram of 30 bytes",
-    "receive:none": "no more datagrams", "poll:rw": "it is readable and writable", "poll:EBADF": "the poll failed, EBADF",
-    "signal:15": "SIGTERM", "signal:99": "signal 99", "exit:3:0": "it ended with status 3", "exit:0:9": "it was ended by SIGKILL",
-    "fs_event:rc": "it was renamed and changed", "fs_poll:ok": "a change", "fs_poll:ENOENT": "a look at the file failed, ENOENT",
-    "write:ok+write:ECANCELED": "a write is done and a write was cancelled", "": "", "other:word": "other",
+    "read:512": "512 bytes were read",
+    "read:1": "1 byte was read",
+    "read:EOF": "the end of the stream",
+    "read": "a read",
+    "read:ECONNRESET": "a read failed, ECONNRESET",
+    "write:ok": "a write is done",
+    "write:ECANCELED": "a write was cancelled",
+    "write": "a write",
+    "connect:ok": "it is connected",
+    "connect:ECONNREFUSED": "the connect failed, ECONNREFUSED",
+    "connection:ok": "a connection",
+    "shutdown:ok": "the shutdown is done",
+    "send:ok": "a datagram is sent",
+    "receive:30": "a datagram of 30 bytes",
+    "receive:none": "no more datagrams",
+    "poll:rw": "it is readable and writable",
+    "poll:EBADF": "the poll failed, EBADF",
+    "signal:15": "SIGTERM",
+    "signal:99": "signal 99",
+    "exit:3:0": "it ended with status 3",
+    "exit:0:9": "it was ended by SIGKILL",
+    "fs_event:rc": "it was renamed and changed",
+    "fs_poll:ok": "a change",
+    "fs_poll:ENOENT": "a look at the file failed, ENOENT",
+    "write:ok+write:ECANCELED": "a write is done and a write was cancelled",
+    "": "",
+    "other:word": "other",
 }
 
 
-def try_words(check, folder: str) -> None:
+def try_words(check: Check, folder: str) -> None:
     """What came, and what tools ask of it."""
     for told, wanted in WORDS.items():
         check(f"what came, {told}", sentence(told) == wanted, sentence(told))
@@ -186,12 +255,15 @@ def try_words(check, folder: str) -> None:
     path.with_suffix(".notes").write_text(notes.text(b"of it"))
     read = read_notes(path, b"of it")
     check("what came, in the notes", read == notes, read)
-    check("what came, of a call", (read.came("a", 49), read.came("b", 7), read.came("b", 3), read.came("c", 1))
-          == ("49 bytes were read", "the end of the stream", "", ""), read)
+    check(
+        "what came, of a call",
+        (read.came("a", 49), read.came("b", 7), read.came("b", 3), read.came("c", 1)) == ("49 bytes were read", "the end of the stream", "", ""),
+        read,
+    )
     check("what it is", [(read.is_io(it), read.thing(it)) for it in "abcd"] == [(True, "a tcp"), (True, "a watched file"), (False, ""), (False, "")])
 
 
-def try_io(check, folder: str) -> None:
+def try_io(check: Check, folder: str) -> None:
     try_places(check)
     try_settings(check)
     try_old(check)

@@ -10,23 +10,22 @@ from __future__ import annotations
 import os
 import re
 import subprocess
-import sys
 import tempfile
 from pathlib import Path
+from typing import Any
 
 ROOT = Path(__file__).resolve().parent.parent.parent
-sys.path.insert(0, str(ROOT / "tools"))
-
-from uvt.conversation import read_input  # noqa: E402
-from uvt.javascript import fitted  # noqa: E402
-from uvt.notes import read_notes  # noqa: E402
-from uvt.overview import Overview  # noqa: E402
-from uvt.record.log import read_log  # noqa: E402
-from uvt.record.run import from_data, name_for  # noqa: E402
-from uvt.view import Page  # noqa: E402
-from uvt.walk import Walk  # noqa: E402
-from uvt.why import why  # noqa: E402
-from uvt.why_javascript import WhyJavaScript  # noqa: E402
+from tests.helper import Tries
+from uvt.conversation import read_input
+from uvt.javascript import fitted
+from uvt.notes import read_notes
+from uvt.overview import Overview
+from uvt.record.log import read_log
+from uvt.record.run import from_data, name_for
+from uvt.view import Page
+from uvt.walk import Walk
+from uvt.why import why
+from uvt.why_javascript import WhyJavaScript
 
 FOLDER = Path(__file__).resolve().parent / "javascript"
 NODES = ("node18", "node20")
@@ -37,18 +36,53 @@ COLUMNS = 120
 # Of each program whom somebody asks about, whom of the loop he would have to ask about without the hook, and what is to be said.
 TIMERS = "environment_runtimers"
 QUESTIONS = {
-    "json": ("beat", TIMERS, r"late by \d+ ms: load \(json\.js:6\) took (?:about )?\d+ ms, nearly all of it at line 8: `const users = JSON\.par.*"
-             r"load \(json\.js:6\): a timer of 33 ms, started at json\.js:18"),
-    "syncfs": ("poll", TIMERS, r"readConfig \(syncfs\.js:6\) took (?:about )?\d+ ms, nearly all of it in readFileSync, which it calls.*: a timer of 20 ms, started at syncfs\.js:19"),
-    "crypto": ("heartbeat", TIMERS, r"login \(crypto\.js:14\), from an event, took (?:about )?\d+ ms, (?:nearly all|most) of it in check \(crypto\.js:7\), in its call of pbkdf2Sync"),
+    "json": (
+        "beat",
+        TIMERS,
+        r"late by \d+ ms: load \(json\.js:6\) took (?:about )?\d+ ms, nearly all of it at line 8: `const users = JSON\.par.*"
+        r"load \(json\.js:6\): a timer of 33 ms, started at json\.js:18",
+    ),
+    "syncfs": (
+        "poll",
+        TIMERS,
+        r"readConfig \(syncfs\.js:6\) took (?:about )?\d+ ms, nearly all of it in readFileSync, which it calls.*"
+        r": a timer of 20 ms, started at syncfs\.js:19",
+    ),
+    "crypto": (
+        "heartbeat",
+        TIMERS,
+        r"login \(crypto\.js:14\), from an event, took (?:about )?\d+ ms, (?:nearly all|most) of it in check \(crypto\.js:7\), "
+        r"in its call of pbkdf2Sync",
+    ),
     "nested": ("answer", TIMERS, r"refresh \(nested\.js:21\).* took (?:about )?\d+ ms, nearly all of it in score \(nested\.js:5\), at line 8"),
-    "promise": ("beat", TIMERS, r"migrate \(promise\.js:5\), from a promise, took (?:about )?\d+ ms, (?:nearly all|most) of it in convert \(promise\.js:15\), at line 17"),
+    "promise": (
+        "beat",
+        TIMERS,
+        r"migrate \(promise\.js:5\), from a promise, took (?:about )?\d+ ms, (?:nearly all|most) of it in convert \(promise\.js:15\), at line 17",
+    ),
     "ticks": ("save", TIMERS, r"drain \(ticks\.js:6\), from process\.nextTick, took (?:about )?\d+ ms"),
-    "server": ("timeout", TIMERS, r"handle \(server\.js:16\), from an event, took (?:about )?\d+ ms, .* of it in render \(server\.js:6\), at line 10"),
-    "immediate": ("save", TIMERS, r"flush \(immediate\.js:6\) took (?:about )?\d+ ms, (?:nearly all|most) of it at line 9.*: an immediate, started at immediate\.js:\d+"),
-    "pool": ("fs_stat", "fs_stat", r"ms it waited for a worker.*the workers had \d requests, asked for at pool\.js:8, in hash.*asked for at pool\.js:12, in readSettings"),
+    "server": (
+        "timeout",
+        TIMERS,
+        r"handle \(server\.js:16\), from an event, took (?:about )?\d+ ms, .* of it in render \(server\.js:6\), at line 10",
+    ),
+    "immediate": (
+        "save",
+        TIMERS,
+        r"flush \(immediate\.js:6\) took (?:about )?\d+ ms, (?:nearly all|most) of it at line 9.*: an immediate, started at immediate\.js:\d+",
+    ),
+    "pool": (
+        "fs_stat",
+        "fs_stat",
+        r"ms it waited for a worker.*the workers had \d requests, asked for at pool\.js:8, in hash.*asked for at pool\.js:12, in readSettings",
+    ),
     "unref": ("cleanup", TIMERS, r"never called: `unref` at unref\.js:13 "),
-    "drift": ("sample", TIMERS, r"compact \(drift\.js:14\) took (?:about )?\d+ ms.*compact \(drift\.js:14\): an interval of 70 ms, started at drift\.js:22.*drift: call 20 came"),
+    "drift": (
+        "sample",
+        TIMERS,
+        r"compact \(drift\.js:14\) took (?:about )?\d+ ms.*compact \(drift\.js:14\): an interval of 70 ms, started at drift\.js:22.*"
+        r"drift: call 20 came",
+    ),
 }
 
 
@@ -87,7 +121,7 @@ def said_by(path: Path) -> tuple[dict[str, list[float]], dict[tuple[str, int], t
     return took, late
 
 
-def try_said(tries: object, what: str, name: str, said: str, path: Path) -> None:
+def try_said(tries: Tries, what: str, name: str, said: str, path: Path) -> None:
     """Each time of an answer beside what the program printed: how late a call was, and how long a function took."""
     took, late = said_by(path)
     said = unfolded(said)
@@ -100,10 +134,12 @@ def try_said(tries: object, what: str, name: str, said: str, path: Path) -> None
         if rows:
             tries.check(f"{what}: how long {function} took", min(abs(it - int(ms)) for it in rows) <= ALLOWED, (ms, rows))
     for ms in re.findall(r"called (\d+) ms after it was asked for", said):
-        tries.check(f"{what}: how long it was until its callback", min(abs(it - int(ms)) for it in took["settings"]) <= ALLOWED, (ms, took["settings"]))
+        tries.check(
+            f"{what}: how long it was until its callback", min(abs(it - int(ms)) for it in took["settings"]) <= ALLOWED, (ms, took["settings"])
+        )
 
 
-def try_truth(tries: object, node: str) -> None:
+def try_truth(tries: Tries, node: str) -> None:
     """When timers were due and how long they took, beside what they said themselves."""
     path = made("truth", (FOLDER / node / "truth.log").read_bytes())
     javascript = read_notes(path, path.read_bytes()).javascript
@@ -114,7 +150,9 @@ def try_truth(tries: object, node: str) -> None:
         span = spans[id]
         late = span.begin - span.due
         tries.check(f"javascript {node} truth: how late timer {at:.0f} was", least - ALLOWED <= late <= most + ALLOWED, (least, late, most))
-        tries.check(f"javascript {node} truth: how long timer {at:.0f} took", abs(span.end - span.begin - took) <= ALLOWED, (span.end - span.begin, took))
+        tries.check(
+            f"javascript {node} truth: how long timer {at:.0f} took", abs(span.end - span.begin - took) <= ALLOWED, (span.end - span.begin, took)
+        )
 
 
 # ---- a recording with a handle for each timer
@@ -122,19 +160,21 @@ def try_truth(tries: object, node: str) -> None:
 
 def called(data: bytes) -> list[tuple[str, str]]:
     """Which timers and immediates were called, in order, by the log's own lines: where the function of each begins, and where it was started."""
-    places, asked, found = {}, {}, []
+    places: dict[str, str] = {}
+    asked: dict[str, tuple[str, str]] = {}
+    found = []
     for line in data.decode().splitlines():
         words = line.split(" ")
         if line.startswith("- J place "):
             places[words[3]] = words[-1].rpartition("/")[2]
         elif words[1:2] == ["J"] and words[4:5] == ["new"]:
-            asked[words[5]] = tuple(places.get(it, "-") for it in words[7:9])
+            asked[words[5]] = places.get(words[7], "-"), places.get(words[8], "-")
         elif words[1:2] == ["J"] and words[4:5] == ["run"]:
             found.append(asked[words[5]])
     return found
 
 
-def try_lifted(tries: object, node: str, name: str) -> None:
+def try_lifted(tries: Tries, node: str, name: str) -> None:
     """A second recording in which each timer and immediate is a handle: it goes to its end, and calls what the program called."""
     data, what = (FOLDER / node / f"{name}.log").read_bytes(), f"javascript {node} {name}, lifted"
     log = read_log(data)
@@ -158,8 +198,9 @@ def try_lifted(tries: object, node: str, name: str) -> None:
     path.unlink()
 
 
-def try_find(tries: object) -> None:
-    """The search is asked by a line of the program, as docs/NODE.md does. Time goes by once, by 100 ms, or where the loop waits for it: so who waits is late by these."""
+def try_find(tries: Tries) -> None:
+    """The search is asked by a line of the program, as docs/NODE.md does. Time goes by once, by 100 ms, or where the loop waits for it: so who
+    waits is late by these."""
     data = (FOLDER / "node20" / "app.log").read_bytes()
     from_data(data, read_log(data), "app", lifts=True)
     for late, wanted in ((100, r"found in \d+ steps"), (101, r"never within clock 3000: \d+ states, every order")):
@@ -168,18 +209,22 @@ def try_find(tries: object) -> None:
         tries.check(f"javascript, find late app.js:19 {late}", re.match(wanted, ran.stdout) is not None, ran)
         whom = "app.js:19 is `remind`: remind (app.js:19), a timer of JavaScript, started at app.js:19\n"
         tries.check("javascript, find: whom it is about", whom in ran.stderr, ran.stderr)
-    ran = subprocess.run([str(ROOT / "tools" / "uvt" / "uvt-find"), "app.lift.rec", "find call app.js:3"], capture_output=True, text=True, timeout=SECONDS)
-    tries.check("javascript, find: a line of nobody's", ran.returncode == 70 and "no timer and no immediate was started at app.js:3" in ran.stderr, ran)
+    ran = subprocess.run(
+        [str(ROOT / "tools" / "uvt" / "uvt-find"), "app.lift.rec", "find call app.js:3"], capture_output=True, text=True, timeout=SECONDS
+    )
+    tries.check(
+        "javascript, find: a line of nobody's", ran.returncode == 70 and "no timer and no immediate was started at app.js:3" in ran.stderr, ran
+    )
 
 
 # ---- each program, and what else is told
 
 
-def try_one(tries: object, node: str, name: str) -> None:
+def try_one(tries: Tries, node: str, name: str) -> None:
     try_asked(tries, f"javascript {node} {name}", FOLDER / node / f"{name}.log", *QUESTIONS[name], ".js:")
 
 
-def try_asked(tries: object, what: str, log: Path, function: str, handle: str, wanted: str, source: str, timer: str = "") -> None:
+def try_asked(tries: Tries, what: str, log: Path, function: str, handle: str, wanted: str, source: str, timer: str = "") -> None:
     """One question about a log, and what its program said of that; `timer` is its name there, where that is another one."""
     name, data = log.stem, log.read_bytes()
     path = made(name, data)
@@ -199,7 +244,7 @@ def try_asked(tries: object, what: str, log: Path, function: str, handle: str, w
     path.unlink()
 
 
-def try_notes(tries: object, node: str) -> None:
+def try_notes(tries: Tries, node: str) -> None:
     """What is written is what is read; and the page and the overview have the functions, and not what node has for itself."""
     path = made("json", (FOLDER / node / "json.log").read_bytes())
     recording = path.read_bytes()
@@ -209,25 +254,38 @@ def try_notes(tries: object, node: str) -> None:
     with Walk(script, commands) as walk:
         told = "\n".join(Overview(walk).answer("why NAME"))
         own = [it for it in (TIMERS, "perisolateplatformdata", "lambda_", "async", "idle") if it in told]
-        tries.check(f"javascript {node}: the overview", "the latest timers of JavaScript\n    beat (json.js:13)" in told and "functions of JavaScript: beat, load" in told, told)
+        tries.check(
+            f"javascript {node}: the overview",
+            "the latest timers of JavaScript\n    beat (json.js:13)" in told and "functions of JavaScript: beat, load" in told,
+            told,
+        )
         tries.check(f"javascript {node}: the overview has nothing of node's own", not own, (own, told))
         tries.check(f"javascript {node}: in so many columns", max(map(len, told.splitlines())) <= COLUMNS, told)
-        page = Page(walk).values()
+        page: dict[str, Any] = Page(walk).values()
         lanes = {it["name"] for it in page["lanes"]}
         tries.check(f"javascript {node}: lanes", {"beat", "load"} <= lanes and not {"perisolateplatformdata_flu", "async", "idle"} & lanes, lanes)
         tries.check(f"javascript {node}: a long callback", any(it[2] == "load (json.js:6)" for it in page["long"]), page["long"])
 
 
-def try_names(tries: object) -> None:
+def try_names(tries: Tries) -> None:
     """What the files of a recording are called, and that two wishes don't go together."""
-    for words, wanted in ((["node", "json.js"], "json"), (["node", "--no-warnings", "json", "x"], "json"), (["/usr/bin/node", "-e", "1"], "node"),
-                          (["node", "nowhere.js"], "node"), (["./json.js"], "json.js"), (["python3.11", "said.js"], "said"), (["late", "json.js"], "late")):
+    for words, wanted in (
+        (["node", "json.js"], "json"),
+        (["node", "--no-warnings", "json", "x"], "json"),
+        (["/usr/bin/node", "-e", "1"], "node"),
+        (["node", "nowhere.js"], "node"),
+        (["./json.js"], "json.js"),
+        (["python3.11", "said.js"], "said"),
+        (["late", "json.js"], "late"),
+    ):
         tries.check(f"javascript, the name of {words}", name_for(words) == wanted, name_for(words))
-    ran = subprocess.run([str(ROOT / "tools" / "uvt" / "uvt-record"), "--bare", "--lift", "node", "json.js"], capture_output=True, text=True, timeout=SECONDS)
+    ran = subprocess.run(
+        [str(ROOT / "tools" / "uvt" / "uvt-record"), "--bare", "--lift", "node", "json.js"], capture_output=True, text=True, timeout=SECONDS
+    )
     tries.check("javascript, --bare and --lift", ran.returncode == 2 and "--lift takes what --bare leaves out" in ran.stderr, ran)
 
 
-def try_killed(tries: object) -> None:
+def try_killed(tries: Tries) -> None:
     """A program that was in a `for (;;)` for some seconds, and was ended by SIGKILL: its looks are there, up to its last second."""
     path = made("forever", (FOLDER / "node20" / "forever.log").read_bytes())
     said = unfolded(answer(path, "spin"))
@@ -236,11 +294,15 @@ def try_killed(tries: object) -> None:
     script, commands = read_input(path)
     with Walk(script, commands) as walk:
         told = unfolded("\n".join(Overview(walk).answer("why NAME")))
-        tries.check("javascript, killed: what it was at", re.search(r"ENDED BY SIGKILL: .*; spin \(forever\.js:5\) took \d+ ms, .* by then", told) is not None, told)
+        tries.check(
+            "javascript, killed: what it was at",
+            re.search(r"ENDED BY SIGKILL: .*; spin \(forever\.js:5\) took \d+ ms, .* by then", told) is not None,
+            told,
+        )
         tries.check("javascript, killed: nothing of node's own", "never called" not in told, told)
 
 
-def try_shell(tries: object) -> None:
+def try_shell(tries: Tries) -> None:
     """A step shows where JavaScript is, and a break stops there: load begins at line 6, and took its time at line 8."""
     made("json", (FOLDER / "node20" / "json.log").read_bytes())
     here = r"    found most in load \(json\.js:6\), at line 8: `const users = JSON\.parse\(text\);`"
@@ -253,12 +315,14 @@ def try_shell(tries: object) -> None:
         (["why load"], [r"load \(json\.js:6\): a timer of 33 ms, started at json\.js:18, 1 call"]),
         (["why laod"], ["no name `laod`, and no function or line of JavaScript that was seen: did you mean `load`\\?"]),
     ):
-        ran = subprocess.run([str(ROOT / "tools" / "uvt" / "uvt-shell"), "json.rec"], input="\n".join(lines) + "\n", capture_output=True, text=True, timeout=SECONDS)
+        ran = subprocess.run(
+            [str(ROOT / "tools" / "uvt" / "uvt-shell"), "json.rec"], input="\n".join(lines) + "\n", capture_output=True, text=True, timeout=SECONDS
+        )
         found = all(re.search(f"^{it}$", ran.stdout, re.MULTILINE) for it in wanted)
         tries.check(f"javascript, shell, {lines}", found and "Traceback" not in ran.stderr, ran)
 
 
-def try_javascript(tries: object) -> None:
+def try_javascript(tries: Tries) -> None:
     before = os.getcwd()
     with tempfile.TemporaryDirectory() as folder:
         os.chdir(folder)

@@ -12,11 +12,10 @@ import tempfile
 from pathlib import Path
 
 ROOT = Path(__file__).resolve().parent.parent.parent
-sys.path.insert(0, str(ROOT / "tools"))
-
-from uvt.libuv.runner import installed  # noqa: E402
-from uvt.conversation import Fault  # noqa: E402
-from daps import BEFORE_SENDS, CONVERSATIONS  # noqa: E402
+from tests.helper import Check, Tries
+from tests.tools.daps import BEFORE_SENDS, CONVERSATIONS
+from uvt.conversation import Fault
+from uvt.libuv.runner import installed
 
 EXAMPLES = ROOT / "crates" / "examples" / "data"
 TOOL = str(ROOT / "tools" / "uvt" / "uvt-libuv")
@@ -27,7 +26,7 @@ def ran(path: Path, **environment: str) -> subprocess.CompletedProcess[str]:
     return subprocess.run([sys.executable, TOOL, str(path)], capture_output=True, text=True, timeout=SECONDS, env={**os.environ, **environment})
 
 
-def try_absence(check) -> None:
+def try_absence(check: Check) -> None:
     """Without a compiler, and without libuv's header: a sentence."""
     script = EXAMPLES / "two-timers.uvt"
     with tempfile.TemporaryDirectory() as folder:
@@ -38,7 +37,7 @@ def try_absence(check) -> None:
     check("uvt-libuv without a file", ended.returncode == 1 and "Traceback" not in ended.stderr and ended.stderr.count("\n") == 1, ended.stderr)
 
 
-def try_scripts(check) -> None:
+def try_scripts(check: Check) -> None:
     # (both versions call `b` first, and `a` behind it, and libuv before 1.45 then goes once more round)
     ended = ran(EXAMPLES / "two-timers.uvt")
     at = ended.stdout.find("call b 1.0\n")
@@ -57,21 +56,37 @@ IO = "io\nvar r\nvar s\nvar a\nmain init r io\nmain init s io\nmain init a async
 # Scripts whose I/O libuv can't be led along, and the beginning of the sentence that says so. By hand: the steps are counted along the sections.
 NOT_LED = [
     ("in the section `pending`", IO + "main run nowait\nbegin\nloop 6\nio r\n", "step 7 is `io r` in the section `pending`: "),
-    ("behind a poll whose time was over", IO + "main run nowait\nbegin\nloop 10\nio r\n",
-     "step 11 is `io r` behind a poll that was left since its time was over: "),
-    ("started since the poll was left", IO + "main run once\non r start s\nbegin\nloop 9\nio r\nloop\nio s\n",
-     "step 12 is `io s`, and s was started or stopped since the end of that poll, at step 10: "),
-    ("stopped since the poll was left", IO + "main start s\nmain run once\non r stop s\non r start s\nbegin\nloop 10\nio r\nloop 2\nio s\n",
-     "step 14 is `io s`, and s was started or stopped since the end of that poll, at step 11: "),
-    ("between after callbacks", (CONVERSATIONS / "a-callback-of-i-o-between-two-after-callbacks.uvt").read_text(),
-     "step 17 is `io r` between the after and async callbacks of its poll: "),
+    (
+        "behind a poll whose time was over",
+        IO + "main run nowait\nbegin\nloop 10\nio r\n",
+        "step 11 is `io r` behind a poll that was left since its time was over: ",
+    ),
+    (
+        "started since the poll was left",
+        IO + "main run once\non r start s\nbegin\nloop 9\nio r\nloop\nio s\n",
+        "step 12 is `io s`, and s was started or stopped since the end of that poll, at step 10: ",
+    ),
+    (
+        "stopped since the poll was left",
+        IO + "main start s\nmain run once\non r stop s\non r start s\nbegin\nloop 10\nio r\nloop 2\nio s\n",
+        "step 14 is `io s`, and s was started or stopped since the end of that poll, at step 11: ",
+    ),
+    (
+        "between after callbacks",
+        (CONVERSATIONS / "a-callback-of-i-o-between-two-after-callbacks.uvt").read_text(),
+        "step 17 is `io r` between the after and async callbacks of its poll: ",
+    ),
 ]
 
 
-def try_io(check) -> None:
+def try_io(check: Check) -> None:
     """Scripts with I/O that libuv is led along, with the same lines; and what it isn't led along."""
-    for name in (BEFORE_SENDS, "callbacks-of-i-o-before-and-behind-the-others-of-a-poll-that-was-woken", "what-the-ops-answer-of-a-handle-of-i-o",
-                 "with-timers-from-the-heap-and-i-o-in-the-order-of-1-44"):
+    for name in (
+        BEFORE_SENDS,
+        "callbacks-of-i-o-before-and-behind-the-others-of-a-poll-that-was-woken",
+        "what-the-ops-answer-of-a-handle-of-i-o",
+        "with-timers-from-the-heap-and-i-o-in-the-order-of-1-44",
+    ):
         ended = ran(CONVERSATIONS / f"{name}.uvt")
         check(f"uvt-libuv, {name}", ended.returncode == 0 and " and uvt: the same " in ended.stdout, ended.stdout + ended.stderr)
     for what, text, told in NOT_LED:
@@ -83,7 +98,7 @@ def try_io(check) -> None:
         check(f"uvt-libuv, I/O {what}", led and ended.stderr.count("\n") == 1, ended.stdout + ended.stderr)
 
 
-def try_libuv(tries) -> None:
+def try_libuv(tries: Tries) -> None:
     try_absence(tries.check)
     try:
         installed()

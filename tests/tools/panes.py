@@ -11,6 +11,8 @@ import tempfile
 import time
 from pathlib import Path
 
+from tests.helper import Check, Tries
+
 ROOT = Path(__file__).resolve().parent.parent.parent
 SHELL = str(ROOT / "tools" / "uvt" / "uvt-shell")
 SECONDS = 30
@@ -78,14 +80,14 @@ TYPED: list[tuple[str, tuple[str, ...], str]] = [
 ]
 
 
-def try_typing(check, pane: Pane) -> None:
+def try_typing(check: Check, pane: Pane) -> None:
     for what, keys, wanted in TYPED:
         pane.type(*keys)
         found, shown = pane.until(wanted)
         check(f"tmux, {what}", found, shown)
 
 
-def try_interrupt(check, pane: Pane) -> None:
+def try_interrupt(check: Check, pane: Pane) -> None:
     """Ctrl-C in `continue`: the shell goes on where it stopped."""
     pane.type("continue", "Enter")
     found, shown = pane.until("call watcher 0.0\n(.*\n)*call watcher 0.0")
@@ -102,7 +104,7 @@ def try_interrupt(check, pane: Pane) -> None:
     check("tmux, and back from there", found, shown)
 
 
-def try_panes(tries) -> None:
+def try_panes(tries: Tries) -> None:
     if not shutil.which("tmux"):
         print("tools: there is no tmux here: the shell wasn't tried in it", flush=True)
         return
@@ -122,7 +124,7 @@ def try_panes(tries) -> None:
                 pane.close()
 
 
-def try_kept(check, pane: Pane) -> None:
+def try_kept(check: Check, pane: Pane) -> None:
     """A shell that is started later has what was typed before."""
     pane.until(rf"{PROMPT}$")
     pane.type("Up", "Up")

@@ -1,4 +1,4 @@
-/* What a callback costs: `recorded idle N`, `recorded timer N`, `recorded write N` call back so often (tests/tools/unharmed.py --costs). */
+/* What a callback costs: `recorded idle N`, `recorded timer N`, `recorded write N` call back so often (tests/tools/unharmed --costs). */
 #include <stdlib.h>
 #include <uv.h>
 

@@ -11,18 +11,16 @@ import random
 import re
 import shutil
 import subprocess
-import sys
 import tempfile
 from pathlib import Path
 
 ROOT = Path(__file__).resolve().parent.parent.parent
-sys.path.insert(0, str(ROOT / "tools"))
-
-from uvt.conversation import Fault, built_program  # noqa: E402
-from ios import try_io  # noqa: E402
-from uvt.notes import Notes, read_notes  # noqa: E402
-from uvt.record.log import read_log  # noqa: E402
-from uvt.record.run import from_data  # noqa: E402
+from tests.helper import Check, Tries
+from tests.tools.ios import try_io
+from uvt.conversation import Fault, built_program
+from uvt.notes import Notes, read_notes
+from uvt.record.log import read_log
+from uvt.record.run import from_data
 
 LOGS = Path(__file__).resolve().parent / "logs"
 EXAMPLES = ROOT / "crates" / "examples" / "data"
@@ -101,7 +99,8 @@ def verdict(path: Path, seconds: int = SECONDS) -> str:
 def callbacks(log: Path, loop: int) -> list[tuple[str, str]]:
     """The list and the object of each callback of a loop, by the log's own lines: those in another one are part of it, and what comes of a
     handle of I/O that closes is part of its close callback, or of its own that has closed it right before."""
-    watchers, found, depth, closing, over = set(), [], 0, set(), False
+    found: list[tuple[str, str]] = []
+    watchers, depth, closing, over = set(), 0, set(), False
     for line in log.read_text().splitlines()[1:]:
         words = line.split(" ")
         if words[0] != str(loop) or words[1] in "CVSTFWK":
@@ -112,7 +111,7 @@ def callbacks(log: Path, loop: int) -> list[tuple[str, str]]:
             closing.add(words[4][1:])
         if words[1] == "B":
             # (between the loop's time and the callback stands the clock, but in logs of earlier recorders)
-            begun = tuple(words[4:6] if words[3].isdecimal() else words[3:5])
+            begun = (words[4], words[5]) if words[3].isdecimal() else (words[3], words[4])
             late = begun[0] == "on" and begun[1] in watchers & closing
             again = late and over and begun == found[-1]
             if late and not again:
@@ -139,7 +138,7 @@ def agrees(recording: Path, wanted: list[tuple[str, str]]) -> str:
     return "" if len(calls) <= len(wanted) else f"{len(calls)} callbacks, and the log has {len(wanted)}"
 
 
-def try_log(check, name: str, folder: str) -> None:
+def try_log(check: Check, name: str, folder: str) -> None:
     log = LOGS / f"{name}.log"
     ran = recorded(["-o", name, "--log", str(log)], folder)
     loops = WANTED[name]
@@ -183,7 +182,7 @@ def polls_of(log: Path, loop: int) -> int:
     return sum(it == "P" and (form.startswith("uvt-log 2") or types[at + 1 : at + 2] != ["P"]) for at, it in enumerate(types))
 
 
-def try_polls(check, what: str, of: tuple[Path, int], text: str, notes: Notes, whole: bool) -> None:
+def try_polls(check: Check, what: str, of: tuple[Path, int], text: str, notes: Notes, whole: bool) -> None:
     """How many polls there are, and how many in the program, is said, and stands in the notes; and whether they wait as long."""
     log, loop = of
     said = next((it.strip() for it in text.splitlines() if re.match(r"    \d+ polls?, ", it)), "")
@@ -209,13 +208,14 @@ def changes(text: bytes) -> list[bytes]:
     return cuts + [text[:at] + bytes([byte]) + text[at + 1 :] for at, byte in places]
 
 
-def try_changed(check, folder: str) -> None:
+def try_changed(check: Check, folder: str) -> None:
     """A log that is cut anywhere, or has another byte: a sentence and a status, and what is written is `same`."""
     kept = (LOGS / "work.log", LOGS / "watchers.log", LOGS / "datagrams.log", *(TRUTHS / f"{it}.log" for it in ("wrongthread", "starve", "hangup")))
     for log in kept:
         name = log.stem
         for number, data in enumerate(changes(log.read_bytes())):
-            what, said = f"record, {name} changed, {number}", []
+            what = f"record, {name} changed, {number}"
+            said: list[str] = []
             for old in Path(folder).glob("changed*.rec"):
                 old.unlink()
             try:
@@ -232,7 +232,7 @@ def try_changed(check, folder: str) -> None:
                 check(f"{what}: its status", told and "Traceback" not in ran.stderr, (ran.returncode, ran.stdout, ran.stderr))
 
 
-def try_faults(check, folder: str) -> None:
+def try_faults(check: Check, folder: str) -> None:
     (Path(folder) / "full.rec").mkdir()
     cases = [
         ("no such log", ["--log", "nowhere.log"], "nowhere.log: No such file or directory"),
@@ -260,7 +260,7 @@ def has_libuv() -> bool:
     return ran.returncode == 0
 
 
-def try_programs(check, folder: str) -> None:
+def try_programs(check: Check, folder: str) -> None:
     """With a compiler and libuv: programs themselves."""
     cases = [
         ("a program that isn't there", ["-o", "program", "./nowhere"], "could not be started"),
@@ -283,7 +283,7 @@ def try_programs(check, folder: str) -> None:
     check("record, the program isn't disturbed by that", " is late: " in full.stdout, full)
 
 
-def try_queued_again(check, folder: str) -> None:
+def try_queued_again(check: Check, folder: str) -> None:
     """A request that is queued while it is under way: libuv forbids it, the program goes on as without the recorder, and it is said."""
     program = f"{folder}/queued-again"
     subprocess.run(["cc", "-O1", "-g", str(LOGS.parent / "queued_again.c"), "-o", program, "-luv", "-lpthread"], check=True)
@@ -308,10 +308,11 @@ def archive() -> str:
     return next((it for it in paths if os.path.isabs(it)), "") if hooks.returncode == 0 else ""
 
 
-def try_within(check, folder: str, libuv: str) -> None:
+def try_within(check: Check, folder: str, libuv: str) -> None:
     """Programs with libuv within them: they are recorded as others are, and it is said why where they can't be."""
     programs = ROOT / "tools" / "uvt" / "record" / "programs"
-    for name, callbacks, flags in (("late", 11, []), ("late", 11, ["-no-pie"]), ("zero", 4, []), ("watchers", 0, []), ("mixed", 0, [])):
+    tried: list[tuple[str, int, list[str]]] = [("late", 11, []), ("late", 11, ["-no-pie"]), ("zero", 4, []), ("watchers", 0, []), ("mixed", 0, [])]
+    for name, callbacks, flags in tried:
         words = ["cc", "-O1", "-g", *flags, str(programs / f"{name}.c"), "-o", f"{folder}/{name}-within", libuv, "-ldl", "-lpthread"]
         subprocess.run(words, check=True)
         ran = recorded([f"./{name}-within"], folder)
@@ -329,7 +330,17 @@ def try_within(check, folder: str, libuv: str) -> None:
         check(f"record, {name} without what it takes", ran.returncode == 2 and wanted in ran.stderr and " is late: " in ran.stdout, ran)
     try_merged(check, folder)
     try_two(check, folder, libuv)
-    words = ["cc", "-w", "-O1", "-rdynamic", "-I", str(ROOT / "tools" / "uvt" / "record" / "recorder"), str(LOGS.parent / "bridges.c"), "-o", f"{folder}/bridges"]
+    words = [
+        "cc",
+        "-w",
+        "-O1",
+        "-rdynamic",
+        "-I",
+        str(ROOT / "tools" / "uvt" / "record" / "recorder"),
+        str(LOGS.parent / "bridges.c"),
+        "-o",
+        f"{folder}/bridges",
+    ]
     subprocess.run([*words, "-ldl", "-lpthread"], check=True)
     ran = subprocess.run([f"{folder}/bridges"], capture_output=True, text=True, timeout=SECONDS)
     check("record, the bridges", ran.returncode == 0 and ran.stdout == "ok\n", ran)
@@ -343,7 +354,7 @@ int main(void) { return uv_loop_init() + (uv_run() < 0); }
 """
 
 
-def try_merged(check, folder: str) -> None:
+def try_merged(check: Check, folder: str) -> None:
     """libuv's functions are no functions any more (-flto does so)."""
     (Path(folder) / "merged.c").write_text(MERGED)
     subprocess.run(["cc", "-O2", "-flto", f"{folder}/merged.c", "-o", f"{folder}/merged"], check=True)
@@ -376,7 +387,7 @@ int main(int count, char **words) {
 """
 
 
-def try_two(check, folder: str, libuv: str) -> None:
+def try_two(check: Check, folder: str, libuv: str) -> None:
     """Two libuvs in one process, of two versions: refused, and no call goes to the wrong one. Of one version they are recorded."""
     place = Path(folder) / "two"
     for version in ("other", "same"):
@@ -391,8 +402,19 @@ def try_two(check, folder: str, libuv: str) -> None:
         cc("-shared", "-fPIC", "-Wl,-soname,libuv.so.1", f'-DVERSION="{version}"', "other.c", "-o", f"{kind}/libuv.so.1")
         cc("-shared", "-fPIC", "plugin.c", "-o", f"{kind}/plugin.so", f"{kind}/libuv.so.1", f"-Wl,-rpath,{place}/{kind}")
     cc("-O1", "both.c", "-o", "both", libuv, "-ldl", "-lpthread")
-    cc("-O1", "both.c", "-o", "linked", libuv, "-ldl", "-lpthread", "-Wl,--exclude-libs,ALL", "-Wl,--no-as-needed", "other/plugin.so",
-       f"-Wl,-rpath,{place}/other")
+    cc(
+        "-O1",
+        "both.c",
+        "-o",
+        "linked",
+        libuv,
+        "-ldl",
+        "-lpthread",
+        "-Wl,--exclude-libs,ALL",
+        "-Wl,--no-as-needed",
+        "other/plugin.so",
+        f"-Wl,-rpath,{place}/other",
+    )
     ran = recorded(["./both"], str(place))
     check("record, a program that may load a second libuv", ran.returncode == 0 and ": same" in ran.stdout, ran)
     ran = recorded(["./both", "same/plugin.so"], str(place))
@@ -404,10 +426,13 @@ def try_two(check, folder: str, libuv: str) -> None:
     check("record, a second libuv from the start", ran.returncode == 2 and two in ran.stderr and "1.99.0" in ran.stdout, ran)
 
 
-def try_unseen(check, folder: str) -> None:
+def try_unseen(check: Check, folder: str) -> None:
     """A log that says what can't be seen."""
     lines = (LOGS / "late.log").read_text().split("\n")
-    for unseen, wanted in (("uv_signal_start it is too short", "uv_signal_start can't be seen (it is too short)"), ("- no capstone", "nothing can be seen")):
+    for unseen, wanted in (
+        ("uv_signal_start it is too short", "uv_signal_start can't be seen (it is too short)"),
+        ("- no capstone", "nothing can be seen"),
+    ):
         (Path(folder) / "unseen.log").write_text("\n".join([lines[0], f"- U {unseen}", *lines[1:]]))
         ran = recorded(["--log", "unseen.log"], folder)
         check(f"record, a log with `{unseen}`", ran.returncode == 1 and wanted in ran.stdout, ran)
@@ -436,8 +461,14 @@ def long_log(calls: int, stall: int = 0) -> bytes:
 
 def talk_log(reads: int) -> bytes:
     """A tcp that is read so often, four times in a millisecond, with a heartbeat of 10 ms; all that there is, written down each 1,000 reads."""
-    lines = ["uvt-log 2 1.44.2 7 4 /home/user/talk", "0 O 0 init %0 timer = ok", "0 O 0 start %0 10 10 = ok", "0 O 0 init %1 tcp = ok",
-             "0 O 0 start %1 = ok", "0 R 0 default"]
+    lines = [
+        "uvt-log 2 1.44.2 7 4 /home/user/talk",
+        "0 O 0 init %0 timer = ok",
+        "0 O 0 start %0 10 10 = ok",
+        "0 O 0 init %1 tcp = ok",
+        "0 O 0 start %1 = ok",
+        "0 R 0 default",
+    ]
     now, due = 0, 10
     for read in range(1, reads + 1):
         row = f"0 K {now} 0 timer 1 1 0 {due - now} 10 {due}"
@@ -457,7 +488,7 @@ def talk_log(reads: int) -> bytes:
 READS = 8_000
 
 
-def try_talk(check, folder: str) -> None:
+def try_talk(check: Check, folder: str) -> None:
     """A long log of I/O, and a part of it."""
     data = talk_log(READS)
     (Path(folder) / "talk.log").write_bytes(data)
@@ -473,11 +504,10 @@ def try_talk(check, folder: str) -> None:
     part = (Path(folder) / "part.rec").read_text()
     check("record, a part of a long talk: its callbacks", part.count("\ncall tcp ") == READS - 6000 + 1, part.count("\ncall tcp "))
 
-
     try_early(check, Path(folder))
 
 
-def try_early(check, folder: Path) -> None:
+def try_early(check: Check, folder: Path) -> None:
     """Before the build a long recording's log is told first: by a program of this path, which `why` takes for the one before its proofs."""
     program = folder / "unproved" / "uvt"
     program.parent.mkdir()
@@ -493,11 +523,15 @@ def try_early(check, folder: Path) -> None:
 STALL_AT, STALL = 30_500, 70
 
 
-def try_worst(check, folder: str) -> None:
+def try_worst(check: Check, folder: str) -> None:
     """A long log of which the part with the longest callback is taken."""
     (Path(folder) / "stall.log").write_bytes(long_log(CALLS_OF_LONG, STALL_AT))
     ran = recorded(["--log", "stall.log", "--most", "2000", "--worst"], folder, LONG)
-    check("record --worst", f"the longest of {CALLS_OF_LONG + 1} callbacks took {STALL} ms at " in ran.stdout.split("\n")[0] and "same" in ran.stdout, ran)
+    check(
+        "record --worst",
+        f"the longest of {CALLS_OF_LONG + 1} callbacks took {STALL} ms at " in ran.stdout.split("\n")[0] and "same" in ran.stdout,
+        ran,
+    )
     path = Path(folder) / "stall.rec"
     check("record --worst: replay", verdict(path, LONG) == "same")
     check("record --worst: its notes", "around the longest one were taken" in read_notes(path, path.read_bytes()).part)
@@ -507,7 +541,7 @@ def try_worst(check, folder: str) -> None:
     check("record --most takes the first", "and the first 2000 were taken" in ran.stdout, ran)
 
 
-def try_long(check, folder: str) -> None:
+def try_long(check: Check, folder: str) -> None:
     (Path(folder) / "long.log").write_bytes(long_log(CALLS_OF_LONG))
     ran = recorded(["--log", "long.log"], folder, LONG)
     check("record, 50,000 callbacks", f"loop 0: {CALLS_OF_LONG + 1} of {CALLS_OF_LONG + 1} callbacks" in ran.stdout and ran.returncode == 0, ran)
@@ -526,15 +560,24 @@ def try_long(check, folder: str) -> None:
         check(f"record {' '.join(words)}: how many", got == calls if calls else 9_000 < got < 16_000, got)
 
 
-def try_whys_of_parts(check, folder: str) -> None:
+def try_whys_of_parts(check: Check, folder: str) -> None:
     """A recording that is only a beginning: each tool says so."""
     recorded(["-o", "cut", "--log", str(LOGS / "closing.log")], folder)
     for words in (["uvt-why", "timer", "cut.rec"], ["uvt-why", "cut.rec"], ["uvt-shell", "cut.rec"], ["uvt-view", "cut.rec"]):
-        ran = subprocess.run([str(ROOT / "tools" / "uvt" / words[0]), *words[1:]], cwd=folder, capture_output=True, text=True, timeout=SECONDS,
-                             env=os.environ, input="")
+        ran = subprocess.run(
+            [str(ROOT / "tools" / "uvt" / words[0]), *words[1:]],
+            cwd=folder,
+            capture_output=True,
+            text=True,
+            timeout=SECONDS,
+            env=os.environ,
+            input="",
+        )
         check(f"{' '.join(words)} of a beginning", "THE RECORDING IS A PART: it has the first" in ran.stdout, ran.stdout[-500:] + ran.stderr)
     for tool, *words in (("uvt-why", "tick"), ("uvt-shell",), ("uvt-view",)):
-        ran = subprocess.run([str(ROOT / "tools" / "uvt" / tool), *words, str(LOGS / "zero.log")], capture_output=True, text=True, timeout=SECONDS, env=os.environ)
+        ran = subprocess.run(
+            [str(ROOT / "tools" / "uvt" / tool), *words, str(LOGS / "zero.log")], capture_output=True, text=True, timeout=SECONDS, env=os.environ
+        )
         check(f"{tool} of a log", ran.returncode == 1 and "this is a log of a program" in ran.stderr and "Traceback" not in ran.stderr, ran.stderr)
 
 
@@ -549,7 +592,7 @@ PAGES = (
 )
 
 
-def try_page(check, page: Path, folder: str, log: str, call: str, other: str) -> None:
+def try_page(check: Check, page: Path, folder: str, log: str, call: str, other: str) -> None:
     """Each call that the page shows, in order in one folder. In place of running the program its log is taken."""
     log = Path(log).name
     name = "server" if " -o " in call else log
@@ -572,7 +615,7 @@ def try_page(check, page: Path, folder: str, log: str, call: str, other: str) ->
             check(f"{page.name}: `{block.strip()}` prints that alone", lines == parts, ran.stdout)
 
 
-def try_pages(check) -> None:
+def try_pages(check: Check) -> None:
     for page, log, call, other in PAGES:
         with tempfile.TemporaryDirectory() as folder:
             (Path(folder) / "uvt").symlink_to(ROOT / "uvt")
@@ -582,7 +625,7 @@ def try_pages(check) -> None:
             try_page(check, ROOT / page, folder, log, call, other)
 
 
-def try_sharpness(check) -> None:
+def try_sharpness(check: Check) -> None:
     """Changed logs are noticed: a request's callback left out or doubled always, two swapped of which not both are of I/O in nine of ten."""
     logs = [str(LOGS / f"{name}.log") for name in WANTED]
     words = [str(ROOT / "tests" / "recorder" / "sharpness"), "--most", "20", *logs]
@@ -594,7 +637,7 @@ def try_sharpness(check) -> None:
     check("record, two swapped that are both of I/O: these may come in any order", counts.get("both of I/O", (0, 0))[1] >= 20, ran.stdout)
 
 
-def try_records(tries) -> None:
+def try_records(tries: Tries) -> None:
     check = tries.check
     os.environ["UVT"] = built_program()
     check("record: each log is known", {it.stem for it in LOGS.glob("*.log")} == set(WANTED))

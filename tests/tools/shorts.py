@@ -1,9 +1,8 @@
-"""tools/make/shorter without the prover: small lemmas in, and which copies it would try, what of them is chosen, and what goes when nobody cites it."""
+"""tools/make/shorter without the prover: small lemmas in, which copies it would try, what of them is chosen, and what goes when nobody cites it."""
 
 from __future__ import annotations
 
 import subprocess
-import sys
 import tempfile
 from contextlib import redirect_stdout
 from io import StringIO
@@ -12,15 +11,13 @@ from typing import Protocol
 from unittest.mock import patch
 
 ROOT = Path(__file__).resolve().parent.parent.parent
-sys.path.append(str(ROOT / "tools"))
-
-from make.shorten.bodies import bodies, merged, whole_left  # noqa: E402
-from make.shorten.checks import KINDS, Asked, Said, copies  # noqa: E402
-from make.shorten.inside import Cited, inlined  # noqa: E402
-from make.shorten.proofs import Proofs  # noqa: E402
-from make.shorten.reading import Lemma, given_names, lemmas_in, own_terms, patterns_of, side_of, sides_of  # noqa: E402
-from make.shorten.rounds import Rounds, choose, put  # noqa: E402
-from make.shorten.tactics import Made, Means, laid  # noqa: E402
+from make.shorten.bodies import bodies, merged, whole_left
+from make.shorten.checks import KINDS, Asked, Said, copies
+from make.shorten.inside import Cited, inlined
+from make.shorten.proofs import Proofs
+from make.shorten.reading import Lemma, given_names, lemmas_in, own_terms, patterns_of, side_of, sides_of
+from make.shorten.rounds import Rounds, choose, put
+from make.shorten.tactics import Made, Means, laid
 
 SMALL = """-- what is brought in
 use Rattle.a_crate.proofs.Names.{ℕ, small}
@@ -74,7 +71,8 @@ UPPER = "use Rattle.a_crate.proofs.Names.{idle-one}\nuse Rattle.a_crate.proofs.N
 class Tries(Protocol):
     """What counts the tries (tests/tools/run)."""
 
-    def check(self, what: str, holds: bool, why: object = "") -> None: ...
+    def check(self, what: str, holds: bool, why: object = "") -> None:
+        ...
 
 
 def lemma(name: str) -> Lemma:
@@ -86,7 +84,7 @@ def means() -> Means:
 
 
 def bodies_of(made: list[Made], kind: str) -> list[str]:
-    return ["\n".join(it.lines[len(it.lemma.head):]) for it in made if it.kind == kind]
+    return ["\n".join(it.lines[len(it.lemma.head) :]) for it in made if it.kind == kind]
 
 
 def try_reading(tries: Tries) -> None:
@@ -94,7 +92,7 @@ def try_reading(tries: Tries) -> None:
     found = lemmas_in(Path("Small.antt"), SMALL)
     lines = SMALL.split("\n")
     tries.check("shorter, the lemmas of a file", [(it.name, len(it.clauses)) for it in found] == [("three", 3), ("split", 1), ("small", 1)], found)
-    tries.check("shorter, where they stand", all(tuple(lines[it.first:it.end]) == it.lines for it in found), found)
+    tries.check("shorter, where they stand", all(tuple(lines[it.first : it.end]) == it.lines for it in found), found)
     side = side_of(("f {a} (x , y) (b = c) =", "    right"))
     tries.check("shorter, the sides of a clause", side is not None and (side.left, side.right) == ("f {a} (x , y) (b = c)", "\n    right"), side)
     tries.check("shorter, patterns", patterns_of("f {a} (x , y) z") == ["{a}", "(x , y)", "z"], patterns_of("f {a} (x , y) z"))
@@ -177,8 +175,9 @@ def stand_in(asked: Asked, folder: Path, kept: str) -> Said:
 def try_rounds(tries: Tries) -> None:
     """A round over a stand-in for the check: what passes is written, and put back where it is refused there."""
     lemmas = "".join(f"pub {it} : (n : ℕ) → n ≡ n\n{it} n =\n    refl\n\n" for it in ("first", "second")).rstrip("\n") + "\n"
-    with tempfile.TemporaryDirectory() as folder, redirect_stdout(StringIO()) as said, \
-            patch("make.shorten.checks.check", stand_in), patch("make.shorten.rounds.check", stand_in):
+    with tempfile.TemporaryDirectory() as folder, redirect_stdout(StringIO()) as said, patch("make.shorten.checks.check", stand_in), patch(
+        "make.shorten.rounds.check", stand_in
+    ):
         root = Path(folder)
         path = root / "crates" / "a_crate" / "proofs" / "Upper.antt"
         path.parent.mkdir(parents=True)

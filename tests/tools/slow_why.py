@@ -93,7 +93,8 @@ class SlowWhy:
         self.steps = steps
         self.lines: list[str] = []
         self.looks: list[Look] = []
-        said, state = "", None
+        said = ""
+        state: list[str] | None = None
         for line in out.splitlines():
             if state is None and re.match(r"steps \d+ now ", line):
                 state = []
@@ -131,7 +132,7 @@ class SlowWhy:
         if was and (not is_now or again):
             seen = open.pop("handle")
             seen.ended = step
-            seen.how = ("called" if called else "closed" if after.value(name, "closing") == "1" else "started again" if is_now else "stopped")
+            seen.how = "called" if called else "closed" if after.value(name, "closing") == "1" else "started again" if is_now else "stopped"
             seen.call = after.counts(name)[0] if called else 0
         if is_now and (not was or again):
             words = after.slot(name)

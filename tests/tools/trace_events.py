@@ -6,15 +6,13 @@ import collections
 import json
 import os
 import subprocess
-import sys
 import tempfile
 from pathlib import Path
 
 ROOT = Path(__file__).resolve().parent.parent.parent
-sys.path.insert(0, str(ROOT / "tools"))
-
-from uvt.record.log import read_log  # noqa: E402
-from uvt.record.run import from_data  # noqa: E402
+from tests.helper import Check, Tries
+from uvt.record.log import read_log
+from uvt.record.run import from_data
 
 EXAMPLES = ROOT / "crates" / "examples" / "data"
 HERE = Path(__file__).resolve().parent
@@ -22,7 +20,14 @@ VIEW = str(ROOT / "tools" / "uvt" / "uvt-view")
 SECONDS = 120
 # Of each phase the fields that it has to have beside ph, ts, pid, tid and name.
 FIELDS = {
-    "B": ("cat",), "E": (), "X": ("dur", "cat"), "b": ("id", "cat"), "e": ("id", "cat"), "s": ("id", "cat"), "f": ("id", "cat", "bp"), "M": ("args",),
+    "B": ("cat",),
+    "E": (),
+    "X": ("dur", "cat"),
+    "b": ("id", "cat"),
+    "e": ("id", "cat"),
+    "s": ("id", "cat"),
+    "f": ("id", "cat", "bp"),
+    "M": ("args",),
 }
 METADATA = {"process_name": ("name", str), "thread_name": ("name", str), "thread_sort_index": ("sort_index", int)}
 
@@ -133,7 +138,7 @@ def slice_of(events: list[dict], name: str) -> list[tuple[float, float]]:
     return [(begin["ts"], end["ts"]) for begin, end in zip(rows[::2], rows[1::2])]
 
 
-def try_known(check) -> None:
+def try_known(check: Check) -> None:
     """By hand. In late-timer.uvt `save` is called at 10 ms, as the 8th step of that ms, and 40 ms go by; `beat`, due at 15, is called as the 14th
     step of 50 ms."""
     events, _ = wrong_of(traced(EXAMPLES / "late-timer.uvt"))
@@ -151,7 +156,7 @@ def try_known(check) -> None:
     check("trace events, the requests", asked == ["long", "short"], asked)
 
 
-def try_changed(check) -> None:
+def try_changed(check: Check) -> None:
     """A file with a fault is one: an end that is left out, an arrow that ends nowhere, a phase that is none, an end before its beginning."""
     whole = json.loads(traced(EXAMPLES / "sends-are-one.uvt"))
     events = whole["traceEvents"]
@@ -166,7 +171,7 @@ def try_changed(check) -> None:
         check(f"trace events {what}", wrong_of(json.dumps(whole | {"traceEvents": changed}))[1], "nothing is wrong")
 
 
-def try_trace_events(tries) -> None:
+def try_trace_events(tries: Tries) -> None:
     check = tries.check
     try_changed(check)
     for path in sorted([*EXAMPLES.glob("*.uvt"), *EXAMPLES.glob("*.rec")]):
@@ -174,7 +179,9 @@ def try_trace_events(tries) -> None:
         check(f"trace events of {path.name}", events and not wrong, wrong[:5])
     try_known(check)
     with tempfile.TemporaryDirectory() as folder:
-        logs = [f"truths/{it}" for it in ("pool", "watched", "starve", "chat")] + [f"logs/{it}" for it in ("threads", "node-late", "uvloop-echo", "starved")]
+        logs = [f"truths/{it}" for it in ("pool", "watched", "starve", "chat")] + [
+            f"logs/{it}" for it in ("threads", "node-late", "uvloop-echo", "starved")
+        ]
         for log in (HERE / f"{it}.log" for it in logs):
             data = log.read_bytes()
             from_data(data, read_log(data), str(Path(folder) / log.stem))
@@ -183,19 +190,3 @@ def try_trace_events(tries) -> None:
                 calls = path.read_text().partition("\ncalls\n")[2].count("\n") - 1
                 begun = sum(it["ph"] == "B" and it["cat"] in ("callback", "after callback", "close callback") for it in events)
                 check(f"trace events of {path.name}", not wrong and begun == calls, (begun, calls, wrong[:5]))
-
-
-if __name__ == "__main__":
-
-    class Tries:
-        count = failed = 0
-
-        def check(self, what, holds, why=""):
-            self.count += 1
-            if not holds:
-                self.failed += 1
-                print(f"tools: {what}: {why}", flush=True)
-
-    tries = Tries()
-    try_trace_events(tries)
-    print(f"{tries.count} tried, {tries.failed} failed")

@@ -7,21 +7,19 @@ gives to a callback or to a worker is held against what the program itself print
 from __future__ import annotations
 
 import re
-import sys
 import tempfile
 from dataclasses import dataclass, field
 from pathlib import Path
 
 ROOT = Path(__file__).resolve().parent.parent.parent
-sys.path.insert(0, str(ROOT / "tools"))
-
-from uvt import log_summary  # noqa: E402
-from uvt.conversation import read_input  # noqa: E402
-from uvt.overview import Overview  # noqa: E402
-from uvt.record.log import read_log  # noqa: E402
-from uvt.record.run import from_data  # noqa: E402
-from uvt.walk import Walk  # noqa: E402
-from uvt.why import why  # noqa: E402
+from tests.helper import Check, Tries
+from uvt import log_summary
+from uvt.conversation import read_input
+from uvt.overview import Overview
+from uvt.record.log import read_log
+from uvt.record.run import from_data
+from uvt.walk import Walk
+from uvt.why import why
 
 TRUTHS = Path(__file__).resolve().parent / "truths"
 # (the clock of a log has whole milliseconds, and a callback says what its work took, without what comes before and behind it)
@@ -40,138 +38,338 @@ class Question:
 
 
 QUESTIONS = [
-    Question("drift", "beat",
-             [r"late by 1\d ms: the callback of beat, on_beat \(drift\.c:5\), took 1\d ms, .*so the loop's time was \d+ ms still"],
-             [r"\d+ ms went by in the poll"]),
-    Question("starve", "tick", [r"late by \d+ ms: the callback of background, on_background \(starve\.c:9\), took 3\d ms",
-                                "the poll didn't wait, at steps? .*: background was an active idle handle"], ["went by in the poll"]),
+    Question(
+        "drift",
+        "beat",
+        [r"late by 1\d ms: the callback of beat, on_beat \(drift\.c:5\), took 1\d ms, .*so the loop's time was \d+ ms still"],
+        [r"\d+ ms went by in the poll"],
+    ),
+    Question(
+        "starve",
+        "tick",
+        [
+            r"late by \d+ ms: the callback of background, on_background \(starve\.c:9\), took 3\d ms",
+            "the poll didn't wait, at steps? .*: background was an active idle handle",
+        ],
+        ["went by in the poll"],
+    ),
     Question("starve", "inbox", [r"for the send at step \d+, \d+ ms later: the callback of background, .* took 3\d ms"], ["in the same millisecond"]),
-    Question("pool", "fifth", [r"waited for a worker from step \d+ to \d+, 20\d ms: the workers had hash_\d, hash_\d, hash_\d and hash_\d",
-                               r"worker \d ran it, work_fifth \(pool\.c:7\), from step \d+ to \d+, 2\d ms"]),
-    Question("pool", "status", [r"called 2\d\d ms after it was queued; when a worker took it and was through nobody knows \(fs_stat\)",
-                                r"for \d\d\d ms of them each worker had other work, .*hash_0"], [r"worker \d ran it"]),
-    Question("pool", "lookup", [r"when a worker took it and was through nobody knows \(addrinfo\)", r"each worker had other work, .*hash_0"],
-             [r"worker \d ran it"]),
+    Question(
+        "pool",
+        "fifth",
+        [
+            r"waited for a worker from step \d+ to \d+, 20\d ms: the workers had hash_\d, hash_\d, hash_\d and hash_\d",
+            r"worker \d ran it, work_fifth \(pool\.c:7\), from step \d+ to \d+, 2\d ms",
+        ],
+    ),
+    Question(
+        "pool",
+        "status",
+        [
+            r"called 2\d\d ms after it was queued; when a worker took it and was through nobody knows \(fs_stat\)",
+            r"for \d\d\d ms of them each worker had other work, .*hash_0",
+        ],
+        [r"worker \d ran it"],
+    ),
+    Question(
+        "pool",
+        "lookup",
+        [r"when a worker took it and was through nobody knows \(addrinfo\)", r"each worker had other work, .*hash_0"],
+        [r"worker \d ran it"],
+    ),
     Question("pool", "hash_2", [r"worker \d ran it, work_hash \(pool\.c:6\), from step \d+ to \d+, 20\d ms"]),
     Question("pool", ALL, [r"the pool was full\n    2\d\d ms: from \d+ to 2\d\d ms, .*hash_0, hash_1, hash_2", "the longest requests\n .*: fifth, "]),
-    Question("neverclosed", "session", [r"no close callback: the run ended at step \d+: a run `once` has one iteration",
-                                        r"closed at step \d+ by line \d+: on session close session, in on_session"]),
+    Question(
+        "neverclosed",
+        "session",
+        [
+            r"no close callback: the run ended at step \d+: a run `once` has one iteration",
+            r"closed at step \d+ by line \d+: on session close session, in on_session",
+        ],
+    ),
     Question("neverclosed", "later", ["no call: the run ended at step .*`once` has one iteration", "due at 30 ms"]),
     Question("coalesce", "news", ["for the send at step", r"4 sends, and one call", r"\d+ ms later: the callback of news, .* took 2\d ms"]),
-    Question("again", "inactivity", [r"inactivity: a timer, 1 call", r"call 1: (on time|late by [12] ms)", "due at 50 ms"],
-             ["never called", "stopped by", "no call"]),
-    Question("again", "inactivity",
-             [r"uv_timer_again at again\.c:7, in on_traffic, did nothing, 4 times, in the callback of step \d+, step \d+, step \d+ and step \d+: "
-              "the timer doesn't repeat"]),
+    Question(
+        "again",
+        "inactivity",
+        [r"inactivity: a timer, 1 call", r"call 1: (on time|late by [12] ms)", "due at 50 ms"],
+        ["never called", "stopped by", "no call"],
+    ),
+    Question(
+        "again",
+        "inactivity",
+        [
+            r"uv_timer_again at again\.c:7, in on_traffic, did nothing, 4 times, in the callback of step \d+, step \d+, step \d+ and step \d+: "
+            "the timer doesn't repeat"
+        ],
+    ),
     Question("behind", "sample", [r"late by \d\d ms: the callback of flush, on_flush \(behind\.c:6\), took 4\d ms", r"\d repeats lost"]),
     Question("unrefd", "retry", ["retry: a timer, never called", r"nothing kept the loop alive, for retry is unreferenced since step \d+, by line"]),
     Question("unrefd", "jobs_5", ["cancelled before a worker took it", "on abort_all cancel jobs_5, in on_abort"]),
     Question("unrefd", "jobs_1", [r"`cancel jobs_1` returns EBUSY: too late: worker \d took it", r"worker \d ran it, work_job .*, 6\d ms"]),
-    Question("blocked", "job",
-             [r"done at step \d+, 1\d\d ms later: the callback of blocker, on_blocker \(blocked\.c:6\), took 20\d ms",
-              r"worker \d ran it, work_job \(blocked\.c:7\), from step \d+ to \d+, [23]\d ms"], ["same millisecond", r" 2\d\d ms;"]),
+    Question(
+        "blocked",
+        "job",
+        [
+            r"done at step \d+, 1\d\d ms later: the callback of blocker, on_blocker \(blocked\.c:6\), took 20\d ms",
+            r"worker \d ran it, work_job \(blocked\.c:7\), from step \d+ to \d+, [23]\d ms",
+        ],
+        ["same millisecond", r" 2\d\d ms;"],
+    ),
     Question("blocked", "inbox", [r"for the send at step \d+, 1\d\d ms later: the callback of blocker, .* took 20\d ms"], ["same millisecond;"]),
-    Question("blocked", ALL, [r"the longest callbacks\n    20\d ms: the callback of blocker, on_blocker \(blocked\.c:6\)",
-                              r"the latest sends\n    1\d\d ms: inbox, "]),
+    Question(
+        "blocked",
+        ALL,
+        [r"the longest callbacks\n    20\d ms: the callback of blocker, on_blocker \(blocked\.c:6\)", r"the latest sends\n    1\d\d ms: inbox, "],
+    ),
     Question("echo", "heartbeat", [r"late by 2\d ms: the callback of peer, on_server_read \(echo\.c:15\), took 3\d ms"]),
-    Question("echo", "client", ["tcp, which stands as a handle of I/O", "it left the poll: tcp: .*, and when nobody knows",
-                                r"lie 3\d ms: the callback of peer, on_server_read"], [r"when nobody knows\n +.* same millisecond", r"\d ms later"]),
-    Question("wrongthread", "wrong", ["WRONG THREAD: uv_timer_start was called by another thread while the loop ran",
-                                      r"started at step \d+, .*, by ANOTHER THREAD, with uv_timer_start"], ["in on_innocent"]),
+    Question(
+        "echo",
+        "client",
+        [
+            "tcp, which stands as a handle of I/O",
+            "it left the poll: tcp: .*, and when nobody knows",
+            r"lie 3\d ms: the callback of peer, on_server_read",
+        ],
+        [r"when nobody knows\n +.* same millisecond", r"\d ms later"],
+    ),
+    Question(
+        "wrongthread",
+        "wrong",
+        [
+            "WRONG THREAD: uv_timer_start was called by another thread while the loop ran",
+            r"started at step \d+, .*, by ANOTHER THREAD, with uv_timer_start",
+        ],
+        ["in on_innocent"],
+    ),
     Question("wrongthread", "innocent", ["call 1: (on time|late by [12] ms)"], ["ANOTHER", "WRONG"]),
     Question("pollspin", ALL, [r"who spun\n    \d+ polls in a row didn't wait, .*: readable was called in each of these rounds"]),
-    Question("forgotten", ALL, [r"what kept the loop alive\n    at the end, .* and the poll waits: forgotten \(async\)\n",
-                                r"never called\n    forgotten"]),
-    Question("conns", "on_idle_3", [r"late by \d\d ms: the callback of on_request_3, on_request \(conns\.c:16\), took 9\d ms",
-                                    "in memory of its own: the name is that of its function on_idle"]),
+    Question(
+        "forgotten", ALL, [r"what kept the loop alive\n    at the end, .* and the poll waits: forgotten \(async\)\n", r"never called\n    forgotten"]
+    ),
+    Question(
+        "conns",
+        "on_idle_3",
+        [
+            r"late by \d\d ms: the callback of on_request_3, on_request \(conns\.c:16\), took 9\d ms",
+            "in memory of its own: the name is that of its function on_idle",
+        ],
+    ),
     Question("conns", ALL, [r"the longest callbacks\n    9\d ms: the callback of on_request_3, on_request"]),
     Question("rearmed", "next", [r"calls \d+ to \d+: each asked for in the one before, due from"], []),
     Question("rearmed", "missed", ["missed: a timer, never called", "a run `nowait` has one iteration"]),
-    Question("files", "opening", [r"called 12\d ms after it was queued; when a worker took it and was through nobody knows \(fs_open\)",
-                                  r"for 1[12]\d ms of them each worker had other work, .*compress_0 and compress_1"], [r"worker \d ran it"]),
+    Question(
+        "files",
+        "opening",
+        [
+            r"called 12\d ms after it was queued; when a worker took it and was through nobody knows \(fs_open\)",
+            r"for 1[12]\d ms of them each worker had other work, .*compress_0 and compress_1",
+        ],
+        [r"worker \d ran it"],
+    ),
     Question("files", ALL, [r"the longest callbacks\n    1\d ms: the after callback of reading, on_read \(files\.c:\d+\)"]),
     Question("child", "output", ["pipe, which stands as a handle of I/O", "it left the poll: pipe: .*, and when nobody knows"], ["same millisecond"]),
     Question("crowd", "slow", ["it left the poll: pipe: .*, and when nobody knows"], [r"\d ms behind"]),
-    Question("crowd", "quick", ["pipe: 5 bytes were read, and it was called",
-                                r"30 ms behind the end of the poll, .*: the callback of slow, on_slow \(crowd\.c:8\), took 30 ms"], ["nobody knows"]),
-    Question("crowd", "ended", ["pipe: the end of the stream, and it was called",
-                                r"30 ms behind the end of the poll, .*: the callback of slow, on_slow \(crowd\.c:8\), took 30 ms"], ["nobody knows"]),
+    Question(
+        "crowd",
+        "quick",
+        [
+            "pipe: 5 bytes were read, and it was called",
+            r"30 ms behind the end of the poll, .*: the callback of slow, on_slow \(crowd\.c:8\), took 30 ms",
+        ],
+        ["nobody knows"],
+    ),
+    Question(
+        "crowd",
+        "ended",
+        [
+            "pipe: the end of the stream, and it was called",
+            r"30 ms behind the end of the poll, .*: the callback of slow, on_slow \(crowd\.c:8\), took 30 ms",
+        ],
+        ["nobody knows"],
+    ),
     Question("crowd", ALL, [r"the longest callbacks\n    30 ms: the callback of slow, on_slow \(crowd\.c:8\)", r"I/O\n    quick, .*30 ms behind"]),
-    Question("fifo", "line", [r"waited for a worker from step \d+ to \d+, 2\d\d ms: the workers had opening_0, opening_1, opening_2 and opening_3",
-                              r"worker \d ran it from step \d+ to \d+, 0 ms"], ["nobody knows"]),
+    Question(
+        "fifo",
+        "line",
+        [
+            r"waited for a worker from step \d+ to \d+, 2\d\d ms: the workers had opening_0, opening_1, opening_2 and opening_3",
+            r"worker \d ran it from step \d+ to \d+, 0 ms",
+        ],
+        ["nobody knows"],
+    ),
     Question("fifo", ALL, [r"the pool was full\n    2\d\d ms: .*opening_0, opening_1, opening_2, opening_3"]),
     Question("fault", ALL, [r"THE PROGRAM WAS ENDED BY SIGSEGV: this loop was in the callback of reply_3, on_reply \(fault\.c:5\)"]),
-    Question("busy", ALL,
-             [r"the loop was not closed\n    step \d+: uv_loop_close returns EBUSY, for once \(timer\), leak \(async\) and look \(check\) "
-             r"are there"]),
-    Question("winner", "news", [r"call 1: for the send at step \d+, in the same millisecond\n .* after quick send news, in done"], [r"\d sends",
-             "nobody saw"]),
+    Question(
+        "busy",
+        ALL,
+        [r"the loop was not closed\n    step \d+: uv_loop_close returns EBUSY, for once \(timer\), leak \(async\) and look \(check\) " r"are there"],
+    ),
+    Question(
+        "winner",
+        "news",
+        [r"call 1: for the send at step \d+, in the same millisecond\n .* after quick send news, in done"],
+        [r"\d sends", "nobody saw"],
+    ),
     Question("watched", "ping", [r"sent to at step \d+ by loop 1, in on_beat \(watched\.c:13\)"], ["from outside"]),
-    Question("pushed", "inactivity", [r"steps \d+ to \d+: 20 times no call: each time started again before it was due",
-                                     r"the first time by line \d+: on request @1 start inactivity 40 0, in on_request \(pushed\.c:9\)",
-                                     r"call 1: (on time|late by \d ms)"], ["no call: started again by"]),
+    Question(
+        "pushed",
+        "inactivity",
+        [
+            r"steps \d+ to \d+: 20 times no call: each time started again before it was due",
+            r"the first time by line \d+: on request @1 start inactivity 40 0, in on_request \(pushed\.c:9\)",
+            r"call 1: (on time|late by \d ms)",
+        ],
+        ["no call: started again by"],
+    ),
     Question("chatter", ALL, [r"\d\d\d callbacks"], ["who spun"]),
     Question("idling", ALL, [r"who spun\n    \d+ polls in a row didn't wait, .*: once was called in each of .*; once is an active idle handle"]),
     Question("child", "kill_it", [r"call 1: (on time|late by \d ms: the poll, .* the system ended it)"], ["callback of output"]),
-    Question("stacked", ALL, [r"WRITTEN OVER: on_deadline, a timer on the stack, made at stacked\.c:9, in arm, called at stacked\.c:26, in main: "
-                              r"its memory was written over, at 0 ms, and it was not closed"], ["WRITTEN OVER: beat"]),
+    Question(
+        "stacked",
+        ALL,
+        [
+            r"WRITTEN OVER: on_deadline, a timer on the stack, made at stacked\.c:9, in arm, called at stacked\.c:26, in main: "
+            r"its memory was written over, at 0 ms, and it was not closed"
+        ],
+        ["WRITTEN OVER: beat"],
+    ),
     Question("stacked", "on_deadline", [r"WRITTEN OVER: a timer on the stack, made at stacked\.c:9, in arm", "no call: it isn't due yet"]),
-    Question("freed", ALL, [r"WRITTEN OVER: on_timeout, a timer, made at freed\.c:12, in begin_session, called at freed\.c:23, in on_next: "
-                            r"another handle was made in its memory, between 1\d and 2\d ms",
-                            r"WRITTEN OVER: on_timeout_2, a timer, made at freed\.c:12, .*: its memory was written over, between 2\d and 3\d ms"],
-             ["WRITTEN OVER: (next_session|late)", "on the stack"]),
+    Question(
+        "freed",
+        ALL,
+        [
+            r"WRITTEN OVER: on_timeout, a timer, made at freed\.c:12, in begin_session, called at freed\.c:23, in on_next: "
+            r"another handle was made in its memory, between 1\d and 2\d ms",
+            r"WRITTEN OVER: on_timeout_2, a timer, made at freed\.c:12, .*: its memory was written over, between 2\d and 3\d ms",
+        ],
+        ["WRITTEN OVER: (next_session|late)", "on the stack"],
+    ),
     # ---- requests of streams
-    Question("chat", "peer", [r"its requests: 1 write, 8388608 bytes",
-             r"a write of 8388608 bytes, .* at chat\.c:17, in broadcast, called at chat\.c:22, in on_connection, "
-                              r"was done 1\d\d ms later, at step \d+: for 1\d\d of these ms the loop waited in the poll, and the system had "
-                              r"no room"]),
+    Question(
+        "chat",
+        "peer",
+        [
+            r"its requests: 1 write, 8388608 bytes",
+            r"a write of 8388608 bytes, .* at chat\.c:17, in broadcast, called at chat\.c:22, in on_connection, "
+            r"was done 1\d\d ms later, at step \d+: for 1\d\d of these ms the loop waited in the poll, and the system had "
+            r"no room",
+        ],
+    ),
     Question("chat", ALL, [r"the longest writes, connects and shutdowns\n    1\d\d ms: peer, a write of 8388608 bytes"]),
-    Question("hangup", "line", [r"a write of 8388608 bytes, .*, was cancelled [56]\d ms later, at step \d+: the close at step \d+ cancelled it, "
-                                r"by line \d+: on patience close line, at hangup\.c:12, in hang_up, called at hangup\.c:14, in on_patience",
-                                r"a write of 5 bytes, .*, was cancelled"], ["was done"]),
-    Question("refused", "client",
-             [r"a connect, .* at refused\.c:9, in dial, called at refused\.c:19, in main, failed \d+ ms later, .* with ECONNREFUSED"]),
-    Question("datagram", "sender", ["its requests: 3 datagrams, 70350 bytes", r"a datagram of 70000 bytes, .*, failed \d ms later, .* with EMSGSIZE",
-                                    r"a datagram of 250 bytes, asked for at \d ms, at datagram\.c:16, in announce, .*was done"]),
-    Question("goodbye", "out",
-             [r"a shutdown, .* at goodbye\.c:23, in say_goodbye, .*was done 9\d ms later, .*: for [89]\d of these ms the loop waited in the poll, "
-                                "and what was written before wasn't done"]),
-    Question("backlog", "out", [r"a write of 5 bytes, .* at backlog\.c:14, in on_ask, was done 5\d ms later, .*: the callback of hog, "
-                                r"on_hog \(backlog\.c:16\), took 5\d of them"], ["no room"]),
+    Question(
+        "hangup",
+        "line",
+        [
+            r"a write of 8388608 bytes, .*, was cancelled [56]\d ms later, at step \d+: the close at step \d+ cancelled it, "
+            r"by line \d+: on patience close line, at hangup\.c:12, in hang_up, called at hangup\.c:14, in on_patience",
+            r"a write of 5 bytes, .*, was cancelled",
+        ],
+        ["was done"],
+    ),
+    Question(
+        "refused", "client", [r"a connect, .* at refused\.c:9, in dial, called at refused\.c:19, in main, failed \d+ ms later, .* with ECONNREFUSED"]
+    ),
+    Question(
+        "datagram",
+        "sender",
+        [
+            "its requests: 3 datagrams, 70350 bytes",
+            r"a datagram of 70000 bytes, .*, failed \d ms later, .* with EMSGSIZE",
+            r"a datagram of 250 bytes, asked for at \d ms, at datagram\.c:16, in announce, .*was done",
+        ],
+    ),
+    Question(
+        "goodbye",
+        "out",
+        [
+            r"a shutdown, .* at goodbye\.c:23, in say_goodbye, .*was done 9\d ms later, .*: for [89]\d of these ms the loop waited in the poll, "
+            "and what was written before wasn't done"
+        ],
+    ),
+    Question(
+        "backlog",
+        "out",
+        [
+            r"a write of 5 bytes, .* at backlog\.c:14, in on_ask, was done 5\d ms later, .*: the callback of hog, "
+            r"on_hog \(backlog\.c:16\), took 5\d of them"
+        ],
+        ["no room"],
+    ),
     # ---- the processor's time
     Question("sleeper", "beat", [r"the callback of flush, on_flush \(sleeper\.c:4\), took 6\d ms, none of them on the processor"]),
-    Question("locked", ALL,
-             [r"the longest callbacks\n    \d+ ms, none of them on the processor: the callback of report, on_report \(locked\.c:13\)"]),
+    Question(
+        "locked", ALL, [r"the longest callbacks\n    \d+ ms, none of them on the processor: the callback of report, on_report \(locked\.c:13\)"]
+    ),
     Question("halves", "beat", [r"the callback of convert, on_convert \(halves\.c:4\), took \d+ ms, 3\d of them on the processor"]),
     Question("slowdisk", "load", [r"worker \d ran it, work_load \(slowdisk\.c:4\), from step \d+ to \d+, 7\d ms, none of them on the processor"]),
     # ---- who asked: lines, and the callers of functions that stand between
     Question("slowdisk", "load", [r"queued at step \d+ by .*, at slowdisk\.c:10, in load_it"]),
-    Question("churn", "idle_out",
-             [r"started at step \d+, .* by line \d+: on second start idle_out 30 0, at churn\.c:6, in rearm, called at churn\.c:10, in on_second",
-              r"started again by .* at churn\.c:6, in rearm, called at churn\.c:8, in on_first", r", in rearm, called at churn\.c:19, in main"]),
+    Question(
+        "churn",
+        "idle_out",
+        [
+            r"started at step \d+, .* by line \d+: on second start idle_out 30 0, at churn\.c:6, in rearm, called at churn\.c:10, in on_second",
+            r"started again by .* at churn\.c:6, in rearm, called at churn\.c:8, in on_first",
+            r", in rearm, called at churn\.c:19, in main",
+        ],
+    ),
     Question("wrapper", "retry", [r"started at step \d+, .*, at wrapper\.c:6, in start_in, called at wrapper\.c:9, in plan"]),
-    Question("lambda", ALL,
-             [r"the longest callbacks\n    3\d ms(, \d+ of them on the processor)?: the callback of main_server_0, a lambda of Server::run "
-             r"\(lambda\.cc:13\)"], ["_FUN", "zz4"]),
-    Question("lambda", "main_server_1", [r"late by \d+ ms: the callback of main_server_0, a lambda of Server::run \(lambda\.cc:13\), took 3\d ms",
-                                         r"started at step \d+, .*, at lambda\.cc:19, in Server::run"]),
-    Question("watchdog", "watchdog",
-             [r"sent to at step \d+ by loop 1, in on_feed \(watchdog\.c:8\), 7\d ms after that began, at watchdog\.c:10, in on_feed"],
-             ["from outside"]),
+    Question(
+        "lambda",
+        ALL,
+        [
+            r"the longest callbacks\n    3\d ms(, \d+ of them on the processor)?: the callback of main_server_0, a lambda of Server::run "
+            r"\(lambda\.cc:13\)"
+        ],
+        ["_FUN", "zz4"],
+    ),
+    Question(
+        "lambda",
+        "main_server_1",
+        [
+            r"late by \d+ ms: the callback of main_server_0, a lambda of Server::run \(lambda\.cc:13\), took 3\d ms",
+            r"started at step \d+, .*, at lambda\.cc:19, in Server::run",
+        ],
+    ),
+    Question(
+        "watchdog",
+        "watchdog",
+        [r"sent to at step \d+ by loop 1, in on_feed \(watchdog\.c:8\), 7\d ms after that began, at watchdog\.c:10, in on_feed"],
+        ["from outside"],
+    ),
     Question("producer", "ready", [r"sent to at step \d+ by another thread, at producer\.c:7, in produce"], ["from outside"]),
     Question("progress", "half", [r"sent to at step \d+ by another thread, at progress\.c:5, in tell_half, called at progress\.c:9, in work_pack"]),
     Question("disarm", "alarm_clock", [r"no call: stopped by .*, at disarm\.c:6, in disarm, called at disarm\.c:15, in on_event"]),
-    Question("disarm", "background",
-             [r"background is unreferenced since step \d+, by .* at disarm\.c:9, in to_background, called at disarm\.c:16, in on_event"]),
+    Question(
+        "disarm",
+        "background",
+        [r"background is unreferenced since step \d+, by .* at disarm\.c:9, in to_background, called at disarm\.c:16, in on_event"],
+    ),
     Question("disarm", "session", [r"no call: closed by .* at disarm\.c:12, in end_session, called at disarm\.c:17, in on_event"]),
-    Question("giveup", "jobs_7", [r"cancelled at step \d+ by .*, at giveup\.c:11, in give_up, called at giveup\.c:13, in on_limit",
-                                  r"queued at step \d+ by .*, at giveup\.c:8, in submit"]),
-    Question("stripped", "timer_2", [r"late by \d+ ms: the callback of timer, a function of stripped, took \d+ ms",
-                                     r"closed at step \d+ by .*, in a function of stripped that has no symbol"]),
+    Question(
+        "giveup",
+        "jobs_7",
+        [
+            r"cancelled at step \d+ by .*, at giveup\.c:11, in give_up, called at giveup\.c:13, in on_limit",
+            r"queued at step \d+ by .*, at giveup\.c:8, in submit",
+        ],
+    ),
+    Question(
+        "stripped",
+        "timer_2",
+        [
+            r"late by \d+ ms: the callback of timer, a function of stripped, took \d+ ms",
+            r"closed at step \d+ by .*, in a function of stripped that has no symbol",
+        ],
+    ),
     # ---- ends
     Question("aborts", ALL, [r"THE PROGRAM WAS ENDED BY SIGABRT: this loop was in the callback of replies_2, on_reply \(aborts\.c:7\)"]),
-    Question("becomes", ALL,
-             [r"the longest callbacks\n    3\d ms(, \d+ of them on the processor)?: the callback of prepare_it, on_prepare \(becomes\.c:4\)"]),
+    Question(
+        "becomes",
+        ALL,
+        [r"the longest callbacks\n    3\d ms(, \d+ of them on the processor)?: the callback of prepare_it, on_prepare \(becomes\.c:4\)"],
+    ),
 ]
 SAID = re.compile(r"(.+) took (\d+) ms")
 TOOK = re.compile(r"the callback of ([a-z_0-9]+)(?:, [^;]*?,)? took (\d+) ms")
@@ -210,14 +408,17 @@ def untrue(answer: str, said: dict[str, list[int]]) -> list[str]:
 LONG = re.compile(r"^ +(\d+) ms: [^,]*, of ([a-z_0-9]+(?:\[\d+\])?), at", re.MULTILINE)
 WAITED = re.compile(r"^ +(\d+) ms behind \d+ ms, when it was due: [^,]*, of ([a-z_0-9]+(?:\[\d+\])?),", re.MULTILINE)
 AT_ONCE = {
-    "blocked": [r"200 ms: on_blocker \(blocked\.c:6\), of blocker", r"when it was sent to: on_inbox .*: 1\d\d ms of them in on_blocker",
-                r"when it was through: done .*, of job, .*: 1\d\d ms of them in on_blocker"],
+    "blocked": [
+        r"200 ms: on_blocker \(blocked\.c:6\), of blocker",
+        r"when it was sent to: on_inbox .*: 1\d\d ms of them in on_blocker",
+        r"when it was through: done .*, of job, .*: 1\d\d ms of them in on_blocker",
+    ],
     "behind": [r"4\d ms behind \d+ ms, when it was due: on_sample .*, of sample, .* ms of them in on_flush \(behind\.c:6\)"],
     "conns": [r"90 ms: on_request \(conns\.c:16\)", r"81 ms behind 50 ms, when it was due: on_idle \(conns\.c:9\), .*: 70 ms of them in on_request"],
 }
 
 
-def try_glance(check, program: str, walk: Walk) -> None:
+def try_glance(check: Check, program: str, walk: Walk) -> None:
     """What the log says by itself, beside what the program printed, and beside what `why` says of the late timers."""
     told = "\n".join(log_summary.told((TRUTHS / f"{program}.log").read_bytes()))
     said = said_of(program)
@@ -235,7 +436,8 @@ def untrue_of_requests(answer: str, program: str, name: str) -> list[str]:
     """The same of the requests of this stream. (Small ones that waited for nobody say nothing.)"""
     said = [it.groups() for it in map(SAID_WAITED.fullmatch, (TRUTHS / f"{program}.said").read_text().splitlines()) if it and it[1] == name]
     return [
-        f"a {what} waited {ms} ms, and the program said {said}" for what, ms in UNDER_WAY.findall(answer)
+        f"a {what} waited {ms} ms, and the program said {said}"
+        for what, ms in UNDER_WAY.findall(answer)
         if int(ms) > ALLOWED and not any(what == other and abs(int(ms) - int(known)) <= ALLOWED for _, other, known in said)
     ]
 
@@ -249,7 +451,7 @@ def untrue_of_processor(answer: str, program: str) -> list[str]:
     return [f"{name} {ran}, and said {said[name]}" for name, ran in found if name in said and not any(abs(ran - it) <= ALLOWED for it in said[name])]
 
 
-def recorded(check, program: str, folder: Path) -> Walk:
+def recorded(check: Check, program: str, folder: Path) -> Walk:
     data = (TRUTHS / f"{program}.log").read_bytes()
     lines, whole = from_data(data, read_log(data), str(folder / program))
     check(f"truths, {program}: its recording", whole, lines)
@@ -260,7 +462,7 @@ def recorded(check, program: str, folder: Path) -> Walk:
     return Walk(script, steps)
 
 
-def try_truths(tries) -> None:
+def try_truths(tries: Tries) -> None:
     check, right = tries.check, 0
     walks: dict[str, Walk] = {}
     with tempfile.TemporaryDirectory() as folder:
@@ -287,19 +489,3 @@ def try_truths(tries) -> None:
     said = f"{programs} programs whose true causes are known" in page and f"To {len(QUESTIONS)} questions about them" in page
     check("truths: how many RECORD.md says", said, (programs, len(QUESTIONS)))
     check("truths, how many answers give the true cause", right >= 0.93 * len(QUESTIONS), (right, len(QUESTIONS)))
-
-
-if __name__ == "__main__":
-
-    class Tries:
-        count = failed = 0
-
-        def check(self, what, holds, why=""):
-            self.count += 1
-            if not holds:
-                self.failed += 1
-                print(f"tools: {what}: {why}", flush=True)
-
-    tries = Tries()
-    try_truths(tries)
-    print(f"{tries.count} tried, {tries.failed} failed; {len(QUESTIONS)} questions")

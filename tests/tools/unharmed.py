@@ -3,9 +3,9 @@
 In tests/tools/run the programs of tools/uvt/record/programs and of truths/ run under a recorder that is built with AddressSanitizer and
 UndefinedBehaviorSanitizer, and those of the first folder under valgrind, where these are installed. By hand, and much more of it:
 
-    tests/tools/unharmed.py --libuv FOLDER    libuv's own tests, of the sources in this folder (Debian: apt-get source libuv1)
-    tests/tools/unharmed.py --node 100        so many starts of node, four at a time
-    tests/tools/unharmed.py --costs           instructions of a callback without the recorder and with it, by valgrind
+    tests/tools/unharmed --libuv FOLDER    libuv's own tests, of the sources in this folder (Debian: apt-get source libuv1)
+    tests/tools/unharmed --node 100        so many starts of node, four at a time
+    tests/tools/unharmed --costs           instructions of a callback without the recorder and with it, by valgrind
 
 Status 1 if a program ends otherwise with the recorder, or something is reported.
 """
@@ -18,16 +18,14 @@ import os
 import re
 import shutil
 import subprocess
-import sys
 import tempfile
 from pathlib import Path
+from typing import Sequence
 
-sys.dont_write_bytecode = True
 ROOT = Path(__file__).resolve().parent.parent.parent
-sys.path.insert(0, str(ROOT / "tools"))
-
-from uvt.record.run import HOOKS, RECORDER, recorder  # noqa: E402
-from records import has_libuv  # noqa: E402
+from tests.helper import Check, Tries
+from tests.tools.records import has_libuv
+from uvt.record.run import HOOKS, RECORDER, recorder
 
 PROGRAMS = (ROOT / "tools" / "uvt" / "record" / "programs", Path(__file__).resolve().parent / "truths")
 SECONDS = 300
@@ -72,7 +70,7 @@ class Room:
     def preloaded(self, *libraries: object) -> dict[str, str]:
         return {"UVT_LOG": str(self.folder / "log"), "LD_PRELOAD": " ".join(map(str, libraries))}
 
-    def watched(self, libraries: list[object]) -> dict[str, str]:
+    def watched(self, libraries: Sequence[object]) -> dict[str, str]:
         """The same, with what a sanitizer finds in a file each."""
         reports = f"log_path={self.folder}/report"
         return self.preloaded(*libraries) | {"ASAN_OPTIONS": f"{QUIET}:{reports}", "UBSAN_OPTIONS": f"print_stacktrace=1:{reports}"}
@@ -92,7 +90,7 @@ def compiled(source: Path, folder: Path) -> str:
     return str(program)
 
 
-def try_sanitized(check, room: Room, programs: dict[str, str], plain: dict[str, int]) -> None:
+def try_sanitized(check: Check, room: Room, programs: dict[str, str], plain: dict[str, int]) -> None:
     libraries = runtimes()
     if not libraries:
         print("tools: the recorder under sanitizers: not tried, since `cc` has none", flush=True)
@@ -104,7 +102,7 @@ def try_sanitized(check, room: Room, programs: dict[str, str], plain: dict[str, 
         check(f"unharmed, {name}: what they report of the recorder", not (found := room.reports()), found)
 
 
-def try_valgrind(check, room: Room, programs: dict[str, str], plain: dict[str, int]) -> None:
+def try_valgrind(check: Check, room: Room, programs: dict[str, str], plain: dict[str, int]) -> None:
     if not shutil.which("valgrind"):
         print("tools: the recorder under valgrind: not tried, since it isn't installed", flush=True)
         return
@@ -117,7 +115,7 @@ def try_valgrind(check, room: Room, programs: dict[str, str], plain: dict[str, i
         check(f"unharmed, {name}: its status under valgrind", status == plain[name], (status, plain[name]))
 
 
-def try_unharmed(tries) -> None:
+def try_unharmed(tries: Tries) -> None:
     if not has_libuv():
         print("tools: programs under the recorder: not tried, since there is no C compiler `cc` with libuv's header", flush=True)
         return
@@ -136,7 +134,7 @@ def try_unharmed(tries) -> None:
 # ---- by hand
 
 
-def try_node(check, room: Room, starts: int) -> None:
+def try_node(check: Check, room: Room, starts: int) -> None:
     """Starts of node, with the hook as `./uvt record` has it."""
     server = str(PROGRAMS[0] / "http.js")
     environment = room.preloaded(recorder()) | {"UVT_RECORDER": str(recorder()), "NODE_OPTIONS": f"--require {HOOKS / 'node' / 'hook.js'}"}
@@ -151,7 +149,7 @@ def try_node(check, room: Room, starts: int) -> None:
             check(f"unharmed, start {number} of node", found == (0, b"100 answers\n"), found)
 
 
-def try_libuv(check, room: Room, libuv: Path) -> None:
+def try_libuv(check: Check, room: Room, libuv: Path) -> None:
     """libuv's own tests, under the recorder and under one with sanitizers."""
     sources = [str(it) for it in sorted((libuv / "test").glob("*.c")) if "benchmark" not in it.name and "win" not in it.name]
     words = ["cc", "-O1", "-w", "-D_GNU_SOURCE", *(f"-I{libuv / it}" for it in ("include", "src", "test"))]
@@ -189,22 +187,11 @@ def tell_costs(room: Room) -> None:
     program = compiled(Path(__file__).resolve().parent / "recorded.c", room.folder)
     for kind in COSTS:
         told = []
-        for more in ({}, room.preloaded(recorder())):
+        with_it: list[dict[str, str]] = [{}, room.preloaded(recorder())]
+        for more in with_it:
             few, many = (instructions(room, [program, kind, str(count)], more) for count in (FEW, MANY))
             told.append((many - few) // (MANY - FEW))
         print(f"{kind}: {told[0]} instructions, recorded {told[1]}", flush=True)
-
-
-class Tries:
-    """What was tried by hand."""
-
-    count = failed = 0
-
-    def check(self, what: str, holds: bool, why: object = "") -> None:
-        self.count += 1
-        if not holds:
-            self.failed += 1
-            print(f"tools: {what}: {why}", flush=True)
 
 
 def main() -> int:
@@ -212,7 +199,7 @@ def main() -> int:
     reader.add_argument("--libuv", type=Path, metavar="FOLDER", help="the sources of libuv")
     reader.add_argument("--node", type=int, metavar="N", help="so many starts of node")
     reader.add_argument("--costs", action="store_true", help="what a callback costs")
-    asked, tries = reader.parse_args(), Tries()
+    asked, tries = reader.parse_args(), Tries("tools")
     with tempfile.TemporaryDirectory() as name:
         room = Room(Path(name))
         if asked.libuv:
@@ -223,9 +210,4 @@ def main() -> int:
             tell_costs(room)
     if not asked.libuv and not asked.node and not asked.costs:
         try_unharmed(tries)
-    print(f"{tries.count} tried, {tries.failed} failed")
-    return 1 if tries.failed else 0
-
-
-if __name__ == "__main__":
-    sys.exit(main())
+    return tries.end()

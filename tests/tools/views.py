@@ -6,16 +6,14 @@ import json
 import os
 import re
 import subprocess
-import sys
 import tempfile
 from pathlib import Path
 
 ROOT = Path(__file__).resolve().parent.parent.parent
-sys.path.insert(0, str(ROOT / "tools"))
-
-from uvt.conversation import Conversation, read_input  # noqa: E402
-from uvt.walk import longest_way  # noqa: E402
-from whys import BEHIND  # noqa: E402
+from tests.helper import Check, Tries
+from tests.tools.whys import BEHIND
+from uvt.conversation import Conversation, read_input
+from uvt.walk import longest_way
 
 EXAMPLES = ROOT / "crates" / "examples" / "data"
 VIEW = str(ROOT / "tools" / "uvt" / "uvt-view")
@@ -39,7 +37,7 @@ def text_at(run: dict, table: dict[int, int], length: int) -> list[str]:
     return [(f"steps {length} " if key == 0 else "") + run["texts"][table[key]] for key in keys]
 
 
-def try_page(check, name: str) -> None:
+def try_page(check: Check, name: str) -> None:
     """The states of the page at each length, its lines, and that it is one file."""
     page = viewed([str(EXAMPLES / name)]).stdout
     found = VALUES.search(page)
@@ -63,7 +61,7 @@ def try_page(check, name: str) -> None:
     check(f"the page of {name} asks for nothing else", not re.search(r"https?://|<link|<img|src=", page), "")
 
 
-def try_io(check) -> None:
+def try_io(check: Check) -> None:
     """What came has a lane, and a callback that came behind another one of its poll is among the late ones."""
     with tempfile.NamedTemporaryFile("w", suffix=".uvt") as file:
         file.write(BEHIND)
@@ -75,17 +73,22 @@ def try_io(check) -> None:
     wanted = [[0, "nothing"], [1, "inactive"], [4, "active"], [14, "callback"], [15, "active"], [20, "callback"], [21, "active"]]
     check("the lane of a handle of I/O", lanes["slow"]["parts"][: len(wanted)] == wanted, lanes["slow"]["parts"])
     check("the loop's lane behind such a poll", [12, "poll"] in lanes["loop"]["parts"] and [14, "polled"] in lanes["loop"]["parts"], lanes["loop"])
-    behind = [[17, "fast", 30, "30 ms behind the end of the poll, at step 14"], [20, "slow", 32, "32 ms behind its last call, at step 14"],
-              [29, "fast", 9, "9 ms behind its last call, at step 17"]]
+    behind = [
+        [17, "fast", 30, "30 ms behind the end of the poll, at step 14"],
+        [20, "slow", 32, "32 ms behind its last call, at step 14"],
+        [29, "fast", 9, "9 ms behind its last call, at step 17"],
+    ]
     check("the callbacks of I/O that came behind others", run["late"] == behind, run["late"])
     check("what came", run["came"] == [[14, "slow", ""], [17, "fast", ""], [20, "slow", ""], [29, "fast", ""]], run["came"])
 
 
-def try_requests(check) -> None:
+def try_requests(check: Check) -> None:
     """A stream's requests have a lane beside it: by its source the program writes twice in `main`, and the close callback cancels both."""
     with tempfile.TemporaryDirectory() as folder:
         log = ROOT / "tests" / "tools" / "truths" / "hangup.log"
-        subprocess.run([str(ROOT / "tools" / "uvt" / "uvt-record"), "-o", f"{folder}/hangup", "--log", str(log)], capture_output=True, timeout=SECONDS)
+        subprocess.run(
+            [str(ROOT / "tools" / "uvt" / "uvt-record"), "-o", f"{folder}/hangup", "--log", str(log)], capture_output=True, timeout=SECONDS
+        )
         run = json.loads(VALUES.search(viewed([f"{folder}/hangup.rec"]).stdout)[1])
     lanes = {it["name"]: it for it in run["lanes"]}
     names, closed = list(lanes), next(step for step, what in lanes["line"]["parts"] if what == "callback")
@@ -95,7 +98,7 @@ def try_requests(check) -> None:
     check("the lane of a stream's requests", lanes["line: requests"]["parts"] == wanted, lanes["line: requests"])
 
 
-def try_view(check) -> None:
+def try_view(check: Check) -> None:
     for name in ("late-timer.uvt", "never-called.uvt", "stale-name.uvt", "io-before-sends.uvt", "sent-session.rec"):
         try_page(check, name)
     run = json.loads(VALUES.search(viewed([str(EXAMPLES / "late-timer.uvt")]).stdout)[1])
@@ -136,7 +139,7 @@ def is_shown(shown: str, output: str) -> bool:
     return True
 
 
-def try_pages(check) -> None:
+def try_pages(check: Check) -> None:
     for page in (ROOT / "README.md", ROOT / "docs" / "TOOLS.md"):
         calls = calls_of(page)
         check(f"{page.name} shows the tools", bool(calls))
@@ -149,6 +152,6 @@ def try_pages(check) -> None:
             check(f"{page.name}: {call}", holds, ended.stdout + ended.stderr)
 
 
-def try_views(tries) -> None:
+def try_views(tries: Tries) -> None:
     try_view(tries.check)
     try_pages(tries.check)

@@ -11,11 +11,11 @@ SHOWN = 120
 def show() -> None:
     word, path, number = sys.argv[1], sys.argv[2], int(sys.argv[3])
     try:
-        with open(path, 'rb') as file:
+        with open(path, "rb") as file:
             text = file.read()
     except OSError:
         return
-    lines = text.split(b'\n')
+    lines = text.split(b"\n")
     if not lines[-1]:
         lines.pop()
     if number > len(lines) + 1:
@@ -23,14 +23,14 @@ def show() -> None:
         return
     if number <= len(lines):
         line = lines[number - 1]
-        shown = ''.join(chr(byte) if 0x20 <= byte <= 0x7e else '\\x%02x' % byte for byte in line[:SHOWN])
-        print('uvt: line %d is: %s%s' % (number, shown, ' ..' if len(line) > SHOWN else ''), file=sys.stderr)
-    elif word == 'debug' and path != '/dev/stdin':
-        print('uvt: %s has no line `begin`, so what came behind it was read as a part of the script' % path, file=sys.stderr)
+        shown = "".join(chr(byte) if 0x20 <= byte <= 0x7E else "\\x%02x" % byte for byte in line[:SHOWN])
+        print("uvt: line %d is: %s%s" % (number, shown, " .." if len(line) > SHOWN else ""), file=sys.stderr)
+    elif word == "debug" and path != "/dev/stdin":
+        print("uvt: %s has no line `begin`, so what came behind it was read as a part of the script" % path, file=sys.stderr)
         return
     found = reasons.why(word, lines, number)
     if found:
-        print('uvt: %s' % found.sentence(), file=sys.stderr)
+        print("uvt: %s" % found.sentence(), file=sys.stderr)
 
 
 def main() -> int:

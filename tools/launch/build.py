@@ -11,7 +11,7 @@ import shutil
 import signal
 import sys
 import tempfile
-from typing import List
+from typing import Dict, List, Tuple
 
 from launch import crates
 from launch.lanes import Command, Failed, Lanes, expected
@@ -20,7 +20,7 @@ from launch.progress import Progress, clock
 # What a check of a crate takes of the memory, in bytes.
 EACH = 1_600_000_000
 # The words that each program is started with, and an input that it answers with status 0.
-STARTED = {'uvt': (['debug'], b'begin\n'), 'uvt_find': ([], b'var a\nmain now\nbegin\nfind never a\n')}
+STARTED: Dict[str, Tuple[List[str], bytes]] = {"uvt": (["debug"], b"begin\n"), "uvt_find": ([], b"var a\nmain now\nbegin\nfind never a\n")}
 
 
 class Stopped(Exception):
@@ -43,26 +43,26 @@ def pass_over(*_: object) -> None:
 
 def room_of(root: str) -> str:
     """The folder of the copies. It doesn't lie in the repository, of which the gate reads each file."""
-    cache = os.environ.get('XDG_CACHE_HOME') or os.path.expanduser('~/.cache')
-    name = 'uvt-' + hashlib.sha256(os.path.realpath(root).encode()).hexdigest()[:16]
+    cache = os.environ.get("XDG_CACHE_HOME") or os.path.expanduser("~/.cache")
+    name = "uvt-" + hashlib.sha256(os.path.realpath(root).encode()).hexdigest()[:16]
     for place in (cache, tempfile.gettempdir()):
         try:
             os.makedirs(os.path.join(place, name), exist_ok=True)
             return os.path.join(place, name)
         except OSError:
             continue
-    raise Failed('uvt: neither %s nor %s can be written to' % (cache, tempfile.gettempdir()))
+    raise Failed("uvt: neither %s nor %s can be written to" % (cache, tempfile.gettempdir()))
 
 
 def processors() -> int:
     """How many checks go side by side: RT_JOBS, or as many as there are processors and memory for."""
-    number = os.environ.get('RT_JOBS', '')
+    number = os.environ.get("RT_JOBS", "")
     if number.isdigit() and int(number):
         return int(number)
     found = len(os.sched_getaffinity(0))
-    with open('/proc/meminfo', encoding='ascii') as file:
+    with open("/proc/meminfo", encoding="ascii") as file:
         for line in file:
-            if line.startswith('MemAvailable:'):
+            if line.startswith("MemAvailable:"):
                 found = min(found, int(line.split()[1]) * 1024 // EACH)
     return max(found, 1)
 
@@ -71,10 +71,10 @@ def build_program(root: str, program: str, progress: Progress, lanes: Lanes) -> 
     """Builds the program in the repository, and starts it on a short input, to see that it answers. It gets all processors, four at
     most, as nobody else waits for one."""
     progress.begins(program)
-    folder = os.path.join(root, 'crates', program)
+    folder = os.path.join(root, "crates", program)
     words, text = STARTED[program]
-    command = Command(program, ['run', '--jobs', str(min(4, lanes.processors)), '--'] + words, folder, lanes.said, text)
-    lanes.running[program] = command, '', lanes.processors
+    command = Command(program, ["run", "--jobs", str(min(4, lanes.processors)), "--"] + words, folder, lanes.said, text)
+    lanes.running[program] = command, "", lanes.processors
     try:
         lanes.next_end()
     finally:
@@ -86,15 +86,17 @@ def build(root: str, kept: str, names: List[str]) -> None:
     of = crates.read(root, names)
     at_once = processors()
     progress = Progress(of, at_once)
-    why = 'the sources or the kit have changed' if os.path.exists(os.path.join(kept, names[-1])) else 'there is no proved program yet'
-    progress.say('%s: proving and building it, of %d crates, %d at a time: about %d minutes from nothing, if this machine does nothing else' % (
-        why, len(of), at_once, round(expected(of, at_once) / 60)))
+    why = "the sources or the kit have changed" if os.path.exists(os.path.join(kept, names[-1])) else "there is no proved program yet"
+    progress.say(
+        "%s: proving and building it, of %d crates, %d at a time: about %d minutes from nothing, if this machine does nothing else"
+        % (why, len(of), at_once, round(expected(of, at_once) / 60))
+    )
     room = room_of(root)
     lanes = Lanes(root, room, of, at_once, progress)
     lanes.build(names[:-1])
     build_program(root, names[-1], progress, lanes)
     shutil.rmtree(room, ignore_errors=True)
-    progress.say('built after %s; from now on each call starts at once' % clock(progress.elapsed()))
+    progress.say("built after %s; from now on each call starts at once" % clock(progress.elapsed()))
 
 
 def main() -> int:
@@ -105,11 +107,11 @@ def main() -> int:
         build(root, kept, names)
         return 0
     except Stopped:
-        print('\nuvt: stopped; what is proved is kept, and the next build goes on from there', file=sys.stderr)
+        print("\nuvt: stopped; what is proved is kept, and the next build goes on from there", file=sys.stderr)
     except Failed as fault:
-        print('\n%s' % fault, file=sys.stderr)
-        with open(os.path.join(kept, 'log'), 'w', encoding='utf-8') as log:
+        print("\n%s" % fault, file=sys.stderr)
+        with open(os.path.join(kept, "log"), "w", encoding="utf-8") as log:
             print(fault, file=log)
     except OSError as error:
-        print('\nuvt: %s: %s' % (error.filename or 'the build', error.strerror), file=sys.stderr)
+        print("\nuvt: %s: %s" % (error.filename or "the build", error.strerror), file=sys.stderr)
     return 70

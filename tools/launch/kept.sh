@@ -8,6 +8,9 @@
 #   lock    held while a call builds: a second call waits, and then starts what the first one built
 #   unproved/   the same for the program before its proofs, which is never taken for a built one: uvt, sums, stats, lock
 
+# How long a build takes, as docs/BENCHMARKS.md has measured it.
+build_takes='some 19 minutes on four cores'
+
 # Whether the files that the stored list names, and those beside them, are as they were when it was written.
 # Its first line names the folders, so that nothing else has to be read.
 is_unchanged() {

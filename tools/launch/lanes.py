@@ -15,11 +15,11 @@ from typing import Container, Dict, List, Optional, Set, Tuple
 from launch.crates import BY_JOBS, IN_A_ROW, Crate, chains
 from launch.progress import Progress
 
-PARTS = ('src', 'specs', 'proofs')
+PARTS = ("src", "specs", "proofs")
 # A crate whose proof takes so many seconds takes long.
 LONG = 100
 # What rt says of each function that it proved, and of how far it is: nobody who looks for a fault reads it.
-ROUTINE = re.compile(r'(fn|enum|struct|trait|impl) .*: proved$|(library|crate) \S+: modules |(statements|logic|by-macro:) |so far: |rt: chose ')
+ROUTINE = re.compile(r"(fn|enum|struct|trait|impl) .*: proved$|(library|crate) \S+: modules |(statements|logic|by-macro:) |so far: |rt: chose ")
 
 
 class Failed(Exception):
@@ -29,18 +29,20 @@ class Failed(Exception):
 class Command:
     """A command of the kit in a crate's folder. What it says goes into the queue, a line at a time, and then its status."""
 
-    def __init__(self, name: str, words: List[str], folder: str, said: 'queue.Queue', given: bytes = b'') -> None:
-        self.name, self.lines, self.functions = name, [], 0
-        self.process = subprocess.Popen(['rt'] + words, cwd=folder, stdin=subprocess.PIPE, stdout=subprocess.PIPE,
-                                        stderr=subprocess.STDOUT, start_new_session=True)
+    def __init__(self, name: str, words: List[str], folder: str, said: "queue.Queue", given: bytes = b"") -> None:
+        self.name, self.functions = name, 0
+        self.lines: List[str] = []
+        self.process = subprocess.Popen(
+            ["rt"] + words, cwd=folder, stdin=subprocess.PIPE, stdout=subprocess.PIPE, stderr=subprocess.STDOUT, start_new_session=True
+        )
         with contextlib.suppress(BrokenPipeError):
             self.process.stdin.write(given)
             self.process.stdin.close()
         threading.Thread(target=self.read, args=(said,), daemon=True).start()
 
-    def read(self, said: 'queue.Queue') -> None:
+    def read(self, said: "queue.Queue") -> None:
         for line in self.process.stdout:
-            said.put((self, line.decode(errors='replace').rstrip('\n')))
+            said.put((self, line.decode(errors="replace").rstrip("\n")))
         self.process.wait()
         said.put((self, None))
 
@@ -57,20 +59,20 @@ def copy_sources(root: str, lane: str, crates: Dict[str, Crate]) -> None:
     """The program's crates as they stand, beside what commands kept in this copy before."""
     for name in crates:
         for part in PARTS:
-            source, target = os.path.join(root, 'crates', name, part), os.path.join(lane, 'crates', name, part)
+            source, target = os.path.join(root, "crates", name, part), os.path.join(lane, "crates", name, part)
             shutil.rmtree(target, ignore_errors=True)
             if os.path.isdir(source):
                 shutil.copytree(source, target, symlinks=True)
-    with open(os.path.join(lane, 'crates.txt'), 'w', encoding='utf-8') as file:
-        file.writelines(crate.line + '\n' for crate in crates.values())
+    with open(os.path.join(lane, "crates.txt"), "w", encoding="utf-8") as file:
+        file.writelines(crate.line + "\n" for crate in crates.values())
 
 
 def stamp_of(library: str) -> bytes:
     try:
-        with open(os.path.join(library, 'stamp'), 'rb') as file:
+        with open(os.path.join(library, "stamp"), "rb") as file:
             return file.read()
     except OSError:
-        return b''
+        return b""
 
 
 def link(source: str, target: str) -> None:
@@ -86,18 +88,18 @@ def give(library: str, target: str) -> None:
     if not stamp_of(library) or stamp_of(library) == stamp_of(target):
         return
     with contextlib.suppress(OSError):
-        shutil.rmtree(target + '.new', ignore_errors=True)
-        shutil.copytree(library, target + '.new', copy_function=link)
+        shutil.rmtree(target + ".new", ignore_errors=True)
+        shutil.copytree(library, target + ".new", copy_function=link)
         shutil.rmtree(target, ignore_errors=True)
-        os.rename(target + '.new', target)
-    shutil.rmtree(target + '.new', ignore_errors=True)
+        os.rename(target + ".new", target)
+    shutil.rmtree(target + ".new", ignore_errors=True)
 
 
 class Lanes:
     def __init__(self, root: str, room: str, crates: Dict[str, Crate], processors: int, progress: Progress) -> None:
         self.root, self.room, self.crates, self.processors, self.progress = root, room, crates, processors, progress
         self.chains = chains(crates)
-        self.said: 'queue.Queue[Tuple[Command, Optional[str]]]' = queue.Queue()
+        self.said: "queue.Queue[Tuple[Command, Optional[str]]]" = queue.Queue()
         self.running: Dict[str, Tuple[Command, str, int]] = {}  # each crate's command, lane and processors
         self.free: List[str] = []
         self.lanes: List[str] = []
@@ -105,7 +107,7 @@ class Lanes:
     def build(self, names: List[str]) -> None:
         """Builds the libraries of these crates, which depend on one another and on nothing else."""
         for number in range(min(self.processors, len(names))):
-            lane = os.path.join(self.room, 'lane-%d' % number)
+            lane = os.path.join(self.room, "lane-%d" % number)
             copy_sources(self.root, lane, self.crates)
             self.lanes.append(lane)
             self.free.insert(0, lane)
@@ -123,23 +125,23 @@ class Lanes:
 
     def share(self, name: str, lane: str) -> None:
         """Gives a library that was built in a lane to all who may depend on it."""
-        place = os.path.join('crates', name, 'out', 'rlib')
+        place = os.path.join("crates", name, "out", "rlib")
         for folder in self.lanes + [self.root]:
             give(os.path.join(lane, place), os.path.join(folder, place))
 
     def start_ready(self, left: List[str]) -> None:
         """Starts those that only depend on what is done, as `chosen` has them."""
         running = {name: jobs for name, (_, _, jobs) in self.running.items()}
-        for name, jobs in chosen(self.crates, self.progress.done, running, left, self.processors)[:len(self.free)]:
+        for name, jobs in chosen(self.crates, self.progress.done, running, left, self.processors)[: len(self.free)]:
             lane = self.lane_for(name)
             left.remove(name)
             self.progress.begins(name)
-            command = Command(name, ['lib', '--jobs', str(jobs)], os.path.join(lane, 'crates', name), self.said)
+            command = Command(name, ["lib", "--jobs", str(jobs)], os.path.join(lane, "crates", name), self.said)
             self.running[name] = command, lane, jobs
 
     def lane_for(self, name: str) -> str:
         """A free lane: the one where a build that was stopped had begun with this crate, if there is one."""
-        begun = [lane for lane in self.free if os.path.isdir(os.path.join(lane, 'crates', name, 'out', 'incremental'))]
+        begun = [lane for lane in self.free if os.path.isdir(os.path.join(lane, "crates", name, "out", "incremental"))]
         lane = (begun or self.free)[-1]
         self.free.remove(lane)
         return lane
@@ -163,13 +165,13 @@ class Lanes:
 def hear(command: Command, line: str, progress: Progress) -> None:
     """Takes in a line that rt says: how far it is, its verdict, or that it waits for another rt."""
     command.lines.append(line)
-    far = re.match(r'so far: (\d+) of (\d+) functions checked', line)
-    verdict = re.match(r'logic=proved .*\bfunctions=(\d+)', line)
+    far = re.match(r"so far: (\d+) of (\d+) functions checked", line)
+    verdict = re.match(r"logic=proved .*\bfunctions=(\d+)", line)
     if far:
         progress.checked(command.name, int(far[1]), int(far[2]))
     elif verdict:
         command.functions = int(verdict[1])
-    elif line.startswith('rt: waiting for ') or 'waiting for it' in line:
+    elif line.startswith("rt: waiting for ") or "waiting for it" in line:
         progress.say(line)
 
 
@@ -209,4 +211,4 @@ def expected(crates: Dict[str, Crate], processors: int) -> float:
 
 def failure(command: Command) -> str:
     told = [line for line in command.lines if not ROUTINE.match(line)]
-    return '\n'.join(['uvt: %s was not built; rt says:' % command.name] + told[-60:])
+    return "\n".join(["uvt: %s was not built; rt says:" % command.name] + told[-60:])

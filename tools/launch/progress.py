@@ -8,7 +8,7 @@ from launch.crates import Crate, chains
 
 
 def clock(seconds: float) -> str:
-    return '%d:%02d' % divmod(int(seconds), 60)
+    return "%d:%02d" % divmod(int(seconds), 60)
 
 
 class Progress:
@@ -18,7 +18,7 @@ class Progress:
         self.started = time.monotonic()
         self.done: Dict[str, int] = {}  # how many functions each has that is done
         self.running: Dict[str, float] = {}  # when each began
-        self.far: Dict[str, 'tuple[int, int]'] = {}  # of how many functions how many are checked
+        self.far: Dict[str, "tuple[int, int]"] = {}  # of how many functions how many are checked
         # A crate whose proof took as long as was thought, so that the first estimates rest on something.
         self.taken, self.thought = 60.0, 60.0
         self.rewrites = sys.stderr.isatty()
@@ -58,20 +58,26 @@ class Progress:
     def line(self) -> str:
         functions = sum(self.done.values()) + sum(self.far.get(name, (0, 0))[0] for name in self.running)
         minutes = round(self.left() / 60)
-        ahead = 'about %d minutes left' % minutes if minutes > 1 else 'about a minute left'
-        at = ', '.join('%s %d/%d' % (name, *self.far[name]) if name in self.far else name for name in self.running)
-        return 'uvt: %d of %d crates, %d functions proved, %s, %s%s' % (
-            len(self.done), len(self.crates), functions, clock(self.elapsed()), ahead, '; now ' + at if at else '')
+        ahead = "about %d minutes left" % minutes if minutes > 1 else "about a minute left"
+        at = ", ".join("%s %d/%d" % (name, *self.far[name]) if name in self.far else name for name in self.running)
+        return "uvt: %d of %d crates, %d functions proved, %s, %s%s" % (
+            len(self.done),
+            len(self.crates),
+            functions,
+            clock(self.elapsed()),
+            ahead,
+            "; now " + at if at else "",
+        )
 
     def tell(self, now: bool = False) -> None:
         """Shows the line: at a terminal each time, and else where it is asked for now, or after a minute."""
         if self.rewrites:
-            line = self.line()[:shutil.get_terminal_size().columns - 1]
-            print('\r\x1b[K' + line, end='', file=sys.stderr, flush=True)
+            line = self.line()[: shutil.get_terminal_size().columns - 1]
+            print("\r\x1b[K" + line, end="", file=sys.stderr, flush=True)
         elif now or time.monotonic() - self.shown >= 60:
             self.shown = time.monotonic()
             print(self.line(), file=sys.stderr, flush=True)
 
     def say(self, text: str) -> None:
         """A line of its own."""
-        print(('\r\x1b[K' if self.rewrites else '') + 'uvt: ' + text, file=sys.stderr, flush=True)
+        print(("\r\x1b[K" if self.rewrites else "") + "uvt: " + text, file=sys.stderr, flush=True)

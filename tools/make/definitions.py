@@ -23,6 +23,7 @@ USE = re.compile(r"^\s*(?:ghost |pub |unfoldable )*use Rattle\.([\w.]+?)(?:\.\{(
 @dataclass(frozen=True)
 class Clause:
     """A clause of a public call."""
+
     crate: str
     file: str
     call: str
@@ -32,6 +33,7 @@ class Clause:
 @dataclass(frozen=True)
 class Claim:
     """What is claimed, in a sentence, and what says it."""
+
     sentence: str
     clauses: tuple[Clause, ...]
     # the type whose values the clauses speak of, as its crate and its name, where they say more of it than a trait does
@@ -39,36 +41,72 @@ class Claim:
 
 
 CLAIMS = (
-    Claim("A text is read as a script by the grammar alone: as its script, or with its first bad line.",
-          (Clause("uv_script", "parse", "parse", ""),), ("uv_script", "Script")),
-    Claim("A step of any machine, the program's too, is the step of one definition, `next`, or is refused just where that refuses it.",
-          (Clause("uv_model", "machine", "step", ""),)),
-    Claim("A step back leaves the loop as it was after the steps before.",
-          (Clause("uv_model", "machine", "back", ""),)),
-    Claim("Going back is exact: a step adds one record, the last record gives back the very memory from before its step, and so do any in a row.",
-          (Clause("uv_loop", "machine", "step", "records"), Clause("uv_loop", "machine", "back", "drops"),
-           Clause("uv_step", "law", "steps_unwind", "")), ("uv_loop", "ArenaLoop")),
-    Claim("The lines of every list of steps are in libuv's documented order of phases.",
-          (Clause("uv_order", "phase_order", "documented_order", ""),)),
-    Claim("By the lines alone each handle closes once and is called only where it was started, and each request calls back once, with ECANCELED "
-          "only if no worker took it.", (Clause("uv_order", "once", "closes_once", ""),)),
-    Claim("Each handle is what the lines tell of it: made under its name, closing where a `close` was accepted, active where it was started and not "
-          "stopped since, and a timer due as its last start says; each op answers what the lines before it tell; and the loop's step is "
-          "refused only at its end and in a poll that may wait.",
-          (Clause("uv_order", "told", "handles_told", ""), Clause("uv_order", "dues", "dues_told", ""),
-           Clause("uv_order", "answers", "answers_told", ""), Clause("uv_order", "waits", "loop_goes_on", ""))),
-    Claim("The events of the thread pool that the lines say are possible by the pool's rules, and lead to the pool of the state.",
-          (Clause("uv_order", "pool", "pool_follows", ""),)),
-    Claim("An accepted event is one more step of a session, and discards what was taken back; steps are taken back and run again in any number.",
-          (Clause("uv_session", "session", "do_event", ""), Clause("uv_session", "session", "back", "moves"),
-           Clause("uv_session", "session", "forward", "")), ("uv_session", "Session")),
-    Claim("What a conversation writes is settled by what it reads, byte for byte, where the bytes of its reader and its writer are known.",
-          (Clause("uv_engine", "conversation", "converse", "text"),)),
+    Claim(
+        "A text is read as a script by the grammar alone: as its script, or with its first bad line.",
+        (Clause("uv_script", "parse", "parse", ""),),
+        ("uv_script", "Script"),
+    ),
+    Claim(
+        "A step of any machine, the program's too, is the step of one definition, `next`, or is refused just where that refuses it.",
+        (Clause("uv_model", "machine", "step", ""),),
+    ),
+    Claim("A step back leaves the loop as it was after the steps before.", (Clause("uv_model", "machine", "back", ""),)),
+    Claim(
+        "Going back is exact: a step adds one record, the last record gives back the very memory from before its step, and so do any in a row.",
+        (
+            Clause("uv_loop", "machine", "step", "records"),
+            Clause("uv_loop", "machine", "back", "drops"),
+            Clause("uv_step", "law", "steps_unwind", ""),
+        ),
+        ("uv_loop", "ArenaLoop"),
+    ),
+    Claim(
+        "The lines of every list of steps are in libuv's documented order of phases.", (Clause("uv_order", "phase_order", "documented_order", ""),)
+    ),
+    Claim(
+        "By the lines alone each handle closes once and is called only where it was started, and each request calls back once, with ECANCELED "
+        "only if no worker took it.",
+        (Clause("uv_order", "once", "closes_once", ""),),
+    ),
+    Claim(
+        "Each handle is what the lines tell of it: made under its name, closing where a `close` was accepted, active where it was started and not "
+        "stopped since, and a timer due as its last start says; each op answers what the lines before it tell; and the loop's step is "
+        "refused only at its end and in a poll that may wait.",
+        (
+            Clause("uv_order", "told", "handles_told", ""),
+            Clause("uv_order", "dues", "dues_told", ""),
+            Clause("uv_order", "answers", "answers_told", ""),
+            Clause("uv_order", "waits", "loop_goes_on", ""),
+        ),
+    ),
+    Claim(
+        "The events of the thread pool that the lines say are possible by the pool's rules, and lead to the pool of the state.",
+        (Clause("uv_order", "pool", "pool_follows", ""),),
+    ),
+    Claim(
+        "An accepted event is one more step of a session, and discards what was taken back; steps are taken back and run again in any number.",
+        (
+            Clause("uv_session", "session", "do_event", ""),
+            Clause("uv_session", "session", "back", "moves"),
+            Clause("uv_session", "session", "forward", ""),
+        ),
+        ("uv_session", "Session"),
+    ),
+    Claim(
+        "What a conversation writes is settled by what it reads, byte for byte, where the bytes of its reader and its writer are known.",
+        (Clause("uv_engine", "conversation", "converse", "text"),),
+    ),
     Claim("The verdict on a recording is that of one definition.", (Clause("uv_engine", "replaying", "replay", "text"),)),
-    Claim("A live run that ends well gives a session of its script whose events are what its threads did.",
-          (Clause("uv_run", "running", "live", ""),), ("uv_session", "Session")),
-    Claim("Where a search of all orders answers `never`, no list of events that may come, however long, has a step that answers the question; and "
-          "there are as many states as it says.", (Clause("uv_find", "finding", "find", "found"),)),
+    Claim(
+        "A live run that ends well gives a session of its script whose events are what its threads did.",
+        (Clause("uv_run", "running", "live", ""),),
+        ("uv_session", "Session"),
+    ),
+    Claim(
+        "Where a search of all orders answers `never`, no list of events that may come, however long, has a step that answers the question; and "
+        "there are as many states as it says.",
+        (Clause("uv_find", "finding", "find", "found"),),
+    ),
     Claim("A search takes two states for one only where they are equal.", (Clause("uv_state_key", "laws", "keys_tell", ""),)),
     Claim("What the search's program writes is the answer to what its input asks.", (Clause("uvt_find", "running", "run", "text"),)),
 )
@@ -87,6 +125,7 @@ class Fault(Exception):
 @dataclass
 class Definition:
     """A definition, in which lines it stands, and which words it uses."""
+
     file: str
     name: str
     first: int
@@ -97,6 +136,7 @@ class Definition:
 @dataclass
 class Names:
     """What the `use` lines of a file bring in: names of definitions, and short names of files of definitions."""
+
     single: dict[str, tuple[str, str]] = field(default_factory=dict)
     files: dict[str, str] = field(default_factory=dict)
     # types of src/, by their crate and their name there
@@ -145,6 +185,7 @@ class Names:
 @dataclass
 class Type:
     """A struct or an enum of src/: where it stands, which words it has, and its view, with what that brings in."""
+
     crate: str
     name: str
     path: Path
@@ -162,8 +203,9 @@ class Types:
         views: list[tuple[str, str, list[str]]] = []
         for path in sorted((root / "crates").glob("*/src/**/*.rt")):
             crate, text = path.relative_to(root / "crates").parts[0], path.read_text(encoding="utf-8")
-            brought = {name.strip(): crate if of == "crate" else of
-                       for of, listed, one in BROUGHT.findall(text) for name in (listed or one).split(",")}
+            brought = {
+                name.strip(): crate if of == "crate" else of for of, listed, one in BROUGHT.findall(text) for name in (listed or one).split(",")
+            }
             lines = text.splitlines()
             for at, line in enumerate(lines):
                 if head := TYPE.match(line):
@@ -193,7 +235,7 @@ class Types:
 def block(lines: list[str], at: int) -> list[str]:
     """The lines of an item, to the brace that ends it."""
     end = at if re.search(r"[;}]\s*$", lines[at]) else next(it for it in range(at, len(lines)) if lines[it].startswith("}"))
-    return lines[at:end + 1]
+    return lines[at : end + 1]
 
 
 class Specs:
@@ -261,11 +303,9 @@ class Specs:
                 stack += [(it, False) for it in sorted(filter(None, below), reverse=True)]
         return ordered
 
-
     def types_of(self, its: list[Definition]) -> set[tuple[str, str]]:
         """The types of src/ that definitions name."""
-        return {types[first] for it in its for word in it.words
-                if (first := word.split(".")[0]) in (types := self.names[it.file].types)}
+        return {types[first] for it in its for word in it.words if (first := word.split(".")[0]) in (types := self.names[it.file].types)}
 
     def viewed(self, types: list[Type]) -> list[tuple[str, str]]:
         """The definitions that the views of these types name."""
@@ -309,7 +349,7 @@ def clause_text(root: Path, clause: Clause) -> tuple[str, Names, int]:
     if start is None:
         raise Fault(f"there is no call {clause.call} in {path.relative_to(root)}")
     end = next(at for at in range(start, len(lines)) if lines[at].strip() in ("{", "{}") or lines[at].rstrip().endswith("};"))
-    text = "\n".join(lines[start:end + 1])
+    text = "\n".join(lines[start : end + 1])
     parts = re.split(r"\n(?=\s*(?:ensures|requires)\b)", text)
     wanted = [part for part in parts if re.match(rf"\s*ensures\*? {clause.name or ''}", part)]
     if not wanted:
@@ -339,19 +379,23 @@ def page(root: Path) -> str:
         for it in viewed:
             views[it.crate, it.name] = it
             shown.setdefault((it.crate, it.name), set()).add(number)
-        for it in needed:
-            order.setdefault(it.file, {})[it.name] = it
-            asked.setdefault(it.file, set()).add(number)
+        for one in needed:
+            order.setdefault(one.file, {})[one.name] = one
+            asked.setdefault(one.file, set()).add(number)
         where = ", ".join(f"`{it.call}` of {it.crate} (`{it.file}.rt`" + (f", clause `{it.name}`)" if it.name else ")") for it in claim.clauses)
         count = "1 definition" if len(needed) == 1 else f"{len(needed)} definitions"
         size = sum(len(it.view) for it in viewed)
         seen = f", and {'1 view' if len(viewed) == 1 else f'{len(viewed)} views'} of {size} lines" if viewed else ""
-        told.append(f"{number}. {claim.sentence} {where}: {count}, {lines_of(needed)} lines{seen}; of {len(declared)} types, "
-                    f"{sum(len(it.lines) for it in declared)} lines.")
+        told.append(
+            f"{number}. {claim.sentence} {where}: {count}, {lines_of(needed)} lines{seen}; of {len(declared)} types, "
+            f"{sum(len(it.lines) for it in declared)} lines."
+        )
     order = {file: order[file] for file in specs.in_order(list(order))}
     rows = [f"| `{file}` | {len(its)} | {lines_of(its.values())} | {spans(sorted(asked[file]))} |" for file, its in order.items()]
-    last = [f"| `{its.path.relative_to(root / 'crates')}`: `{its.name}` | {len(its.view)} | {spans(sorted(shown[at]))} |"
-            for at, its in sorted(views.items())]
+    last = [
+        f"| `{its.path.relative_to(root / 'crates')}`: `{its.name}` | {len(its.view)} | {spans(sorted(shown[at]))} |"
+        for at, its in sorted(views.items())
+    ]
     return HEADING + "\n".join(told) + TABLE + "\n".join(rows) + VIEWS + "\n".join(last) + "\n"
 
 
@@ -373,14 +417,16 @@ def spans(numbers: list[int]) -> str:
 
 HEADING = """# What to believe, in order
 
-Each claim, the clause of a public call that says it, and on how many definitions it stands, of how many types of `src/`. [PROVED](PROVED.md) says more of each. This page is written by `tools/make/claims`, and a test holds it against the sources.
+Each claim, the clause of a public call that says it, and on how many definitions it stands, of how many types of `src/`. \
+[PROVED](PROVED.md) says more of each. This page is written by `tools/make/claims`, and a test holds it against the sources.
 
 """
 TABLE = """
 
 ## What they depend on
 
-The files of definitions in an order in which they can be read: each behind those that it brings in. Who believes a claim reads of each file the definitions that are counted here; comments are among the lines, `use` lines are not.
+The files of definitions in an order in which they can be read: each behind those that it brings in. \
+Who believes a claim reads of each file the definitions that are counted here; comments are among the lines, `use` lines are not.
 
 | File in `crates/` | Definitions | Lines | For the claims |
 |---|---|---|---|
@@ -389,7 +435,9 @@ VIEWS = """
 
 ## What clauses see
 
-A clause speaks of a value as its type shows it. What that is of the value as it lies there, the block `impl Model` of the type says (its `view`). So "the very memory" of claim 4 is as much of the memory as these show: links, heap, free list and generations are among it. A view that left some of it out would have the claim say less.
+A clause speaks of a value as its type shows it. What that is of the value as it lies there, the block `impl Model` of the type says (its `view`). \
+So "the very memory" of claim 4 is as much of the memory as these show: links, heap, free list and generations are among it. \
+A view that left some of it out would have the claim say less.
 
 | File in `crates/`, type | Lines | For the claims |
 |---|---|---|

@@ -76,8 +76,10 @@ def shorten() -> int:
         print(f"shorter: {why}", file=sys.stderr)
         return 2
     if not asked.dry:
-        print(f"nothing is committed; look at the edits (tests/edits/run {asked.crate}, and those of must-fail/) and at the check's time: "
-              "a proof given by hand may be what refuses a wrong edit of a definition")
+        print(
+            f"nothing is committed; look at the edits (tests/edits/run {asked.crate}, and those of must-fail/) and at the check's time: "
+            "a proof given by hand may be what refuses a wrong edit of a definition"
+        )
     return 0
 
 

@@ -32,8 +32,13 @@ from package.uninstall import MANIFEST, Fault, Put, read_manifest, remove_files,
 
 ROOT = Path(__file__).resolve().parent.parent.parent
 # What is installed of tools/: not what builds the program, and not what is for tests.
-TAKEN = ("start.py", "uvt", *(f"launch/{it}" for it in ("__init__.py", "tool.py", "typed.py", "bad_line.py", "reasons.py", "usage")),
-         "package/__init__.py", "package/uninstall.py")
+TAKEN = (
+    "start.py",
+    "uvt",
+    *(f"launch/{it}" for it in ("__init__.py", "tool.py", "typed.py", "bad_line.py", "reasons.py", "usage")),
+    "package/__init__.py",
+    "package/uninstall.py",
+)
 OWN = {"programs", "vscode", "__pycache__"}
 PROVED = b"rattle logic="
 # Where the pages of a tar file say that they lie: that is where README.md unpacks it.
@@ -119,8 +124,6 @@ def walk(path: Path) -> list[Path]:
 
 
 def file_of(path: Path) -> Item:
-    if path.is_symlink():
-        return Item(b"", 0o777, os.readlink(path))
     return Item(path.read_bytes(), 0o755 if os.access(path, os.X_OK) else 0o644)
 
 
@@ -203,8 +206,13 @@ def items_of(program: Path, prefix: str, packed: bool) -> Items:
 def git(*words: str) -> str:
     if not (ROOT / ".git").exists():
         return ""
-    ran = subprocess.run(["git", "-c", f"safe.directory={ROOT}", "-C", str(ROOT), *words], env={**os.environ, "TZ": "UTC"},
-                         stdout=subprocess.PIPE, stderr=subprocess.DEVNULL, text=True)
+    ran = subprocess.run(
+        ["git", "-c", f"safe.directory={ROOT}", "-C", str(ROOT), *words],
+        env={**os.environ, "TZ": "UTC"},
+        stdout=subprocess.PIPE,
+        stderr=subprocess.DEVNULL,
+        text=True,
+    )
     return ran.stdout.strip() if ran.returncode == 0 else ""
 
 
@@ -223,15 +231,16 @@ def built_program(crate: str) -> Path | None:
     """The program of this crate that ./uvt build has built, of the sources as they are now."""
     kept = ROOT / "out" / crate
     script = '. "$root/tools/launch/kept.sh"; is_built'
-    ran = subprocess.run(["sh", "-c", 'say() { :; }; fail() { exit 70; }; ' + script],
-                         env={**os.environ, "root": str(ROOT), "crate": crate, "kept": str(kept)})
+    ran = subprocess.run(
+        ["sh", "-c", "say() { :; }; fail() { exit 70; }; " + script], env={**os.environ, "root": str(ROOT), "crate": crate, "kept": str(kept)}
+    )
     return kept / crate if ran.returncode == 0 else None
 
 
 def proved_program() -> Path:
     program = built_program("uvt")
     if program is None:
-        raise Fault("there is no proved program of these sources: ./uvt build proves and builds it, once, in about half an hour")
+        raise Fault("there is no proved program of these sources: ./uvt build proves and builds it, once")
     return program
 
 
@@ -316,8 +325,12 @@ def deb(folder: Path) -> Path:
         items = items_of(program, "/usr", packed=True)
         put_all(room / "usr", items)
         control = CONTROL.format(
-            version=version(), architecture=architecture(), name=os.environ.get("DEBFULLNAME", "uvt"), library=library,
-            mail=os.environ.get("DEBEMAIL", "uvt@localhost"), size=sum(len(it.data) + 1023 for it in items.values()) // 1024,
+            version=version(),
+            architecture=architecture(),
+            name=os.environ.get("DEBFULLNAME", "uvt"),
+            library=library,
+            mail=os.environ.get("DEBEMAIL", "uvt@localhost"),
+            size=sum(len(it.data) + 1023 for it in items.values()) // 1024,
         )
         put(room / "DEBIAN" / "control", Item(control.encode()))
         sums = "".join(f"{hashlib.md5(it.data).hexdigest()}  usr/{name}\n" for name, it in items.items() if not it.link)
@@ -325,8 +338,12 @@ def deb(folder: Path) -> Path:
         for at, folders, _ in os.walk(room):
             for it in folders:
                 os.chmod(os.path.join(at, it), 0o755)
-        ran = subprocess.run(["dpkg-deb", "--root-owner-group", "--build", str(room), str(part)], capture_output=True, text=True,
-                             env={**os.environ, "SOURCE_DATE_EPOCH": str(epoch)})
+        ran = subprocess.run(
+            ["dpkg-deb", "--root-owner-group", "--build", str(room), str(part)],
+            capture_output=True,
+            text=True,
+            env={**os.environ, "SOURCE_DATE_EPOCH": str(epoch)},
+        )
     if ran.returncode != 0:
         part.unlink(missing_ok=True)
         raise Fault("dpkg-deb: " + (ran.stderr.strip().splitlines() or ["it fails"])[-1])

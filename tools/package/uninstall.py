@@ -85,8 +85,11 @@ def uninstall(prefix: Path) -> list[str]:
     made = read_manifest(prefix)
     if made is None:
         packed = (prefix / "lib" / "uvt" / "program").exists()
-        raise Fault(f"uvt below {prefix} came with a package: what installed that takes it away (apt-get remove uvt)" if packed
-                    else f"nothing was installed below {prefix} by `uvt install`")
+        raise Fault(
+            f"uvt below {prefix} came with a package: what installed that takes it away (apt-get remove uvt)"
+            if packed
+            else f"nothing was installed below {prefix} by `uvt install`"
+        )
     changed = remove_files(prefix, made.files)
     if changed:
         kept = {name: made.files[name] for name in changed}

@@ -15,7 +15,7 @@ import sys
 import threading
 from dataclasses import dataclass, field
 from pathlib import Path
-from typing import BinaryIO, Callable, Iterator
+from typing import Any, BinaryIO, Callable, Iterator
 
 from uvt.notes import Notes, harmless, path_of, read_notes
 
@@ -289,7 +289,10 @@ class Conversation:
         words = program or [built_program(), "debug"]
         try:
             self.process = subprocess.Popen(
-                words, stdin=subprocess.PIPE, stdout=subprocess.PIPE, stderr=subprocess.PIPE,
+                words,
+                stdin=subprocess.PIPE,
+                stdout=subprocess.PIPE,
+                stderr=subprocess.PIPE,
                 # (an interrupt at the terminal is for whoever asks, and not for the program)
                 start_new_session=True,
             )
@@ -368,9 +371,10 @@ class Conversation:
 
     def answers(self, count: int) -> Iterator[list[str]]:
         """The lines of so many answers, each up to the line of its `back 0`."""
-        lines, rest = [], b""
+        lines: list[str] = []
+        rest = b""
         while count:
-            part = self.process.stdout.read1(1 << 16)
+            part = self.read_some()
             if not part:
                 self.ended()
             rows = (rest + part).split(b"\n")
@@ -393,11 +397,17 @@ class Conversation:
         self.length = int(lines.pop().removeprefix("at "))
         return lines
 
+    def read_some(self) -> bytes:
+        """What the program has written, as soon as there is some."""
+        output: Any = self.process.stdout
+        part: bytes = output.read1(1 << 16)
+        return part
+
     def lines_until(self, last: bytes) -> list[str]:
         """All lines up to one that begins so, which is the last one that comes."""
         said = bytearray()
         while not said.endswith(b"\n") or not said.startswith(last, said.rfind(b"\n", 0, -1) + 1):
-            part = self.process.stdout.read1(1 << 16)
+            part = self.read_some()
             if not part:
                 self.ended()
             said += part
@@ -429,7 +439,8 @@ class Conversation:
         """The answer to a move, and the state behind it."""
         said = self.read_line()
         # (the line `done-yet` is a state's last one)
-        read, lines = self.process.stdout.readline, []
+        read = self.process.stdout.readline
+        lines: list[bytes] = []
         while not lines or not lines[-1].startswith(b"done-yet"):
             lines.append(read())
             if not lines[-1].endswith(b"\n"):

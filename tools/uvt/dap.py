@@ -2,13 +2,14 @@
 
 from __future__ import annotations
 
+import functools
 import json
 import os
 import re
 import select
 from collections import deque
 from pathlib import Path
-from typing import Callable
+from typing import Callable, TypeVar
 
 from uvt.arrivals import what_came
 from uvt.codes import CODES, SECTIONS
@@ -97,6 +98,9 @@ class Wire:
             raise Gone from None
 
 
+Kind = TypeVar("Kind")
+
+
 class Adapter:
     """A session between a client and `uvt debug`."""
 
@@ -158,7 +162,7 @@ class Adapter:
             it()
 
     @staticmethod
-    def wanted(arguments: dict, name: str, kind: type) -> object:
+    def wanted(arguments: dict, name: str, kind: type[Kind]) -> Kind:
         value = arguments.get(name)
         if not isinstance(value, kind):
             raise Refused(f"the request has no `{name}`")
@@ -178,9 +182,17 @@ class Adapter:
         self.base = [0 if arguments.get(it) is False else 1 for it in ("linesStartAt1", "columnsStartAt1")]
         filters = [{"filter": it, "label": f"an op that answers {it}"} for it in CODES[1:]]
         filters += [{"filter": f"section {it}", "label": f"the section {it} begins"} for it in SECTIONS]
-        return {"supportsConfigurationDoneRequest": True, "supportsFunctionBreakpoints": True, "supportsStepBack": True,
-                "supportsConditionalBreakpoints": True, "supportsHitConditionalBreakpoints": True, "supportsLogPoints": True,
-                "supportsTerminateRequest": True, "supportsGotoTargetsRequest": True, "exceptionBreakpointFilters": filters}
+        return {
+            "supportsConfigurationDoneRequest": True,
+            "supportsFunctionBreakpoints": True,
+            "supportsStepBack": True,
+            "supportsConditionalBreakpoints": True,
+            "supportsHitConditionalBreakpoints": True,
+            "supportsLogPoints": True,
+            "supportsTerminateRequest": True,
+            "supportsGotoTargetsRequest": True,
+            "exceptionBreakpointFilters": filters,
+        }
 
     def on_launch(self, arguments: dict) -> None:
         path = self.wanted(arguments, "program", str)
@@ -199,7 +211,7 @@ class Adapter:
 
     def on_configurationDone(self, arguments: dict) -> None:
         for it in self.script.notes.loud():
-            self.later.append(lambda it=it: self.event("output", category="important", output=f"{it}\n"))
+            self.later.append(functools.partial(self.event, "output", category="important", output=f"{it}\n"))
         self.later.append(lambda: self.stopped("entry"))
 
     def on_disconnect(self, arguments: dict) -> None:
@@ -223,13 +235,14 @@ class Adapter:
             return {"breakpoints": self.javascript.set_breaks(source["path"], list(asked), self.base[0], self.refusal)}
         for line, more in asked:
             first = self.first_line()
-            at = line - first if isinstance(line, int) else -1
+            number = line if isinstance(line, int) else 0
+            at = number - first if isinstance(line, int) else -1
             holds = mine and 0 <= at < len(self.script.lines) and OPS.match(self.script.lines[at]) is not None
             refused = self.refusal(more) if holds else "no op stands in this line"
             if not refused:
                 self.lines[at] = more
             # (a client may say True for 1)
-            shown.append({"verified": False, "message": refused} if refused else {"verified": True, "line": int(line)})
+            shown.append({"verified": False, "message": refused} if refused else {"verified": True, "line": int(number)})
         return {"breakpoints": shown}
 
     def refusal(self, more: More) -> str:
@@ -249,8 +262,8 @@ class Adapter:
         names, shown = self.script.names(), []
         self.calls = {}
         for name, more in asked:
-            refused = self.refusal(more) if name in names else "the script has no such name"
-            if not refused:
+            refused = self.refusal(more) if isinstance(name, str) and name in names else "the script has no such name"
+            if isinstance(name, str) and not refused:
                 self.calls[name] = more
             shown.append({"verified": False, "message": refused} if refused else {"verified": True})
         self.set_breaks()
@@ -402,7 +415,7 @@ class Adapter:
         """The lengths at which the line's op comes next, of the steps that stand or were taken back; the first ones of many."""
         at = self.wanted(arguments, "line", int) - self.first_line()
         here = self.talk.length
-        found = []
+        found: list[dict] = []
         for length in range(self.top + 1):
             if len(found) == TARGETS:
                 break

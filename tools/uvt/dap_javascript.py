@@ -3,7 +3,7 @@
 from __future__ import annotations
 
 import os
-from typing import Callable
+from collections.abc import Callable, Mapping, Sequence
 
 from uvt.conversation import State
 from uvt.dap_breaks import More
@@ -43,7 +43,7 @@ class InJavaScript:
     def begun(self, before: State, state: State) -> More | None:
         return next((more for (path, line), more in self.breaks.items() if begun(before, state, self.known.calls_at(path, line))), None)
 
-    def frames(self, place: Place, last: str, counts: dict[str, list[int]], base: list[int]) -> list[dict]:
+    def frames(self, place: Place, last: str, counts: Mapping[str, Sequence[int]], base: list[int]) -> list[dict]:
         """Where JavaScript is in the callback that is under way, or that the last step began."""
         call = place.callback[:3] if place.callback else self.known.javascript.call_of(last, counts) if last else None
         return [self.shown(it, base) for it in self.known.by_call.get(call, [])] if call else []

@@ -205,7 +205,9 @@ def signal_of(number: int) -> str:
 def environment_of(words: list[str], folder: Path, order: Order) -> dict[str, str]:
     """What the program, and no tool around it, finds in its environment."""
     given = {
-        "UVT_LOG": str(folder / "log"), "UVT_FORCE_SAID": str(folder / "said"), "UVT_FORCE_AT": str(folder / "at"),
+        "UVT_LOG": str(folder / "log"),
+        "UVT_FORCE_SAID": str(folder / "said"),
+        "UVT_FORCE_AT": str(folder / "at"),
         "UVT_FORCE_LOOP": str(order.loop),
         # (libuv of 1.45 to 1.48 asks the kernel, and no worker, where it can: what the kernel does has no order here)
         "UV_USE_IO_URING": "0",
@@ -288,9 +290,7 @@ def wait_for(ran: subprocess.Popen[bytes], seconds: float, is_over: Callable[[],
     return False
 
 
-def run_at(
-    words: list[str], environment: dict[str, str], folder: Path, seconds: float | None, is_over: Callable[[], bool]
-) -> tuple[int, int, Ran]:
+def run_at(words: list[str], environment: dict[str, str], folder: Path, seconds: float | None, is_over: Callable[[], bool]) -> tuple[int, int, Ran]:
     """Runs it: at the terminal where no time is given, else with its output kept and its time limited. Answers its process too."""
     began = time.monotonic()
     if seconds is None:

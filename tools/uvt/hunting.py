@@ -130,8 +130,10 @@ class Counts:
         left = self.questions - self.found - self.never
         more = [f"{left} not settled"] if left else []
         departed = [f"{self.departed} departed"] if self.departed else []
-        return (f"{counted(self.questions, 'question')}{in_brackets(more)}, {counted(self.found, 'order')} found and forced{in_brackets(departed)},"
-                f" {self.random} at random, {self.seconds:.0f} s")
+        return (
+            f"{counted(self.questions, 'question')}{in_brackets(more)}, {counted(self.found, 'order')} found and forced{in_brackets(departed)},"
+            f" {self.random} at random, {self.seconds:.0f} s"
+        )
 
 
 def counted(count: int, word: str) -> str:
@@ -218,8 +220,13 @@ class Hunt:
     def whole(self, found: Recorded) -> Recorded:
         """With what other runs have shown of callbacks that weren't called in this one."""
         names = set(found.names())
-        more = [line for key, lines in self.known.items() if key not in found.bodies and key[1] in names
-                for line in lines if names.issuperset(names_in(line))]
+        more = [
+            line
+            for key, lines in self.known.items()
+            if key not in found.bodies and key[1] in names
+            for line in lines
+            if names.issuperset(names_in(line))
+        ]
         return Recorded(found.lines + more, found.steps, called=found.called, longest=found.longest)
 
     def is_mine(self, text: str) -> bool:
@@ -254,7 +261,8 @@ class Hunt:
         return None
 
     def ask_all(self, script: Recorded, open: list[Recorded]) -> Bad | None:
-        for stall, question in itertools.product(([], [f"may tick {script.longest} 1"]), script.questions()):
+        stalls: list[list[str]] = [[], [f"may tick {script.longest} 1"]]
+        for stall, question in itertools.product(stalls, script.questions()):
             key = "\n".join(script.lines), " ".join([question, *stall])
             if key in self.asked or not self.is_mine(key[1]):
                 continue

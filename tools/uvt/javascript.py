@@ -10,15 +10,26 @@ from __future__ import annotations
 import bisect
 import itertools
 import re
+from collections.abc import Mapping, Sequence
 from dataclasses import dataclass, field
 
 # How a function came to be called, by node's own functions below it, in a person's words.
 HOW = {
-    "timer": "a timer", "immediate": "an immediate", "tick": "process.nextTick", "promise": "a promise", "main": "the main program",
+    "timer": "a timer",
+    "immediate": "an immediate",
+    "tick": "process.nextTick",
+    "promise": "a promise",
+    "main": "the main program",
     "event": "an event",
 }
-KINDS = {"timer": "a timer", "interval": "an interval", "immediate": "an immediate", "soon": "a call_soon", "task": "a step of a task",
-         "callback": "a callback"}
+KINDS = {
+    "timer": "a timer",
+    "interval": "an interval",
+    "immediate": "an immediate",
+    "soon": "a call_soon",
+    "task": "a step of a task",
+    "callback": "a callback",
+}
 # What files that are no part of the program begin with: node's own, and those that come with Python.
 OUTSIDE = ("node:", "python:")
 # What node does as soon as a callback of JavaScript is over.
@@ -60,8 +71,9 @@ NOWHERE = Place("-", "-")
 def fold_at(line: str, begin: int, end: int) -> int:
     """Where a line that is too long is cut, so that the rest goes below: 0 where it can't be. From `begin` to `end` stands the program's text."""
     least = len(line) - len(line.lstrip()) + COLUMNS // 3
-    found = [it for it in re.finditer(r"[;,:]? ", line[: COLUMNS + 2])
-             if it.start() > least and it.end() - 1 <= COLUMNS and not begin < it.start() < end]
+    found = [
+        it for it in re.finditer(r"[;,:]? ", line[: COLUMNS + 2]) if it.start() > least and it.end() - 1 <= COLUMNS and not begin < it.start() < end
+    ]
     parts = [it.end() - 1 for it in found if it[0] in ("; ", ", ") or it[0] == ": " and it.end() == begin]
     words = [it.start() for it in found]
     return parts[-1] if parts else words[-1] if words else 0
@@ -215,10 +227,10 @@ class JavaScript:
             found += [f"js gone {it.id} {it.gone} {it.gone_at.words()}"] if it.gone is not None else []
             found += [f"js ref {it.id} {int(it.referenced)} {it.referenced_at.words()}"] if it.referenced_at != NOWHERE or not it.referenced else []
         found += [f"js by {name} {call} {place.words()}" for (name, call), place in self.asked.items()]
-        for it in self.spans:
-            due = f" {it.due}" if it.due is not None else ""
-            found.append(f"js {'open' if it.is_open else 'ran'} {it.id} {' '.join(map(str, it.call))} {it.begin} {it.end}{due}")
-        found += [f"js look {it.begin} {it.end} {it.under.words()}" for it in self.looks]
+        for span in self.spans:
+            due = f" {span.due}" if span.due is not None else ""
+            found.append(f"js {'open' if span.is_open else 'ran'} {span.id} {' '.join(map(str, span.call))} {span.begin} {span.end}{due}")
+        found += [f"js look {look.begin} {look.end} {look.under.words()}" for look in self.looks]
         found += [f"js most {' '.join(map(str, call))} {took} {under.words()}" for call, (took, under) in self.most.items()]
         return found
 
@@ -338,9 +350,16 @@ class JavaScript:
     def alive(self, time: int) -> list[Place]:
         """The functions of the program's timers that are to be called at this time or later, and keep node alive."""
         last = {it.id: it.begin for it in self.spans}
-        kept = [it for it in self.resources.values() if it.kind in ("timer", "interval") and it.when <= time and it.referenced
-                and (it.gone is None or it.gone > time) and not it.function.where.startswith(OUTSIDE)
-                and (it.kind == "interval" or last.get(it.id, time + 1) > time)]
+        kept = [
+            it
+            for it in self.resources.values()
+            if it.kind in ("timer", "interval")
+            and it.when <= time
+            and it.referenced
+            and (it.gone is None or it.gone > time)
+            and not it.function.where.startswith(OUTSIDE)
+            and (it.kind == "interval" or last.get(it.id, time + 1) > time)
+        ]
         return list(dict.fromkeys(it.function for it in kept))
 
     def seen(self) -> int:
@@ -395,7 +414,7 @@ class JavaScript:
             self.most[call] = round(by[most] / 1000), most
 
     @staticmethod
-    def call_of(line: str, counts: dict[str, list[int]]) -> tuple[str, str, int] | None:
+    def call_of(line: str, counts: Mapping[str, Sequence[int]]) -> tuple[str, str, int] | None:
         """The callback that the line of a step begins: its list, its name and which call it is, where `counts` has how often each was called."""
         words = line.split(" ")
         if words[0] not in LISTS or words[1] not in counts:
@@ -403,7 +422,7 @@ class JavaScript:
         kind, which = LISTS[words[0]]
         return kind, words[1], counts[words[1]][which]
 
-    def called(self, line: str, counts: dict[str, list[int]]) -> list[str]:
+    def called(self, line: str, counts: Mapping[str, Sequence[int]]) -> list[str]:
         """What JavaScript ran in the callback that the line of a step begins, in a sentence each."""
         call, found = self.call_of(line, counts) if self else None, []
         if not call:
@@ -427,6 +446,9 @@ class JavaScript:
 
     def names(self) -> list[str]:
         """The functions of its timers and immediates."""
-        found = dict.fromkeys(it.function.function for it in self.resources.values()
-                              if it.kind in KINDS and it.function.where != "-" and not it.function.where.startswith(OUTSIDE))
+        found = dict.fromkeys(
+            it.function.function
+            for it in self.resources.values()
+            if it.kind in KINDS and it.function.where != "-" and not it.function.where.startswith(OUTSIDE)
+        )
         return [it for it in found if it not in ("-", "(anonymous)")]

@@ -95,11 +95,11 @@ class Glance:
         self.call = None
 
     @staticmethod
-    def keep(best: list[Long], took: int, *rest: object) -> None:
+    def keep(best: list[Long], took: int, begin: int, line: int, id: int, what: str, since: str = "") -> None:
         if took >= LEAST and len(best) < LINES:
-            heapq.heappush(best, Long(took, *rest))
+            heapq.heappush(best, Long(took, begin, line, id, what, since))
         elif took >= LEAST and took > best[0].took:
-            heapq.heapreplace(best, Long(took, *rest))
+            heapq.heapreplace(best, Long(took, begin, line, id, what, since))
 
     # ---- in words
 

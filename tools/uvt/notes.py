@@ -26,23 +26,44 @@ CONTROL = {it: "?" for it in (*range(32), *range(127, 160)) if it not in (9, 10)
 IN_A_LINE = 20
 # Handles of I/O by their kinds, in a person's words.
 THINGS = {
-    "tcp": "a tcp", "pipe": "a pipe", "tty": "a terminal", "udp": "a udp", "poll": "a poll", "signal": "a signal", "process": "a process",
-    "fs_event": "a watched file", "fs_poll": "a watched file",
+    "tcp": "a tcp",
+    "pipe": "a pipe",
+    "tty": "a terminal",
+    "udp": "a udp",
+    "poll": "a poll",
+    "signal": "a signal",
+    "process": "a process",
+    "fs_event": "a watched file",
+    "fs_poll": "a watched file",
 }
 # What came with a callback of I/O by the log's word: where all is well; and what it is where it failed, or where the log says no more.
 CAME = {
-    "connect": "it is connected", "write": "a write is done", "send": "a datagram is sent", "shutdown": "the shutdown is done",
-    "connection": "a connection", "fs_poll": "a change",
+    "connect": "it is connected",
+    "write": "a write is done",
+    "send": "a datagram is sent",
+    "shutdown": "the shutdown is done",
+    "connection": "a connection",
+    "fs_poll": "a change",
 }
 THAT = {
-    "read": "a read", "receive": "a datagram", "connection": "a connection", "connect": "the connect", "write": "a write",
-    "send": "the sending of a datagram", "shutdown": "the shutdown", "poll": "an event", "signal": "a signal", "exit": "its end",
-    "fs_event": "a change", "fs_poll": "a look at the file",
+    "read": "a read",
+    "receive": "a datagram",
+    "connection": "a connection",
+    "connect": "the connect",
+    "write": "a write",
+    "send": "the sending of a datagram",
+    "shutdown": "the shutdown",
+    "poll": "an event",
+    "signal": "a signal",
+    "exit": "its end",
+    "fs_event": "a change",
+    "fs_poll": "a look at the file",
 }
 FAILS = {"poll": "the poll", "fs_event": "the watch"}
 # Signs of what an event of a poll, or a change of a file, was.
 SIGNS = {
-    "poll": {"r": "readable", "w": "writable", "d": "disconnected", "p": "readable out of band"}, "fs_event": {"r": "renamed", "c": "changed"},
+    "poll": {"r": "readable", "w": "writable", "d": "disconnected", "p": "readable out of band"},
+    "fs_event": {"r": "renamed", "c": "changed"},
 }
 
 
@@ -157,12 +178,15 @@ class Notes:
         """What each tool says before all else: that it isn't all of it, and what another thread did."""
         lines = [f"THE RECORDING IS A PART: {self.part}"] if self.part else []
         lines += [f"THE PROGRAM WAS ENDED BY {self.ended}"] if self.ended else []
-        return lines + [
-            f"WRONG THREAD: {function} was called by another thread while the loop ran, which libuv allows of uv_async_send alone: line {line}"
-            for line, function in sorted(self.foreign.items())
-        ] + [f"QUEUED AGAIN: {name} was queued while it was under way, which libuv doesn't allow" for name in self.again] + [
-            f"WRITTEN OVER: {name}, {told}" for name, told in self.written.items()
-        ]
+        return (
+            lines
+            + [
+                f"WRONG THREAD: {function} was called by another thread while the loop ran, which libuv allows of uv_async_send alone: line {line}"
+                for line, function in sorted(self.foreign.items())
+            ]
+            + [f"QUEUED AGAIN: {name} was queued while it was under way, which libuv doesn't allow" for name in self.again]
+            + [f"WRITTEN OVER: {name}, {told}" for name, told in self.written.items()]
+        )
 
     def text(self, recording: bytes) -> str:
         lines = [f"{HEAD} {hashlib.sha256(recording).hexdigest()}"]
@@ -286,7 +310,7 @@ def take(notes: Notes, line: str) -> None:
             case "nothing":
                 notes.nothings.append((words[1], words[2], int(words[3]), int(words[4])))
             case "request":
-                notes.requests.append(Request(words[1], words[2], *map(int, words[3:9]), words[9]))
+                notes.requests.append(read_request(words))
             case "again":
                 notes.again.append(words[1])
             case "written":
@@ -311,6 +335,11 @@ def take(notes: Notes, line: str) -> None:
                 notes.outside.update(int(it) for it in words[1:])
     except (IndexError, KeyError, ValueError):
         pass
+
+
+def read_request(words: list[str]) -> Request:
+    bytes, asked, asked_step, place, done, done_step = map(int, words[3:9])
+    return Request(words[1], words[2], bytes, asked, asked_step, place, done, done_step, words[9])
 
 
 def read_notes(path: Path, recording: bytes) -> Notes:

@@ -43,12 +43,17 @@ class Offered:
     def sentence(self) -> str:
         """What is offered, for a person."""
         counts = Counter({word: sum(it for (it_word, _), it in self.came.items() if it_word == word) for word in FROM_OUTSIDE})
-        parts = [many(counts["io"], "callback of I/O", "callbacks of I/O"), many(counts["send"], "send", "sends"),
-                 many(counts["cancel"], "cancel", "cancels"),
-                 many(sum(self.ticks.values()), "time that went by in no callback", "times that went by in no callback"),
-                 many(len(+self.takes), "callback that took time", "callbacks that took time")]
-        return (f"no line says `may`, so what came in the recording may come at other places: {', '.join(it for it in parts if it) or 'nothing'}; "
-                f"the clock goes to {self.clock} ms, and a callback's time goes by at its end")
+        parts = [
+            many(counts["io"], "callback of I/O", "callbacks of I/O"),
+            many(counts["send"], "send", "sends"),
+            many(counts["cancel"], "cancel", "cancels"),
+            many(sum(self.ticks.values()), "time that went by in no callback", "times that went by in no callback"),
+            many(len(+self.takes), "callback that took time", "callbacks that took time"),
+        ]
+        return (
+            f"no line says `may`, so what came in the recording may come at other places: {', '.join(it for it in parts if it) or 'nothing'}; "
+            f"the clock goes to {self.clock} ms, and a callback's time goes by at its end"
+        )
 
 
 def many(number: int, one: str, more: str) -> str:

@@ -49,8 +49,11 @@ def long_callbacks(walk: Walk) -> list[str]:
     if walk.notes.javascript:
         return in_node(walk, found)
     found = found[:LINES]
-    return [f"{it.took()} ms{it.on_processor()}: {named(it).rstrip(',')}, from step {it.first} to {it.last}, at {it.pieces[0][0]} ms"
-            + in_javascript(walk, it, it.pieces[0][0], it.pieces[-1][1]) for it in found]
+    return [
+        f"{it.took()} ms{it.on_processor()}: {named(it).rstrip(',')}, from step {it.first} to {it.last}, at {it.pieces[0][0]} ms"
+        + in_javascript(walk, it, it.pieces[0][0], it.pieces[-1][1])
+        for it in found
+    ]
 
 
 def in_node(walk: Walk, found: list[Took]) -> list[str]:
@@ -168,13 +171,17 @@ class Overview:
         """Whose callbacks waited for the next poll, since nobody had woken the one that a callback of I/O left."""
         found = [(it, others) for it in self.walk.left_by_io if (others := [name for name in waited(self.walk, it) if name in self.whys])]
         self.next += [(1, others[0]) for _, others in found[:1]]
-        return [f"{few(others)}: the callback of {self.walk.calls[it.call][1]} left the poll of step {it.poll} at step {it.call}, and nobody had"
-                " woken it by then" for it, others in found[:LINES]]
+        return [
+            f"{few(others)}: the callback of {self.walk.calls[it.call][1]} left the poll of step {it.poll} at step {it.call}, and nobody had"
+            " woken it by then"
+            for it, others in found[:LINES]
+        ]
 
     def requests(self) -> list[str]:
         found = [Late(name, self.away(it), it) for name, it in self.called("work")]
-        return [f"{it.took} ms from its queueing to its callback: {self.request(it)}, step {it.wait.ended}: {self.parts(it)}"
-                for it in self.worst(found)]
+        return [
+            f"{it.took} ms from its queueing to its callback: {self.request(it)}, step {it.wait.ended}: {self.parts(it)}" for it in self.worst(found)
+        ]
 
     def request(self, late: Late) -> str:
         """Its name; with the line of JavaScript that asked for it, where that is known."""
@@ -199,8 +206,11 @@ class Overview:
     def full(self) -> list[str]:
         kept = sorted(self.walk.pool.fulls, key=lambda it: self.walk.happened(it.last) - self.walk.happened(it.first), reverse=True)
         rows = [(self.walk.happened(it.first), self.walk.happened(it.last), it) for it in kept[:LINES]]
-        return [f"{end - begin} ms: from {begin} to {end} ms, from step {it.first} to {it.last}: {few(it.names)}"
-                for begin, end, it in rows if end > begin]
+        return [
+            f"{end - begin} ms: from {begin} to {end} ms, from step {it.first} to {it.last}: {few(it.names)}"
+            for begin, end, it in rows
+            if end > begin
+        ]
 
     def alive(self) -> list[str]:
         """Who is active and referenced where the session ends, or else where the loop waited last."""
@@ -209,8 +219,11 @@ class Overview:
         waited = [it.first for it in walk.tooks if it.is_poll()]
         step = walk.length if ends else waited[-1] if waited else 0
         state = walk.state(step)
-        names = [(it.name, it.kind) for it in state.slots
-                 if it.name and (it.kind == "work" or it.values.get("active") == "1" and it.values.get("ref") == "1")]
+        names = [
+            (it.name, it.kind)
+            for it in state.slots
+            if it.name and (it.kind == "work" or it.values.get("active") == "1" and it.values.get("ref") == "1")
+        ]
         kept = [f"{name} ({self.kind(name, kind)})" for name, kind in names if name in self.whys]
         if len(kept) < len(names):
             # (of node's own one is for all the timers of JavaScript)
@@ -312,12 +325,19 @@ class Overview:
         language = self.walk.notes.javascript.language
         lines, asked_for = head(self.walk), [it for it in self.walk.script.names() if not self.walk.notes.is_nodes_own(it)]
         for title, rows in (
-            ("the longest callbacks", long_callbacks(self.walk)), ("the main program", main_program(self.walk)),
-            (f"the latest timers of {language}", self.javascript()), ("the latest timers", self.timers()), ("the latest sends", self.sends()),
-            ("I/O", self.io()), ("who waited for the next poll", self.unwoken()), ("the longest requests", self.requests()),
+            ("the longest callbacks", long_callbacks(self.walk)),
+            ("the main program", main_program(self.walk)),
+            (f"the latest timers of {language}", self.javascript()),
+            ("the latest timers", self.timers()),
+            ("the latest sends", self.sends()),
+            ("I/O", self.io()),
+            ("who waited for the next poll", self.unwoken()),
+            ("the longest requests", self.requests()),
             ("the longest writes, connects and shutdowns", longest(self.walk)),
             ("the pool was full", self.full()),
-            ("what kept the loop alive", self.alive()), ("who spun", self.spins()), ("never called", self.never()),
+            ("what kept the loop alive", self.alive()),
+            ("who spun", self.spins()),
+            ("never called", self.never()),
             ("the loop was not closed", self.busy()),
         ):
             lines += [title, *(f"    {it}" for it in rows)] if rows else []

@@ -16,9 +16,17 @@ MEANT = {
 }
 # Where a loop is, by the first word of its place, for people: whose turn it is.
 TURNS = {
-    "entry": "the beginning of its run", "timers": "its timers", "pending": "the callbacks that it had put off", "idle": "its idle handles",
-    "prepare": "its prepare handles", "poll": "its poll", "polled": "the callbacks of its poll", "done": "the after callbacks",
-    "async": "its async handles", "check": "its check handles", "closing": "the close callbacks",
+    "entry": "the beginning of its run",
+    "timers": "its timers",
+    "pending": "the callbacks that it had put off",
+    "idle": "its idle handles",
+    "prepare": "its prepare handles",
+    "poll": "its poll",
+    "polled": "the callbacks of its poll",
+    "done": "the after callbacks",
+    "async": "its async handles",
+    "check": "its check handles",
+    "closing": "the close callbacks",
 }
 RUN = re.compile(r"(?P<mode>default|once|nowait) (?P<main>\d+) (?P<where>.*)$")
 

@@ -8,7 +8,7 @@ import subprocess
 import sys
 import tempfile
 import time
-from typing import BinaryIO
+from typing import IO
 
 from uvt.conversation import ROOT, Fault, started
 
@@ -45,7 +45,7 @@ def held(process: int) -> str:
 class Search:
     """A question, and what came of it."""
 
-    def __init__(self, asked: bytes, output: BinaryIO) -> None:
+    def __init__(self, asked: bytes, output: IO[bytes]) -> None:
         self.asked = asked
         self.output = output
         # there are more states than these
@@ -76,7 +76,7 @@ class Search:
         for number, line in enumerate(lines):
             bound = re.fullmatch(rb" *most +states +(\d+) *", line)
             if number > begin and bound:
-                return b"\n".join([*lines[:number], b"most states %d" % states, *lines[number + 1:]]) if states < int(bound[1]) else None
+                return b"\n".join([*lines[:number], b"most states %d" % states, *lines[number + 1 :]]) if states < int(bound[1]) else None
         return self.asked.rstrip(b"\n") + b"\nmost states %d\n" % states if states < DEFAULT_STATES else None
 
     def ask(self, question: bytes, aside: bool) -> int:
@@ -99,7 +99,7 @@ class Search:
             teller.join()
         return status
 
-    def hand_on(self, errors: BinaryIO, known: list[bytes], aside: bool) -> None:
+    def hand_on(self, errors: IO[bytes], known: list[bytes], aside: bool) -> None:
         """What the program says on its errors is kept, and said at once, except what is known."""
         for line in errors:
             self.said.append(line)

@@ -19,9 +19,24 @@ from uvt.why_javascript import WhyJavaScript
 OWN = ["loop", "take", "finish", "cancel", "send", "io", "tick", "back", "forward", "break", "rback", "trace", "state", "image", "record"]
 INFO = ["timers", "handles", "requests", "loop", "breaks"]
 SHORT = {
-    "s": "step", "n": "next", "c": "continue", "b": "break", "d": "delete", "l": "list", "i": "info", "p": "print", "r": "run",
-    "u": "until", "tb": "tbreak", "rs": "reverse-step", "rn": "reverse-next", "rc": "reverse-continue", "bt": "where", "q": "quit",
-    "h": "help", "stepi": "step",
+    "s": "step",
+    "n": "next",
+    "c": "continue",
+    "b": "break",
+    "d": "delete",
+    "l": "list",
+    "i": "info",
+    "p": "print",
+    "r": "run",
+    "u": "until",
+    "tb": "tbreak",
+    "rs": "reverse-step",
+    "rn": "reverse-next",
+    "rc": "reverse-continue",
+    "bt": "where",
+    "q": "quit",
+    "h": "help",
+    "stepi": "step",
 }
 # Those of them that do a step.
 STEPS = ("loop", *OUTSIDE)
@@ -203,8 +218,8 @@ class Shell:
         if step.startswith("io ") and self.steps is self.recorded and (told := what_came(self.talk.script.notes, step, self.talk.of_name(step[3:]))):
             self.write(f"    {told}")
         if len(lines) == 1 and self.steps is self.recorded and (javascript := self.talk.script.notes.javascript):
-            told = javascript.called(lines[0], self.talk.of_name(lines[0].split(" ")[1]).counts if lines[0].startswith(CALLED) else {})
-            self.show([row for it in told for row in fitted(f"    {it}")])
+            called = javascript.called(lines[0], self.talk.of_name(lines[0].split(" ")[1]).counts if lines[0].startswith(CALLED) else {})
+            self.show([row for it in called for row in fitted(f"    {it}")])
         return lines
 
     def is_over(self, lines: list[str]) -> bool:
@@ -542,5 +557,3 @@ class Shell:
     def do_quit(self, words: list[str]) -> None:
         """quit: leaves"""
         raise Quit
-
-

@@ -23,7 +23,8 @@ class Break:
 
     def words(self) -> str:
         return f"{'tbreak' if self.once else 'watch' if self.kind == 'watch' else 'break'} " + (
-            self.what if self.kind == "watch" else f"{self.kind} {self.what}")
+            self.what if self.kind == "watch" else f"{self.kind} {self.what}"
+        )
 
 
 def value_of(state: State, name: str) -> str:

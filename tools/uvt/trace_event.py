@@ -148,9 +148,9 @@ class Trace:
                 if it.what == "work":
                     end = self.times.begin(it.ended) if it.ended else last
                     self.span("request", name, self.times.begin(it.asked), end, step=it.asked, outcome="cancelled" if it.cancelled else it.how)
-        for it in self.walk.notes.requests:
-            end = 1000.0 * it.done if it.done >= 0 else last
-            self.span("stream", f"{it.what} of {it.stream}", 1000.0 * it.asked, end, bytes=it.bytes, status=it.status)
+        for request in self.walk.notes.requests:
+            end = 1000.0 * request.done if request.done >= 0 else last
+            self.span("stream", f"{request.what} of {request.stream}", 1000.0 * request.asked, end, bytes=request.bytes, status=request.status)
 
     def late_timers(self) -> None:
         for step, it in self.late.items():
@@ -165,7 +165,7 @@ class Trace:
                 begin = self.times.begin(step)
                 if outside:
                     self.tracks[OUTSIDE] = "from outside"
-                    args = {"step": step, "seen": step not in self.walk.notes.guessed}
+                    args: dict[str, object] = {"step": step, "seen": step not in self.walk.notes.guessed}
                     args |= {"by": by} if (by := self.walk.notes.by.get(step)) else {}
                     self.add("X", begin, OUTSIDE, f"send {name}", "send", dur=round(self.times.end(step) - begin, 3), args=args)
                 self.add("s", begin, OUTSIDE if outside else THREAD, "send", "send", id=number)
@@ -197,8 +197,11 @@ def of_javascript(javascript: JavaScript) -> list[Event]:
     """What JavaScript did: its callbacks, and the functions that were found under way."""
     if not javascript:
         return []
-    found = [metadata(JAVASCRIPT, 0, "process_name", name=javascript.language), metadata(JAVASCRIPT, 1, "thread_name", name="callbacks"),
-             metadata(JAVASCRIPT, 2, "thread_name", name="functions that were found under way")]
+    found = [
+        metadata(JAVASCRIPT, 0, "process_name", name=javascript.language),
+        metadata(JAVASCRIPT, 1, "thread_name", name="callbacks"),
+        metadata(JAVASCRIPT, 2, "thread_name", name="functions that were found under way"),
+    ]
     for span in javascript.spans:
         resource, end = javascript.resources[span.id], max(span.begin, span.end)
         # (a callback may be in another one's time, and the clock has whole ms: so they are no slices of one track)

@@ -225,13 +225,26 @@ class Page:
         if any(it.startswith("io ") for it in self.walk.steps):
             lanes.append(Lane("what came", "came"))
         return {
-            "script": self.walk.script.lines, "first": self.walk.script.first, "names": self.names,
-            "base": self.base, "changes": self.changes, "next": self.lines_done,
-            "steps": [self.texts.number(it) for it in self.walk.steps], "said": [self.texts.number(it) for it in self.walk.lines],
-            "clock": list(self.walk.clocks), "lanes": [{"name": it.name, "what": it.what, "parts": it.parts} for it in lanes],
-            "late": late, "why": whys, "heaps": self.heaps, "long": self.long(), "part": "\n".join(self.walk.notes.loud()),
-            "from": RED_RECORDED if self.walk.notes.names else RED, "kinds": {name: kind for name, (kind, _) in self.walk.notes.names.items()},
-            "meant": MEANT, "came": self.came(), "texts": self.texts.rows,
+            "script": self.walk.script.lines,
+            "first": self.walk.script.first,
+            "names": self.names,
+            "base": self.base,
+            "changes": self.changes,
+            "next": self.lines_done,
+            "steps": [self.texts.number(it) for it in self.walk.steps],
+            "said": [self.texts.number(it) for it in self.walk.lines],
+            "clock": list(self.walk.clocks),
+            "lanes": [{"name": it.name, "what": it.what, "parts": it.parts} for it in lanes],
+            "late": late,
+            "why": whys,
+            "heaps": self.heaps,
+            "long": self.long(),
+            "part": "\n".join(self.walk.notes.loud()),
+            "from": RED_RECORDED if self.walk.notes.names else RED,
+            "kinds": {name: kind for name, (kind, _) in self.walk.notes.names.items()},
+            "meant": MEANT,
+            "came": self.came(),
+            "texts": self.texts.rows,
         }
 
     def is_told(self, lane: Lane) -> bool:

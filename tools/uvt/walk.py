@@ -7,7 +7,7 @@ import bisect
 import collections
 import functools
 from dataclasses import dataclass, field
-from typing import Callable, Iterator
+from typing import Any, Callable, Iterator
 
 from uvt.conversation import Conversation, Fault, Script, Slot, State
 from uvt.node_names import InNode
@@ -322,7 +322,8 @@ class Walk:
     @functools.cached_property
     def of_name(self) -> dict[str, list[tuple[int, list[str]]]]:
         """Of each name the steps whose line has it, with that line's words."""
-        names, found = set(self.script.names()), {}
+        names = set(self.script.names())
+        found: dict[str, list[tuple[int, list[str]]]] = {}
         known: dict[str, tuple[str, list[str]] | None] = {}
         for step, line in enumerate(self.lines):
             if line not in known:
@@ -392,7 +393,7 @@ class Walk:
     def __enter__(self) -> Walk:
         return self
 
-    def __exit__(self, *fault: object) -> None:
+    def __exit__(self, *fault: Any) -> None:
         self.talk.__exit__(*fault)
 
 

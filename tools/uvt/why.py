@@ -6,16 +6,25 @@ reckoned here.
 
 from __future__ import annotations
 
+from collections.abc import Sequence
+
 from uvt.arrivals import BEHIND, LEFT, Came, behind, called_between, came, left_by, unwoken_between, waited
 from uvt.conversation import State
 from uvt.javascript import at
 from uvt.places import Place, read_place
-from uvt.waits import WATCHERS, History, Refusal, Wait, follow, kind_of_call
+from uvt.waits import History, Refusal, Wait, follow, kind_of_call
 from uvt.walk import LeftByIo, Took, Walk, processor_told
 from uvt.why_requests import nothings, of_stream
 
-KINDS = {"timer": "a timer", "idle": "an idle handle", "prepare": "a prepare handle", "check": "a check handle", "async": "an async handle",
-         "io": "a handle of I/O", "work": "a request"}
+KINDS = {
+    "timer": "a timer",
+    "idle": "an idle handle",
+    "prepare": "a prepare handle",
+    "check": "a check handle",
+    "async": "an async handle",
+    "io": "a handle of I/O",
+    "work": "a request",
+}
 CALLS = {"call": "call", "after": "after callback", "closed": "close callback"}
 ASKED = {"timer": "started", "async": "sent to", "work": "queued", "close": "closed"}
 SECTIONS = {"work": "done", "close": "closing", "async": "async", "timer": "timers"}
@@ -25,7 +34,7 @@ MANY, FEW = 8, 3
 WERE = {"idle": ("was an active idle handle", "were active idle handles"), "closing": ("was closing", "were closing")}
 
 
-def few(words: list[object]) -> str:
+def few(words: Sequence[object]) -> str:
     shown = [str(it) for it in words[:MANY]]
     if len(words) > MANY:
         return f"{', '.join(shown)} and {len(words) - MANY} more"
@@ -98,8 +107,10 @@ class Why:
             together = len(run) > (FEW if self.is_pushed(run[0]) else 1)
             items += [(run[0].ended or self.end + 1, self.several(run))] if together else [(it.ended or self.end + 1, self.one(it)) for it in run]
         items += [(it.step, self.refused(it)) for it in self.history.refusals]
-        items += [(it, [f"step {it}: `again {self.name}` did nothing: it has no repeat, and wasn't active", f"    {self.walk.by(it)}"])
-                  for it in self.history.nothing]
+        items += [
+            (it, [f"step {it}: `again {self.name}` did nothing: it has no repeat, and wasn't active", f"    {self.walk.by(it)}"])
+            for it in self.history.nothing
+        ]
         items.sort(key=lambda it: it[0])
         noted = [*of_stream(self.walk, self.name), *nothings(self.walk, self.name)]
         return [self.head(), *self.known(), *noted, *self.never_asked(), *(line for _, lines in items for line in lines)]
@@ -121,8 +132,10 @@ class Why:
             # (notes may name a line that isn't there)
             line = self.walk.script.lines[at] if 0 <= at < len(self.walk.script.lines) else ""
             if self.name in line.split(" ")[2:]:
-                lines.append(f"    WRONG THREAD: {function} was called by another thread while the loop ran, which libuv allows of uv_async_send"
-                             f" alone; line {number} stands for it: {line}")
+                lines.append(
+                    f"    WRONG THREAD: {function} was called by another thread while the loop ran, which libuv allows of uv_async_send"
+                    f" alone; line {number} stands for it: {line}"
+                )
         return lines
 
     def head(self) -> str:
@@ -163,12 +176,16 @@ class Why:
             who = self.walk.calls.get(self.walk.inside[it.ended], ("", "", 0))[:2] if self.walk.steps[it.ended - 1] == "loop" else ("", "")
             asked.setdefault((who, self.walk.lines[it.ended]), []).append(it.ended)
         first, last = run[0], run[-1]
-        return [f"steps {first.ended} to {last.ended}: {len(run)} times no call: each time started again before it was due",
-                f"    due from {first.due} ms to {last.due} ms, started again from {self.walk.clock(first.ended)} ms"
-                f" to {self.walk.clock(last.ended)} ms",
-                *(f"    at {steps_of(steps)}{', the first time' if len(steps) > 1 else ''} {self.walk.by(steps[0])}"
-                  for steps in list(asked.values())[:MANY]),
-                f"    {self.asked(first)}"]
+        return [
+            f"steps {first.ended} to {last.ended}: {len(run)} times no call: each time started again before it was due",
+            f"    due from {first.due} ms to {last.due} ms, started again from {self.walk.clock(first.ended)} ms"
+            f" to {self.walk.clock(last.ended)} ms",
+            *(
+                f"    at {steps_of(steps)}{', the first time' if len(steps) > 1 else ''} {self.walk.by(steps[0])}"
+                for steps in list(asked.values())[:MANY]
+            ),
+            f"    {self.asked(first)}",
+        ]
 
     def is_plain(self, wait: Wait) -> bool:
         """Was it asked for by a callback of its own, and called in its time? In a recording that is within a millisecond."""
@@ -203,8 +220,7 @@ class Why:
             how = "each as something came"
         if not self.is_again(last):
             how = f"each asked for in the one before, {how}" if first.due is not None else f"each asked for in the one before, {self.longest(run)}"
-        return [f"steps {first.ended} to {last.ended}, calls {first.call} to {last.call}: {how}",
-                f"    at steps {few([it.ended for it in run])}"]
+        return [f"steps {first.ended} to {last.ended}, calls {first.call} to {last.call}: {how}", f"    at steps {few([it.ended for it in run])}"]
 
     def one(self, wait: Wait) -> list[str]:
         if wait.how != "called":
@@ -269,9 +285,10 @@ class Why:
         ends so much later."""
         state = self.walk.state(took.first)
         now, clock = state.numbers["now"], state.numbers["clock"]
-        until = read_place(state.place).where.removeprefix("poll ")
+        where = read_place(state.place).where.removeprefix("poll ")
+        until = int(where) if where.isdecimal() else -1
         left = took.pieces[-1][1]
-        if not until.isdecimal() or left <= (until := int(until)) or begin < until:
+        if until < 0 or left <= until or begin < until:
             return told(took)
         if left - until <= 1 and self.notes.names:
             return f"the poll was to end at {until} ms, and the system ended it at {left} ms, {steps_of([took.first])}"
@@ -283,8 +300,10 @@ class Why:
         rest = left - until - (clock - now)
         more = f", and {rest} ms more" if rest > 1 else ""
         causes = [f"{told(it)}{in_javascript(self.walk, it, now, clock)}; " for it in before if it not in told_already]
-        return (f"{''.join(causes)}so the loop's time was {now} ms still as its poll began at {clock} ms,"
-                f" at step {took.first}, and it ended at {left} ms in place of {until} ms{more}")
+        return (
+            f"{''.join(causes)}so the loop's time was {now} ms still as its poll began at {clock} ms,"
+            f" at step {took.first}, and it ended at {left} ms in place of {until} ms{more}"
+        )
 
     def timer(self, wait: Wait) -> tuple[str, list[str]]:
         numbers = self.walk.state(wait.ended).numbers
@@ -314,11 +333,13 @@ class Why:
                 if before_due := tuple(it for it in steps if self.is_before_due(it, wait.due)):
                     found.setdefault(before_due, []).append(name)
             if len(found) > FEW:
-                steps, names = {it for row in found for it in row}, dict.fromkeys(it for row in found.values() for it in row)
-                rows.append(f"the poll didn't wait, at {steps_of(sorted(steps))}: each time one or more of {few(list(names))} {WERE[what][1]}")
+                all_steps = sorted({it for row in found for it in row})
+                all_names = list(dict.fromkeys(it for row in found.values() for it in row))
+                rows.append(f"the poll didn't wait, at {steps_of(all_steps)}: each time one or more of {few(all_names)} {WERE[what][1]}")
             else:
-                rows += [f"the poll didn't wait, at {steps_of(list(steps))}: {few(names)} {WERE[what][len(names) > 1]}"
-                         for steps, names in found.items()]
+                rows += [
+                    f"the poll didn't wait, at {steps_of(list(steps))}: {few(names)} {WERE[what][len(names) > 1]}" for steps, names in found.items()
+                ]
         return rows
 
     def is_before_due(self, step: int, due: int) -> bool:
@@ -331,7 +352,9 @@ class Why:
             begun = self.walk.last_line((wait.what,), wait.asked)
             next_one = self.walk.last_line((wait.what,), wait.ended)
             return f"an iteration later: it was started in the turn of the {wait.what} handles, which had begun at step {begun}", [
-                *details, f"their next turn began at step {next_one}"]
+                *details,
+                f"their next turn began at step {next_one}",
+            ]
         return f"in the turn of the {wait.what} handles that began at step {self.walk.last_line((wait.what,), wait.ended)}", details
 
     def between(self, wait: Wait, first: int) -> str:
@@ -358,8 +381,10 @@ class Why:
             return head, []
         before = self.walk.last_line(("poll",), poll - 1)
         left = self.walk.left(before)
-        return head, [f"between the end of the poll before, at {left} ms (step {before}), and the call lie {away} ms:"
-                      f" {self.delay(left, self.walk.clock(wait.ended))}"]
+        return head, [
+            f"between the end of the poll before, at {left} ms (step {before}), and the call lie {away} ms:"
+            f" {self.delay(left, self.walk.clock(wait.ended))}"
+        ]
 
     def unseen_for(self, wait: Wait) -> int:
         """How long the loop hadn't looked, where it didn't wait for what came: from the end of the poll before to the call, in ms."""
@@ -417,8 +442,10 @@ class Why:
 
     def left_unwoken(self, it: LeftByIo, section: str) -> str:
         name = self.walk.calls[it.call][1]
-        return (f"the callback of {name} left the poll of step {it.poll} at step {it.call}, and nobody had woken it by then:"
-                f" so {'no after callback' if section == 'done' else 'no async handle'} was called behind it")
+        return (
+            f"the callback of {name} left the poll of step {it.poll} at step {it.call}, and nobody had woken it by then:"
+            f" so {'no after callback' if section == 'done' else 'no async handle'} was called behind it"
+        )
 
     def close(self, wait: Wait) -> tuple[str, list[str]]:
         details = []
@@ -445,8 +472,10 @@ class Why:
         """Where its time went."""
         queued, called = self.walk.clock(wait.asked), self.walk.clock(wait.ended)
         taken, through = self.walk.happened(wait.taken[0]), self.walk.happened(wait.finished)
-        return (f"called {called - queued} ms after it was asked for: {taken - queued} ms it waited for a worker, {through - taken} ms it ran,"
-                f" {called - through} ms it waited for the loop")
+        return (
+            f"called {called - queued} ms after it was asked for: {taken - queued} ms it waited for a worker, {through - taken} ms it ran,"
+            f" {called - through} ms it waited for the loop"
+        )
 
     def unseen_request(self, wait: Wait) -> tuple[str, list[str]]:
         """Nobody saw when it was through; but where each worker has work that is seen, it waits."""
@@ -455,8 +484,9 @@ class Why:
         details = [] if wait.taken[0] in self.notes.guessed else [self.waited(wait)]
         for it in self.walk.pool.full_between(wait.asked, wait.ended):
             ends = self.walk.happened(it.last) - max(self.walk.happened(it.first), self.walk.clock(wait.asked))
-            details.append(f"for {ends} ms of them each worker had other work, from step {it.first} to {it.last}: {few(it.names)}"
-                           f"{self.asked_for(it.names)}")
+            details.append(
+                f"for {ends} ms of them each worker had other work, from step {it.first} to {it.last}: {few(it.names)}" f"{self.asked_for(it.names)}"
+            )
         blocked = [it for it in self.walk.causes(self.walk.clock(wait.asked), self.walk.clock(wait.ended)) if not it.is_poll()]
         if blocked:
             details.append(f"meanwhile {'; '.join(told(it) for it in blocked[:MANY])}")
@@ -471,7 +501,8 @@ class Why:
         had = self.walk.pool.names_between(wait.asked, step) if away and self.walk.pool.full_between(wait.asked, step) else []
         asked = self.asked_for(had)
         behind = (f": the workers had {times(len(had), 'request') if asked else few(had)}{asked}" if had else "") + (
-            f", behind {few(before)}" if before and not asked else "")
+            f", behind {few(before)}" if before and not asked else ""
+        )
         took = f"worker {worker} took it at step {step}"
         if step in self.notes.guessed:
             return f"waited for a worker from step {wait.asked} on{behind}; when one took it nobody knows"
@@ -541,8 +572,10 @@ class Why:
         head = f"step {step}: {self.no_call(wait)}: {wait.how} {self.walk.by(step)}"
         details = []
         if wait.what == "async":
-            details.append(f"{'the send' if not wait.more else 'the sends'} at {steps_of([wait.asked, *wait.more])} "
-                           + ("is lost" if not wait.more else "are lost"))
+            details.append(
+                f"{'the send' if not wait.more else 'the sends'} at {steps_of([wait.asked, *wait.more])} "
+                + ("is lost" if not wait.more else "are lost")
+            )
             details += self.unwoken(wait)
         if wait.due is not None:
             state = self.walk.state(step - 1)

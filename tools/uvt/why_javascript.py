@@ -128,8 +128,10 @@ class WhyJavaScript:
         if lost <= LEAST:
             return []
         who = "node" if self.js.language == "JavaScript" else "libuv"
-        return [f"drift: call {len(spans)} came at {spans[-1].begin} ms, {lost} ms behind {len(spans)} times {resource.delay} ms:"
-                f" {who} counts an interval from its last call, so what was late stays" + (f" (the most: {most})" if most else "")]
+        return [
+            f"drift: call {len(spans)} came at {spans[-1].begin} ms, {lost} ms behind {len(spans)} times {resource.delay} ms:"
+            f" {who} counts an interval from its last call, so what was late stays" + (f" (the most: {most})" if most else "")
+        ]
 
     def uncalled(self, resource: Resource) -> list[str]:
         """Why it isn't called, or not any more, where it isn't."""
@@ -152,8 +154,11 @@ class WhyJavaScript:
         found = []
         for request, call in asked:
             why = Why(self.walk, request)
-            found += [(self.walk.clock(it.ended) - self.walk.clock(it.asked), why, it) for it in why.history.waits
-                      if it.how == "called" and it.what == "work" and it.call == call]
+            found += [
+                (self.walk.clock(it.ended) - self.walk.clock(it.asked), why, it)
+                for it in why.history.waits
+                if it.how == "called" and it.what == "work" and it.call == call
+            ]
         found.sort(key=lambda it: -it[0])
         lines = [f"{name}: {times(len(asked), 'request')} of the pool, asked for {at(self.js.asked[asked[0]])}"]
         for _, why, wait in found[:PART]:
@@ -178,8 +183,10 @@ class WhyJavaScript:
                 rows.append((round(mine / 1000), took))
         rows.sort(key=lambda it: -it[0])
         whole = round(sum(it.end - it.begin for it in looks) / 1000)
-        lines = [f"{place.text()}: a function of {self.js.language}, under way for {whole} ms,"
-                 f" in {times(len(rows), 'callback')} of the loop of {LEAST} ms or more"]
+        lines = [
+            f"{place.text()}: a function of {self.js.language}, under way for {whole} ms,"
+            f" in {times(len(rows), 'callback')} of the loop of {LEAST} ms or more"
+        ]
         for mine, took in rows[:MANY]:
             begin, end = took.pieces[0][0], took.pieces[-1][1]
             lines.append(f"step {took.first}: {mine} ms, in {took.node.words if took.node else took.what}: {'; '.join(self.js.told(begin, end))}")
@@ -191,8 +198,14 @@ class WhyJavaScript:
     # ---- what stands out
 
     def latest(self, least: int, most: int) -> list[tuple[int, str, str]]:
-        found = [it for it in self.js.spans if it.due is not None and self.late(it) >= least and it.id in self.js.resources
-                 and not self.js.resources[it.id].function.where.startswith(OUTSIDE)]
+        found = [
+            it
+            for it in self.js.spans
+            if it.due is not None
+            and self.late(it) >= least
+            and it.id in self.js.resources
+            and not self.js.resources[it.id].function.where.startswith(OUTSIDE)
+        ]
         rows = []
         for span in sorted(found, key=self.late, reverse=True)[:most]:
             resource = self.js.resources[span.id]

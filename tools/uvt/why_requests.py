@@ -16,7 +16,9 @@ LEAST = 2
 WHAT = {"write": "write", "connect": "connect", "shutdown": "shutdown", "send": "datagram"}
 # Why it isn't done while the loop waits.
 WAITS = {
-    "write": "the system had no room for all of it", "send": "the system had no room for it", "connect": "it wasn't answered",
+    "write": "the system had no room for all of it",
+    "send": "the system had no room for it",
+    "connect": "it wasn't answered",
     "shutdown": "what was written before wasn't done",
 }
 

@@ -87,7 +87,7 @@ def behind_lets(lemma: Lemma, at: int, side: Side, means: Means) -> Iterator[Mad
     cut = right.rfind(" in\n")
     if size < 3 or cut < 0 or re.search(r"(^|\s)where\n", right) or balance(right[:cut]):
         return
-    front, tail = right[:cut + 4], right[cut + 4:]
+    front, tail = right[: cut + 4], right[cut + 4 :]
     if "\n" not in tail:
         return
     begun = f"{side.left} =" + ("" if front.startswith("\n") else " ") + front
@@ -160,7 +160,8 @@ def merged(lemma: Lemma, made: list[Made]) -> Made | None:
         groups.setdefault(it.call, set()).add(it.behind)
     bodies_of = [
         [*(line for at, clause in enumerate(lemma.clauses) if at not in group for line in clause), *laid(left, call)]
-        for call, group in groups.items() if left is not None and len(group) > 1
+        for call, group in groups.items()
+        if left is not None and len(group) > 1
     ]
     best = min(bodies_of, key=len, default=lemma.body)
     return Made(lemma, "merged", (*lemma.head, *best), len(best) * 10) if len(best) < len(lemma.body) else None

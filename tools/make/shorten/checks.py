@@ -29,6 +29,7 @@ class Fault(Exception):
 @dataclass(frozen=True)
 class Asked:
     """What the tool was asked for."""
+
     root: Path
     crate: str
     jobs: int
@@ -44,6 +45,7 @@ class Asked:
 @dataclass(frozen=True)
 class Error:
     """An error that a check told: the file, the line, and what it is."""
+
     file: str
     line: int
     what: str
@@ -62,6 +64,7 @@ class Error:
 @dataclass(frozen=True)
 class Said:
     """What a check came to."""
+
     status: int
     text: str
     seconds: float
@@ -73,6 +76,7 @@ class Said:
 @dataclass(frozen=True)
 class Placed:
     """Where a copy stands: its file, and its first and last line, counted from one."""
+
     file: str
     first: int
     last: int
@@ -156,7 +160,7 @@ class Trial:
         means = Means(within(lemmas, text, known), self.asked.steps)
         file = str(path.relative_to(self.proofs.folder))
         for lemma in lemmas:
-            out += lines[at:lemma.end]
+            out += lines[at : lemma.end]
             at = lemma.end
             if lemma.name == "returns" or "-requires" in lemma.name:
                 continue

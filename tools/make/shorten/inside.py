@@ -48,7 +48,7 @@ def in_groups(lemma: Lemma, means: Means) -> Iterator[Made]:
         group = text[begun:end]
         found = FUNCTION.match(group)
         front = f"{found.group(0).rstrip()} " if found else "("
-        rest = group[len(front.rstrip()):]
+        rest = group[len(front.rstrip()) :]
         if whole_word(lemma.name).search(rest):
             continue
         for call in calls(cited(rest, means.known, lemma.name), means.steps):
@@ -62,6 +62,7 @@ def in_groups(lemma: Lemma, means: Means) -> Iterator[Made]:
 @dataclass(frozen=True)
 class Local:
     """A function in `where`: the line of its signature, that of its first clause, the one behind its last, and how far it is set in."""
+
     first: int
     clause: int
     end: int
@@ -81,7 +82,7 @@ def local_at(lines: list[str], first: int) -> Local | None:
         return None
     end = clause
     inside = (begins, f"{room} ", f"{room}}}", f"{room})", f"{room}]")
-    while end < len(lines) and (lines[end].startswith(inside) or lines[end] == "" and "".join(lines[end + 1:end + 2]).startswith(f"{room} ")):
+    while end < len(lines) and (lines[end].startswith(inside) or lines[end] == "" and "".join(lines[end + 1 : end + 2]).startswith(f"{room} ")):
         end += 1
     return Local(first, clause, end, room)
 
@@ -91,11 +92,11 @@ def in_where(lemma: Lemma, means: Means) -> Iterator[Made]:
     lines = lemma.body
     for first in range(len(lines)):
         at = local_at(lines, first)
-        small = lemma_of(lemma.path, 0, [it[len(at.room):] for it in lines[first:at.end]]) if at and at.end - at.clause > 1 else None
+        small = lemma_of(lemma.path, 0, [it[len(at.room) :] for it in lines[first : at.end]]) if at and at.end - at.clause > 1 else None
         if not at or not small:
             continue
         for made in bodies(small, means, ["whole", "clause", "let", "field"]):
-            new = [*lines[:first], *(at.room + it if it else it for it in made.lines), *lines[at.end:]]
+            new = [*lines[:first], *(at.room + it if it else it for it in made.lines), *lines[at.end :]]
             if all(len(it) <= WIDTH for it in new) and len(new) < len(lines):
                 yield copy(lemma, "local", new, Call(made.call, made.cost % 10))
 
@@ -103,20 +104,21 @@ def in_where(lemma: Lemma, means: Means) -> Iterator[Made]:
 @dataclass(frozen=True)
 class Cited:
     """A lemma that is cited in a few places, and in how many."""
+
     lemma: Lemma
     times: int
 
 
 def replaced(text: str, begun: int, end: int, listed: list[str]) -> str | None:
     """The text with a tactic in place of a lemma's application in brackets, or with other lemmas in place of an entry of a tactic's list."""
-    if text[begun - 1] == "(" and text[end:end + 1] == " ":
-        far = begun - 1 + closing(text[begun - 1:])
+    if text[begun - 1] == "(" and text[end : end + 1] == " ":
+        far = begun - 1 + closing(text[begun - 1 :])
         inside = f"(arith, {', '.join(listed)})" if listed else "arith"
         return refilled(text, begun - 1, far + 1, f"(grind {inside})")
-    if text[end:end + 1] in (",", ")") and text[begun - 2:begun] == ", ":
-        return text[:begun - 2] + "".join(f", {it}" for it in listed) + text[end:]
-    if text[begun - 1] == "(" and text[end:end + 2] == ", ":
-        return text[:begun] + "".join(f"{it}, " for it in listed) + text[end + 2:]
+    if text[end : end + 1] in (",", ")") and text[begun - 2 : begun] == ", ":
+        return text[: begun - 2] + "".join(f", {it}" for it in listed) + text[end:]
+    if text[begun - 1] == "(" and text[end : end + 2] == ", ":
+        return text[:begun] + "".join(f"{it}, " for it in listed) + text[end + 2 :]
     return None
 
 
@@ -129,7 +131,8 @@ def inlined(lemma: Lemma, few: dict[str, Cited], means: Means) -> Iterator[Made]
         if it.lemma.key == lemma.key or name == lemma.name or len(it.lemma.clauses) != 1 or not found or not side:
             continue
         said = cited(side.right, means.known, name)
-        for listed in ([], said) if said else ([],):
+        tried: list[list[str]] = [[], said] if said else [[]]
+        for listed in tried:
             new: str | None = text
             for place in reversed(found):
                 new = replaced(new, place.start(), place.end(), listed) if new is not None else None

@@ -92,7 +92,8 @@ class Proofs:
 
     def drop(self) -> list[str]:
         """Takes out the lemmas that nobody cites, again and again, with their comments and where they are brought in."""
-        kept, gone = self.kept(), []
+        kept = self.kept()
+        gone: list[str] = []
         while True:
             counts = self.mentions()
             every = [it for lemmas in self.shared().values() for it in lemmas]

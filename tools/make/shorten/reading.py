@@ -13,7 +13,8 @@ NO_LEMMA = re.compile(r"(pub )?(abbrev|unfoldable|record|data|ruleset|module|mut
 BETWEEN = re.compile(r"\s(∙|in|where|≡|then|else|×|→)(\s|$)")
 # Words of the language, and tactics: no lemmas that a tactic could be given.
 NO_NAMES = frozenset(
-    "refl sym ap subst rw simp grind search omega cc assumption let in record where absurd if then else λ _ tt ∙ ◌∙◌ arith rules elim as inl inr "
+    "refl sym ap subst rw simp grind search omega cc assumption let in record where absurd if then else λ _ tt ∙ ◌∙◌ arith rules elim "
+    "as inl inr "
     "true false = → ≡ [] ∷ ++".split()
 )
 
@@ -21,6 +22,7 @@ NO_NAMES = frozenset(
 @dataclass(frozen=True)
 class Lemma:
     """A lemma: where it stands, its lines, and these as its signature, its lines of `unfolding`, and its clauses."""
+
     path: Path
     first: int
     lines: tuple[str, ...]
@@ -45,6 +47,7 @@ class Lemma:
 @dataclass(frozen=True)
 class Side:
     """A clause: its left side, and what stands behind the equals sign, with its `where`."""
+
     left: str
     right: str
 
@@ -122,8 +125,8 @@ def side_of(clause: tuple[str, ...]) -> Side | None:
     text, depth = "\n".join(clause), 0
     for at, it in enumerate(text):
         depth += (it in OPEN) - (it in CLOSE)
-        if depth == 0 and text.startswith(" =", at) and text[at + 2:at + 3] in (" ", "\n"):
-            return Side(text[:at], text[at + 2:].lstrip(" "))
+        if depth == 0 and text.startswith(" =", at) and text[at + 2 : at + 3] in (" ", "\n"):
+            return Side(text[:at], text[at + 2 :].lstrip(" "))
     return None
 
 
@@ -173,11 +176,11 @@ def own_terms(name: str, text: str) -> list[str]:
         depth, end = 0, found.start()
         while end < len(text):
             it = text[end]
-            if it in CLOSE and depth == 0 or depth == 0 and (it in ";,\n" or BETWEEN.match(text[end:end + 8])):
+            if it in CLOSE and depth == 0 or depth == 0 and (it in ";,\n" or BETWEEN.match(text[end : end + 8])):
                 break
             depth += (it in OPEN) - (it in CLOSE)
             end += 1
-        term = text[found.start():end].strip()
+        term = text[found.start() : end].strip()
         if "\n" not in term and f"({term})" not in out and " let " not in term and "_" not in term.split():
             out.append(f"({term})")
     return out
@@ -213,7 +216,7 @@ def given_names(head: tuple[str, ...]) -> list[str | None]:
     for part in arrows(text.split(" :", 1)[1] if " :" in text else ""):
         while part:
             end = closing(part) if part[0] in "({" else 0
-            inside, behind = part[1:end], part[end + 1:].lstrip()
+            inside, behind = part[1:end], part[end + 1 :].lstrip()
             if " : " not in inside or behind and behind[0] not in "({":
                 out.append(None)
                 break

@@ -55,7 +55,7 @@ def put(before: dict[Path, str], chosen: list[Made]) -> None:
     for path, text in before.items():
         lines = text.split("\n")
         for it in sorted((it for it in chosen if it.lemma.path == path), key=lambda it: -it.lemma.first):
-            lines[it.lemma.first:it.lemma.end] = [re.sub(r" steps \d+", "", line) for line in it.lines]
+            lines[it.lemma.first : it.lemma.end] = [re.sub(r" steps \d+", "", line) for line in it.lines]
         path.write_text("\n".join(lines), encoding="utf-8")
 
 

@@ -11,6 +11,7 @@ from make.shorten.reading import WIDTH, Lemma
 @dataclass(frozen=True)
 class Call:
     """A tactic, and what it costs in the choice among those that pass."""
+
     text: str
     cost: int
 
@@ -18,6 +19,7 @@ class Call:
 @dataclass(frozen=True)
 class Without:
     """A lemma that a copy cites no more, in how many places it did, and how many places there are in all."""
+
     name: str
     here: int
     everywhere: int
@@ -28,6 +30,7 @@ class Made:
     """A copy of a lemma with something in place of its body, or of a part of it.
 
     Of a `merge` copy `behind` is the clause that comes last, and `call` the tactic there; of a `without` copy `without` says what goes."""
+
     lemma: Lemma
     kind: str
     lines: tuple[str, ...]
@@ -45,6 +48,7 @@ class Made:
 @dataclass(frozen=True)
 class Means:
     """What may be put in place of a proof: the lemmas that the file knows, and grind's bound."""
+
     known: set[str]
     steps: int
 

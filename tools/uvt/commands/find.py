@@ -70,8 +70,10 @@ def inquiry(paths: list[Path], lines: list[str]) -> tuple[bytes, list[str]]:
     brought = [] if any(it.startswith("may ") for it in lines) else whole.offered.lines(lines)
     said += of_recording(whole, bool(brought))
     if differing:
-        said.append(f"`{differing}`: so many of the steps from outside in {paths[0]} may come at another place, those of one name, of one worker or "
-                    "of the clock in their order; each other one comes at its place, or as soon after it as the loop accepts it")
+        said.append(
+            f"`{differing}`: so many of the steps from outside in {paths[0]} may come at another place, those of one name, of one worker or "
+            "of the clock in their order; each other one comes at its place, or as soon after it as the loop accepts it"
+        )
     return text_of(whole.script.lines, brought + differed(*read[0], lines, differing)), said
 
 
@@ -124,9 +126,12 @@ def left_out(asked: bytes) -> list[str]:
     """What can come in no order, since no line offers it: a sentence for each."""
     lines = [line.split(" ") for line in asked.decode("ascii", "replace").split("\n")]
     begin = lines.index(["begin"]) if ["begin"] in lines else len(lines)
-    asks = lines[begin + 1:]
-    ops = [words[1:] if words[0] == "main" else [it for it in words[2:] if not it.startswith("@")] for words in lines[:begin]
-           if words[0] in ("main", "on", "after", "closed")]
+    asks = lines[begin + 1 :]
+    ops = [
+        words[1:] if words[0] == "main" else [it for it in words[2:] if not it.startswith("@")]
+        for words in lines[:begin]
+        if words[0] in ("main", "on", "after", "closed")
+    ]
     made = dict.fromkeys((op[1], op[2]) for op in ops if op[:1] == ["init"] and len(op) == 3)
     sent = {op[1] for op in ops if op[:1] == ["send"] and len(op) > 1}
     offered = {tuple(words[:3]) for words in asks}
@@ -134,13 +139,20 @@ def left_out(asked: bytes) -> list[str]:
     unsent = [name for name, kind in made if kind == "async" and ("may", "send", name) not in offered and name not in sent]
     said = []
     if waiting:
-        said.append(f"no line says `may io {waiting[0]} N`: in each of these orders nothing comes for {listed(waiting)}, and none of their callbacks is called")
+        never = f"in each of these orders nothing comes for {listed(waiting)}, and none of their callbacks is called"
+        said.append(f"no line says `may io {waiting[0]} N`: {never}")
     if unsent:
         said.append(f"no line says `may send {unsent[0]} N`, and no op sends: in each of these orders {listed(unsent)} is never called")
-    said += [f"no line makes `{words[2]}` a handle of I/O, so nothing comes for it" for words in asks
-             if words[:2] == ["may", "io"] and len(words) == 4 and (words[2], "io") not in made]
-    said += [f"`{words[2]}` is no timer in any line, so it is never late" for words in asks
-             if words[:2] == ["find", "late"] and len(words) == 4 and words[2] != "before" and (words[2], "timer") not in made]
+    said += [
+        f"no line makes `{words[2]}` a handle of I/O, so nothing comes for it"
+        for words in asks
+        if words[:2] == ["may", "io"] and len(words) == 4 and (words[2], "io") not in made
+    ]
+    said += [
+        f"`{words[2]}` is no timer in any line, so it is never late"
+        for words in asks
+        if words[:2] == ["find", "late"] and len(words) == 4 and words[2] != "before" and (words[2], "timer") not in made
+    ]
     return said
 
 
@@ -185,8 +197,13 @@ def ask_each(files: list[str], lines: list[str], questions: list[str], session: 
     def ask(numbered: tuple[int, str]) -> subprocess.CompletedProcess[bytes]:
         number, question = numbered
         aside = [] if session is None else ["-o", f"{session}.{number}"]
-        return subprocess.run([sys.executable, START, "find", *files, *lines, question, *aside], stdin=subprocess.DEVNULL, stdout=subprocess.PIPE,
-                              stderr=subprocess.PIPE, check=False)
+        return subprocess.run(
+            [sys.executable, START, "find", *files, *lines, question, *aside],
+            stdin=subprocess.DEVNULL,
+            stdout=subprocess.PIPE,
+            stderr=subprocess.PIPE,
+            check=False,
+        )
 
     told: list[bytes] = []
     statuses = []
@@ -219,6 +236,7 @@ def main() -> int:
         reader.error("-j takes a number from 1 on")
     if len(questions) > 1:
         rest = [it for it in lines if it not in questions]
-        return run_tool("uvt-find", lambda: ask_each([str(it) for it in paths], rest, questions, asked.session, asked.jobs), failed=OWN_FAULT,
-                          what="the search")
+        return run_tool(
+            "uvt-find", lambda: ask_each([str(it) for it in paths], rest, questions, asked.session, asked.jobs), failed=OWN_FAULT, what="the search"
+        )
     return run_tool("uvt-find", lambda: answer(paths, lines, asked.session), failed=OWN_FAULT, what="the search")

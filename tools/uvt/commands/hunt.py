@@ -34,6 +34,7 @@ import sys
 import tempfile
 import time
 from pathlib import Path
+from typing import Any
 
 from launch.tool import run_tool
 from uvt.conversation import INSTALLED, ROOT, Fault, built_program
@@ -100,8 +101,11 @@ def of_bad(bad: Bad, name: str, words: list[str]) -> list[str]:
     # (where a signal or a sanitizer ends it, a debugger stops there by itself)
     stop = "" if "was ended by" in bad.how or "Sanitizer" in bad.how else " --stop"
     return [
-        *lines, f"    in {bad.by}", f"    its order is {name}.uvt. To see it:",
-        f"    {FORCE}{loop} {name}.uvt {program}", f"    {FORCE}{loop}{stop} {name}.uvt gdb --args {program}",
+        *lines,
+        f"    in {bad.by}",
+        f"    its order is {name}.uvt. To see it:",
+        f"    {FORCE}{loop} {name}.uvt {program}",
+        f"    {FORCE}{loop}{stop} {name}.uvt gdb --args {program}",
     ]
 
 
@@ -122,14 +126,14 @@ def say(counts: Counts, bad: Bad | None, name: str, words: list[str], part: str,
 
 def write_report(path: Path, hunt: Hunt, bad: Bad | None, ended: str) -> None:
     """What --join reads."""
-    found = {"form": REPORT, "part": hunt.part, "program": hunt.words, "ended": ended, "counts": dataclasses.asdict(hunt.counts)}
+    found: dict[str, object] = {"form": REPORT, "part": hunt.part, "program": hunt.words, "ended": ended, "counts": dataclasses.asdict(hunt.counts)}
     found["bad"] = dataclasses.asdict(bad) if bad else None
     write(path, (json.dumps(found, indent=1) + "\n").encode())
 
 
-def read_report(path: str) -> dict[str, object]:
+def read_report(path: str) -> dict[str, Any]:
     try:
-        found = json.loads(Path(path).read_text(encoding="utf-8"))
+        found: dict[str, Any] = json.loads(Path(path).read_text(encoding="utf-8"))
         if found["form"] != REPORT:
             raise ValueError
         Counts(**found["counts"])

@@ -67,7 +67,9 @@ def main() -> int:
     reader.add_argument("--last", type=seconds, metavar="SECONDS", help="the last seconds of the log")
     reader.add_argument("--from", type=natural, dest="begin", metavar="MS", help="from this time of the loop on")
     reader.add_argument("--bare", action="store_true", help="without the functions of JavaScript, Python and Lua: nothing is loaded with the program")
-    reader.add_argument("--lift", action="store_true", help="a second recording, NAME.lift.rec: each timer and immediate of JavaScript is a handle of its own")
+    reader.add_argument(
+        "--lift", action="store_true", help="a second recording, NAME.lift.rec: each timer and immediate of JavaScript is a handle of its own"
+    )
     reader.add_argument("program", nargs=argparse.REMAINDER, metavar="PROGRAM", help="the program, and its words")
     asked = reader.parse_args()
     words = asked.program[1:] if asked.program[:1] == ["--"] else asked.program

@@ -153,9 +153,7 @@ def timers_left(look: Look) -> str | None:
     """The section of timers is left while a timer is due."""
     if look.line != "pending" and not look.line.startswith("end "):
         return None
-    return HEAP if look.where() in ("first", "timers") and any(
-        int(it.values["due"]) <= look.number("now") for it in look.due_timers()
-    ) else None
+    return HEAP if look.where() in ("first", "timers") and any(int(it.values["due"]) <= look.number("now") for it in look.due_timers()) else None
 
 
 def stopped_by_again(look: Look) -> str | None:

@@ -86,14 +86,19 @@ def take(walk: Walk, poll: Brought | None, left: int, step: int) -> None:
     if poll is None:
         raise Fault(f"step {step} is `io {name}` in the section `{where}`: libuv calls a poll handle in its poll alone, so it can't be led there")
     if left not in walk.leaving and not is_woken(walk.state(left - 1)):
-        raise Fault(f"step {step} is `io {name}` behind a poll that was left since its time was over: in libuv what comes leaves the poll,"
-                    " so it can't be led there")
+        raise Fault(
+            f"step {step} is `io {name}` behind a poll that was left since its time was over: in libuv what comes leaves the poll,"
+            " so it can't be led there"
+        )
     if is_new(walk, name, left, step):
-        raise Fault(f"step {step} is `io {name}`, and {name} was started or stopped since the end of that poll, at step {left}: libuv calls it"
-                    " in its next poll, so it can't be led there")
+        raise Fault(
+            f"step {step} is `io {name}`, and {name} was started or stopped since the end of that poll, at step {left}: libuv calls it"
+            " in its next poll, so it can't be led there"
+        )
     if poll.others and where == "done":
-        raise Fault(f"step {step} is `io {name}` between the after and async callbacks of its poll: in libuv these come together, so it can't be"
-                    " led there")
+        raise Fault(
+            f"step {step} is `io {name}` between the after and async callbacks of its poll: in libuv these come together, so it can't be" " led there"
+        )
     (poll.behind if where == "async" else poll.before).append(step)
 
 

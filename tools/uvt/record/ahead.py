@@ -48,4 +48,5 @@ class Ahead:
         """Which of the name's callbacks comes next from that item on, by its number; 0 where none does."""
         calls = self.calls[name]
         found = bisect.bisect_left(calls, at)
-        return self.items[calls[found]].number if found < len(calls) else 0
+        item = self.items[calls[found]] if found < len(calls) else None
+        return item.number if isinstance(item, Call) else 0

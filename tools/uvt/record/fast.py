@@ -175,7 +175,8 @@ class Ways:
         follower = self.follower
         if follower.came_late > late:
             return
-        ticks, parts, wakes = iter(follower.trail), [], 0
+        ticks, wakes = iter(follower.trail), 0
+        parts: list[Tick | Step] = []
         tick = next(ticks, None)
         for step in range(length, follower.talk.length + 1):
             while tick is not None and tick[0] <= step:
@@ -201,7 +202,8 @@ class Ways:
     def known(self, at: int) -> list[tuple[int, Way]]:
         if self.follower.uncalled:
             return []
-        units, where, late = [], self.follower.where, self.follower.sent_late.keys()
+        where, late = self.follower.where, self.follower.sent_late.keys()
+        units: list[tuple[int, Way]] = []
         while len(units) < self.many and (end := self.end_of(at)) and (way := self.ways.get(self.key(at, end, where))):
             # (where a send waits for its call, that is the one that comes)
             if not way.sends.isdisjoint(late):
@@ -227,7 +229,8 @@ class Ways:
 
     def go(self, at: int, units: list[tuple[int, Way]]) -> int:
         """Asks these units together, and answers the item behind the last one that went as it was to."""
-        follower, asked, first = self.follower, [], at
+        follower, first = self.follower, at
+        asked: list[Asked] = []
         for end, way in units:
             asked.append(self.asked(first, end, way, asked[-1].clock if asked else follower.clock))
             first = end

@@ -38,8 +38,24 @@ BEHIND = (POLLED, "done", "async")
 CHECKS = 16
 # How many lines about a send are looked at for others of its handle, and for its calls.
 AHEAD = 200
-KEPT = ("where", "clock", "in_call", "queued", "taken", "finished", "taken_at", "ready", "later_on", "after_at", "senders", "sent_late", "uncalled", "kept",
-        "kept_at", "trail")
+KEPT = (
+    "where",
+    "clock",
+    "in_call",
+    "queued",
+    "taken",
+    "finished",
+    "taken_at",
+    "ready",
+    "later_on",
+    "after_at",
+    "senders",
+    "sent_late",
+    "uncalled",
+    "kept",
+    "kept_at",
+    "trail",
+)
 
 
 class Stopped(Exception):
@@ -273,7 +289,7 @@ class Follower:
             line = self.steps(self.distance(section), wanted)[-1]
             if line.startswith("refused blocked"):
                 if not self.wake or woken:
-                    raise Stopped("waits in the poll") if self.wake else NeedsWake
+                    raise Stopped("waits in the poll") if self.wake else NeedsWake()
                 woken = True
                 self.outcome.wakes += 1
                 self.later("send wake", "out send wake = ok")
@@ -358,7 +374,8 @@ class Follower:
 
     def group(self, at: int) -> list[Call]:
         """The callbacks of this poll, from this item on, that the loop calls in this order in one iteration; except for those of I/O."""
-        chosen, last, places = [], -1, None
+        last, places = -1, None
+        chosen: list[Call] = []
         for item in (self.items[it] for it in range(at, len(self.items))):
             if isinstance(item, (Poll, Run, End)):
                 break
@@ -399,8 +416,10 @@ class Follower:
 
     def next_through(self) -> str:
         """Whose worker is free first: of those whose end nobody sees the one that calls back first."""
-        return next((it for it in self.coming() if it in self.taken and (it not in self.ahead.seen or it in self.ready)),
-                    next((it for it in self.coming() if it in self.taken), next(iter(self.taken))))
+        return next(
+            (it for it in self.coming() if it in self.taken and (it not in self.ahead.seen or it in self.ready)),
+            next((it for it in self.coming() if it in self.taken), next(iter(self.taken))),
+        )
 
     def finish(self, name: str) -> None:
         """The request is through; those that waited longer are taken before it."""

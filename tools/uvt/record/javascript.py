@@ -9,10 +9,16 @@ from uvt.record.log import Event, Log
 
 # node's functions that call what JavaScript asked for.
 HOWS = {
-    "listOnTimeout": "timer", "processImmediate": "immediate", "runMicrotasks": "promise", "runNextTicks": "tick",
-    "processTicksAndRejections": "tick", "executeUserEntryPoint": "main", "Module.load": "main",
+    "listOnTimeout": "timer",
+    "processImmediate": "immediate",
+    "runMicrotasks": "promise",
+    "runNextTicks": "tick",
+    "processTicksAndRejections": "tick",
+    "executeUserEntryPoint": "main",
+    "Module.load": "main",
     # (of the hook in Python)
-    "uvt_called": "timer", "run_forever": "event",
+    "uvt_called": "timer",
+    "run_forever": "event",
 }
 # Callbacks of the loop itself in Python, each due as many ms behind what asked for it as it says there.
 LOOPS_OWN = ("timer", "soon", "task")
@@ -52,7 +58,7 @@ class Stacks:
 
     def frames(self, number: int) -> list[tuple[Place, int]]:
         """From the innermost one on, each with the line at which it was found most."""
-        found = []
+        found: list[tuple[Place, int]] = []
         while number >= 0 and (row := self.log.stacks.get(number)) and len(found) < 1000:
             number, place, line = row
             found.append((place_of(self.log, place), line))

@@ -58,7 +58,8 @@ WORDS = {
     "V": re.compile(rf"{NUMBER} \d{{1,9}}(?: \d{{1,9}})?"),
     "K": re.compile(rf"all|end|{NUMBER} [a-z_]+ [01] [01] [01] {NUMBER} {NUMBER} {NUMBER}"),
     "J": re.compile(
-        rf"new {NUMBER} (?:timer|interval|immediate|soon|task|callback) (?:-1|{NUMBER}) (?:-1|{NUMBER}) {NUMBER}|run {NUMBER}(?: {NUMBER} {NUMBER}(?: [123])?)?|ran {NUMBER}"
+        rf"new {NUMBER} (?:timer|interval|immediate|soon|task|callback) (?:-1|{NUMBER}) (?:-1|{NUMBER}) {NUMBER}"
+        rf"|run {NUMBER}(?: {NUMBER} {NUMBER}(?: [123])?)?|ran {NUMBER}"
         rf"|gone {NUMBER} (?:-1|{NUMBER})|ref {NUMBER} [01] (?:-1|{NUMBER})|by {NUMBER} {NUMBER}|busy {NUMBER} {NUMBER} {NUMBER}|thread {NUMBER}"
     ),
     "Q": re.compile(rf"{NUMBER} {NUMBER}"),
@@ -214,8 +215,9 @@ def read_log(data: bytes) -> Log:
     if not head and re.match(r"uvt \d", lines[0] if lines else ""):
         raise Fault("this is a recording, and no log: uvt-why, uvt-shell and uvt-view take it as it is")
     if not head:
-        raise Fault("this is no log of a program: its first line isn't `uvt-log 1` or `uvt-log 2` with libuv's version, a process, workers"
-                    " and a program")
+        raise Fault(
+            "this is no log of a program: its first line isn't `uvt-log 1` or `uvt-log 2` with libuv's version, a process, workers" " and a program"
+        )
     log = Log(int(head[1]), head[2], int(head[3]), within(int(head[4])), head[5])
     for number, text in enumerate(lines[1:], 2):
         log.lines = number

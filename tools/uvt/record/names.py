@@ -25,6 +25,10 @@ def listed(file: str, words: list[str]) -> list[list[str]]:
     return [line.split(" ", 3) for line in ran.stdout.splitlines()]
 
 
+# Of the file itself, and of what it gives to others.
+NM: tuple[list[str], ...] = ([], ["-D"])
+
+
 class Symbols:
     """The functions and variables of a file."""
 
@@ -33,7 +37,7 @@ class Symbols:
         self.functions: dict[int, str] = {}
         self.ends: dict[int, int] = {}
         self.variables: list[tuple[int, int, str]] = []
-        for words in ([], ["-D"]):
+        for words in NM:
             for row in listed(file, ["-C", "-S", *words]):
                 if len(row) == 4 and row[2] in "bBdDvV" and not row[3].startswith(OF_THE_COMPILER):
                     self.variables.append((int(row[0], 16), int(row[1], 16), plain(row[3])))

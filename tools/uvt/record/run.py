@@ -126,8 +126,10 @@ def chosen(log: Log, events: list[Event], part: Part) -> tuple[list[Event], str,
         began = f"it begins at {now} ms of the loop's time, with what there was then, and its times count from there"
     calls = [at for at, it in enumerate(events) if it.type == "B"]
     if len(calls) > part.most:
-        cut = (f"the log has {len(calls)} callbacks, and the first {part.most} were taken: --most N takes another number,"
-               " --last SECONDS or --from MS another part")
+        cut = (
+            f"the log has {len(calls)} callbacks, and the first {part.most} were taken: --most N takes another number,"
+            " --last SECONDS or --from MS another part"
+        )
         events = events[: calls[part.most]]
     return events, began, cut
 
@@ -175,7 +177,8 @@ def foreign_lines(made: Made) -> dict[int, str]:
     """The lines of the recording that another thread than the loop's did."""
     if not made.program.foreign_ops:
         return {}
-    found, counts = {}, collections.Counter()
+    found: dict[int, str] = {}
+    counts: collections.Counter[tuple[str, str, int]] = collections.Counter()
     for number, line in enumerate(made.outcome.recording, 1):
         if line == "begin":
             break
@@ -215,12 +218,24 @@ def notes_of(made: Made, note: str, ended: str = "") -> Notes:
     stand = Steps(made.program, made.outcome.lines)
     places, number = stand.places()
     return Notes(
-        part_of(made, note), {it.name: (it.kind, it.text) for it in made.program.origins}, made.program.functions,
-        outside - made.outcome.known, foreign_lines(made), made.outcome.outside, made.outcome.times, made.program.came, made.polls.said(),
-        where_it_ended(made, ended), made.outcome.by, made.program.javascript,
-        [name for _, name in made.program.again], {it.name: it.told() for it in made.program.written},
-        processor=dict(made.program.processor), places=places,
-        asked_at={step: number[it] for step, it in stand.asked_at.items() if it in number}, requests=stand.requests(number),
+        part_of(made, note),
+        {it.name: (it.kind, it.text) for it in made.program.origins},
+        made.program.functions,
+        outside - made.outcome.known,
+        foreign_lines(made),
+        made.outcome.outside,
+        made.outcome.times,
+        made.program.came,
+        made.polls.said(),
+        where_it_ended(made, ended),
+        made.outcome.by,
+        made.program.javascript,
+        [name for _, name in made.program.again],
+        {it.name: it.told() for it in made.program.written},
+        processor=dict(made.program.processor),
+        places=places,
+        asked_at={step: number[it] for step, it in stand.asked_at.items() if it in number},
+        requests=stand.requests(number),
         nothings=stand.nothings(number),
     )
 
@@ -471,7 +486,8 @@ def nothing_recorded(program: str, status: int) -> str:
     except (OSError, struct.error):
         data = b""
     if WITHIN in data:
-        return f"{program} called nothing of a libuv that can be found: it has one within it, but its functions have no symbols (strip), or are no functions any more (LTO)"
+        what = "it has one within it, but its functions have no symbols (strip), or are no functions any more (LTO)"
+        return f"{program} called nothing of a libuv that can be found: {what}"
     return f"{program} called nothing of a libuv: none that is a shared library, and none within it"
 
 

@@ -733,8 +733,12 @@ def make_program(log: Log, events: list[Event], loop: int = 0) -> Program:
             maker.program.stopped = f"at line {event.line} of the log the program has more than {NAMES} handles and requests at a time{FULL}"
             break
     maker.name_last()
-    asked = [*(it for it in maker.items if isinstance(it, Op)), *maker.program.requests, *maker.program.nothings]
-    maker.program.places = {place: told for place in {it.place for it in asked} if (told := log.place(place))}
+    asked = (
+        {it.place for it in maker.items if isinstance(it, Op)}
+        | {it.place for it in maker.program.requests}
+        | {it.place for it in maker.program.nothings}
+    )
+    maker.program.places = {place: told for place in asked if (told := log.place(place))}
     maker.program.javascript = maker.javascript.done()
     for it in maker.items if maker.program.javascript else ():
         if isinstance(it, Done) and NO_CLOCK not in (it.clock, it.call.clock):

@@ -42,7 +42,16 @@ class Steps:
     def requests(self, number: dict[str, int]) -> list[Request]:
         """The requests of streams, with their steps: that of the callback in which each was asked for, and that of its own."""
         return [
-            Request(it.stream, it.what, it.bytes, it.asked, self.calls.get(it.within, 0) if it.within else 0, number.get(it.place, -1), it.done,
-                    self.calls.get(it.by, 0) if it.by else 0, it.status or "-")
+            Request(
+                it.stream,
+                it.what,
+                it.bytes,
+                it.asked,
+                self.calls.get(it.within, 0) if it.within else 0,
+                number.get(it.place, -1),
+                it.done,
+                self.calls.get(it.by, 0) if it.by else 0,
+                it.status or "-",
+            )
             for it in self.program.requests
         ]

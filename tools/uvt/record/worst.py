@@ -57,8 +57,10 @@ def around(log: Log, events: list[Event], most: int) -> tuple[list[Event], str, 
     count = min(len(begun), max(most, before + most // 4))
     # (said at once: to follow them takes longer)
     print(f"the longest of {len(calls)} callbacks took {took}; the {count} around it are followed", flush=True)
-    said = (f"the log has {len(calls)} callbacks, and the {count} around the longest one were taken:"
-            " --most N takes the first N, --last SECONDS or --from MS another part")
+    said = (
+        f"the log has {len(calls)} callbacks, and the {count} around the longest one were taken:"
+        " --most N takes the first N, --last SECONDS or --from MS another part"
+    )
     return part[: begun[count]] if len(begun) > count else part, began, said
 
 

@@ -1,0 +1,62 @@
+"""What readers ask is answered in one hop: each row of the table at the head of docs/ARCHITECTURE.md leads to a place that is there.
+
+A link leads to a heading of a page. A path in backticks is a file of the repository, where it begins with a crate's name below crates/; the
+names behind it, after a colon, stand in that file. PROVED has bullets that can be read, and one place has the number of minutes of a build.
+"""
+
+from __future__ import annotations
+
+import re
+from pathlib import Path
+
+from tests.helper import Check
+
+LEAST = 40
+# The longest bullet of PROVED, in characters.
+LONGEST = 600
+LINK = re.compile(r"\[[^\]]*\]\(([^)#\s]*)(?:#([^)\s]+))?\)")
+PATH = re.compile(r"`([\w./-]+/[\w.-]+|\.ci/run)(?: [A-Z]+)?`(?:: ((?:`[\w-]+`(?:, | and )?)+))?")
+MINUTES = re.compile(r"some (\d+) minutes on four")
+# Who says how long a build takes: the page that measured it, and those that cite it.
+SAYS = ("docs/BENCHMARKS.md", "README.md", "tools/launch/kept.sh", "tools/launch/usage")
+
+
+def anchors(text: str) -> set[str]:
+    """The anchors of a page's headings, as its readers make them."""
+    heads = re.findall(r"^#+ (.*)$", re.sub(r"^```.*?^```$", "", text, flags=re.DOTALL | re.MULTILINE), re.MULTILINE)
+    return {re.sub(r"[^\w\- ]", "", it.lower()).replace(" ", "-") for it in heads}
+
+
+def rows(text: str) -> list[tuple[str, str]]:
+    """Each question of the table, and where it leads."""
+    table = text[text.index("## What you look for") : text.index("## The crates")]
+    return [(it[0].strip(), it[1].strip()) for it in re.findall(r"^\| (.*?) \| (.*) \|$", table, re.MULTILINE)][1:]
+
+
+def wrong(docs: Path, answer: str) -> list[str]:
+    """What isn't there of where a row leads; that it leads nowhere."""
+    found = []
+    links, paths = LINK.findall(answer), PATH.findall(answer)
+    for name, anchor in links:
+        page = docs / (name or "ARCHITECTURE.md")
+        if not page.is_file() or anchor and anchor not in anchors(page.read_text(encoding="utf-8")):
+            found.append(f"{name}#{anchor}")
+    for name, words in paths:
+        path = next((it for it in (docs.parent / name, docs.parent / "crates" / name) if it.exists()), None)
+        text = path.read_text(encoding="utf-8") if path and path.is_file() else ""
+        found += [name] if path is None else [f"{name}: {it}" for it in re.findall(r"`([\w-]+)`", words) if not re.search(rf"\b{it}\b", text)]
+    return found if links or paths else ["it leads nowhere"]
+
+
+def try_asked(check: Check, folder: str) -> None:
+    docs = Path(folder) / "docs"
+    asked = rows((docs / "ARCHITECTURE.md").read_text(encoding="utf-8"))
+    for question, answer in asked:
+        lost = wrong(docs, answer)
+        check(f"one hop from: {question}", not lost, f"not there: {lost}")
+    check("the questions of ARCHITECTURE", len(asked) >= LEAST, f"only {len(asked)}")
+    text = (docs / "PROVED.md").read_text(encoding="utf-8")
+    long = [line for line in text.splitlines() if re.match(r" *(-|\d+\.) ", line) and len(line) > LONGEST]
+    check("the bullets of PROVED", not long, f"of more than {LONGEST} characters: {[it[:60] for it in long]}")
+    minutes = {name: set(MINUTES.findall((docs.parent / name).read_text(encoding="utf-8"))) for name in SAYS}
+    check("the minutes of a build", all(minutes.values()) and len(set.union(*minutes.values())) == 1, minutes)

@@ -1,0 +1,212 @@
+"""Orders forced upon real programs, and hunted, where that takes minutes: tests/tools/hunts [PART..] [--libuv FOLDER] [--keep FOLDER]
+
+  nine      `./uvt hunt` of nine programs with a use after free in some order (forces/): each is found, with no hint
+  healthy   `./uvt hunt --for 15s` of twenty-four programs without a fault: each run ends well
+  own       programs in the order of their own recordings: all steps, no departure, the same callbacks
+  again     the sessions of send, lookup and order, ten times each: the sanitizer sees the fault each time
+  random    `./uvt force --random 200 --stall 20` of the nine: a run ends badly, and its recording, forced, does so again
+  hang      `./uvt hunt` of a program that in some order waits for ever (forces/never.c): that is found, and that it comes each time
+  node      the programs of javascript/ in the order of their own recordings (with a `node` whose libuv is seen)
+
+Without PART all of these, except for node. --libuv: another libuv, as its own build leaves it there (libuv.so.1). It takes a C compiler with
+AddressSanitizer and libuv's header. What isn't as it has to be is printed, and the counts; status 1 if anything isn't. What has to come is known
+from the programs: what their threads and their sanitizer do, and no answer of a tool's own.
+"""
+
+from __future__ import annotations
+
+import argparse
+import os
+import re
+import signal
+import subprocess
+import tempfile
+import time
+from collections.abc import Callable
+from pathlib import Path
+
+HERE = Path(__file__).resolve().parent
+ROOT = HERE.parent.parent
+TOOLS = ROOT / "tools" / "uvt"
+NINE = ("lookup", "order", "window", "stall", "intime", "inwork", "send", "retry", "server")
+RECORDED = ("clients", "datagrams", "late", "mixed", "starved", "threads", "work", "zero")
+TRUTHS = (
+    "behind",
+    "blocked",
+    "busy",
+    "child",
+    "coalesce",
+    "conns",
+    "crowd",
+    "drift",
+    "echo",
+    "fifo",
+    "files",
+    "neverclosed",
+    "pollspin",
+    "pool",
+    "rearmed",
+    "starve",
+)
+# What isn't forced each time: a storm goes by its own clock and its threads' common seed; an op by a wrong thread; two loops, of which the second
+# one isn't forced (its program has a race, too, and may wait for ever); and how much of a long write the system takes at once is its own matter.
+NOT_FORCED = {"storm", "wrongthread", "watched", "goodbye"}
+SECONDS = 900
+REPORT = "heap-use-after-free"
+FLAGS = ["-O1", "-g", "-w"]
+
+
+class Tries:
+    def __init__(self) -> None:
+        self.count = self.failed = 0
+
+    def check(self, what: str, holds: bool, why: str = "") -> None:
+        self.count += 1
+        if not holds:
+            self.failed += 1
+            print(f"hunts: {what}: {why[-2000:]}", flush=True)
+
+
+def source(name: str) -> Path:
+    paths = [HERE / "forces" / f"{name}.c", TOOLS / "record" / "programs" / f"{name}.c", HERE / "truths" / f"{name}.c"]
+    return next(it for it in paths if it.exists())
+
+
+def compiled(name: str, folder: Path, sanitizer: bool) -> str:
+    path = folder / (f"{name}.asan" if sanitizer else name)
+    more = ["-fsanitize=address"] if sanitizer else []
+    subprocess.run(["cc", *FLAGS, *more, str(source(name)), "-o", str(path), "-luv", "-lpthread", "-lm"], check=True)
+    return f"./{path.name}"
+
+
+def tool(word: str, *words: str, folder: Path, seconds: float = SECONDS) -> tuple[int, str]:
+    """Its status and what it says. What takes longer is ended with all that it has started."""
+    ran = subprocess.Popen(
+        [str(TOOLS / f"uvt-{word}"), *words],
+        stdout=subprocess.PIPE,
+        stderr=subprocess.STDOUT,
+        text=True,
+        errors="replace",
+        cwd=folder,
+        stdin=subprocess.DEVNULL,
+        start_new_session=True,
+    )
+    try:
+        said = ran.communicate(timeout=seconds)[0]
+        return ran.returncode, said
+    except subprocess.TimeoutExpired:
+        return 124, f"it took more than {seconds} s"
+    finally:
+        if ran.poll() is None:
+            os.killpg(ran.pid, signal.SIGKILL)
+            ran.wait()
+
+
+def nine(tries: Tries, folder: Path) -> None:
+    for name in NINE:
+        began = time.monotonic()
+        program = compiled(name, folder, True)
+        status, said = tool("hunt", program, folder=folder)
+        tries.check(f"hunt, {name}", status == 3 and REPORT in said, said)
+        counts = said.strip().splitlines()[-1].strip()
+        print(f"{name}: {counts}; {time.monotonic() - began:.0f} s in all", flush=True)
+
+
+def healthy(tries: Tries, folder: Path) -> None:
+    for name in (*RECORDED, *TRUTHS):
+        status, said = tool("hunt", "--for", "15s", compiled(name, folder, True), folder=folder)
+        tries.check(f"hunt, {name}, which is healthy", status == 0 and "each run ended well" in said, said)
+    print(f"healthy: {len(RECORDED) + len(TRUTHS)} programs", flush=True)
+
+
+def recordings(name: str, folder: Path) -> list[Path]:
+    return sorted(it for it in folder.glob(f"{name}*.rec") if re.fullmatch(rf"{re.escape(name)}(\.\d+)*\.rec", it.name))
+
+
+def own(tries: Tries, folder: Path) -> None:
+    names = sorted(it.stem for it in [*(TOOLS / "record" / "programs").glob("*.c"), *(HERE / "truths").glob("*.c")])
+    forced = 0
+    for name in names:
+        program = compiled(name, folder, False)
+        tool("record", "-o", name, program, folder=folder)
+        found = recordings(name, folder)
+        if not found:
+            tries.check(f"own, {name}: a recording", False)
+            continue
+        status, said = tool("force", "-o", f"{name}.forced", found[0].name, program, folder=folder, seconds=60)
+        good = bool(re.search(r"^all \d+ steps, 0 departures, same$", said, re.MULTILINE))
+        forced += good
+        tries.check(f"own, {name}", good or name in NOT_FORCED, said)
+    print(f"own: {forced} of {len(names)} with all steps and no departure", flush=True)
+
+
+def again(tries: Tries, folder: Path) -> None:
+    for name in ("send", "lookup", "order"):
+        program, hits = compiled(name, folder, True), 0
+        for _ in range(10):
+            status, said = tool("force", "-o", "again.forced", str(HERE / "forces" / f"{name}.uvt"), program, folder=folder)
+            hits += status == 3 and REPORT in said and ", 0 departures" in said
+        tries.check(f"again, {name}", hits == 10, f"{hits} of 10")
+        print(f"again, {name}: {hits} of 10", flush=True)
+
+
+def random(tries: Tries, folder: Path) -> None:
+    for name in NINE:
+        program = compiled(name, folder, True)
+        status, said = tool("force", "--random", "200", "--stall", "20", program, folder=folder)
+        tries.check(f"random, {name}", status == 3 and REPORT in said, said)
+        second, forced = tool("force", "-o", "random.forced", f"{Path(program).name}.random.rec", program, folder=folder)
+        tries.check(f"random, {name}: its recording", second == 3 and REPORT in forced and ", 0 departures" in forced, forced)
+        print(f"random, {name}: {said.splitlines()[0]}", flush=True)
+
+
+def node(tries: Tries, folder: Path) -> None:
+    forced, names = 0, sorted(it.stem for it in (HERE / "javascript").glob("*.js"))
+    for name in names:
+        path = str(HERE / "javascript" / f"{name}.js")
+        tool("record", "-o", f"node-{name}", "node", path, folder=folder)
+        found = max(recordings(f"node-{name}", folder), key=lambda it: it.stat().st_size, default=None)
+        said = tool("force", "-o", f"node-{name}.forced", found.name, "node", path, folder=folder, seconds=100)[1] if found else "no recording"
+        forced += bool(re.search(r"^all \d+ steps, 0 departures, same$", said, re.MULTILINE))
+        print(f"node, {name}: {said.strip().splitlines()[-1][:150]}", flush=True)
+    # (V8's own threads send when they like)
+    tries.check("node: at least a third of the programs", forced * 3 >= len(names), f"{forced} of {len(names)}")
+    print(f"node: {forced} of {len(names)} with all steps and no departure", flush=True)
+
+
+def hang(tries: Tries, folder: Path) -> None:
+    status, said = tool("hunt", compiled("never", folder, False), folder=folder)
+    good = status == 3 and "the program didn't end within" in said and "in 2 of 2 further runs" in said
+    tries.check("hang", good, said)
+    print(f"hang: {said.strip().splitlines()[-1].strip()}", flush=True)
+
+
+PARTS: dict[str, Callable[[Tries, Path], None]] = {
+    "nine": nine,
+    "healthy": healthy,
+    "own": own,
+    "again": again,
+    "random": random,
+    "hang": hang,
+    "node": node,
+}
+
+
+def main() -> int:
+    reader = argparse.ArgumentParser(description=__doc__, formatter_class=argparse.RawDescriptionHelpFormatter)
+    reader.add_argument("parts", nargs="*", metavar="PART", choices=[[], *PARTS], help=", ".join(PARTS))
+    reader.add_argument("--libuv", metavar="FOLDER", help="where another libuv.so.1 lies")
+    reader.add_argument("--keep", type=Path, metavar="FOLDER", help="where programs and recordings are kept")
+    asked = reader.parse_args()
+    if asked.libuv:
+        os.environ["LD_LIBRARY_PATH"] = asked.libuv
+    tries = Tries()
+    with tempfile.TemporaryDirectory() as folder:
+        where = asked.keep or Path(folder)
+        where.mkdir(parents=True, exist_ok=True)
+        for name in asked.parts or [it for it in PARTS if it != "node"]:
+            began, load = time.monotonic(), os.getloadavg()[0]
+            PARTS[name](tries, where)
+            print(f"{name}: {time.monotonic() - began:.0f} s, load {load:.0f} to {os.getloadavg()[0]:.0f} on {os.cpu_count()} processors", flush=True)
+    print(f"hunts: {tries.count} tried, {tries.failed} failed")
+    return 1 if tries.failed else 0
