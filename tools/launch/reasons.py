@@ -300,7 +300,7 @@ def of_recording(lines: List[bytes], number: int) -> None:
 ASKED = {
     'may': {'send': ['NAME N', 'NAME N during NAME'], 'cancel': ['NAME N'], 'io': ['NAME N'], 'tick': ['MS N'], 'wait': [''],
             'differ': ['K']},
-    'recorded': {'P': ['P send NAME', 'P cancel NAME', 'P io NAME', 'P tick MS', 'P take W', 'P finish W']},
+    'recorded': {'P': ['S send NAME', 'S cancel NAME', 'S io NAME', 'S tick MS', 'S take W', 'S finish W']},
     'takes': {'NAME': ['MS', '@K MS']},
     'most': {'clock': ['MS'], 'states': ['N'], 'NAME': ['CALLS']},
     'find': {'call': ['NAME', 'NAME N'], 'on': ['NAME', 'NAME N'], 'after': ['NAME', 'NAME N'], 'closed': ['NAME', 'NAME N'],
@@ -308,7 +308,7 @@ ASKED = {
              'late': ['NAME MS'],
              'NAME': ['before NAME', 'after NAME']},
 }
-ASKED_RANGES = {'N': (1, 4294967295), 'may MS': (1, 2**62), 'MS': (0, 2**62), 'CALLS': (0, 4294967295), 'K': (0, 4294967295), 'P': (0, 4294967295),
+ASKED_RANGES = {'N': (1, 4294967295), 'may MS': (1, 2**62), 'MS': (0, 2**62), 'CALLS': (0, 4294967295), 'K': (0, 4294967295), 'P': (0, 4294967295), 'S': (0, 4294967295),
                 'W': (0, 65535), 'recorded MS': (1, 2**62)}
 
 
