@@ -11,6 +11,7 @@ import signal
 import subprocess
 import tempfile
 import time
+from collections import Counter
 from pathlib import Path
 from typing import NamedTuple
 
@@ -61,6 +62,19 @@ RECORDED = [
     ("frame", "find late vsync 52", NEVER),
     ("frame", "find closed load", FOUND),
 ]
+# The same, by how much of what came may come at another place. The recording itself is the one order where nothing may.
+NEAR = [
+    ("echo", 0, "find on client 7", FOUND),
+    ("echo", 0, "find late heartbeat 25", FOUND),
+    ("echo", 0, "find peer after server", FOUND),
+    ("echo", 1, "find on client 8", NEVER),
+    ("signals", 0, "find on usr 2", FOUND),
+    ("signals", 0, "find on term", FOUND),
+    ("signals", 1, "find on usr 3", NEVER),
+    ("frame", 0, "find late vsync 39", FOUND),
+    ("frame", 0, "find late vsync 40", NEVER),
+    ("frame", 1, "find late vsync 51", FOUND),
+]
 # A timer and an async handle, in one run of which nothing was sent, and in the other one a send closed both.
 MAIN = ["var t", "var a", "main init t timer", "main init a async", "main start t 5 0", "main run default"]
 TO_THE_TIMER = ["loop 20", "tick 5", "loop 20"]
@@ -85,7 +99,21 @@ BAD_LINES = [
     ("var a\nbegin\nmay wait\nmay wait\nfind stuck\n", 4, "`may wait` stands in line 3 already, and a search has it once at most"),
     ("var a\nbegin\nfind stuck\nfind never a\n", 4, "a second question: line 3 has the first, and one is asked at a time"),
     ("var a\nbegin\nfind code EBUZY\n", 3, "`EBUZY` is none of ok, EINVAL"),
-    ("var a\nbegin\nloop\nfind stuck\n", 3, "no line behind `begin` begins with `loop` here: it is may, takes, most or find"),
+    ("var a\nbegin\nloop\nfind stuck\n", 3, "no line behind `begin` begins with `loop` here: it is may, recorded, takes, most or find"),
+    ("var a\nbegin\nrecorded 0 0 send a\nfind stuck\n", 3, "what came in a recording stands behind a line `may differ K`"),
+    ("var a\nbegin\nmay differ 1\nrecorded 0 send a\nfind stuck\n", 4, "no line says `recorded 0 send a`: it has the form `recorded P S send NAME`"),
+    ("var a\nbegin\nmay differ 1\nrecorded 0 0 take 65536\nfind stuck\n", 4, "`65536` is out of range: W is 0 to 65535"),
+    (
+        "var a\nbegin\nmay differ 1\nmay wait\nfind stuck\n",
+        4,
+        "`may wait` stands beside `may differ`: there what came in the recording may come, and nothing else",
+    ),
+    (
+        "var a\nbegin\ntakes a 5\nmay differ 1\nfind stuck\n",
+        4,
+        "`takes a 5` stands beside `may differ`: there what came in the recording may come, and nothing else",
+    ),
+    ("var a\nbegin\nmay differ 1\nmay differ 2\nfind stuck\n", 4, "`may differ` stands in line 3 already, and a search has it once at most"),
     ("var a\nmain fly a\nbegin\nfind stuck\n", 2, "`fly` is no op"),
     ("begin\n" + "".join(f"may tick {ms} 1\n" for ms in range(1, 258)) + "find stuck\n", 258, "at most 256 lines begin with `may`"),
 ]
@@ -186,6 +214,41 @@ def try_recorded(check: Check) -> None:
     check("find, a recording with a line `may`", ran.returncode == NEVER and "so what came in the recording" not in ran.stderr, ran)
 
 
+def try_near(check: Check, folder: str) -> None:
+    """Orders that differ from a recording by so many steps from outside."""
+    for name, moved, question, status in NEAR:
+        ran = run([str(EXAMPLES / f"{name}.rec"), f"may differ {moved}", question])
+        check(
+            f"find, {name}, {moved} moved, {question}",
+            ran.returncode == status
+            and "each other one comes at its place" in ran.stderr
+            and (status == FOUND or ran.stdout.startswith(f"never within {moved} moved: ")),
+            ran,
+        )
+    # (the order in which nothing is moved is the recording's: each callback of it is called)
+    for name in ("echo", "signals", "frame"):
+        called = [line.split(" ")[:2] for line in (EXAMPLES / f"{name}.rec").read_text(encoding="ascii").split("calls\n")[1].splitlines()[:-1]]
+        for (word, callback), count in Counter(map(tuple, called)).items():
+            meant = {"call": "on"}.get(word, word)
+            ran = run([str(EXAMPLES / f"{name}.rec"), "may differ 0", f"find {meant} {callback} {count}"])
+            check(f"find, {name}, nothing moved, {meant} {callback} {count}", ran.returncode == FOUND, ran)
+            ran = run([str(EXAMPLES / f"{name}.rec"), "may differ 0", f"find {meant} {callback} {count + 1}"])
+            check(f"find, {name}, nothing moved, {meant} {callback} {count + 1}", ran.returncode == NEVER, ran)
+    path = os.path.join(folder, "near.uvt")
+    ran = run([str(EXAMPLES / "frame.rec"), "may differ 1", "find late vsync 51", "-o", path])
+    check(
+        "find, near a recording, its session",
+        ran.returncode == FOUND and any(line.startswith("call vsync ") for line in debugged(Path(path).read_text(encoding="ascii"))[-1:]),
+        ran,
+    )
+    for words, why in (
+        ([str(EXAMPLES / "send-or-close.find"), "may differ 1", "find stuck"], "is none"),
+        ([str(EXAMPLES / "frame.rec"), "may differ 1", "may wait", "find stuck"], "`may wait` stands beside `may differ`"),
+    ):
+        ran = run(words)
+        check(f"find, differing: {why}", ran.returncode not in (FOUND, NEVER, UNSETTLED) and why in ran.stderr, ran)
+
+
 def recording_of(script: list[str], commands: list[str]) -> str:
     lines = debugged("\n".join([*script, "begin", *commands, "record", ""]))
     return "\n".join([*lines[lines.index("uvt 2") :], ""])
@@ -219,6 +282,7 @@ def try_joined(check: Check, folder: str) -> None:
 def try_find(tries: Tries) -> None:
     with tempfile.TemporaryDirectory() as folder:
         try_recorded(tries.check)
+        try_near(tries.check, folder)
         try_joined(tries.check, folder)
         for name, due in ANSWERS.items():
             try_example(tries.check, name, due, folder)

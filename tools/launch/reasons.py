@@ -320,7 +320,7 @@ def of_recording(lines: List[bytes], number: int) -> None:
 # What stands behind `may`, `recorded`, `takes`, `most` and `find`, and the word behind them; of two forms the longer one last.
 ASKED = {
     "may": {"send": ["NAME N", "NAME N during NAME"], "cancel": ["NAME N"], "io": ["NAME N"], "tick": ["MS N"], "wait": [""], "differ": ["K"]},
-    "recorded": {"P": ["P send NAME", "P cancel NAME", "P io NAME", "P tick MS", "P take W", "P finish W"]},
+    "recorded": {"P": ["S send NAME", "S cancel NAME", "S io NAME", "S tick MS", "S take W", "S finish W"]},
     "takes": {"NAME": ["MS", "@K MS"]},
     "most": {"clock": ["MS"], "states": ["N"], "NAME": ["CALLS"]},
     "find": {
@@ -343,6 +343,7 @@ ASKED_RANGES = {
     "CALLS": (0, 4294967295),
     "K": (0, 4294967295),
     "P": (0, 4294967295),
+    "S": (0, 4294967295),
     "W": (0, 65535),
     "recorded MS": (1, 2**62),
 }

@@ -8,12 +8,13 @@ import re
 from collections import Counter
 from dataclasses import dataclass, field
 
-from uvt.conversation import Conversation, Script, State
+from uvt.conversation import Conversation, Fault, Script, State
 
 # The words of lines that begin a callback, and those that say that the loop is in none.
 CALLS = {"call": "on", "after": "after", "closed": "closed"}
 NOT_IN_A_CALL = {"pending", "idle", "prepare", "poll", "done", "async", "check", "closing", "timers", "run", "end"}
 FROM_OUTSIDE = ("io", "send", "cancel")
+STEPS = ("loop", "take", "finish", "tick", *FROM_OUTSIDE)
 
 
 @dataclass
@@ -103,6 +104,9 @@ def offered(script: Script, steps: list[str]) -> Offered:
 def recorded_lines(script: Script, steps: list[str]) -> list[str]:
     """What came from outside in these steps, a line for each in their order, with its place: so many polls, and so many steps of the loop behind
     the last of them, behind the place of the one before it."""
+    other = next((it for it in steps if it.split(" ")[0] not in STEPS), None)
+    if other:
+        raise Fault(f"an order may differ from steps alone, and `{other}` is none")
     said: list[str] = []
     polls = taken = 0
     talk = Conversation(script)

@@ -134,10 +134,14 @@ def left_out(asked: bytes) -> list[str]:
     ]
     made = dict.fromkeys((op[1], op[2]) for op in ops if op[:1] == ["init"] and len(op) == 3)
     sent = {op[1] for op in ops if op[:1] == ["send"] and len(op) > 1}
-    offered = {tuple(words[:3]) for words in asks}
+    differs = any(words[:2] == ["may", "differ"] for words in asks)
+    offered = {tuple(words[:3]) for words in asks} | {("may", *words[3:]) for words in asks if words[0] == "recorded"}
     waiting = [name for name, kind in made if kind == "io" and ("may", "io", name) not in offered]
     unsent = [name for name, kind in made if kind == "async" and ("may", "send", name) not in offered and name not in sent]
     said = []
+    if differs and (waiting or unsent):
+        said.append(f"nothing came for {listed(waiting + unsent)} in the recording: in each of these orders none of their callbacks is called")
+        waiting, unsent = [], []
     if waiting:
         never = f"in each of these orders nothing comes for {listed(waiting)}, and none of their callbacks is called"
         said.append(f"no line says `may io {waiting[0]} N`: {never}")
