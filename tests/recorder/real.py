@@ -117,7 +117,7 @@ class Tries:
         if program.missing:
             print(f"not met: {program.name}: {program.missing}", flush=True)
             return
-        ran = run([sys.executable, str(RECORD), "-o", name, *program.options, *program.words], folder)
+        ran = run([str(RECORD), "-o", name, *program.options, *program.words], folder)
         if "called nothing of a libuv" in ran.stderr:
             print(f"not met: {program.name}: {program.words[0]} has no libuv that is found", flush=True)
             return
@@ -143,7 +143,7 @@ def counted(text: str, line: str) -> dict[str, int]:
 
 def try_tests(tries: Tries, libuv: Path, folder: Path) -> list[Path]:
     """Of libuv's own tests those loops count that can be followed."""
-    ran = run([sys.executable, str(HERE / "run"), "--libuv", str(libuv.resolve()), "--keep", str(folder)], folder, HOUR)
+    ran = run([str(HERE / "run"), "--libuv", str(libuv.resolve()), "--keep", str(folder)], folder, HOUR)
     loops, polls = counted(ran.stdout, "loops with callbacks of libuv's own tests"), counted(ran.stdout, "polls of libuv's own tests")
     same, of = loops.get("same", 0), sum(loops.get(it, 0) for it in ("same", "stops", "WRONG"))
     as_many, long = polls.get("as many", 0), polls.get("of these as long each", 0)
@@ -158,7 +158,7 @@ def try_tests(tries: Tries, libuv: Path, folder: Path) -> list[Path]:
 def try_swaps(tries: Tries, what: str, logs: list[Path], most: int, folder: Path) -> None:
     if not logs:
         return
-    words = [sys.executable, str(HERE / "sharpness"), "--most", str(most), "--first", str(FIRST), *(str(it.resolve()) for it in logs)]
+    words = [str(HERE / "sharpness"), "--most", str(most), "--first", str(FIRST), *(str(it.resolve()) for it in logs)]
     ran = run(words, folder, HOUR)
     found = re.search(r"^swapped: (\d+) of (\d+) noticed$", ran.stdout, re.MULTILINE)
     noticed, of = (int(found[1]), int(found[2])) if found else (0, 0)

@@ -18,12 +18,13 @@ from uvt.conversation import Fault
 from uvt.libuv.runner import installed
 
 EXAMPLES = ROOT / "crates" / "examples" / "data"
-TOOL = str(ROOT / "tools" / "uvt" / "uvt-libuv")
+# (by Python itself: without a PATH no script would start)
+TOOL = [sys.executable, str(ROOT / "tools" / "start.py"), "libuv"]
 SECONDS = 60
 
 
 def ran(path: Path, **environment: str) -> subprocess.CompletedProcess[str]:
-    return subprocess.run([sys.executable, TOOL, str(path)], capture_output=True, text=True, timeout=SECONDS, env={**os.environ, **environment})
+    return subprocess.run([*TOOL, str(path)], capture_output=True, text=True, timeout=SECONDS, env={**os.environ, **environment})
 
 
 def try_absence(check: Check) -> None:
