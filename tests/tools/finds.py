@@ -227,8 +227,9 @@ def try_near(check: Check, folder: str) -> None:
         )
     # (the order in which nothing is moved is the recording's: each callback of it is called)
     for name in ("echo", "signals", "frame"):
-        called = [line.split(" ")[:2] for line in (EXAMPLES / f"{name}.rec").read_text(encoding="ascii").split("calls\n")[1].splitlines()[:-1]]
-        for (word, callback), count in Counter(map(tuple, called)).items():
+        rows = (EXAMPLES / f"{name}.rec").read_text(encoding="ascii").split("calls\n")[1].splitlines()[:-1]
+        called = [(words[0], words[1]) for words in (row.split(" ") for row in rows)]
+        for (word, callback), count in Counter(called).items():
             meant = {"call": "on"}.get(word, word)
             ran = run([str(EXAMPLES / f"{name}.rec"), "may differ 0", f"find {meant} {callback} {count}"])
             check(f"find, {name}, nothing moved, {meant} {callback} {count}", ran.returncode == FOUND, ran)
