@@ -73,6 +73,12 @@ BROUGHT = (
 )
 ECHO = BROUGHT % ("14 callbacks of I/O, 1 time that went by in no callback, 3 callbacks that took time", 106)
 FRAME = BROUGHT % ("3 times that went by in no callback, 1 callback that took time", 144)
+NEAR = (
+    "uvt: no bound is given, and the script repeats: there may be no end of states\n"
+    "uvt find: each callback does what it did in the recording, also where the program would do something else\n"
+    "uvt find: `may differ 1`: so many of the steps from outside in examples/frame.rec may come at another place, those of one name, of one "
+    "worker or of the clock in their order; each other one comes at its place, or as soon after it as the loop accepts it\n"
+)
 SAYS.update({"%s replay examples/changed-program.rec" % uvt: "uvt: differs at 1\n" for uvt in ("./uvt", "uvt")})
 SAYS.update(
     {
@@ -82,6 +88,7 @@ SAYS.update(
             ("find examples/echo.rec 'find late heartbeat 25' -o beat.uvt", ECHO),
             ("find examples/frame.rec 'find late vsync 51' -o frame.uvt", FRAME),
             ("find examples/frame.rec 'find late vsync 52'", FRAME),
+            ("find examples/frame.rec 'may differ 1' 'find late vsync 51' -o near.uvt", NEAR),
         )
     }
 )
