@@ -29,7 +29,7 @@ RECORD = str(ROOT / "tools" / "uvt" / "uvt-record")
 WHY = str(ROOT / "tools" / "uvt" / "uvt-why")
 SECONDS = 120
 # How often the program's threads send, by its source.
-SENDS = {"accepted": 2, "taken": 24, "learnt": 24, "later": 24, "uncalled": 24}
+SENDS = {"accepted": 2, "taken": 24, "learnt": 24, "later": 24, "uncalled": 24, "heldup": 24}
 # (for the program before its proofs, which is half as fast, on a busy machine)
 LONG = 1200
 NESTED, CLOSING = "A run in a callback", "Some handles close later"
@@ -47,6 +47,7 @@ NESTED, CLOSING = "A run in a callback", "Some handles close later"
 #   learnt   the same program: a send is called in the next poll alone, and its steps must not be taken for those of a callback whose send was seen
 #   later    the same: two sends, one behind the other, are each called a poll later, and neither is forgotten for the other
 #   uncalled the same: a thread sends as the poll is left by the last timer's time, and that timer's callback closes the handle
+#   heldup   the same: a thread is held up within its send, while the other one's are called: the callback that it is for has no send of its own
 # node20-http is of a node with libuv 1.46.0 within it.
 WANTED: dict[str, dict[int, tuple[str, str] | None]] = {
     "late": {0: None},
@@ -56,6 +57,7 @@ WANTED: dict[str, dict[int, tuple[str, str] | None]] = {
     "learnt": {0: None},
     "later": {0: None},
     "uncalled": {0: None},
+    "heldup": {0: None},
     "work": {0: None},
     "starved": {0: None},
     "watchers": {0: None},

@@ -604,8 +604,9 @@ class Follower:
     def do_send(self, item: Send, at: int) -> None:
         self.senders.add(item.name)
         is_next = at in self.lazy or self.is_for_later(item.name, at)
-        if is_next or self.is_behind_call(item.name, at):
-            self.put_off(item, at, 0 if is_next else 1)
+        behind = 0 if is_next else self.calls_before(item, at)
+        if is_next or behind:
+            self.put_off(item, at, behind)
             return
         self.check(item.name, at)
         self.tick_within(item, at)
@@ -629,20 +630,25 @@ class Follower:
         """Is what was sent to or is through called by a later poll than this one, which wasn't left yet? Then it has come behind its end."""
         return self.where == "poll" and self.ahead.is_behind_poll(name, at)
 
-    def is_behind_call(self, name: str, at: int) -> bool:
-        """libuv takes a send a moment before its callback's line, and another one may come between. So where a send stands before this one, and more
-        calls than one come with no send between them, this one is what the later call is for."""
-        if not self.is_sent(name, at):
-            return False
-        sends = calls = 0
+    def calls_before(self, sent: Send, at: int) -> int:
+        """How many callbacks come before the one that this send is for, where that isn't the next one. A thread may be held up between a send's line and
+        what libuv does, up to its next line. So where somebody has sent before, and a later callback comes for which nobody has, it is for that."""
+        if not self.is_sent(sent.name, at):
+            return 0
+        # (is somebody waiting to be called; how many later sends have come while somebody was)
+        waits, calls, others = True, 0, 0
         for item in itertools.islice(self.items, at + 1, at + 1 + AHEAD):
-            if isinstance(item, Call) and item.callback == "on" and item.name == name:
-                calls += 1
-            elif sends_to(item, name):
-                if calls:
-                    break
-                sends += 1
-        return sends < calls - 1
+            if isinstance(item, Send) and item.thread == sent.thread:
+                return 0
+            if isinstance(item, Call) and item.callback == "on" and item.name == sent.name:
+                if not waits and not others:
+                    return calls
+                others -= not waits
+                waits, calls = False, calls + 1
+            elif sends_to(item, sent.name):
+                others += waits
+                waits = True
+        return 0
 
     def is_sent(self, name: str, at: int) -> bool:
         """Did another send to it come since it was called?"""

@@ -112,6 +112,8 @@ class Send(Did):
     name: str
     # which other loop's thread sends, and in which function of its callback; `` where nobody knows
     by: str = ""
+    # the thread, as the log has it
+    thread: str = ""
 
 
 # Of a callback, an after callback or work: `on`, `after`, `closed` or `work`, its name, and the how-manieth.
@@ -641,7 +643,7 @@ class Maker:
                     self.program.nothings.append(Nothing(bound.name, event.words.split(" ")[1], event.place, self.here()))
             case "S":
                 if event.clock != NO_CLOCK and (bound := self.bound.get(int(event.words.split(" ")[0]))) and not bound.closing:
-                    self.items.append(Send(*event.when(), bound.name, self.sender(event)))
+                    self.items.append(Send(*event.when(), bound.name, self.sender(event), event.words.split(" ")[1]))
             case "W":
                 self.read_foreign(event)
             case "Q":
