@@ -6,7 +6,8 @@
 
 The clauses of uv_plain say that its code does what the definition of uv_model says. So a loop that is wrong in both is proved there. Whether it is a
 loop that libuv's documentation allows is said by uv_order alone, which doesn't use that definition. A file of loops/ has a comment that says
-what is wrong, and edits as the kit's must-fail edits have them, with files from the top of the repository.
+what is wrong, and edits as the kit's must-fail edits have them, with files from the top of the repository; a new text has \\n for the end
+of a line. Edits of uv_order's proofs are there so that the law refuses the loop, and not a lemma that names what changed.
 
 In a copy of the repository each is written into its files. Then uv_model, uv_plain and what it edits below them have to be proved, and uv_order
 must not be. The first check of
@@ -42,7 +43,7 @@ def edits_of(loop: Path) -> list[tuple[str, str, str]]:
         elif word == "old":
             old = text
         elif word == "new":
-            found.append((file, old, text))
+            found.append((file, old, text.replace("\\n", "\n")))
     if not found:
         raise Unfit("it has no edit")
     return found
