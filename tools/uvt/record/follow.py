@@ -631,8 +631,9 @@ class Follower:
         return self.where == "poll" and self.ahead.is_behind_poll(name, at)
 
     def calls_before(self, sent: Send, at: int) -> int:
-        """How many callbacks come before the one that this send is for, where that isn't the next one. A thread may be held up between a send's line and
-        what libuv does, up to its next line. So where somebody has sent before, and a later callback comes for which nobody has, it is for that."""
+        """How many callbacks come before the one that this send is for, where that isn't the next one. A thread may be held up between a
+        send's line and what libuv does, up to its next line. So where somebody has sent before, and a later callback comes for which nobody
+        has, it is for that."""
         if not self.is_sent(sent.name, at):
             return 0
         # (is somebody waiting to be called; how many later sends have come while somebody was)
