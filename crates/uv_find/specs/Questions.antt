@@ -9,8 +9,7 @@ use Rattle.uv_records.specs.Handles.{is_timer}
 use Rattle.uv_records.specs.Names.{count_of}
 use Rattle.uv_records.specs.Slots.{held}
 use Rattle.uv_script.specs.declared.op.Op.{Op}
-use Rattle.uv_script.specs.declared.op.Op.TheVariants as op
-use Rattle.uv_script.specs.Program.{Program, op_at, is_for}
+use Rattle.uv_script.specs.Program.{Program, op_at, op_name, is_for}
 use Rattle.uv_work.specs.declared.content.Content.{Content}
 use Rattle.uv_work.specs.declared.content.Content.TheVariants as content
 use Rattle.uv_model.specs.declared.place.Place as loop
@@ -52,31 +51,7 @@ is_uncalled s name =
     let calls = (named s name).calls in
     (calls.handle == 0) && (calls.after == 0) && (calls.close == 0)
 
--- the name that an op names
-abbrev pub op_name : Op → Option Var
-op_name (op.Init v kind) = Some v
-op_name (op.Start v timeout repeat) = Some v
-op_name (op.StartWatcher v) = Some v
-op_name (op.Stop v) = Some v
-op_name (op.Again v) = Some v
-op_name (op.SetRepeat v repeat) = Some v
-op_name (op.DueIn v) = Some v
-op_name (op.Ref v) = Some v
-op_name (op.Unref v) = Some v
-op_name (op.HasRef v) = Some v
-op_name (op.IsActive v) = Some v
-op_name (op.Close v) = Some v
-op_name (op.IsClosing v) = Some v
-op_name (op.Send v) = Some v
-op_name (op.Queue v task) = Some v
-op_name (op.Cancel v) = Some v
-op_name op.CloseLoop = None
-op_name op.StopLoop = None
-op_name op.UpdateTime = None
-op_name op.Now = None
-op_name op.IsAlive = None
-op_name op.Timeout = None
-
+-- the name that an op names, if there is one
 abbrev pub name_in : Option Op → Option Var
 name_in None = None
 name_in (Some o) = op_name o

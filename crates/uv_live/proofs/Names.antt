@@ -1,7 +1,11 @@
 -- The names that proofs of this crate bring in.
-pub use Rattle.std.proofs.Common.{All, Bool, Err, List, None, Ok, OnOk, Option, Result, Some, [], add-one, ap, append_assoc, ap₂, arith, cond, drop, drop-cons, false, filter, get_or, inl, inr, length, length-set, map, option_map, refl, replicate, rules, set, slice_get, subst, suc, sym, take, true, vec_capacity, vec_len, zero, ℕ, ⊎_elim, ◌++◌, ◌+◌, ◌-◌, ◌<◌, ◌==◌, ◌||◌, ◌∙◌, ◌∷◌, ◌≡◌, ◌≢◌, ◌≤◌, ◌⊎◌, ◌↔◌}
+pub use Rattle.std.proofs.Common.{All, Bool, Err, List, None, Ok, OnOk, Option, Result, Some, [], add-one, ap, append_assoc, ap₂, arith, cond, drop}
+pub use Rattle.std.proofs.Common.{drop-cons, false, filter, get_or, inl, inr, length, length-set, map, option_map, refl, replicate, rules, set}
+pub use Rattle.std.proofs.Common.{slice_get, subst, suc, sym, take, true, vec_capacity, vec_len, zero, ℕ, ⊎_elim, ◌++◌, ◌+◌, ◌-◌, ◌<◌, ◌==◌, ◌||◌}
+pub use Rattle.std.proofs.Common.{◌∙◌, ◌∷◌, ◌≡◌, ◌≢◌, ◌≤◌, ◌⊎◌, ◌↔◌}
 pub use Rattle.std.proofs.lemmas.Bool.{cases_eq, cases_lt, eq-eqb, eqb-false, eqb-true, ne_eqb}
-pub use Rattle.std.proofs.lemmas.List.{append-nil, drop-append-le, drop_all, get_or-map, get_or-set_other, get_or-set_same, length-drop, length-map, length-take-le, map-append, map-set, take-append-drop, take_more}
+pub use Rattle.std.proofs.lemmas.List.{append-nil, drop-append-le, drop_all, get_or-map, get_or-set_other, get_or-set_same, length-drop, length-map}
+pub use Rattle.std.proofs.lemmas.List.{length-take-le, map-append, map-set, take-append-drop, take_more}
 pub use Rattle.std.proofs.lemmas.List.Elements.{All-filter, All-map, filter-append}
 pub use Rattle.std.proofs.lemmas.List.Sums.{sum_by_more, sum_by_more_le}
 pub use Rattle.std.proofs.lemmas.Option.{slice_get-get_or, slice_get-map, slice_get_within}
@@ -17,8 +21,10 @@ pub use Rattle.uv_ids.specs.declared.thread_line.ThreadLine.{ThreadLine}
 pub use Rattle.uv_live.specs.Course.{Course, Plan, step_of, stepped, taken}
 pub use Rattle.uv_live.specs.Following.{Applies, Decides, Follows, IsWorkers, MayTake, OnFull, StaysEnded, Syncs}
 pub use Rattle.uv_live.specs.Running.{first_fault, given_in}
-pub use Rattle.uv_live.specs.Sending.{Absorbs, AbsorbsEach, AreCarried, AreNoted, HasOwn, LinesCarried, sent_by, is_by, names_by, names_in, threads_below}
-pub use Rattle.uv_live.specs.Settling.{AreLeft, AreParts, AreShifts, IsByWorker, IsSettled, SendsFit, Worked, counted, is_line, is_unthreaded, is_of, part_of, worked}
+pub use Rattle.uv_live.specs.Sending.{Absorbs, AbsorbsEach, AreCarried, AreNoted, HasOwn, LinesCarried, sent_by, is_by, names_by, names_in}
+pub use Rattle.uv_live.specs.Sending.{threads_below}
+pub use Rattle.uv_live.specs.Settling.{AreLeft, AreParts, AreShifts, IsByWorker, IsSettled, SendsFit, Worked, counted, is_line, is_unthreaded, is_of}
+pub use Rattle.uv_live.specs.Settling.{part_of, worked}
 pub use Rattle.uv_pool.specs.Benches.{are_turns}
 pub use Rattle.uv_pool.specs.Book.{IsReplay, Standing, finish_count}
 pub use Rattle.uv_pool.specs.Calls.{Cancels, CollectsNext, IsFull, Submits, WantsMemory}

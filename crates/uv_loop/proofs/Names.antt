@@ -1,5 +1,7 @@
 -- The names that proofs of this crate bring in.
-pub use Rattle.std.proofs.Common.{Bool, Err, IfNone, IfOk, List, None, Ok, OnOk, Option, Result, Some, [], ap, arith, drop, get_or, if◌then◌else◌, inl, inr, is_ok, length, length-append, map, nat_le, nat_lt, option_and_then, refl, slice_get, slice_set, subst, suc, sym, take, true, ℕ, ◌++◌, ◌+◌, ◌-◌, ◌<◌, ◌==◌, ◌^◌, ◌∙◌, ◌∷◌, ◌≡◌, ◌≤◌}
+pub use Rattle.std.proofs.Common.{Bool, Err, IfNone, IfOk, List, None, Ok, OnOk, Option, Result, Some, [], ap, arith, drop, get_or, if◌then◌else◌}
+pub use Rattle.std.proofs.Common.{inl, inr, is_ok, length, length-append, map, nat_le, nat_lt, option_and_then, refl, slice_get, slice_set, subst}
+pub use Rattle.std.proofs.Common.{suc, sym, take, true, ℕ, ◌++◌, ◌+◌, ◌-◌, ◌<◌, ◌==◌, ◌^◌, ◌∙◌, ◌∷◌, ◌≡◌, ◌≤◌}
 pub use Rattle.std.proofs.lemmas.Bool.{cond_both, le-leb, lt-ltb}
 pub use Rattle.std.proofs.lemmas.Bool.Decides.{leb_tells}
 pub use Rattle.std.proofs.lemmas.List.{length-map, map-append, take-map, take_all, take_more}
@@ -40,7 +42,8 @@ pub use Rattle.uv_model.specs.Bounds.{CanStep, line_of}
 pub use Rattle.uv_model.specs.Found.{found_or}
 pub use Rattle.uv_model.specs.Handing.{AnswersResult, RefusesResult, job_in, job_run}
 pub use Rattle.uv_model.specs.Limits.{LATEST}
-pub use Rattle.uv_model.specs.Next.{Moves, Next, Refuses, body_from, body_step, call_io, calls, finish, io_handle, io_run, loop_step, main_step, next_work, run_step, stage_polled, time_polled, work_of}
+pub use Rattle.uv_model.specs.Next.{Moves, Next, Refuses, body_from, body_step, call_io, calls, finish, io_handle, io_run, loop_step, main_step}
+pub use Rattle.uv_model.specs.Next.{next_work, run_step, stage_polled, time_polled, work_of}
 pub use Rattle.uv_model.specs.Ops.{Coded, Done, cancel, send}
 pub use Rattle.uv_model.specs.Queries.{is_free, members, numbers, run_by, runner_from, timer_ids, worker_of}
 pub use Rattle.uv_model.specs.State.{State, front_request, live_handle, live_request, with_id}

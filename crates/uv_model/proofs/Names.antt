@@ -1,5 +1,7 @@
 -- The names that proofs of this crate bring in.
-pub use Rattle.std.proofs.Common.{All, Bool, Err, List, None, Ok, Option, Result, Some, [], add-one, add-zero, ap, arith, cond, drop, drop-cons, false, get_or, if◌then◌else◌, length, nat_le, nat_lt, option_and_then, refl, replicate, slice_get, slice_set, subst, suc, sym, take, true, unwrap_or, zero, zero-add, ℕ, ◌&&◌, ◌++◌, ◌+◌, ◌<◌, ◌==◌, ◌^◌, ◌∙◌, ◌∷◌, ◌≡◌, ◌≤◌}
+pub use Rattle.std.proofs.Common.{All, Bool, Err, List, None, Ok, Option, Result, Some, [], add-one, add-zero, ap, arith, cond, drop, drop-cons}
+pub use Rattle.std.proofs.Common.{false, get_or, if◌then◌else◌, length, nat_le, nat_lt, option_and_then, refl, replicate, slice_get, slice_set, subst}
+pub use Rattle.std.proofs.Common.{suc, sym, take, true, unwrap_or, zero, zero-add, ℕ, ◌&&◌, ◌++◌, ◌+◌, ◌<◌, ◌==◌, ◌^◌, ◌∙◌, ◌∷◌, ◌≡◌, ◌≤◌}
 pub use Rattle.std.proofs.lemmas.Bool.{cond_both, eqb-true}
 pub use Rattle.std.proofs.lemmas.Bool.Decides.{nat_tests}
 pub use Rattle.std.proofs.lemmas.Cmp.{nat_cmp_total, on_total, then_total}
@@ -32,10 +34,16 @@ pub use Rattle.uv_model.specs.Bounds.{AreBelow, CanStep, HoldsBefore, StartsBefo
 pub use Rattle.uv_model.specs.Content.{handle_in, request_in}
 pub use Rattle.uv_model.specs.Found.{found_or}
 pub use Rattle.uv_model.specs.Ids.{same_id, without_id}
-pub use Rattle.uv_model.specs.Next.{Moves, Next, Refuses, after_walk, begin_done, begin_walk, body_from, body_step, call_due, call_io, calls, io, io_handle, io_run, leave_polled, stage_polled, takes_io, time_polled, cancels, close_front, collect_request, collected, ends, finish, fire, first_due, front_moved, goes, goes_by, idled_at, idled_then, loop_step, main_step, may_leave, next_work, refreshes, run_step, sent_to, stage_step, tick, time_at, timers, turns, walk, walk_async, way, work_of}
+pub use Rattle.uv_model.specs.Next.{Moves, Next, Refuses, after_walk, begin_done, begin_walk, body_from, body_step, call_due, call_io, calls, io}
+pub use Rattle.uv_model.specs.Next.{io_handle, io_run, leave_polled, stage_polled, takes_io, time_polled, cancels, close_front, collect_request}
+pub use Rattle.uv_model.specs.Next.{collected, ends, finish, fire, first_due, front_moved, goes, goes_by, idled_at, idled_then, loop_step, main_step}
+pub use Rattle.uv_model.specs.Next.{may_leave, next_work, refreshes, run_step, sent_to, stage_step, tick, time_at, timers, turns, walk, walk_async}
+pub use Rattle.uv_model.specs.Next.{way, work_of}
 pub use Rattle.uv_model.specs.Ops.{do_op, refuses}
 pub use Rattle.uv_model.specs.Queries.{runner_from}
-pub use Rattle.uv_model.specs.State.{State, Watchers, as_handle, as_request, fresh, front, front_request, handle, live, live_handle, live_id, live_request, named, refreshed, request, those_of, watched, with_handle, with_id, with_named, with_request, with_those_of, with_watched}
+pub use Rattle.uv_model.specs.State.{State, Watchers, as_handle, as_request, fresh, front, front_request, handle, live, live_handle, live_id}
+pub use Rattle.uv_model.specs.State.{live_request, named, refreshed, request, those_of, watched, with_handle, with_id, with_named, with_request}
+pub use Rattle.uv_model.specs.State.{with_those_of, with_watched}
 pub use Rattle.uv_model.specs.Steps.{IsOfLoop}
 pub use Rattle.uv_model.specs.Timers.{restarted, started, stopped, taken_off, with_timer, without_timer}
 pub use Rattle.uv_model.specs.declared.place.Body.{Body}
@@ -54,7 +62,8 @@ pub use Rattle.uv_model.specs.declared.place.Way.TheVariants.{ToEnd, ToPending, 
 pub use Rattle.uv_records.specs.Handles.{activated, inited, is_async, is_timer, referenced_as, repeating}
 pub use Rattle.uv_records.specs.Lists.{watcher_kind}
 pub use Rattle.uv_records.specs.Names.{count_of, counted, unbound}
-pub use Rattle.uv_records.specs.Refusals.{again_refusal, close_refusal, invalid_if, is_startable, no_refusal, only_if, send_refusal, start_timer_refusal, start_watcher_refusal, stop_refusal, timer_refusal}
+pub use Rattle.uv_records.specs.Refusals.{again_refusal, close_refusal, invalid_if, is_startable, no_refusal, only_if, send_refusal}
+pub use Rattle.uv_records.specs.Refusals.{start_timer_refusal, start_watcher_refusal, stop_refusal, timer_refusal}
 pub use Rattle.uv_records.specs.Slots.{Slots, freed, held, held_in, next_free, taken, taken_from}
 pub use Rattle.uv_records.specs.Walks.{Walk, all_yet, with_first, with_last}
 pub use Rattle.uv_records.specs.declared.handle.HandleRecord.{HandleRecord}

@@ -1,5 +1,6 @@
 -- The names that proofs of this crate bring in.
-pub use Rattle.std.proofs.Common.{Bool, Err, List, None, Ok, Option, Result, Some, [], ap, cond, eqb, false, if◌then◌else◌, is_some, map, not, option_and_then, option_map, refl, slice_get, subst, suc, sym, true, zero, ℕ, ◌&&◌, ◌++◌, ◌||◌, ◌∙◌, ◌∷◌, ◌≡◌, ◌≢◌}
+pub use Rattle.std.proofs.Common.{Bool, Err, List, None, Ok, Option, Result, Some, [], ap, cond, eqb, false, if◌then◌else◌, is_some, map, not}
+pub use Rattle.std.proofs.Common.{option_and_then, option_map, refl, slice_get, subst, suc, sym, true, zero, ℕ, ◌&&◌, ◌++◌, ◌||◌, ◌∙◌, ◌∷◌, ◌≡◌, ◌≢◌}
 pub use Rattle.std.proofs.lemmas.List.{map-append}
 pub use Rattle.std.specs.List.{list_any}
 pub use Rattle.uv_arena.proofs.Lookups.{without_none}
@@ -18,9 +19,11 @@ pub use Rattle.uv_ids.specs.declared.id.Var.{Var}
 pub use Rattle.uv_ids.specs.declared.phase.Kind.{Kind}
 pub use Rattle.uv_model.specs.Found.{found_or}
 pub use Rattle.uv_model.specs.Ids.{same_id, without_id}
-pub use Rattle.uv_model.specs.Ops.{Coded, Done, cancel, listed_last, make, on_handle, refuses, says_code, send, set_referenced, set_repeat, start_watcher, stop, succeeds, watcher_started, with_new, with_queued}
+pub use Rattle.uv_model.specs.Ops.{Coded, Done, cancel, listed_last, make, on_handle, refuses, says_code, send, set_referenced, set_repeat}
+pub use Rattle.uv_model.specs.Ops.{start_watcher, stop, succeeds, watcher_started, with_new, with_queued}
 pub use Rattle.uv_model.specs.Queries.{members}
-pub use Rattle.uv_model.specs.State.{State, Watchers, as_request, live, live_handle, live_id, live_request, refreshed, with_handle, with_id, with_watched}
+pub use Rattle.uv_model.specs.State.{State, Watchers, as_request, live, live_handle, live_id, live_request, refreshed, with_handle, with_id}
+pub use Rattle.uv_model.specs.State.{with_watched}
 pub use Rattle.uv_model.specs.Timers.{watchers_without_id, without_timer}
 pub use Rattle.uv_model.specs.declared.place.Place.{Place}
 pub use Rattle.uv_ops.specs.Outside.{Cancels, Sends}
@@ -42,7 +45,8 @@ pub use Rattle.uv_requests.specs.Calls.{IsCancelled, IsQueued}
 pub use Rattle.uv_requests.specs.Working.{Working, id_in, pool_of}
 pub use Rattle.uv_requests.specs.declared.undo.CancelUndo.{CancelUndo}
 pub use Rattle.uv_requests.specs.declared.undo.QueueUndo.{QueueUndo}
-pub use Rattle.uv_stands.proofs.Absent.{IsOn, has_first, has_it, has_second, holds_it, not_closing, not_closing_yet, not_done, not_done_yet, not_waiting, own_id, ready_stays}
+pub use Rattle.uv_stands.proofs.Absent.{IsOn, has_first, has_it, has_second, holds_it, not_closing, not_closing_yet, not_done, not_done_yet}
+pub use Rattle.uv_stands.proofs.Absent.{not_waiting, own_id, ready_stays}
 pub use Rattle.uv_stands.proofs.Edits.{changed_stands}
 pub use Rattle.uv_stands.proofs.Holding.{generation_kept, held_there, ids_kept, map_same, slot_by, slot_or, slots_set}
 pub use Rattle.uv_stands.proofs.Lists.{Listed, all_but_one, list_stays}

@@ -1,7 +1,11 @@
 -- The names that proofs of this crate bring in.
-pub use Rattle.std.proofs.Common.{Bool, Err, List, None, Ok, Option, Result, Some, [], ap, append-nil, append_assoc, arith, cond, drop, false, if◌then◌else◌, inl, inr, length, map, nat_le, nat_lt, option_map, option_to_list, refl, replicate, slice_get, slice_set, subst, suc, sym, true, unwrap_or, zero, ℕ, ◌&&◌, ◌++◌, ◌+◌, ◌<◌, ◌==◌, ◌||◌, ◌∙◌, ◌∷◌, ◌≡◌, ◌≤◌, ◌⊎◌}
+pub use Rattle.std.proofs.Common.{Bool, Err, List, None, Ok, Option, Result, Some, [], ap, append-nil, append_assoc, arith, cond, drop, false}
+pub use Rattle.std.proofs.Common.{if◌then◌else◌, inl, inr, length, map, nat_le, nat_lt, option_map, option_to_list, refl, replicate, slice_get}
+pub use Rattle.std.proofs.Common.{slice_set, subst, suc, sym, true, unwrap_or, zero, ℕ, ◌&&◌, ◌++◌, ◌+◌, ◌<◌, ◌==◌, ◌||◌, ◌∙◌, ◌∷◌, ◌≡◌, ◌≤◌}
+pub use Rattle.std.proofs.Common.{◌⊎◌}
 pub use Rattle.std.proofs.Math.Bool.{or-true, or_assoc, or_comm}
-pub use Rattle.std.proofs.lemmas.Bool.{and_parts, both_ways, cases_lt, cond_both, eq-eqb, eqb-true, false_from_ne_true, or_cases, or_left, or_parts, or_right}
+pub use Rattle.std.proofs.lemmas.Bool.{and_parts, both_ways, cases_lt, cond_both, eq-eqb, eqb-true, false_from_ne_true, or_cases, or_left, or_parts}
+pub use Rattle.std.proofs.lemmas.Bool.{or_right}
 pub use Rattle.std.proofs.lemmas.Bool.Decides.{nat_tests}
 pub use Rattle.std.proofs.lemmas.Cmp.{ranked}
 pub use Rattle.std.proofs.lemmas.Grind.{elements}
@@ -37,9 +41,13 @@ pub use Rattle.uv_model.proofs.Order.{due_cmp_total}
 pub use Rattle.uv_model.specs.After.{lines, seen_from, seen_of, state_of}
 pub use Rattle.uv_model.specs.Content.{content_keeps, content_pends, handle_in, request_in}
 pub use Rattle.uv_model.specs.Ids.{has_some, same_id, walk_without_id, without_id}
-pub use Rattle.uv_model.specs.Next.{Moves, Next, Refuses, begin_walk, body_at, body_from, call, calls, collected, first_due, front_moved, goes, idled_at, io_handle, io_run, may_leave, next_line, next_work, stage_polled, takes_io, time_at, time_polled, work_of}
+pub use Rattle.uv_model.specs.Next.{Moves, Next, Refuses, begin_walk, body_at, body_from, call, calls, collected, first_due, front_moved, goes}
+pub use Rattle.uv_model.specs.Next.{idled_at, io_handle, io_run, may_leave, next_line, next_work, stage_polled, takes_io, time_at, time_polled}
+pub use Rattle.uv_model.specs.Next.{work_of}
 pub use Rattle.uv_model.specs.Ops.{do_op}
-pub use Rattle.uv_model.specs.State.{State, Watchers, as_request, fresh, front, front_request, handle, kind_as, live, live_handle, live_request, named, refreshed, request, those_of, watched, with_handle, with_id, with_named, with_request, with_those_of, with_watched}
+pub use Rattle.uv_model.specs.State.{State, Watchers, as_request, fresh, front, front_request, handle, kind_as, live, live_handle, live_request}
+pub use Rattle.uv_model.specs.State.{named, refreshed, request, those_of, watched, with_handle, with_id, with_named, with_request, with_those_of}
+pub use Rattle.uv_model.specs.State.{with_watched}
 pub use Rattle.uv_model.specs.Timeout.{has_passed, has_pending, is_alive, poll_timeout, poll_timeout_by}
 pub use Rattle.uv_model.specs.Timers.{due_after, restarted, started, stopped, watchers_without_id, with_timer, without_timer}
 pub use Rattle.uv_model.specs.declared.place.Body.{Body}
@@ -53,12 +61,21 @@ pub use Rattle.uv_model.specs.declared.place.Turn.{Turn}
 pub use Rattle.uv_model.specs.declared.place.Turn.TheVariants.{AtEntry, Behind, BehindClosing}
 pub use Rattle.uv_model.specs.declared.place.Way.{Way}
 pub use Rattle.uv_model.specs.declared.place.Way.TheVariants.{ToEnd, ToPending, ToTimers}
-pub use Rattle.uv_order.specs.Active.{AreActive, AreAll, AreClosing, AreDistinct, AreDue, AreEnded, AreOpened, AreTimers, Before, Has, InOrder, IsEnded, IsOpened, has_id, run_ids}
+pub use Rattle.uv_order.specs.Active.{AreActive, AreAll, AreClosing, AreDistinct, AreDue, AreEnded, AreOpened, AreTimers, Before, Has, InOrder}
+pub use Rattle.uv_order.specs.Active.{IsEnded, IsOpened, has_id, run_ids}
 pub use Rattle.uv_order.specs.Alive.{closes_some, has_handle, has_request, has_run, is_kept_by, lives, may_wait}
-pub use Rattle.uv_order.specs.Documented.{AllOff, AllOffOrUnsent, Answering, Begun, Between, CallsNext, Documented, Entry, Goes, GoesOn, In, IsCallLine, IsOver, Lasting, MayAnswer, MayLeave, Names, NoneDue, Opens, Polling, Position, Running, Section, Standing, Told, Within, after_op, at_first, body_of, callback_in, cut, ids_of, is_called, lasting, line, names_by, next_call, nothing_told, off_by, part_after, part_of, sent_after, sent_by, sites_from, taken_off, times, told_by, told_of, without_ids, word_of}
+pub use Rattle.uv_order.specs.Documented.{AllOff, AllOffOrUnsent, Answering, Begun, Between, CallsNext, Documented, Entry, Goes, GoesOn, In}
+pub use Rattle.uv_order.specs.Documented.{IsCallLine, IsOver, Lasting, MayAnswer, MayLeave, Names, NoneDue, Opens, Polling, Position, Running}
+pub use Rattle.uv_order.specs.Documented.{Section, Standing, Told, Within, after_op, at_first, body_of, callback_in, cut, ids_of, is_called, lasting}
+pub use Rattle.uv_order.specs.Documented.{line, names_by, next_call, nothing_told, off_by, part_after, part_of, sent_after, sent_by, sites_from}
+pub use Rattle.uv_order.specs.Documented.{taken_off, times, told_by, told_of, without_ids, word_of}
 pub use Rattle.uv_order.specs.History.{history_from, line_of_step}
 pub use Rattle.uv_order.specs.Line.{Line}
-pub use Rattle.uv_order.specs.Once.{Activity, Answered, CancelSays, MakesNew, MayFollow, OnceFrom, OpSays, SaysTrue, activity, activity_answered, activity_by, activity_called, activity_done, answered, binds, bound, bound_by, cancels, closes, closes_by, first_of, has_after_line, has_cancel_line, has_closed_line, has_finish_line, handle_of, has_take_line, is_after_line, is_cancel_line, is_closed_line, is_finish_line, is_some_id, is_take_line, made_as, made_by, makes, new_activity, queued_by, queued_task, queues, was_closed}
+pub use Rattle.uv_order.specs.Once.{Activity, Answered, CancelSays, MakesNew, MayFollow, OnceFrom, OpSays, SaysTrue, activity, activity_answered}
+pub use Rattle.uv_order.specs.Once.{activity_by, activity_called, activity_done, answered, binds, bound, bound_by, cancels, closes, closes_by}
+pub use Rattle.uv_order.specs.Once.{first_of, has_after_line, has_cancel_line, has_closed_line, has_finish_line, handle_of, has_take_line}
+pub use Rattle.uv_order.specs.Once.{is_after_line, is_cancel_line, is_closed_line, is_finish_line, is_some_id, is_take_line, made_as, made_by, makes}
+pub use Rattle.uv_order.specs.Once.{new_activity, queued_by, queued_task, queues, was_closed}
 pub use Rattle.uv_order.specs.PoolEvents.{done_as, line_events, op_events, outside_events, pool_events, pool_of, was_finished}
 pub use Rattle.uv_order.specs.Reached.{AreSetAside, BeginsAt, BeginsBehind, BeginsIn, IsReached, IsSetAside}
 pub use Rattle.uv_order.specs.Refused.{is_send_op, AllSilent, AllWithin, RefusedOnce, RefusedOrder, holds_io, is_send, is_within, past_after}
@@ -66,7 +83,8 @@ pub use Rattle.uv_order.specs.Taking.{IsTakenAs}
 pub use Rattle.uv_records.specs.Handles.{activated, begun_at, inited, is_async, is_io, is_timer, referenced_as, repeating, sent}
 pub use Rattle.uv_records.specs.Lists.{phase_of, watcher_kind}
 pub use Rattle.uv_records.specs.Names.{count_of, counted, unbound}
-pub use Rattle.uv_records.specs.Refusals.{again_refusal, close_refusal, invalid_if, is_startable, no_refusal, only_if, send_refusal, start_timer_refusal, stop_refusal, timer_refusal}
+pub use Rattle.uv_records.specs.Refusals.{again_refusal, close_refusal, invalid_if, is_startable, no_refusal, only_if, send_refusal}
+pub use Rattle.uv_records.specs.Refusals.{start_timer_refusal, stop_refusal, timer_refusal}
 pub use Rattle.uv_records.specs.Slots.{Slots, freed, held, held_in, id_of, next_free, next_id, next_unused, taken, taken_from}
 pub use Rattle.uv_records.specs.Walks.{Walk, Walk as Listed, all_yet, moved_on, with_first}
 pub use Rattle.uv_records.specs.declared.handle.HandleRecord.{HandleRecord}
@@ -74,7 +92,8 @@ pub use Rattle.uv_records.specs.declared.lists.WatcherKind.{WatcherKind}
 pub use Rattle.uv_records.specs.declared.named.Calls.{Calls}
 pub use Rattle.uv_records.specs.declared.named.Named.{Named}
 pub use Rattle.uv_records.specs.declared.slot.Slot.{Slot}
-pub use Rattle.uv_script.specs.Program.{Callbacks, Program, arena_size, from_heap, has_io, is_for, lines_in, main_op, no_callbacks, op_at, order_of, worker_count}
+pub use Rattle.uv_script.specs.Program.{Callbacks, Program, arena_size, from_heap, has_io, is_for, lines_in, main_op, no_callbacks, op_at, order_of}
+pub use Rattle.uv_script.specs.Program.{worker_count}
 pub use Rattle.uv_script.specs.declared.op.CallbackLine.{CallbackLine}
 pub use Rattle.uv_script.specs.declared.op.MainOp.{MainOp}
 pub use Rattle.uv_script.specs.declared.op.Op.{Op}

@@ -13,7 +13,7 @@ use Rattle.uv_ids.specs.declared.seen.Seen.{Seen}
 use Rattle.uv_ids.specs.declared.seen.Seen.TheVariants as seen
 use Rattle.uv_script.specs.declared.op.Op.{Op}
 use Rattle.uv_script.specs.declared.op.Op.TheVariants as op
-use Rattle.uv_script.specs.Program.{Program, op_at}
+use Rattle.uv_script.specs.Program.{Program, op_at, op_name}
 use Rattle.uv_records.specs.Handles.{is_timer, is_async}
 use Rattle.uv_model.specs.Ids.{has_some, same_id, without_id}
 use Rattle.uv_model.specs.State.{State, with_id}
@@ -173,23 +173,6 @@ pub record MightWait (s : State) (a : Answer) : Type 0 where
 
 -- ---- the lines
 
--- the name of the handle that an op is on
-abbrev pub handle_in : Op → Option Var
-handle_in (op.Start v timeout repeat) = Some v
-handle_in (op.StartWatcher v) = Some v
-handle_in (op.Stop v) = Some v
-handle_in (op.Again v) = Some v
-handle_in (op.SetRepeat v repeat) = Some v
-handle_in (op.DueIn v) = Some v
-handle_in (op.Close v) = Some v
-handle_in (op.Ref v) = Some v
-handle_in (op.Unref v) = Some v
-handle_in (op.HasRef v) = Some v
-handle_in (op.IsActive v) = Some v
-handle_in (op.IsClosing v) = Some v
-handle_in (op.Send v) = Some v
-handle_in o = None
-
 abbrev pub SaysOf : Program → List Line → State → Op → Option Var → Answer → Type 0
 SaysOf p past s o None a = Unit {0}
 SaysOf p past s o (Some v) a = a ≡ says p past s o (live_told p (seens past) v)
@@ -205,7 +188,7 @@ OpAnswers p past s op.Now a = a ≡ answer.Number s.time
 OpAnswers p past s op.IsAlive a = a ≡ answer.Flag (lives s)
 OpAnswers p past s op.Timeout a = MightWait s a
 OpAnswers p past s op.CloseLoop a = a ≡ answer.Code (if has_some (ids_held p (seens past)) then code.Ebusy else code.Ok)
-OpAnswers p past s o a = SaysOf p past s o (handle_in o) a
+OpAnswers p past s o a = SaysOf p past s o (op_name o) a
 
 abbrev pub AnswersAt : Program → List Line → State → Option Op → Answer → Type 0
 AnswersAt p past s None a = Unit {0}

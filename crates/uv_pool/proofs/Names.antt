@@ -1,5 +1,7 @@
 -- The names that proofs of this crate bring in.
-pub use Rattle.std.proofs.Common.{Bool, Err, List, None, Ok, Option, Result, Some, [], ap, append-nil, append_assoc, arith, cond, drop, drop-drop, false, get_or, inl, inr, is_ok, length, length-append, map, refl, replicate, rules, set, slice_get, subst, suc, sym, true, zero, ℕ, ◌&&◌, ◌++◌, ◌+◌, ◌-◌, ◌<◌, ◌==◌, ◌||◌, ◌∙◌, ◌∷◌, ◌≡◌, ◌≤◌, ◌⊎◌}
+pub use Rattle.std.proofs.Common.{Bool, Err, List, None, Ok, Option, Result, Some, [], ap, append-nil, append_assoc, arith, cond, drop, drop-drop}
+pub use Rattle.std.proofs.Common.{false, get_or, inl, inr, is_ok, length, length-append, map, refl, replicate, rules, set, slice_get, subst, suc, sym}
+pub use Rattle.std.proofs.Common.{true, zero, ℕ, ◌&&◌, ◌++◌, ◌+◌, ◌-◌, ◌<◌, ◌==◌, ◌||◌, ◌∙◌, ◌∷◌, ◌≡◌, ◌≤◌, ◌⊎◌}
 pub use Rattle.std.proofs.lemmas.Bool.{or_right}
 pub use Rattle.std.proofs.lemmas.Bool.Decides.{nat_tests}
 pub use Rattle.std.proofs.lemmas.List.{length-replicate, length-set, map-append, map-set}
@@ -13,7 +15,8 @@ pub use Rattle.uv_ids.specs.declared.id.Id.{Id}
 pub use Rattle.uv_pool.specs.Benches.{Breaks, Serves, Stops, are_turns, turn}
 pub use Rattle.uv_pool.specs.Book.{IsCounted, IsReplay, finish_count, is_finish}
 pub use Rattle.uv_pool.specs.Calls.{Cancels, CollectsNext, Finishes, Reserves, Submits, TakesNext}
-pub use Rattle.uv_pool.specs.Contents.{Contents, cancelled, collected, finished, fresh, id_run, jobs_without, member, pool_of, queued, result_in, taken}
+pub use Rattle.uv_pool.specs.Contents.{Contents, cancelled, collected, finished, fresh, id_run, jobs_without, member, pool_of, queued, result_in}
+pub use Rattle.uv_pool.specs.Contents.{taken}
 pub use Rattle.uv_pool.specs.Held.{Finds, IsKept, contents_of, hold_of, place_of, rows_of}
 pub use Rattle.uv_pool.specs.Hold.{Hold}
 pub use Rattle.uv_pool.specs.Jobs.{Leaves, Pops, jobs_of}

@@ -1,5 +1,7 @@
 -- The names that proofs of this crate bring in.
-pub use Rattle.std.proofs.Common.{Bool, List, None, Option, Some, [], ap, append_assoc, arith, cond, eqb, false, inl, inr, is_some, length, length-append, map, not, option_and_then, option_map, refl, replicate, set, slice_get, subst, suc, sym, true, zero, ℕ, ◌++◌, ◌+◌, ◌-◌, ◌<◌, ◌||◌, ◌∙◌, ◌∷◌, ◌≡◌, ◌≢◌, ◌⊎◌}
+pub use Rattle.std.proofs.Common.{Bool, List, None, Option, Some, [], ap, append_assoc, arith, cond, eqb, false, inl, inr, is_some, length}
+pub use Rattle.std.proofs.Common.{length-append, map, not, option_and_then, option_map, refl, replicate, set, slice_get, subst, suc, sym, true, zero}
+pub use Rattle.std.proofs.Common.{ℕ, ◌++◌, ◌+◌, ◌-◌, ◌<◌, ◌||◌, ◌∙◌, ◌∷◌, ◌≡◌, ◌≢◌, ◌⊎◌}
 pub use Rattle.std.proofs.Math.Bool.{or-true}
 pub use Rattle.std.proofs.lemmas.Bool.{false_from_ne_true}
 pub use Rattle.std.proofs.lemmas.Bool.Decides.{eqb_tells}
@@ -29,12 +31,15 @@ pub use Rattle.uv_records.specs.declared.lists.ListName.{ListName}
 pub use Rattle.uv_records.specs.declared.lists.ListName.TheVariants.{Done as Ended, DoneYet as EndedYet, Waiting}
 pub use Rattle.uv_records.specs.declared.lists.TheConstants.{LIST_COUNT}
 pub use Rattle.uv_requests.specs.Calls.{IsBegun, IsCancelled, IsCollected, IsFinished, IsQueued, IsTaken}
-pub use Rattle.uv_requests.specs.Undo.{CanReopen, cancel_undone, collect_undone, finish_undone, queue_undone, reopened_by, reopened_in, take_undone, with_count, with_run}
-pub use Rattle.uv_requests.specs.Working.{IsHeld, IsRun, IsWork, Running, Working, done_in, found, id_in, idle_workers, pool_of, request_in, was_finished, working}
+pub use Rattle.uv_requests.specs.Undo.{CanReopen, cancel_undone, collect_undone, finish_undone, queue_undone, reopened_by, reopened_in, take_undone}
+pub use Rattle.uv_requests.specs.Undo.{with_count, with_run}
+pub use Rattle.uv_requests.specs.Working.{IsHeld, IsRun, IsWork, Running, Working, done_in, found, id_in, idle_workers, pool_of, request_in}
+pub use Rattle.uv_requests.specs.Working.{was_finished, working}
 pub use Rattle.uv_work.proofs.Counts.{busy_set_none, busy_set_some, without_one}
 pub use Rattle.uv_work.proofs.Replays.{same_itself, same_when}
 pub use Rattle.uv_work.specs.Ids.{same_id}
-pub use Rattle.uv_work.specs.Pool.{Done, Pool, after_cancel, after_collect, after_finish, after_queue, after_take, busy, collected_from, finished_by, has, runs, size, taken_by, waits, without}
+pub use Rattle.uv_work.specs.Pool.{Done, Pool, after_cancel, after_collect, after_finish, after_queue, after_take, busy, collected_from, finished_by}
+pub use Rattle.uv_work.specs.Pool.{has, runs, size, taken_by, waits, without}
 pub use Rattle.uv_work.specs.Requests.{IsDigest, cancel_refusal, cancelled, ended, finished, is_finished, is_open, job_of, reopened}
 pub use Rattle.uv_work.specs.Tasks.{text_of}
 pub use Rattle.uv_work.specs.declared.job.Job.{Job}

@@ -1,5 +1,7 @@
 -- The names that proofs of this crate bring in.
-pub use Rattle.std.proofs.Common.{All, Bool, Err, List, None, Ok, Option, Result, Some, [], ap, append-nil, append_assoc, ap₂, arith, cond, false, get_or, inl, inr, length, length-append, nat_le, nat_lt, refl, replicate, slice_get, slice_index, slice_set, subst, suc, sym, take, true, zero, ℕ, ◌++◌, ◌+◌, ◌-◌, ◌<◌, ◌==◌, ◌∙◌, ◌∷◌, ◌≡◌, ◌≤◌}
+pub use Rattle.std.proofs.Common.{All, Bool, Err, List, None, Ok, Option, Result, Some, [], ap, append-nil, append_assoc, ap₂, arith, cond, false}
+pub use Rattle.std.proofs.Common.{get_or, inl, inr, length, length-append, nat_le, nat_lt, refl, replicate, slice_get, slice_index, slice_set, subst}
+pub use Rattle.std.proofs.Common.{suc, sym, take, true, zero, ℕ, ◌++◌, ◌+◌, ◌-◌, ◌<◌, ◌==◌, ◌∙◌, ◌∷◌, ◌≡◌, ◌≤◌}
 pub use Rattle.std.proofs.lemmas.Bool.{cond_both, eqb-false, eqb-true}
 pub use Rattle.std.proofs.lemmas.Bool.Decides.{nat_tests}
 pub use Rattle.std.proofs.lemmas.List.{get_or-replicate, get_or-set_other, get_or-set_same, length-replicate, length-set, take_more}
@@ -53,7 +55,8 @@ pub use Rattle.uv_session.proofs.Traces.{is_documented, is_once, those, those_al
 pub use Rattle.uv_session.specs.Shown.{Responds, Shown, TakesEvent, TakesResult}
 pub use Rattle.uv_work.proofs.Counts.{busy_set_none, busy_set_some, without_one}
 pub use Rattle.uv_work.specs.Ids.{same_id}
-pub use Rattle.uv_work.specs.Pool.{Done, IsLegal, Pool, after_event, after_events, busy, collected_from, empty_pool, finished_by, has, taken_by, waits, without}
+pub use Rattle.uv_work.specs.Pool.{Done, IsLegal, Pool, after_event, after_events, busy, collected_from, empty_pool, finished_by, has, taken_by}
+pub use Rattle.uv_work.specs.Pool.{waits, without}
 pub use Rattle.uv_work.specs.declared.event.PoolEvent.{PoolEvent}
 pub use Rattle.uv_work.specs.declared.job.Job.{Job}
 pub use Rattle.uv_work.specs.declared.request.Request.{Request}

@@ -169,3 +169,28 @@ pub record IsWhole (p : Program) : Type 0 where
 pub record IsCounted (lines : ℕ) (p : Program) : Type 0 where
   pub whole : IsWhole p
   pub counted : lines ≡ line_count p
+
+-- the name that an op names
+abbrev pub op_name : Op → Option Var
+op_name (op.Init v kind) = Some v
+op_name (op.Start v timeout repeat) = Some v
+op_name (op.StartWatcher v) = Some v
+op_name (op.Stop v) = Some v
+op_name (op.Again v) = Some v
+op_name (op.SetRepeat v repeat) = Some v
+op_name (op.DueIn v) = Some v
+op_name (op.Ref v) = Some v
+op_name (op.Unref v) = Some v
+op_name (op.HasRef v) = Some v
+op_name (op.IsActive v) = Some v
+op_name (op.Close v) = Some v
+op_name (op.IsClosing v) = Some v
+op_name (op.Send v) = Some v
+op_name (op.Queue v task) = Some v
+op_name (op.Cancel v) = Some v
+op_name op.CloseLoop = None
+op_name op.StopLoop = None
+op_name op.UpdateTime = None
+op_name op.Now = None
+op_name op.IsAlive = None
+op_name op.Timeout = None

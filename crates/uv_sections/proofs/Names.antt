@@ -1,5 +1,6 @@
 -- The names that proofs of this crate bring in.
-pub use Rattle.std.proofs.Common.{Bool, List, None, Option, Some, [], ap, drop, eqb, false, if◌then◌else◌, inl, inr, map, refl, set, slice_get, subst, suc, sym, true, zero, ℕ, ◌++◌, ◌+◌, ◌<◌, ◌==◌, ◌^◌, ◌||◌, ◌∙◌, ◌∷◌, ◌≡◌, ◌≢◌, ◌⊎◌}
+pub use Rattle.std.proofs.Common.{Bool, List, None, Option, Some, [], ap, drop, eqb, false, if◌then◌else◌, inl, inr, map, refl, set, slice_get, subst}
+pub use Rattle.std.proofs.Common.{suc, sym, true, zero, ℕ, ◌++◌, ◌+◌, ◌<◌, ◌==◌, ◌^◌, ◌||◌, ◌∙◌, ◌∷◌, ◌≡◌, ◌≢◌, ◌⊎◌}
 pub use Rattle.std.proofs.lemmas.Bool.{eq-eqb}
 pub use Rattle.std.proofs.lemmas.Bool.Decides.{eqb_tells}
 pub use Rattle.std.proofs.lemmas.List.{map-append}
@@ -19,7 +20,8 @@ pub use Rattle.uv_ids.specs.declared.seen.Callback.TheVariants.{After, Close, Ha
 pub use Rattle.uv_ids.specs.declared.seen.Seen.{Seen}
 pub use Rattle.uv_ids.specs.declared.seen.Seen.TheVariants.{End, Section}
 pub use Rattle.uv_model.specs.Ids.{same_id}
-pub use Rattle.uv_model.specs.Next.{Moves, at, body_from, call, call_due, calls, close_front, collect_request, fire, front_moved, goes_by, refreshes, stage_polled, time_polled, walk, walk_async, way}
+pub use Rattle.uv_model.specs.Next.{Moves, at, body_from, call, call_due, calls, close_front, collect_request, fire, front_moved, goes_by, refreshes}
+pub use Rattle.uv_model.specs.Next.{stage_polled, time_polled, walk, walk_async, way}
 pub use Rattle.uv_model.specs.Queries.{members}
 pub use Rattle.uv_model.specs.State.{State, Watchers, front, front_request, refreshed, watched, with_handle, with_id, with_named, with_watched}
 pub use Rattle.uv_model.specs.Timeout.{deadline_of}

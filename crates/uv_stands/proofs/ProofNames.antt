@@ -1,5 +1,7 @@
 -- The names that proofs of this crate bring in.
-pub use Rattle.std.proofs.Common.{Bool, Err, IfSome, List, None, Ok, Option, Some, [], ap, arith, cond, drop, eq-eqb, eqb, false, if◌then◌else◌, inl, inr, is_some, length, length-append, map, min, not, option_and_then, option_map, refl, set, slice_get, subst, suc, sym, true, zero, ℕ, ◌++◌, ◌+◌, ◌-◌, ◌<◌, ◌||◌, ◌∙◌, ◌∷◌, ◌≡◌, ◌≢◌, ◌≤◌, ◌⊎◌}
+pub use Rattle.std.proofs.Common.{Bool, Err, IfSome, List, None, Ok, Option, Some, [], ap, arith, cond, drop, eq-eqb, eqb, false, if◌then◌else◌, inl}
+pub use Rattle.std.proofs.Common.{inr, is_some, length, length-append, map, min, not, option_and_then, option_map, refl, set, slice_get, subst, suc}
+pub use Rattle.std.proofs.Common.{sym, true, zero, ℕ, ◌++◌, ◌+◌, ◌-◌, ◌<◌, ◌||◌, ◌∙◌, ◌∷◌, ◌≡◌, ◌≢◌, ◌≤◌, ◌⊎◌}
 pub use Rattle.std.proofs.lemmas.Bool.{both_ways}
 pub use Rattle.std.proofs.lemmas.Bool.Decides.{eqb_tells}
 pub use Rattle.std.proofs.lemmas.List.{append_assoc, length-map, map-append}
@@ -32,7 +34,8 @@ pub use Rattle.uv_model.specs.Layout.{open_requests}
 pub use Rattle.uv_model.specs.Limits.{LONGEST_POLL}
 pub use Rattle.uv_model.specs.Ops.{bound_to, is_in_use}
 pub use Rattle.uv_model.specs.Queries.{members}
-pub use Rattle.uv_model.specs.State.{State, as_handle, handle, kind_as, live, live_handle, live_id, request, watched, with_handle, with_id, with_named}
+pub use Rattle.uv_model.specs.State.{State, as_handle, handle, kind_as, live, live_handle, live_id, request, watched, with_handle, with_id}
+pub use Rattle.uv_model.specs.State.{with_named}
 pub use Rattle.uv_model.specs.Timeout.{has_closing, has_pending, is_alive, until_first}
 pub use Rattle.uv_model.specs.declared.place.Place.{Place}
 pub use Rattle.uv_order.specs.Active.{AreActive, Before, InOrder, IsActive, IsClosing, has_id, run_ids}

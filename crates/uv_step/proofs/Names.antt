@@ -1,5 +1,7 @@
 -- The names that proofs of this crate bring in.
-pub use Rattle.std.proofs.Common.{Bool, List, None, Option, Some, [], ap, append_assoc, arith, eqb, false, if◌then◌else◌, inl, inr, length, length-append, option_and_then, refl, rules, set, slice_get, subst, suc, sym, true, zero, ℕ, ◌++◌, ◌+◌, ◌<◌, ◌∙◌, ◌∷◌, ◌≡◌, ◌≢◌, ◌≤◌}
+pub use Rattle.std.proofs.Common.{Bool, List, None, Option, Some, [], ap, append_assoc, arith, eqb, false, if◌then◌else◌, inl, inr, length}
+pub use Rattle.std.proofs.Common.{length-append, option_and_then, refl, rules, set, slice_get, subst, suc, sym, true, zero, ℕ, ◌++◌, ◌+◌, ◌<◌, ◌∙◌}
+pub use Rattle.std.proofs.Common.{◌∷◌, ◌≡◌, ◌≢◌, ◌≤◌}
 pub use Rattle.std.proofs.lemmas.Bool.Decides.{eqb_tells}
 pub use Rattle.std.proofs.lemmas.Grind.{common_steps}
 pub use Rattle.std.proofs.lemmas.List.{append-nil}
@@ -55,7 +57,8 @@ pub use Rattle.uv_step.specs.Does.{By, FirstIs, changed, closed_by, ended_by, mo
 pub use Rattle.uv_step.specs.Fit.{IsFit}
 pub use Rattle.uv_step.specs.Forms.{change_of, larger, smaller}
 pub use Rattle.uv_step.specs.Image.{Held, Image, counted_of, image_of, standing, timed_of, with_counted, with_timed, with_working}
-pub use Rattle.uv_step.specs.Parts.{Bound, Part, PutOn, Stood, TakenOff, change_parts, edit_parts, naming_parts, off_parts, put_parts, removed_parts, set_parts, timer_parts, undo, unwind, unwind_parts, was_bound, woken_parts}
+pub use Rattle.uv_step.specs.Parts.{Bound, Part, PutOn, Stood, TakenOff, change_parts, edit_parts, naming_parts, off_parts, put_parts, removed_parts}
+pub use Rattle.uv_step.specs.Parts.{set_parts, timer_parts, undo, unwind, unwind_parts, was_bound, woken_parts}
 pub use Rattle.uv_step.specs.Record.{Record, at_place}
 pub use Rattle.uv_step.specs.Rows.{Fits, larges_of, mediums_of, of_large, of_medium, of_small, records_of, smalls_of}
 pub use Rattle.uv_step.specs.Trail.{AddEach, AddsAll, AreSteps, CanGoBack, Walk, unwound}

@@ -1,6 +1,11 @@
 -- The names that proofs of this crate bring in.
-pub use Rattle.std.proofs.Common.{All, Bool, Contains, Err, IfNone, IfSome, IsTrue, List, None, Ok, OnOk, Option, Result, Some, [], add-one, ap, append-nil, append_assoc, arith, cond, drop, false, get_or, if◌then◌else◌, inl, inr, length, length-append, length-set, map, nat_le, nat_lt, option_and_then, option_map, refl, slice_get, slice_set, subst, suc, sym, take, take_all, true, zero, ℕ, ◌%◌, ◌&&◌, ◌*◌, ◌++◌, ◌+◌, ◌-◌, ◌/◌, ◌<◌, ◌==◌, ◌^◌, ◌||◌, ◌↔◌, ◌∙◌, ◌∷◌, ◌≡◌, ◌≤◌, ◌⊎◌}
-pub use Rattle.std.proofs.lemmas.Bool.{and_parts, both_ways, cond-false, cond-true, cond_both, eq-eqb, le-leb, le-ltb, leb-true, lt-leb, lt-ltb, ltb-true, ne_eqb}
+pub use Rattle.std.proofs.Common.{All, Bool, Contains, Err, IfNone, IfSome, IsTrue, List, None, Ok, OnOk, Option, Result, Some, [], add-one, ap}
+pub use Rattle.std.proofs.Common.{append-nil, append_assoc, arith, cond, drop, false, get_or, if◌then◌else◌, inl, inr, length, length-append}
+pub use Rattle.std.proofs.Common.{length-set, map, nat_le, nat_lt, option_and_then, option_map, refl, slice_get, slice_set, subst, suc, sym, take}
+pub use Rattle.std.proofs.Common.{take_all, true, zero, ℕ, ◌%◌, ◌&&◌, ◌*◌, ◌++◌, ◌+◌, ◌-◌, ◌/◌, ◌<◌, ◌==◌, ◌^◌, ◌||◌, ◌↔◌, ◌∙◌, ◌∷◌}
+pub use Rattle.std.proofs.Common.{◌≡◌, ◌≤◌, ◌⊎◌}
+pub use Rattle.std.proofs.lemmas.Bool.{and_parts, both_ways, cond-false, cond-true, cond_both, eq-eqb, le-leb, le-ltb, leb-true, lt-leb, lt-ltb}
+pub use Rattle.std.proofs.lemmas.Bool.{ltb-true, ne_eqb}
 pub use Rattle.std.proofs.lemmas.Bool.Decides.{Decides-eqb}
 pub use Rattle.std.proofs.lemmas.Fmt.{length-decimal-le}
 pub use Rattle.std.proofs.lemmas.Grind.{elements, flat_map-append}
@@ -37,10 +42,14 @@ pub use Rattle.uv_model.specs.Content.{handle_in, request_in}
 pub use Rattle.uv_model.specs.Ids.{same_id}
 pub use Rattle.uv_model.specs.Layout.{LiesFor}
 pub use Rattle.uv_model.specs.Limits.{LATEST}
-pub use Rattle.uv_model.specs.Next.{Moves, Next, Refuses, after_walk, begin_walk, body_step, call_io, calls, close_front, collect_request, finish, fire, first_due, front_moved, goes, goes_by, io_handle, io_run, loop_step, main_step, may_leave, next_work, refreshes, run_step, stage_step, timers, turns, walk, walk_async, way, work_of, stage_polled, takes_io, time_polled}
+pub use Rattle.uv_model.specs.Next.{Moves, Next, Refuses, after_walk, begin_walk, body_step, call_io, calls, close_front, collect_request, finish}
+pub use Rattle.uv_model.specs.Next.{fire, first_due, front_moved, goes, goes_by, io_handle, io_run, loop_step, main_step, may_leave, next_work}
+pub use Rattle.uv_model.specs.Next.{refreshes, run_step, stage_step, timers, turns, walk, walk_async, way, work_of, stage_polled, takes_io}
+pub use Rattle.uv_model.specs.Next.{time_polled}
 pub use Rattle.uv_model.specs.Ops.{do_op}
 pub use Rattle.uv_model.specs.Queries.{numbers, run_by}
-pub use Rattle.uv_model.specs.State.{State, as_handle, fresh, front, front_request, handle, live, live_handle, live_id, live_request, named, refreshed, watched, with_handle, with_id, with_named, with_watched}
+pub use Rattle.uv_model.specs.State.{State, as_handle, fresh, front, front_request, handle, live, live_handle, live_id, live_request, named}
+pub use Rattle.uv_model.specs.State.{refreshed, watched, with_handle, with_id, with_named, with_watched}
 pub use Rattle.uv_model.specs.Timers.{restarted, started, stopped, taken_off}
 pub use Rattle.uv_model.specs.declared.layout.LaidSlot.{LaidSlot}
 pub use Rattle.uv_model.specs.declared.layout.Layout.{Layout}
@@ -60,7 +69,8 @@ pub use Rattle.uv_model.specs.declared.place.Way.TheVariants.{ToEnd, ToPending, 
 pub use Rattle.uv_records.specs.Handles.{activated, inited, is_async, is_io, referenced_as, repeating}
 pub use Rattle.uv_records.specs.Lists.{watcher_kind}
 pub use Rattle.uv_records.specs.Names.{counted, unbound}
-pub use Rattle.uv_records.specs.Refusals.{again_refusal, close_refusal, no_refusal, send_refusal, start_timer_refusal, start_watcher_refusal, stop_refusal, timer_refusal}
+pub use Rattle.uv_records.specs.Refusals.{again_refusal, close_refusal, no_refusal, send_refusal, start_timer_refusal, start_watcher_refusal}
+pub use Rattle.uv_records.specs.Refusals.{stop_refusal, timer_refusal}
 pub use Rattle.uv_records.specs.Slots.{Slots, freed, held, held_in, next_free, next_id, next_unused, taken, taken_from, with_held}
 pub use Rattle.uv_records.specs.Walks.{Walk, all_yet, with_first}
 pub use Rattle.uv_records.specs.declared.handle.HandleRecord.{HandleRecord}
@@ -88,10 +98,12 @@ pub use Rattle.uv_session.specs.declared.breaks.Break.{Break}
 pub use Rattle.uv_text.specs.Commands.{Asks, asked_in, IsBreak, IsCommand, IsNoCommand, IsStep, LAST_WORKER, MOST, bad, command, has_step, nothing}
 pub use Rattle.uv_text.specs.Image.{IsImageText, LAYOUT_PARTS, entry_text, image_text, layout_parts, link_part, links_from, named_ends, place_text}
 pub use Rattle.uv_text.specs.Parts.{parts_from}
-pub use Rattle.uv_text.specs.Reading.{asked_for, asked_of, break_of, clears, command_alone, command_by, command_of, command_with, command_with_two, section_of, step_by, worker_step}
+pub use Rattle.uv_text.specs.Reading.{asked_for, asked_of, break_of, clears, command_alone, command_by, command_of, command_with, command_with_two}
+pub use Rattle.uv_text.specs.Reading.{section_of, step_by, worker_step}
 pub use Rattle.uv_text.specs.Recorded.{IsCallbackLine, SaysStep, after, begins, call, closed, is_callback_line, loop, outside, step_asked, step_of}
 pub use Rattle.uv_text.specs.Recording.{callback_lines, called_part, called_text, first_line, is_callback, recording_parts, step_line, step_part}
-pub use Rattle.uv_text.specs.State.{LAST_PARTS, member_text, name_part, names_upto, numbered, part_count, run_text, runs_upto, slot_part, slots_upto, state_part, state_parts, state_text, text_after}
+pub use Rattle.uv_text.specs.State.{LAST_PARTS, member_text, name_part, names_upto, numbered, part_count, run_text, runs_upto, slot_part, slots_upto}
+pub use Rattle.uv_text.specs.State.{state_part, state_parts, state_text, text_after}
 pub use Rattle.uv_text.specs.Trace.{end_text, handle_text, id_text, line_text}
 pub use Rattle.uv_text.specs.declared.command.Asked.{Asked}
 pub use Rattle.uv_text.specs.declared.command.Asked.TheVariants.{Bad, Do, Nothing}

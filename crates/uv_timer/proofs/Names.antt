@@ -1,5 +1,7 @@
 -- The names that proofs of this crate bring in.
-pub use Rattle.std.proofs.Common.{Bool, IfSome, List, None, Option, Some, [], ap, arith, count_by, false, if◌then◌else◌, inl, inr, is_some, length, ltb, nat_le, option_and_then, refl, slice_get, subst, suc, sym, true, ℕ, ◌++◌, ◌<◌, ◌==◌, ◌∙◌, ◌∷◌, ◌≡◌, ◌≢◌, ◌≤◌, ◌⊎◌}
+pub use Rattle.std.proofs.Common.{Bool, IfSome, List, None, Option, Some, [], ap, arith, count_by, false, if◌then◌else◌, inl, inr, is_some, length}
+pub use Rattle.std.proofs.Common.{ltb, nat_le, option_and_then, refl, slice_get, subst, suc, sym, true, ℕ, ◌++◌, ◌<◌, ◌==◌, ◌∙◌, ◌∷◌, ◌≡◌, ◌≢◌, ◌≤◌}
+pub use Rattle.std.proofs.Common.{◌⊎◌}
 pub use Rattle.std.proofs.lemmas.Bool.{cases_Bool, eq-eqb, eqb-true, false≢true, le-leb, leb-true, ltb-false}
 pub use Rattle.std.proofs.lemmas.List.Sums.{fails_before_first}
 pub use Rattle.std.specs.List.{position_or_len}
@@ -20,6 +22,7 @@ pub use Rattle.uv_records.specs.declared.handle.HandleRecord.{HandleRecord}
 pub use Rattle.uv_records.specs.declared.lists.ListName.TheVariants.{Ready}
 pub use Rattle.uv_timer.specs.Changes.{becoming, collecting, firing, starting}
 pub use Rattle.uv_timer.specs.Timed.{CanUndoTimer, timed, timer_undone, with_arena}
-pub use Rattle.uv_timer.specs.Timers.{IsCollected, IsDue, IsRescheduled, NoneIsDue, NoneIsReady, cleared, due_of, first_due, first_ready, handle_first, handle_of, taken_off}
+pub use Rattle.uv_timer.specs.Timers.{IsCollected, IsDue, IsRescheduled, NoneIsDue, NoneIsReady, cleared, due_of, first_due, first_ready}
+pub use Rattle.uv_timer.specs.Timers.{handle_first, handle_of, taken_off}
 pub use Rattle.uv_timer.specs.declared.change.Times.{Times}
 pub use Rattle.uv_timer.specs.declared.undo.TimerUndo.{TimerUndo}

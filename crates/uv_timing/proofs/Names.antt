@@ -1,5 +1,7 @@
 -- The names that proofs of this crate bring in.
-pub use Rattle.std.proofs.Common.{Bool, List, None, Option, Some, [], ap, ap₂, arith, cond, count_by, drop, eqb, false, if◌then◌else◌, inl, inr, map, nat_le, not, option_and_then, refl, rules, slice_get, subst, suc, sym, take, true, ℕ, ◌&&◌, ◌++◌, ◌+◌, ◌<◌, ◌==◌, ◌||◌, ◌∙◌, ◌∷◌, ◌≡◌, ◌≢◌, ◌≤◌, ◌⊎◌}
+pub use Rattle.std.proofs.Common.{Bool, List, None, Option, Some, [], ap, ap₂, arith, cond, count_by, drop, eqb, false, if◌then◌else◌, inl, inr, map}
+pub use Rattle.std.proofs.Common.{nat_le, not, option_and_then, refl, rules, slice_get, subst, suc, sym, take, true, ℕ, ◌&&◌, ◌++◌, ◌+◌, ◌<◌, ◌==◌}
+pub use Rattle.std.proofs.Common.{◌||◌, ◌∙◌, ◌∷◌, ◌≡◌, ◌≢◌, ◌≤◌, ◌⊎◌}
 pub use Rattle.std.proofs.lemmas.Bool.{and_from, and_parts, both_ways, cases_Bool, eq-eqb, eqb-true, false≢true, le-leb, leb-true}
 pub use Rattle.std.proofs.lemmas.Cmp.{ranked, tied_itself}
 pub use Rattle.std.proofs.lemmas.List.{map-append, set-set}
@@ -45,7 +47,8 @@ pub use Rattle.uv_records.specs.declared.lists.ListName.{ListName}
 pub use Rattle.uv_records.specs.declared.slot.Slot.{Slot}
 pub use Rattle.uv_requests.proofs.Rules.{set_back}
 pub use Rattle.uv_requests.specs.Working.{id_in}
-pub use Rattle.uv_stands.proofs.Absent.{IsOn, absent_active, active_open, has_it, held_handle, holds_it, not_closing, not_closing_yet, not_done, not_done_yet, not_of, not_waiting, own_id, ready_stays, stays, timer_kind}
+pub use Rattle.uv_stands.proofs.Absent.{IsOn, absent_active, active_open, has_it, held_handle, holds_it, not_closing, not_closing_yet, not_done}
+pub use Rattle.uv_stands.proofs.Absent.{not_done_yet, not_of, not_waiting, own_id, ready_stays, stays, timer_kind}
 pub use Rattle.uv_stands.proofs.Holding.{ids_kept, map_same, slots_set, state_handle}
 pub use Rattle.uv_stands.proofs.Lists.{Listed, all_but_one, beside_lists, list_is, list_stays}
 pub use Rattle.uv_stands.proofs.Naming.{record_there}
