@@ -18,7 +18,7 @@ after_event s l = record { place = l.place; steps = s.steps ++ l.event ∷ [] }
 
 module _ (r : Rules) where
   abbrev pub LeadsTo : Spot → List ℕ → Spot → Type 0
-  LeadsTo s is t = LeadTo (λ _. move_count r) (next_spot r) s is t
+  LeadsTo s is t = LeadTo (λ (a : Spot). move_count r a.place) (next_spot r) s is t
 
   -- ---- a move is an event
 
@@ -52,12 +52,12 @@ module _ (r : Rules) where
 
   -- ---- an event is a move
 
-  choice_below : (p : Place) (n : ℕ) (c : Choice) → choice_at r p n ≡ Some c → n < move_count r
+  choice_below : (p : Place) (n : ℕ) (c : Choice) → choice_at r p n ≡ Some c → n < move_count r p
   unfolding choice_at
-  choice_below p n c h = by (nat_lt n (move_count r)) refl h
+  choice_below p n c h = by (nat_lt n (move_count r p)) refl h
     where
-      by : (b : Bool) → nat_lt n (move_count r) ≡ b → (if b then choice_by r p n r.differ else None) ≡ Some c → n < move_count r
-      by true is g = ltb-true n (move_count r) is
+      by : (b : Bool) → nat_lt n (move_count r p) ≡ b → (if b then choice_by r p n r.differ else None) ≡ Some c → n < move_count r p
+      by true is g = ltb-true n (move_count r p) is
       by false is g = absurd (let f : ⊥ = cc in f)
 
   leads_led : (p : Place) (l : Led) (on : LeadsOn r p l) → led r p on.number ≡ Some l
@@ -93,7 +93,7 @@ module _ (r : Rules) where
   -- ---- answers
 
   abbrev pub WayAnswers : Spot → List ℕ → ℕ → Spot → Type 0
-  WayAnswers s is i t = Answers (λ _. move_count r) (next_spot r) s is i t
+  WayAnswers s is i t = Answers (λ (a : Spot). move_count r a.place) (next_spot r) s is i t
 
   pub moves_answer : (s : Spot) (is : List ℕ) (i : ℕ) (t : Spot) → WayAnswers s is i t
       → (es : List Event) × (l : Led) × (courses.Answers r s.place es l × (t.place ≡ l.place) × (t.steps ≡ s.steps ++ (es ++ l.event ∷ [])))

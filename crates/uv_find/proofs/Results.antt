@@ -15,7 +15,7 @@ use Rattle.uv_find.proofs.Moving.{after_event, moves_course, course_moves, moves
 
 module _ (r : Rules) (s : Spot) where
   abbrev AreKeys : ℕ → List (List ℕ) → Type 0
-  AreKeys number keys = settled.AreKeys (λ _. move_count r) (next_spot r) spot_code IsDeep s number keys
+  AreKeys number keys = settled.AreKeys (λ (a : Spot). move_count r a.place) (next_spot r) spot_code IsDeep s number keys
 
   reached : (number : ℕ) (keys : List (List ℕ)) → AreKeys number keys → AreReached r s.place number keys
   reached number keys k = record {
@@ -29,7 +29,7 @@ module _ (r : Rules) (s : Spot) where
   }
 
   pub found_way : (limit : ℕ) (way : List ℕ) (number : ℕ) (t : Spot) → number ≤ limit
-      → settled.IsWay (λ _. move_count r) (next_spot r) spot_code IsDeep s way t → (keys : List (List ℕ)) × AreKeys number keys
+      → settled.IsWay (λ (a : Spot). move_count r a.place) (next_spot r) spot_code IsDeep s way t → (keys : List (List ℕ)) × AreKeys number keys
       → Finds r s limit (answer.Found number) t
   found_way limit way number t few (is, i, whole, answers) keys =
       let a = moves_answer r s is i t answers in
@@ -49,7 +49,7 @@ module _ (r : Rules) (s : Spot) where
   )
 
   pub found_never : (limit number : ℕ) (t : Spot) → number ≤ limit → place_answers r s.place r.question ≡ false
-      → settled.Never (λ _. move_count r) (next_spot r) spot_code IsDeep s number → Finds r s limit (answer.Never number) t
+      → settled.Never (λ (a : Spot). move_count r a.place) (next_spot r) spot_code IsDeep s number → Finds r s limit (answer.Never number) t
   found_never limit number t few here n = (
     few,
     record {
@@ -63,7 +63,7 @@ module _ (r : Rules) (s : Spot) where
     },
   )
 
-  pub found_more : (limit : ℕ) (t : Spot) → settled.HasMore (λ _. move_count r) (next_spot r) spot_code IsDeep s limit
+  pub found_more : (limit : ℕ) (t : Spot) → settled.HasMore (λ (a : Spot). move_count r a.place) (next_spot r) spot_code IsDeep s limit
       → Finds r s limit answer.Unsettled t
   found_more limit t m =
       let w = m.more in
@@ -83,7 +83,7 @@ module _ (r : Rules) (s : Spot) where
   unfolding IsDistinct
   found_none limit t = (omega arith, ([], record { count = refl; distinct = tt; each = λ k has. absurd cc }))
 
-  pub found_deep : (limit : ℕ) (t u : Spot) → settled.IsTooDeep (λ _. move_count r) (next_spot r) spot_code IsDeep s u
+  pub found_deep : (limit : ℕ) (t u : Spot) → settled.IsTooDeep (λ (a : Spot). move_count r a.place) (next_spot r) spot_code IsDeep s u
       → Finds r s limit answer.TooDeep t
   found_deep limit t u d =
       let way = moves_course r s d.0 u d.1 in

@@ -1,5 +1,5 @@
 -- A move that is made, and taken back.
-use Rattle.std.proofs.Common.{◌≡◌, ℕ, ◌+◌, ◌-◌, List, [], ◌∷◌, ◌++◌, length, take, reverse, refl, ap, ◌∙◌, Option, Some, None, Ok, arith, length-append, length-take}
+use Rattle.std.proofs.Common.{◌≡◌, ℕ, ◌+◌, ◌-◌, List, [], ◌∷◌, ◌++◌, length, take, reverse, refl, ap, ◌∙◌, Some, None, Ok, arith, length-append, length-take}
 use Rattle.std.proofs.lemmas.Grind.{common_steps}
 use Rattle.std.proofs.lemmas.List.{reverse-append}
 use Rattle.uv_ids.specs.declared.event.Event.{Event}
@@ -9,6 +9,7 @@ use Rattle.uv_session.specs.Shown.{Shown}
 use Rattle.uv_find.specs.declared.choices.Moved.{Moved}
 use Rattle.uv_find.specs.declared.orders.Made.{Made}
 use Rattle.uv_find.specs.declared.kept.Kept.{Kept}
+use Rattle.uv_find.specs.declared.left.Left.{Left}
 use Rattle.uv_find.specs.declared.terms.Terms.{Terms}
 use Rattle.uv_find.specs.Kept.{kept_after}
 use Rattle.uv_find.specs.Orders.{Rules, led_by, placed, taken}
@@ -27,7 +28,7 @@ before_more p es e m ms =
     ∷ spots_before p (last_taken es e i) ms
 
 -- the same steps, the same search
-pub same_searched : (s t : Shown) (terms : Terms) (left : List (Option ℕ)) (kept : Kept) (made : List Made) → Stands s s.standing t
+pub same_searched : (s t : Shown) (terms : Terms) (left : List Left) (kept : Kept) (made : List Made) → Stands s s.standing t
     → searched t terms left kept made ≡ searched s terms left kept made
 same_searched s t terms left kept made k =
     λ i. record {
@@ -36,7 +37,7 @@ same_searched s t terms left kept made k =
       before = spots_before (k.program i) (k.standing i) (reverse made);
     }
 
-pub takes_one : (E : Type 0) (s t : Shown) (terms : Terms) (left : List (Option ℕ)) (kept : Kept) (made : List Made) (number : ℕ) (moved : Moved)
+pub takes_one : (E : Type 0) (s t : Shown) (terms : Terms) (left : List Left) (kept : Kept) (made : List Made) (number : ℕ) (moved : Moved)
     (m : Made) → m.left.items ≡ left → m.kept ≡ kept → MakesMove {E = E} terms s left kept number (Ok (Some moved)) t
     → Takes {E = E} (searched s terms left kept made) number (Ok (Some moved.outcome))
     (searched t terms moved.choice.left.items
@@ -58,14 +59,14 @@ takes_one E s t terms left kept made number moved m was held (k, chosen, goes) =
       ),
     )
 
-pub takes_none : (E : Type 0) (s t : Shown) (terms : Terms) (left : List (Option ℕ)) (kept : Kept) (made : List Made) (number : ℕ)
+pub takes_none : (E : Type 0) (s t : Shown) (terms : Terms) (left : List Left) (kept : Kept) (made : List Made) (number : ℕ)
     → MakesMove {E = E} terms s left kept number (Ok None) t
     → Takes {E = E} (searched s terms left kept made) number (Ok None) (searched t terms left kept made)
 takes_none E s t terms left kept made number (k, goes) = (goes, same_searched s t terms left kept made k)
 
 -- ---- what always holds
 
-pub taken_searched : (B E : Type 0) (s t : Shown) (terms : Terms) (left : List (Option ℕ)) (kept : Kept) (made : List Made) (number : ℕ)
+pub taken_searched : (B E : Type 0) (s t : Shown) (terms : Terms) (left : List Left) (kept : Kept) (made : List Made) (number : ℕ)
     (moved : Moved) (m : Made) → IsSearched B s made → MakesMove {E = E} terms s left kept number (Ok (Some moved)) t
     → IsSearched B t (made ++ m ∷ [])
 taken_searched B E s t terms left kept made number moved m i (k, chosen, goes) =

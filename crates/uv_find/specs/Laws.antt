@@ -15,29 +15,37 @@ use Rattle.uv_find.specs.Questions.{answers}
 use Rattle.uv_find.specs.Courses.{LeadsOn}
 use Rattle.uv_find.specs.declared.kept.Along.{Along}
 use Rattle.uv_find.specs.declared.kept.Kept.{Kept}
-use Rattle.uv_find.specs.Spots.{Spot, spot_of, next_spot, times_code, each_code, left_code, along_code, kept_code, spot_code, IsSpot}
+use Rattle.uv_find.specs.declared.left.Left.{Left}
+use Rattle.uv_find.specs.declared.left.Left.TheVariants as left
+use Rattle.uv_find.specs.Spots.{Spot, spot_of, next_spot, kind_code, event_code, each_code, left_code, along_code, kept_code, spot_code, IsSpot}
 
-times_tell : (a b : Option ℕ) → times_code a ≡ times_code b → a ≡ b
-times_tell None None e = refl
-times_tell None (Some n) e = absurd (omega (arith, e))
-times_tell (Some m) None e = absurd (omega (arith, e))
-times_tell (Some m) (Some n) e =
-    let same : m ≡ n = omega (arith, e) in
-    ap Some same
+kinds_tell : (a b : Left) (x y : List ℕ) → kind_code a ≡ kind_code b → event_code a ++ x ≡ event_code b ++ y → (a ≡ b) × (x ≡ y)
+kinds_tell left.AtWill left.AtWill x y e same = (refl, same)
+kinds_tell left.Over left.Over x y e same = (refl, same)
+kinds_tell (left.Times m) (left.Times n) x y e same =
+    let one : m ≡ n = omega (arith, e) in
+    (ap left.Times one, same)
+kinds_tell (left.Ahead m) (left.Ahead n) x y e same = let t = numbers_tell m n x y same in (ap left.Ahead t.0, t.1)
+kinds_tell (left.Held m) (left.Held n) x y e same = let t = numbers_tell m n x y same in (ap left.Held t.0, t.1)
+kinds_tell a b x y e same = absurd (omega (arith, e))
 
--- how often offers may be taken, of as many in both
-each_tells : (a b : List (Option ℕ)) (x y : List ℕ) → length a ≡ length b → each_code a ++ x ≡ each_code b ++ y → (a ≡ b) × (x ≡ y)
+-- what is left of as many in both
+each_tells : (a b : List Left) (x y : List ℕ) → length a ≡ length b → each_code a ++ x ≡ each_code b ++ y → (a ≡ b) × (x ≡ y)
 each_tells [] [] x y s e = (refl, e)
 each_tells [] (o ∷ os) x y s e = absurd (omega (arith, s))
 each_tells (o ∷ os) [] x y s e = absurd (omega (arith, s))
 each_tells (a ∷ as1) (b ∷ bs) x y s e =
     let more : length as1 ≡ length bs = omega (arith, s) in
-    let first = numbers_tell (times_code a) (times_code b) (each_code as1 ++ x) (each_code bs ++ y)
-    (sym (append_assoc (number_code (times_code a)) (each_code as1) x) ∙ e ∙ append_assoc (number_code (times_code b)) (each_code bs) y) in
-    let r = each_tells as1 bs x y more first.1 in
-    (ap₂ (λ o os. o ∷ os) (times_tell a b first.0) r.0, r.1)
+    let first = numbers_tell (kind_code a) (kind_code b) (event_code a ++ (each_code as1 ++ x)) (event_code b ++ (each_code bs ++ y))
+    (sym (parted (kind_code a) (event_code a) (each_code as1) x) ∙ e ∙ parted (kind_code b) (event_code b) (each_code bs) y) in
+    let here = kinds_tell a b (each_code as1 ++ x) (each_code bs ++ y) first.0 first.1 in
+    let r = each_tells as1 bs x y more here.1 in
+    (ap₂ (λ o os. o ∷ os) here.0 r.0, r.1)
+  where
+    parted : (n : ℕ) (code rest x : List ℕ) → ((number_code n ++ code) ++ rest) ++ x ≡ number_code n ++ (code ++ (rest ++ x))
+    parted n code rest x = append_assoc (number_code n ++ code) rest x ∙ append_assoc (number_code n) code (rest ++ x)
 
-lefts_tell : (a b : List (Option ℕ)) (x y : List ℕ) → left_code a ++ x ≡ left_code b ++ y → (a ≡ b) × (x ≡ y)
+lefts_tell : (a b : List Left) (x y : List ℕ) → left_code a ++ x ≡ left_code b ++ y → (a ≡ b) × (x ≡ y)
 lefts_tell a b x y e =
     let first = numbers_tell (length a) (length b) (each_code a ++ x) (each_code b ++ y)
     (sym (append_assoc (number_code (length a)) (each_code a) x) ∙ e ∙ append_assoc (number_code (length b)) (each_code b) y) in
@@ -83,10 +91,10 @@ same_spots r s t same None = tt
 same_spots r s t same (Some l) = (refl, ap (λ (p : Place). answers r p l) same)
 
 pub spots_alike : (r : Rules) (s t : Spot) → IsSpot r s → IsSpot r t → spot_code s ≡ spot_code t
-    → SameMoves (λ _. move_count r) (next_spot r) spot_code s t
+    → SameMoves (λ (a : Spot). move_count r a.place) (next_spot r) spot_code s t
 spots_alike r s t is js e =
     let same = places_tell r s t is js e in (
-      refl,
+      ap (move_count r) same,
       λ i below. subst (λ (p : Place). SameStep spot_code (next_spot r s i) (spot_of r t (led r p i))) same (same_spots r s t same (led r s.place i)),
     )
 
@@ -130,7 +138,7 @@ leads_spot r s l is on =
     subst (λ x. next r.program x l.event ≡ Moves l.place.state l.line) is.state on.accepted in
     record { state = sym (after-push r.program s.steps l.event ∙ ap (state_of (after r.program s.steps)) accepted) }
 
-pub spots_lead : (r : Rules) (s : Spot) (i : ℕ) (t : Spot) (b : Bool) → IsSpot r s → i < move_count r → next_spot r s i ≡ Some (t, b) → IsSpot r t
+pub spots_lead : (r : Rules) (s : Spot) (i : ℕ) (t : Spot) (b : Bool) → IsSpot r s → i < move_count r s.place → next_spot r s i ≡ Some (t, b) → IsSpot r t
 spots_lead r s i t b is below goes = by (led r s.place i) refl goes
   where
     by : (o : Option Led) → led r s.place i ≡ o → spot_of r s o ≡ Some (t, b) → IsSpot r t

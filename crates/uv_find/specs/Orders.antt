@@ -1,5 +1,5 @@
 -- The orders of what may come from outside of a loop: what is offered where a search stands, and where it leads.
-use Rattle.std.specs.Prelude.{ℕ, zero, suc, ◌+◌, ◌-◌, ◌&&◌, not, ◌==◌, ◌||◌, length, Bool, true, false, nat_lt, nat_le, is_none, is_some, map, List, [], ◌∷◌, ◌++◌, Option, Some, None, slice_get, slice_set, if◌then◌else◌}
+use Rattle.std.specs.Prelude.{ℕ, zero, suc, ◌+◌, ◌-◌, ◌&&◌, not, ◌==◌, length, Bool, true, false, nat_lt, nat_le, is_none, is_some, option_map, map, List, [], ◌∷◌, ◌++◌, Option, Some, None, slice_get, slice_set, drop, if◌then◌else◌}
 use Rattle.std.specs.List.{list_all}
 use Rattle.uv_ids.specs.declared.event.Event.{Event}
 use Rattle.uv_ids.specs.declared.event.Event.TheVariants as event
@@ -28,6 +28,8 @@ use Rattle.uv_asking.specs.declared.asking.Takes.{Takes}
 use Rattle.uv_asking.specs.declared.asking.Question.{Question}
 use Rattle.uv_find.specs.declared.kept.Kept.{Kept}
 use Rattle.uv_find.specs.declared.kept.Along.{Along}
+use Rattle.uv_find.specs.declared.left.Left.{Left}
+use Rattle.uv_find.specs.declared.left.Left.TheVariants as left
 use Rattle.uv_find.specs.Kept.{none_kept, kept_after, behind, with_spare, owes}
 
 -- what stays the same: the script, what is offered, how long callbacks take, how far the clock goes, how often names are called, and what is asked
@@ -45,9 +47,8 @@ pub record Rules : Type 0 where
 -- where a search stands
 pub record Place : Type 0 where
   pub state : State
-  -- how often each offer may still be taken; none is as often as one likes. Of a recorded event: 2 while it is ahead, 1 where it was held
-  -- back, 0 once it has come
-  pub left : List (Option ℕ)
+  -- what is left of each offer, or of what came from each source in a recording
+  pub left : List Left
   pub kept : Kept
 
 -- ---- what is offered
@@ -65,22 +66,55 @@ finishes (suc n) = finishes n ++ at_will (Step (event.Finish n)) ∷ []
 abbrev pub every_offer : ℕ → List Offered → List Offered
 every_offer workers asked = (at_will (Step event.Loop) ∷ at_will Take ∷ []) ++ finishes workers ++ asked
 
-abbrev pub times_of : List Offered → List (Option ℕ)
-times_of offers = map (λ (offered : Offered). offered.times) offers
+abbrev pub times_left : Option ℕ → Left
+times_left None = left.AtWill
+times_left (Some n) = left.Times n
 
--- of a recorded event is left: it is ahead, it was held back, it has come
-abbrev pub AHEAD : ℕ
-AHEAD = 2
+abbrev pub times_of : List Offered → List Left
+times_of offers = map (λ (offered : Offered). times_left offered.times) offers
 
-abbrev pub HELD : ℕ
-HELD = 1
+-- ---- sources of what came in a recording
 
-abbrev pub COME : ℕ
-COME = 0
+-- two events of one source: for one name, of one worker, or of the clock
+abbrev pub is_akin : Event → Event → Bool
+is_akin (event.Take m) (event.Take n) = m == n
+is_akin (event.Finish m) (event.Finish n) = m == n
+is_akin (event.Cancel v) (event.Cancel w) = v.0 == w.0
+is_akin (event.Send v) (event.Send w) = v.0 == w.0
+is_akin (event.Io v) (event.Io w) = v.0 == w.0
+is_akin (event.Tick m) (event.Tick n) = true
+is_akin d e = false
 
-abbrev pub first_left : Option ℕ → List Offered → List Recorded → List (Option ℕ)
+abbrev pub is_akin_to : Event → Option Recorded → Bool
+is_akin_to e None = false
+is_akin_to e (Some r) = is_akin r.event e
+
+-- none of the first recorded events is of this one's source
+abbrev pub is_new : List Recorded → Event → ℕ → Bool
+is_new recorded e zero = true
+is_new recorded e (suc n) = is_new recorded e n && not (is_akin_to e (slice_get recorded n))
+
+abbrev pub is_first_by : List Recorded → ℕ → Option Recorded → Bool
+is_first_by recorded number None = false
+is_first_by recorded number (Some r) = is_new recorded r.event number
+
+-- the recorded event of this number is the first of its source
+abbrev pub is_first : List Recorded → ℕ → Bool
+is_first recorded number = is_first_by recorded number (slice_get recorded number)
+
+-- the sources of the first recorded events: of each the first event is ahead
+abbrev pub sources : List Recorded → ℕ → List Left
+sources recorded zero = []
+sources recorded (suc n) = sources recorded n ++ (if is_first recorded n then left.Ahead n ∷ [] else [])
+
+-- the next event of a source is the first among those from this number on that is of it
+abbrev pub next_of : Event → List Recorded → ℕ → Left
+next_of e [] number = left.Over
+next_of e (r ∷ rs) number = if is_akin r.event e then left.Ahead number else next_of e rs (number + 1)
+
+abbrev pub first_left : Option ℕ → List Offered → List Recorded → List Left
 first_left None offers recorded = times_of offers
-first_left (Some k) offers recorded = map (λ (e : Recorded). Some AHEAD) recorded
+first_left (Some k) offers recorded = sources recorded (length recorded)
 
 -- where a search begins
 abbrev pub beginning : Rules → Place
@@ -205,15 +239,16 @@ abbrev pub timed : Option ℕ → ℕ → Option Event → Option Event
 timed most clock None = None
 timed most clock (Some e) = if keeps_clock most clock e then Some e else None
 
-abbrev pub may_take : Option ℕ → Bool
-may_take None = true
-may_take (Some n) = nat_lt 0 n
+abbrev pub may_take : Left → Bool
+may_take left.AtWill = true
+may_take (left.Times n) = nat_lt 0 n
+may_take x = false
 
-abbrev pub offered_here : Program → Option ℕ → State → Kept → Offer → Option ℕ → Option Event
-offered_here p most s k offer left = if may_take left then timed most s.clock (event_of p s k offer) else None
+abbrev pub offered_here : Program → Option ℕ → State → Kept → Offer → Left → Option Event
+offered_here p most s k offer x = if may_take x then timed most s.clock (event_of p s k offer) else None
 
-abbrev pub offered_by : Rules → Place → Option Offered → Option (Option ℕ) → Option Event
-offered_by r p (Some offered) (Some left) = offered_here r.program r.clock p.state p.kept offered.offer left
+abbrev pub offered_by : Rules → Place → Option Offered → Option Left → Option Event
+offered_by r p (Some offered) (Some x) = offered_here r.program r.clock p.state p.kept offered.offer x
 offered_by r p _ _ = None
 
 -- ---- what may come at a place
@@ -221,24 +256,24 @@ offered_by r p _ _ = None
 -- an event that may come, with what is left and kept of the place where it does
 pub record Choice : Type 0 where
   pub event : Event
-  pub left : List (Option ℕ)
+  pub left : List Left
   pub kept : Kept
 
-abbrev pub chosen : List (Option ℕ) → Kept → Option Event → Option Choice
-chosen left kept None = None
-chosen left kept (Some e) = Some (record { event = e; left = left; kept = kept })
+abbrev pub chosen : List Left → Kept → Option Event → Option Choice
+chosen xs kept None = None
+chosen xs kept (Some e) = Some (record { event = e; left = xs; kept = kept })
 
 -- an offer may be taken once less
-abbrev pub less : Option ℕ → Option ℕ
-less None = None
-less (Some n) = Some (n - 1)
+abbrev pub less : Left → Left
+less (left.Times n) = left.Times (n - 1)
+less x = x
 
-abbrev pub lessened_by : List (Option ℕ) → ℕ → Option (Option ℕ) → List (Option ℕ)
-lessened_by left number None = left
-lessened_by left number (Some n) = slice_set left number (less n)
+abbrev pub lessened_by : List Left → ℕ → Option Left → List Left
+lessened_by xs number None = xs
+lessened_by xs number (Some x) = slice_set xs number (less x)
 
-abbrev pub lessened : List (Option ℕ) → ℕ → List (Option ℕ)
-lessened left number = lessened_by left number (slice_get left number)
+abbrev pub lessened : List Left → ℕ → List Left
+lessened xs number = lessened_by xs number (slice_get xs number)
 
 -- the offer of this number, if it may still be taken
 abbrev pub offer_at : Rules → Place → ℕ → Option Choice
@@ -246,41 +281,13 @@ offer_at r p number = chosen (lessened p.left number) p.kept (offered_by r p (sl
 
 -- ---- what came in a recording, with at most so many events at another place
 
-abbrev pub has_left : ℕ → Option (Option ℕ) → Bool
-has_left n (Some (Some m)) = m == n
-has_left n _ = false
+abbrev pub comes_by : State → Option Recorded → Option Event
+comes_by s None = None
+comes_by s (Some r) = if is_made s (aim r.event) then Some r.event else None
 
-abbrev pub is_to_come : Option (Option ℕ) → Bool
-is_to_come (Some (Some m)) = nat_lt 0 m
-is_to_come _ = false
-
--- two events of one source: for one name, of one worker, or of the clock
-abbrev pub is_akin : Event → Event → Bool
-is_akin (event.Take m) (event.Take n) = m == n
-is_akin (event.Finish m) (event.Finish n) = m == n
-is_akin (event.Cancel v) (event.Cancel w) = v.0 == w.0
-is_akin (event.Send v) (event.Send w) = v.0 == w.0
-is_akin (event.Io v) (event.Io w) = v.0 == w.0
-is_akin (event.Tick m) (event.Tick n) = true
-is_akin d e = false
-
-abbrev pub is_akin_to : Event → Option Recorded → Bool
-is_akin_to e None = false
-is_akin_to e (Some r) = is_akin r.event e
-
--- one of the first recorded events is of this one's source, and hasn't come
-abbrev pub waits_for : List Recorded → List (Option ℕ) → Event → ℕ → Bool
-waits_for recorded left e zero = false
-waits_for recorded left e (suc n) = waits_for recorded left e n || (is_akin_to e (slice_get recorded n) && is_to_come (slice_get left n))
-
-abbrev pub comes_by : List Recorded → State → List (Option ℕ) → ℕ → Option Recorded → Option Event
-comes_by recorded s left number None = None
-comes_by recorded s left number (Some r) =
-    if is_made s (aim r.event) && not (waits_for recorded left r.event number) then Some r.event else None
-
--- the recorded event of this number, where it may come at all: what it is for was made, and those of its source before it have come
-abbrev pub comes : List Recorded → State → List (Option ℕ) → ℕ → Option Event
-comes recorded s left number = comes_by recorded s left number (slice_get recorded number)
+-- the recorded event of this number, where what it is for was made
+abbrev pub comes : List Recorded → State → ℕ → Option Event
+comes recorded s number = comes_by s (slice_get recorded number)
 
 abbrev pub moves : Next → Bool
 moves (Moves t line) = true
@@ -290,42 +297,50 @@ abbrev pub accepts : Program → State → Option Event → Bool
 accepts p s None = false
 accepts p s (Some e) = moves (next p s e)
 
--- the recorded event of this number is ahead, and the loop accepts it here
-abbrev pub is_ready : Program → List Recorded → State → List (Option ℕ) → ℕ → Bool
-is_ready p recorded s left number = if has_left AHEAD (slice_get left number) then accepts p s (comes recorded s left number) else false
+-- the next event of a source is ahead, one of the first recorded ones, and the loop accepts it here
+abbrev pub is_ready : Program → List Recorded → State → ℕ → Left → Bool
+is_ready p recorded s count (left.Ahead number) = if nat_lt number count then accepts p s (comes recorded s number) else false
+is_ready p recorded s count x = false
+
+abbrev pub held_if : Bool → Left → Left
+held_if true (left.Ahead number) = left.Held number
+held_if ready x = x
 
 -- what goes on past the first recorded events holds back those that are ready
-abbrev pub held_at : Bool → List (Option ℕ) → ℕ → List (Option ℕ)
-held_at true left number = slice_set left number (Some HELD)
-held_at false left number = left
-
-abbrev pub held_back : Program → List Recorded → State → List (Option ℕ) → ℕ → List (Option ℕ)
-held_back p recorded s left zero = left
-held_back p recorded s left (suc n) = held_at (is_ready p recorded s left n) (held_back p recorded s left n) n
+abbrev pub held_back : Program → List Recorded → State → ℕ → List Left → List Left
+held_back p recorded s count [] = []
+held_back p recorded s count (x ∷ xs) = held_if (is_ready p recorded s count x) x ∷ held_back p recorded s count xs
 
 -- each comes at another place, if one more may
-abbrev pub spent : Option ℕ → Option ℕ
-spent None = None
-spent (Some spare) = if spare == 0 then None else Some (spare - 1)
+abbrev pub spent : ℕ → Option ℕ
+spent spare = if spare == 0 then None else Some (spare - 1)
 
-abbrev pub spent_if : Bool → Option ℕ → Option ℕ
+abbrev pub spent_if : Bool → ℕ → Option ℕ
 spent_if true spare = spent spare
-spent_if false spare = spare
+spent_if false spare = Some spare
 
-abbrev pub spare_behind : Program → List Recorded → State → List (Option ℕ) → ℕ → ℕ → Option ℕ
-spare_behind p recorded s left spare zero = Some spare
-spare_behind p recorded s left spare (suc n) = spent_if (is_ready p recorded s left n) (spare_behind p recorded s left spare n)
+abbrev pub spare_behind : Program → List Recorded → State → ℕ → List Left → Option ℕ → Option ℕ
+spare_behind p recorded s count xs None = None
+spare_behind p recorded s count [] (Some spare) = Some spare
+spare_behind p recorded s count (x ∷ xs) (Some spare) =
+    spare_behind p recorded s count xs (spent_if (is_ready p recorded s count x) spare)
+
+abbrev pub past_by : List Left → Option ℕ → Option (List Left × ℕ)
+past_by xs None = None
+past_by xs (Some spare) = Some (xs, spare)
+
+-- past the first recorded events: what is left of each source, and how many more may come at another place
+abbrev pub past : Rules → Place → ℕ → Option (List Left × ℕ)
+past r p count = past_by (held_back r.program r.recorded p.state count p.left)
+    (spare_behind r.program r.recorded p.state count p.left (Some p.kept.along.spare))
+
+abbrev pub go_on_by : Kept → Option (List Left × ℕ) → Option Choice
+go_on_by k None = None
+go_on_by k (Some t) = Some (record { event = event.Loop; left = t.0; kept = with_spare k t.1 })
 
 -- the loop goes on, past all whose place was reached
-abbrev pub go_on_by : List (Option ℕ) → Kept → Option ℕ → Option Choice
-go_on_by left k None = None
-go_on_by left k (Some spare) = Some (record { event = event.Loop; left = left; kept = with_spare k spare })
-
 abbrev pub go_on : Rules → Place → Option Choice
-go_on r p =
-    let next = p.kept.along.next in
-    go_on_by (held_back r.program r.recorded p.state p.left next) p.kept
-    (spare_behind r.program r.recorded p.state p.left p.kept.along.spare next)
+go_on r p = go_on_by p.kept (past r p p.kept.along.next)
 
 abbrev pub is_in_poll : loop.Place → Bool
 is_in_poll (Main line) = false
@@ -339,45 +354,58 @@ is_due r p number = if nat_lt number p.kept.along.next then true else (if is_in_
 abbrev pub along_at : List Recorded → Along → ℕ → ℕ → Along
 along_at recorded a number spare = if nat_lt number a.next then record a { spare = spare } else behind recorded number spare
 
-abbrev pub come_by : List Recorded → List (Option ℕ) → Kept → ℕ → Option ℕ → Option Event → Option Choice
-come_by recorded left k number (Some spare) (Some e) = Some (record {
+-- an event of a source comes, that of this number
+abbrev pub come : List Recorded → List Left → ℕ → ℕ → Event → List Left
+come recorded xs source number e = slice_set xs source (next_of e (drop (number + 1) recorded) (number + 1))
+
+abbrev pub come_by : List Recorded → Kept → ℕ → ℕ → Option (List Left × ℕ) → Option Event → Option Choice
+come_by recorded k source number (Some t) (Some e) = Some (record {
   event = e;
-  left = slice_set left number (Some COME);
-  kept = record k { along = along_at recorded k.along number spare };
+  left = come recorded t.0 source number e;
+  kept = record k { along = along_at recorded k.along number t.1 };
 })
-come_by recorded left k number _ _ = None
+come_by recorded k source number _ _ = None
 
--- a recorded event comes at its place, or as soon after it as it may, past those before it
+abbrev pub come_in_place : Rules → Place → ℕ → ℕ → Option Choice
+come_in_place r p source number =
+    come_by r.recorded p.kept source number (past r p number) (timed r.clock p.state.clock (comes r.recorded p.state number))
+
+abbrev pub in_place_of : Rules → Place → ℕ → Option Left → Option Choice
+in_place_of r p source (Some (left.Ahead number)) = if is_due r p number then come_in_place r p source number else None
+in_place_of r p source x = None
+
+-- the next event of this source comes at its place, or as soon after it as it may, past those before it
 abbrev pub in_place : Rules → Place → ℕ → Option Choice
-in_place r p number = if has_left AHEAD (slice_get p.left number) && is_due r p number
-    then come_by r.recorded (held_back r.program r.recorded p.state p.left number) p.kept number
-    (spare_behind r.program r.recorded p.state p.left p.kept.along.spare number)
-    (timed r.clock p.state.clock (comes r.recorded p.state p.left number))
-    else None
-
--- what may still come at another place if this one does: it was held back, or it is ahead
-abbrev pub spare_of : ℕ → Option (Option ℕ) → Option ℕ
-spare_of spare (Some (Some left)) = if left == HELD then Some spare else (if left == AHEAD then spent (Some spare) else None)
-spare_of spare _ = None
+in_place r p source = in_place_of r p source (slice_get p.left source)
 
 abbrev pub free_of : State → Kept → Option Event → Option Event
 free_of s k None = None
 free_of s k (Some e) = if is_free s k e then Some e else None
 
-abbrev pub elsewhere_by : List (Option ℕ) → Kept → ℕ → Option ℕ → Option Event → Option Choice
-elsewhere_by left k number (Some spare) (Some e) =
-    Some (record { event = e; left = slice_set left number (Some COME); kept = with_spare k spare })
-elsewhere_by left k number _ _ = None
+abbrev pub elsewhere_by : List Recorded → List Left → Kept → ℕ → ℕ → Option Event → Option Choice
+elsewhere_by recorded xs k source number None = None
+elsewhere_by recorded xs k source number (Some e) = Some (record { event = e; left = come recorded xs source number e; kept = k })
 
--- a recorded event comes at another place
+abbrev pub elsewhere_with : Rules → State → List Left → ℕ → ℕ → Option Kept → Option Choice
+elsewhere_with r s xs source number None = None
+elsewhere_with r s xs source number (Some k) =
+    elsewhere_by r.recorded xs k source number (timed r.clock s.clock (free_of s k (comes r.recorded s number)))
+
+-- one that is ahead is counted here; one that was held back was counted then
+abbrev pub elsewhere_of : Rules → Place → ℕ → Option Left → Option Choice
+elsewhere_of r p source (Some (left.Ahead number)) =
+    elsewhere_with r p.state p.left source number (option_map (with_spare p.kept) (spent p.kept.along.spare))
+elsewhere_of r p source (Some (left.Held number)) = elsewhere_with r p.state p.left source number (Some p.kept)
+elsewhere_of r p source x = None
+
+-- the next event of this source comes at another place
 abbrev pub elsewhere : Rules → Place → ℕ → Option Choice
-elsewhere r p number = elsewhere_by p.left p.kept number (spare_of p.kept.along.spare (slice_get p.left number))
-    (timed r.clock p.state.clock (free_of p.state p.kept (comes r.recorded p.state p.left number)))
+elsewhere r p source = elsewhere_of r p source (slice_get p.left source)
 
--- by their numbers: the loop goes on, each recorded event comes at its place, each at another one
+-- by their numbers: the loop goes on, each source's next event comes at its place, each at another one
 abbrev pub recorded_at : Rules → Place → ℕ → Option Choice
 recorded_at r p number =
-    let count = length r.recorded in
+    let count = length p.left in
     if number == 0 then go_on r p
     else if nat_le number count then in_place r p (number - 1)
     else elsewhere r p (number - 1 - count)
@@ -385,11 +413,11 @@ recorded_at r p number =
 -- ---- the choices of a place
 
 abbrev pub move_count_by : Option ℕ → ℕ → ℕ → ℕ
-move_count_by None offers recorded = offers
-move_count_by (Some k) offers recorded = 1 + recorded + recorded
+move_count_by None offers sources = offers
+move_count_by (Some k) offers sources = 1 + sources + sources
 
-abbrev pub move_count : Rules → ℕ
-move_count r = move_count_by r.differ (length r.offers) (length r.recorded)
+abbrev pub move_count : Rules → Place → ℕ
+move_count r p = move_count_by r.differ (length r.offers) (length p.left)
 
 abbrev pub choice_by : Rules → Place → ℕ → Option ℕ → Option Choice
 choice_by r p number None = offer_at r p number
@@ -397,7 +425,7 @@ choice_by r p number (Some k) = recorded_at r p number
 
 -- what the move of this number is here, if it is any
 unfoldable pub choice_at : Rules → Place → ℕ → Option Choice
-choice_at r p number = if nat_lt number (move_count r) then choice_by r p number r.differ else None
+choice_at r p number = if nat_lt number (move_count r p) then choice_by r p number r.differ else None
 
 -- ---- where an event leads
 

@@ -113,7 +113,7 @@ none_leads r p (suc n) = none_leads r p n && is_none (led r p n)
 
 abbrev pub place_answers : Rules → Place → Question → Bool
 place_answers r p (asks.Never name) = has_ended r.program p.state.place && is_uncalled p.state name
-place_answers r p asks.Stuck = is_blocked r.program p.state && none_leads r p (move_count r)
+place_answers r p asks.Stuck = is_blocked r.program p.state && none_leads r p (move_count r p)
 place_answers r p _ = false
 
 -- a step with this line that led here answers the question, where that was kept of a due time before it

@@ -8,6 +8,8 @@ use Rattle.uv_find.specs.Orders.{Rules, Place, Led, led, every_offer, beginning}
 use Rattle.uv_find.specs.Questions.{answers}
 use Rattle.uv_find.specs.declared.kept.Along.{Along}
 use Rattle.uv_find.specs.declared.kept.Kept.{Kept}
+use Rattle.uv_find.specs.declared.left.Left.{Left}
+use Rattle.uv_find.specs.declared.left.Left.TheVariants as left
 use Rattle.uv_find.specs.declared.terms.Terms.{Terms}
 use Rattle.uv_find.specs.declared.orders.Made.{Made}
 use Rattle.uv_asking.specs.Asked.{Asked}
@@ -26,17 +28,25 @@ spot_of r s (Some l) = Some (record { place = l.place; steps = s.steps ++ l.even
 abbrev pub next_spot : Rules → Spot → ℕ → Option (Spot × Bool)
 next_spot r s number = spot_of r s (led r s.place number)
 
--- how often each offer may still be taken, and what is left of each recorded event: how many they are, and a number for each
-abbrev pub times_code : Option ℕ → ℕ
-times_code None = 0
-times_code (Some n) = n + 1
+-- what is left of each offer or source: how many they are, and a number for each, with that of an event behind it
+abbrev pub kind_code : Left → ℕ
+kind_code left.AtWill = 0
+kind_code left.Over = 1
+kind_code (left.Ahead number) = 2
+kind_code (left.Held number) = 3
+kind_code (left.Times n) = n + 4
 
-abbrev pub each_code : List (Option ℕ) → List ℕ
+abbrev pub event_code : Left → List ℕ
+event_code (left.Ahead number) = number_code number
+event_code (left.Held number) = number_code number
+event_code x = []
+
+abbrev pub each_code : List Left → List ℕ
 each_code [] = []
-each_code (times ∷ left) = number_code (times_code times) ++ each_code left
+each_code (x ∷ xs) = (number_code (kind_code x) ++ event_code x) ++ each_code xs
 
-abbrev pub left_code : List (Option ℕ) → List ℕ
-left_code left = number_code (length left) ++ each_code left
+abbrev pub left_code : List Left → List ℕ
+left_code xs = number_code (length xs) ++ each_code xs
 
 abbrev pub along_code : Along → List ℕ
 along_code a = number_code a.next ++ (number_code a.polls ++ (number_code a.steps ++ number_code a.spare))
@@ -98,14 +108,14 @@ rules_by p t = record {
 }
 
 -- where a session stands
-abbrev pub place_by : Shown → List (Option ℕ) → Kept → Place
-place_by s left kept = record { state = after s.program s.standing; left = left; kept = kept }
+abbrev pub place_by : Shown → List Left → Kept → Place
+place_by s xs kept = record { state = after s.program s.standing; left = xs; kept = kept }
 
 -- what the fields of a search stand for
-abbrev pub searched : Shown → Terms → List (Option ℕ) → Kept → List Made → Searched
-searched s terms left kept made = record {
+abbrev pub searched : Shown → Terms → List Left → Kept → List Made → Searched
+searched s terms xs kept made = record {
   rules = rules_by s.program terms;
-  spot = record { place = place_by s left kept; steps = s.standing };
+  spot = record { place = place_by s xs kept; steps = s.standing };
   before = spots_before s.program s.standing (reverse made);
 }
 

@@ -8,8 +8,10 @@ use Rattle.uv_model.specs.State.{State}
 use Rattle.uv_session.specs.Shown.{Shown}
 use Rattle.uv_asking.specs.declared.asking.Most.{Most}
 use Rattle.uv_find.specs.declared.kept.Kept.{Kept}
+use Rattle.uv_find.specs.declared.left.Left.{Left}
 use Rattle.uv_find.specs.declared.choices.Choice as choices
 use Rattle.uv_find.specs.declared.choices.Moved as moved
+use Rattle.uv_find.specs.declared.recorded.Passed as recorded
 use Rattle.uv_find.specs.declared.terms.Terms.{Terms}
 use Rattle.uv_find.specs.Orders.{Rules, Place, Choice, Led, led, reached, choice_at}
 use Rattle.uv_find.specs.Spots.{Searched, rules_by, place_by}
@@ -35,13 +37,17 @@ StepsWithin most s e (Err fault) t = Stands s s.standing t
 abbrev pub choice_of : choices.Choice → Choice
 choice_of c = record { event = c.event; left = c.left.items; kept = c.kept }
 
+-- what is left past recorded events in the program
+abbrev pub passed_of : recorded.Passed → List Left × ℕ
+passed_of t = (t.left.items, t.spare)
+
 -- what may be answered where a move is asked for by its number
 abbrev pub Chooses : {E : Type 0} → Rules → Place → ℕ → Result (Option choices.Choice) E → Type 0
 Chooses r p number (Ok choice) = option_map choice_of choice ≡ choice_at r p number
 Chooses r p number (Err fault) = Unit {0}
 
 -- what may be answered where a move is to be made, and the session then
-abbrev pub MakesMove : {E : Type 0} → Terms → Shown → List (Option ℕ) → Kept → ℕ → Result (Option moved.Moved) E → Shown → Type 0
+abbrev pub MakesMove : {E : Type 0} → Terms → Shown → List Left → Kept → ℕ → Result (Option moved.Moved) E → Shown → Type 0
 MakesMove terms s left kept number (Ok (Some m)) t =
     let r = rules_by s.program terms in
     Stands s (s.standing ++ m.choice.event ∷ []) t × (choice_at r (place_by s left kept) number ≡ Some (choice_of m.choice))

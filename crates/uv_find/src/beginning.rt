@@ -1,8 +1,9 @@
 //! Where a search of orders begins.
-ghost use Rattle.std.specs.Prelude.{◌≡◌, IfOk, map, Some};
-ghost use Rattle.uv_asking.specs.declared.asking.Recorded.{Recorded};
-ghost use Rattle.uv_find.specs.Orders.{at_will, every_offer, times_of, first_left};
+ghost use Rattle.std.specs.Prelude.{◌≡◌, IfOk};
+ghost use Rattle.uv_find.specs.Orders.{at_will, every_offer, times_left, times_of, first_left};
 
+use crate::left::Left;
+use crate::sources::sources;
 use std::alloc::{AllocError, Global};
 use uv_asking::{Offer, Offered, Recorded};
 use uv_ids::Event;
@@ -32,18 +33,23 @@ pub(crate) fn every_offer(
     Ok(offers)
 }
 
-/// How often each offer may be taken.
-fn times_of(alloc: Global, offers: &[Offered]) -> Result<Vec<Option<u32>>, AllocError>
-    ensures { IfOk result (λ times. times.items ≡ times_of offers.now) }
+fn times_left(times: Option<u32>) -> Left
+    ensures { result ≡ times_left times }
 {
-    offers.iter().map(|offered| offered.times).collect(alloc)
+    match times {
+        None => Left::AtWill,
+        Some(times) => Left::Times(times),
+    }
 }
 
-/// Each recorded event is ahead.
-fn all_ahead(alloc: Global, recorded: &[Recorded]) -> Result<Vec<Option<u32>>, AllocError>
-    ensures { IfOk result (λ left. left.items ≡ map (λ (e : Recorded). Some 2) recorded.now) }
+/// How often each offer may be taken.
+fn times_of(alloc: Global, offers: &[Offered]) -> Result<Vec<Left>, AllocError>
+    ensures { IfOk result (λ times. times.items ≡ times_of offers.now) }
 {
-    recorded.iter().map(|_event| Some(2)).collect(alloc)
+    offers
+        .iter()
+        .map(|offered| times_left(offered.times))
+        .collect(alloc)
 }
 
 /// What is left where a search begins.
@@ -52,11 +58,11 @@ pub(crate) fn first_left(
     differ: Option<u32>,
     offers: &[Offered],
     recorded: &[Recorded],
-) -> Result<Vec<Option<u32>>, AllocError>
+) -> Result<Vec<Left>, AllocError>
     ensures { IfOk result (λ left. left.items ≡ first_left differ offers.now recorded.now) }
 {
     match differ {
         None => times_of(alloc, offers),
-        Some(_) => all_ahead(alloc, recorded),
+        Some(_) => sources(alloc, recorded),
     }
 }

@@ -6,7 +6,8 @@ ghost use Rattle.uv_find.specs.Spots.{rules_by, place_by};
 ghost use Rattle.uv_find.specs.Steps.{Stands, MakesMove, choice_of};
 
 use crate::kept::Kept;
-use crate::recorded::{choose_recorded, left_at};
+use crate::left::Left;
+use crate::recorded::choose_recorded;
 use crate::steps::{offered_here, step_within};
 use crate::terms::{Terms, move_count};
 use std::alloc::AllocError;
@@ -19,7 +20,7 @@ use uv_session::Session;
 #[derive(Drop)]
 pub struct Choice {
     pub event: Event,
-    pub left: Vec<Option<u32>>,
+    pub left: Vec<Left>,
     pub kept: Kept,
 }
 
@@ -31,17 +32,17 @@ pub struct Moved {
 }
 
 /// Once less.
-fn less(left: Option<u32>) -> Option<u32>
+fn less(left: Left) -> Left
     ensures { result ≡ less left }
 {
     match left {
-        None => None,
-        Some(left) => Some(left.saturating_sub(1)),
+        Left::Times(times) => Left::Times(times.saturating_sub(1)),
+        _ => left,
     }
 }
 
 /// The offer of this number may be taken once less.
-fn lessen(left: &mut Vec<Option<u32>>, number: usize)
+fn lessen(left: &mut Vec<Left>, number: usize)
     ensures { left.new.items ≡ lessened left.old.items number }
 {
     if number < left.len() {
@@ -51,12 +52,13 @@ fn lessen(left: &mut Vec<Option<u32>>, number: usize)
 
 /// The event of an offer, with what is left where it is taken.
 fn chosen(
-    left: &Vec<Option<u32>>,
+    left: &Vec<Left>,
     kept: Kept,
     number: usize,
     event: Option<Event>,
 ) -> Result<Option<Choice>, AllocError>
-    ensures { IfOk result (λ choice. option_map choice_of choice ≡ chosen (lessened left.now.items number) kept event) }
+    ensures { IfOk result (λ choice. option_map choice_of choice
+        ≡ chosen (lessened left.now.items number) kept event) }
 {
     match event {
         None => Ok(None),
@@ -68,22 +70,11 @@ fn chosen(
     }
 }
 
-/// The offer of this number.
-fn offer_of(offers: &[Offered], number: usize) -> Option<Offered>
-    ensures { result ≡ slice_get offers.now number }
-{
-    if number < offers.len() {
-        Some(offers[number])
-    } else {
-        None
-    }
-}
-
 /// The event of an offer, if it may still be taken. Nothing changes.
 fn offered<M: Machine>(
     session: &mut Session<M>,
     terms: &Terms,
-    left: &Vec<Option<u32>>,
+    left: &Vec<Left>,
     kept: Kept,
     number: usize,
 ) -> Result<Option<Event>, AllocError>
@@ -93,9 +84,9 @@ fn offered<M: Machine>(
     ensures event { IfOk result (λ event. event ≡ offered_by (rules_by session.old.program terms.now) (place_by session.old left.now.items kept)
         (slice_get terms.now.offers.items number) (slice_get left.now.items number)) }
 {
-    match (offer_of(&terms.offers, number), left_at(left, number)) {
-        (Some(offered), Some(times)) => {
-            offered_here(session, terms.clock, kept, offered.offer, times)
+    match (terms.offers.get(number).copied(), left.get(number).copied()) {
+        (Some(offered), Some(left)) => {
+            offered_here(session, terms.clock, kept, offered.offer, left)
         }
         _ => Ok(None),
     }
@@ -105,14 +96,15 @@ fn offered<M: Machine>(
 fn choose_offer<M: Machine>(
     session: &mut Session<M>,
     terms: &Terms,
-    left: &Vec<Option<u32>>,
+    left: &Vec<Left>,
     kept: Kept,
     number: usize,
 ) -> Result<Option<Choice>, AllocError>
     requires room { length session.old.standing < session.old.limit }
     requires back { M.BackWantsMemory → ⊥ }
     ensures same { Stands session.old session.old.standing session.new }
-    ensures choice { IfOk result (λ choice. option_map choice_of choice ≡ offer_at (rules_by session.old.program terms.now) (place_by session.old left.now.items kept) number) }
+    ensures choice { IfOk result (λ choice. option_map choice_of choice
+        ≡ offer_at (rules_by session.old.program terms.now) (place_by session.old left.now.items kept) number) }
 {
     let event = offered(session, terms, left, kept, number)?;
     chosen(left, kept, number, event)
@@ -123,16 +115,17 @@ fn choose_offer<M: Machine>(
 fn choose<M: Machine>(
     session: &mut Session<M>,
     terms: &Terms,
-    left: &Vec<Option<u32>>,
+    left: &Vec<Left>,
     kept: Kept,
     number: usize,
 ) -> Result<Option<Choice>, AllocError>
     requires room { length session.old.standing < session.old.limit }
     requires back { M.BackWantsMemory → ⊥ }
     ensures same { Stands session.old session.old.standing session.new }
-    ensures choice { IfOk result (λ choice. option_map choice_of choice ≡ choice_at (rules_by session.old.program terms.now) (place_by session.old left.now.items kept) number) }
+    ensures choice { IfOk result (λ choice. option_map choice_of choice
+        ≡ choice_at (rules_by session.old.program terms.now) (place_by session.old left.now.items kept) number) }
 {
-    if number < move_count(terms) {
+    if number < move_count(terms, left) {
         match terms.differ {
             None => choose_offer(session, terms, left, kept, number),
             Some(_) => choose_recorded(session, terms, left, kept, number),
@@ -146,7 +139,7 @@ fn choose<M: Machine>(
 pub fn make_move<M: Machine>(
     session: &mut Session<M>,
     terms: &Terms,
-    left: &Vec<Option<u32>>,
+    left: &Vec<Left>,
     kept: Kept,
     number: usize,
 ) -> Result<Option<Moved>, AllocError>

@@ -8,14 +8,18 @@ mod beginning;
 mod choices;
 mod finding;
 mod kept;
+mod left;
 mod orders;
 mod questions;
 mod recorded;
+mod sources;
 mod steps;
 mod terms;
 
 pub use choices::{Choice, Moved};
 pub use finding::{Answer, find, place_keys_tell};
 pub use kept::{Along, Kept};
+pub use left::Left;
 pub use orders::{Made, Orders};
+pub use recorded::Passed;
 pub use terms::Terms;

@@ -1,17 +1,19 @@
 //! A session that goes on by what is offered, and back.
 ghost use Rattle.std.specs.Prelude.{◌≡◌, ◌∷◌, ◌++◌, ◌<◌, ◌+◌, [], OnOk, reverse, length, IfOk};
 ghost use Rattle.uv_model.specs.After.{after, STEPS};
+ghost use Rattle.uv_key.specs.Codes.{number_code};
 ghost use Rattle.uv_asking.specs.Asked.{asked_in};
 ghost use Rattle.uv_asking.specs.declared.asking.Question.TheVariants.{Stuck};
 ghost use Rattle.uv_find.specs.Kept.{kept_after};
 ghost use Rattle.uv_find.specs.Orders.{is_blocked, move_count};
 ghost use Rattle.uv_find.specs.Questions.{none_leads, line_answers, place_answers, step_answers};
-ghost use Rattle.uv_find.specs.Spots.{Searched, IsSearched, IsSpot, searched, rules_of, first_spot, times_code, each_code, left_code, along_code, kept_code, next_spot, spot_code, IsDeep};
+ghost use Rattle.uv_find.specs.Spots.{Searched, IsSearched, IsSpot, searched, rules_of, first_spot, kind_code, event_code, each_code, left_code, along_code, kept_code, next_spot, spot_code, IsDeep};
 ghost use Rattle.uv_find.specs.Steps.{Takes as TakesOne};
 
 use crate::beginning::first_left;
 use crate::choices::{Moved, make_move};
 use crate::kept::{Along, Kept, kept_after, none_kept};
+use crate::left::Left;
 use crate::questions::{has_ended, is_uncalled, line_answers};
 use crate::steps::{is_blocked, take_back};
 use crate::terms::{Terms, move_count, terms_of};
@@ -29,7 +31,7 @@ use uv_state_key::push_key;
 /// What stood before a choice that was made.
 #[derive(Drop)]
 pub struct Made {
-    left: Vec<Option<u32>>,
+    left: Vec<Left>,
     kept: Kept,
 }
 
@@ -38,7 +40,7 @@ pub struct Made {
 pub struct Orders<M: Machine> {
     session: Session<M>,
     terms: Terms,
-    left: Vec<Option<u32>>,
+    left: Vec<Left>,
     kept: Kept,
     made: Vec<Made>,
 }
@@ -136,17 +138,18 @@ impl<M: Machine> Orders<M> {
 
     /// How many moves there are.
     pub(crate) fn move_count(&self) -> usize
-        ensures count { result ≡ move_count self.now.rules }
+        ensures count { result ≡ move_count self.now.rules self.now.spot.place }
         ensures spot { IsSpot self.now.rules self.now.spot }
     {
-        move_count(&self.terms)
+        move_count(&self.terms, &self.left)
     }
 
     /// Whether none of the moves leads on. Nothing changes.
     fn takes_none(&mut self) -> Result<bool, AllocError>
         requires room { length self.old.spot.steps < STEPS }
         ensures same { self.new ≡ self.old }
-        ensures none { IfOk result (λ none. none ≡ none_leads self.old.rules self.old.spot.place (move_count self.old.rules)) }
+        ensures none { IfOk result (λ none. none ≡ none_leads self.old.rules self.old.spot.place
+            (move_count self.old.rules self.old.spot.place)) }
     {
         let count = self.move_count();
         'offers: for number in 0..count {
@@ -224,27 +227,48 @@ impl<M: Machine> Orders<M> {
     }
 }
 
-/// How often an offer may be taken, as a number.
-fn times_code(times: Option<u32>) -> u64
-    ensures { result ≡ times_code times }
+/// Which kind of what is left it is, and how often an offer may be taken, as a number.
+fn kind_code(left: Left) -> u64
+    ensures { result ≡ kind_code left }
 {
-    match times {
-        None => 0,
-        Some(times) => u64::from(times) + 1,
+    match left {
+        Left::AtWill => 0,
+        Left::Over => 1,
+        Left::Ahead(_) => 2,
+        Left::Held(_) => 3,
+        Left::Times(times) => u64::from(times) + 4,
     }
 }
 
-fn push_each(out: &mut Vec<u8>, left: &[Option<u32>]) -> Result<(), AllocError>
+/// Appends the number of a recorded event.
+fn push_event(out: &mut Vec<u8>, left: Left) -> Result<(), AllocError>
+    ensures { OnOk result (out.new.items ≡ out.old.items ++ event_code left) }
+{
+    match left {
+        Left::Ahead(number) => push_number(out, number as u64),
+        Left::Held(number) => push_number(out, number as u64),
+        _ => Ok(()),
+    }
+}
+
+fn push_one(out: &mut Vec<u8>, left: Left) -> Result<(), AllocError>
+    ensures { OnOk result (out.new.items ≡ out.old.items ++ (number_code (kind_code left) ++ event_code left)) }
+{
+    push_number(out, kind_code(left))?;
+    push_event(out, left)
+}
+
+fn push_each(out: &mut Vec<u8>, left: &[Left]) -> Result<(), AllocError>
     ensures { OnOk result (out.new.items ≡ out.old.items ++ each_code left.now) }
 {
-    'offers: for times in left {
-        push_number(out, times_code(*times))?;
+    'offers: for one in left {
+        push_one(out, *one)?;
     }
     Ok(())
 }
 
-/// Appends how often each offer may be taken, and what is left of each recorded event.
-fn push_left(out: &mut Vec<u8>, left: &[Option<u32>]) -> Result<(), AllocError>
+/// Appends what is left of each offer or source.
+fn push_left(out: &mut Vec<u8>, left: &[Left]) -> Result<(), AllocError>
     ensures { OnOk result (out.new.items ≡ out.old.items ++ left_code left.now) }
 {
     push_number(out, left.len() as u64)?;
@@ -286,7 +310,7 @@ impl<M: Machine> Maze for Orders<M> {
 
     ghost before = { λ s. s.before };
 
-    ghost moves = { λ r _. orders.move_count r };
+    ghost moves = { λ r s. orders.move_count r s.place };
 
     ghost next = { spots.next_spot };
 

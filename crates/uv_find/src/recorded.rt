@@ -1,132 +1,45 @@
 //! What came in a recording, and may come at another place.
-ghost use Rattle.std.specs.Prelude.{◌≡◌, ◌<◌, ◌||◌, IfOk, length, slice_get, slice_set, Some, option_map};
+ghost use Rattle.std.specs.Prelude.{◌≡◌, ◌<◌, IfOk, length, slice_get, slice_set, Some, option_map};
 ghost use Rattle.uv_model.specs.After.{after};
-ghost use Rattle.uv_find.specs.Orders.{has_left, is_to_come, is_akin, is_akin_to, waits_for, comes_by, comes, moves, accepts, is_ready, held_at, held_back, spent, spent_if, spare_behind, go_on_by, go_on, is_poll_stage, is_in_poll, is_due, along_at, come_by, in_place, spare_of, free_of, elsewhere_by, elsewhere, recorded_at, AHEAD};
+ghost use Rattle.uv_find.specs.Orders.{comes_by, comes, moves, accepts, is_ready, held_if, held_back, spent, spent_if, spare_behind, past, go_on_by};
+ghost use Rattle.uv_find.specs.Orders.{go_on, is_poll_stage, is_in_poll, is_due, along_at, come, come_by, come_in_place, in_place_of, in_place};
+ghost use Rattle.uv_find.specs.Kept.{with_spare};
+ghost use Rattle.uv_find.specs.Orders.{free_of, elsewhere_by, elsewhere_with, elsewhere_of, elsewhere, recorded_at};
 ghost use Rattle.uv_find.specs.Spots.{rules_by, place_by};
-ghost use Rattle.uv_find.specs.Steps.{Stands, Chooses, choice_of, state_in};
+ghost use Rattle.uv_find.specs.Steps.{Stands, choice_of, passed_of, state_in};
 
 use crate::choices::Choice;
 use crate::kept::{Along, Kept, behind, with_spare};
+use crate::left::Left;
+use crate::sources::next_of;
 use crate::steps::{aim, is_blocked, is_free, is_made, take_back, timed};
 use crate::terms::Terms;
-use std::alloc::AllocError;
+use std::alloc::{AllocError, Global};
 use uv_asking::Recorded;
 use uv_ids::{Event, Fault};
 use uv_model::{Machine, Place, Stage};
 use uv_session::Session;
 
-/// What is left of a recorded event that is ahead.
-const AHEAD: u32 = 2;
-
-/// Of one that was held back.
-const HELD: u32 = 1;
-
-/// Of one that has come.
-const COME: u32 = 0;
-
-/// What is left of a recorded event.
-pub fn left_at(left: &[Option<u32>], number: usize) -> Option<Option<u32>>
-    ensures { result ≡ slice_get left.now number }
-{
-    if number < left.len() {
-        Some(left[number])
-    } else {
-        None
-    }
-}
-
-/// The recorded event of this number.
-fn recorded_at(recorded: &[Recorded], number: usize) -> Option<Recorded>
-    ensures { result ≡ slice_get recorded.now number }
-{
-    if number < recorded.len() {
-        Some(recorded[number])
-    } else {
-        None
-    }
-}
-
-fn has_left(value: u32, left: Option<Option<u32>>) -> bool
-    ensures { result ≡ has_left value left }
-{
-    match left {
-        Some(Some(left)) => left == value,
-        _ => false,
-    }
-}
-
-/// Whether it hasn't come yet.
-fn is_to_come(left: Option<Option<u32>>) -> bool
-    ensures { result ≡ is_to_come left }
-{
-    match left {
-        Some(Some(left)) => 0 < left,
-        _ => false,
-    }
-}
-
-/// Whether two events are of one source: for one name, of one worker, or of the clock.
-fn is_akin(one: Event, other: Event) -> bool
-    ensures { result ≡ is_akin one other }
-{
-    match (one, other) {
-        (Event::Take(one), Event::Take(other)) => one == other,
-        (Event::Finish(one), Event::Finish(other)) => one == other,
-        (Event::Cancel(one), Event::Cancel(other)) => one.0 == other.0,
-        (Event::Send(one), Event::Send(other)) => one.0 == other.0,
-        (Event::Io(one), Event::Io(other)) => one.0 == other.0,
-        (Event::Tick(_), Event::Tick(_)) => true,
-        _ => false,
-    }
-}
-
-fn is_akin_to(event: Event, recorded: Option<Recorded>) -> bool
-    ensures { result ≡ is_akin_to event recorded }
+fn comes_by<M: Machine>(machine: &M, recorded: Option<Recorded>) -> Option<Event>
+    ensures { result ≡ comes_by (after (M.program machine.now) (M.standing machine.now)) recorded }
 {
     match recorded {
-        None => false,
-        Some(recorded) => is_akin(recorded.event, event),
-    }
-}
-
-fn either(one: bool, other: bool) -> bool
-    ensures { result ≡ (one || other) }
-{
-    one || other
-}
-
-/// Whether one of the first recorded events is of this one's source, and hasn't come.
-fn waits_for(recorded: &[Recorded], left: &[Option<u32>], event: Event, count: usize) -> bool
-    ensures { result ≡ waits_for recorded.now left.now event count }
-{
-    let mut waits = false;
-    'events: for number in 0..count {
-        let here = is_akin_to(event, recorded_at(recorded, number))
-            && is_to_come(left_at(left, number));
-        waits = either(waits, here);
-    }
-    waits
-}
-
-/// The recorded event of this number, where it may come at all.
-fn comes<M: Machine>(
-    machine: &M,
-    recorded: &[Recorded],
-    left: &[Option<u32>],
-    number: usize,
-) -> Option<Event>
-    ensures { result ≡ comes recorded.now (after (M.program machine.now) (M.standing machine.now)) left.now number }
-{
-    match recorded_at(recorded, number) {
         None => None,
-        Some(came) => {
-            if is_made(machine, aim(came.event)) && !waits_for(recorded, left, came.event, number) {
-                Some(came.event)
+        Some(recorded) => {
+            if is_made(machine, aim(recorded.event)) {
+                Some(recorded.event)
             } else {
                 None
             }
         }
     }
+}
+
+/// The recorded event of this number, where what it is for was made.
+fn comes<M: Machine>(machine: &M, recorded: &[Recorded], number: usize) -> Option<Event>
+    ensures { result ≡ comes recorded.now (after (M.program machine.now) (M.standing machine.now)) number }
+{
+    comes_by(machine, recorded.get(number).copied())
 }
 
 /// Whether the loop accepts an event. Nothing changes.
@@ -158,104 +71,137 @@ fn accepts<M: Machine>(session: &mut Session<M>, event: Option<Event>) -> Result
     }
 }
 
-/// Whether the recorded event of this number is ahead, and the loop accepts it here. Nothing changes.
+/// Whether the next event of a source is ahead, one of the first recorded ones, and the loop accepts it here. Nothing changes.
 fn is_ready<M: Machine>(
     session: &mut Session<M>,
     recorded: &[Recorded],
-    left: &[Option<u32>],
-    number: usize,
+    count: usize,
+    source: Left,
 ) -> Result<bool, AllocError>
     requires room { length session.old.standing < session.old.limit }
     requires back { M.BackWantsMemory → ⊥ }
     ensures same { Stands session.old session.old.standing session.new }
-    ensures ready { IfOk result (λ ready. ready ≡ is_ready session.old.program recorded.now (state_in session.old) left.now number) }
+    ensures ready { IfOk result (λ ready. ready ≡ is_ready session.old.program recorded.now (state_in session.old) count source) }
 {
-    if has_left(AHEAD, left_at(left, number)) {
-        let event = comes(session.machine(), recorded, left, number);
-        accepts(session, event)
-    } else {
-        Ok(false)
+    match source {
+        Left::Ahead(number) => {
+            if number < count {
+                let event = comes(session.machine(), recorded, number);
+                accepts(session, event)
+            } else {
+                Ok(false)
+            }
+        }
+        _ => Ok(false),
     }
 }
 
-/// The recorded event of this number is held back, if it is ready.
-fn hold_at(held: &mut Vec<Option<u32>>, ready: bool, number: usize)
-    ensures { held.new.items ≡ held_at ready held.old.items number }
+/// What is ahead and ready is held back.
+fn held_if(ready: bool, source: Left) -> Left
+    ensures { result ≡ held_if ready source }
 {
-    if ready {
-        set_left(held, number, HELD);
+    match (ready, source) {
+        (true, Left::Ahead(number)) => Left::Held(number),
+        _ => source,
     }
 }
 
-/// Sets what is left of a recorded event.
-fn set_left(left: &mut Vec<Option<u32>>, number: usize, value: u32)
-    ensures { left.new.items ≡ slice_set left.old.items number (Some value) }
-{
-    if number < left.len() {
-        left[number] = Some(value);
-    }
-}
-
-/// One less may come at another place.
-fn spent(spare: Option<u32>) -> Option<u32>
-    ensures { result ≡ spent spare }
-{
-    match spare {
-        None => None,
-        Some(spare) => { if spare == 0 { None } else { Some(spare - 1) } }
-    }
-}
-
-fn spent_if(ready: bool, spare: Option<u32>) -> Option<u32>
-    ensures { result ≡ spent_if ready spare }
-{
-    if ready { spent(spare) } else { spare }
-}
-
-/// What is left, and how many may still come at another place, where recorded events are passed.
-#[derive(Drop)]
-pub struct Passed {
-    left: Vec<Option<u32>>,
-    spare: Option<u32>,
-}
-
-/// Past the first recorded events, so many: those that are ready are held back. Nothing changes.
-fn pass<M: Machine>(
+/// What is left of each source past the first recorded events, so many: those that are ready are held back. Nothing changes.
+fn hold_back<M: Machine>(
     session: &mut Session<M>,
     recorded: &[Recorded],
-    left: &Vec<Option<u32>>,
-    spare: u32,
     count: usize,
-) -> Result<Passed, AllocError>
+    left: &[Left],
+    alloc: Global,
+) -> Result<Vec<Left>, AllocError>
     requires room { length session.old.standing < session.old.limit }
     requires back { M.BackWantsMemory → ⊥ }
     ensures same { Stands session.old session.old.standing session.new }
-    ensures left { IfOk result (λ passed. passed.left.items ≡ held_back session.old.program recorded.now (state_in session.old) left.now.items count) }
-    ensures spare { IfOk result (λ passed. passed.spare ≡ spare_behind session.old.program recorded.now (state_in session.old) left.now.items spare count) }
+    ensures held { IfOk result (λ held. held.items ≡ held_back session.old.program recorded.now (state_in session.old) count left.now) }
 {
-    let mut held = left.clone()?;
-    let mut more = Some(spare);
-    'events: for number in 0..count {
-        let ready = is_ready(session, recorded, left, number)?;
-        hold_at(&mut held, ready, number);
-        more = spent_if(ready, more);
+    let mut held = Vec::new(alloc);
+    'sources: for source in left {
+        let ready = is_ready(session, recorded, count, *source)?;
+        held.push(held_if(ready, *source))?;
     }
-    Ok(Passed {
-        left: held,
-        spare: more,
-    })
+    Ok(held)
+}
+
+/// One less may come at another place.
+fn spent(spare: u32) -> Option<u32>
+    ensures { result ≡ spent spare }
+{
+    if spare == 0 { None } else { Some(spare - 1) }
+}
+
+fn spent_if(ready: bool, spare: u32) -> Option<u32>
+    ensures { result ≡ spent_if ready spare }
+{
+    if ready { spent(spare) } else { Some(spare) }
+}
+
+/// How many more may come at another place, past the first recorded events, so many. Nothing changes.
+fn spare_behind<M: Machine>(
+    session: &mut Session<M>,
+    recorded: &[Recorded],
+    count: usize,
+    left: &[Left],
+    spare: u32,
+) -> Result<Option<u32>, AllocError>
+    requires room { length session.old.standing < session.old.limit }
+    requires back { M.BackWantsMemory → ⊥ }
+    ensures same { Stands session.old session.old.standing session.new }
+    ensures spare { IfOk result (λ more. more ≡ spare_behind session.old.program recorded.now (state_in session.old) count left.now (Some spare)) }
+{
+    let mut more = spare;
+    'sources: for source in left {
+        let ready = is_ready(session, recorded, count, *source)?;
+        match spent_if(ready, more) {
+            None => return Ok(None),
+            Some(less) => more = less,
+        }
+    }
+    Ok(Some(more))
+}
+
+/// What is left of each source, and how many more may come at another place, past recorded events.
+#[derive(Drop)]
+pub struct Passed {
+    left: Vec<Left>,
+    spare: u32,
+}
+
+/// Past the first recorded events, so many, if that holds back no more than may come at another place. Nothing changes.
+fn past<M: Machine>(
+    session: &mut Session<M>,
+    terms: &Terms,
+    left: &Vec<Left>,
+    kept: Kept,
+    count: usize,
+) -> Result<Option<Passed>, AllocError>
+    requires room { length session.old.standing < session.old.limit }
+    requires back { M.BackWantsMemory → ⊥ }
+    ensures same { Stands session.old session.old.standing session.new }
+    ensures past { IfOk result (λ past_it. option_map passed_of past_it
+        ≡ past (rules_by session.old.program terms.now) (place_by session.old left.now.items kept) count) }
+{
+    let Some(spare) = spare_behind(session, &terms.recorded, count, left, kept.along.spare)? else {
+        return Ok(None);
+    };
+    let left = hold_back(session, &terms.recorded, count, left, *left.allocator())?;
+    Ok(Some(Passed { left, spare }))
 }
 
 /// The loop goes on.
-fn going_on(passed: Passed, kept: Kept) -> Option<Choice>
-    ensures { option_map choice_of result ≡ go_on_by passed.left.items kept passed.spare }
+fn going_on(kept: Kept, past: Option<Passed>) -> Option<Choice>
+    ensures { option_map choice_of result ≡ go_on_by kept (option_map passed_of past) }
 {
-    match passed.spare {
+    match past {
         None => None,
-        Some(spare) => Some(Choice {
+        Some(past) => Some(Choice {
             event: Event::Loop,
-            left: passed.left,
-            kept: with_spare(kept, spare),
+            left: past.left,
+            kept: with_spare(kept, past.spare),
         }),
     }
 }
@@ -264,22 +210,17 @@ fn going_on(passed: Passed, kept: Kept) -> Option<Choice>
 fn go_on<M: Machine>(
     session: &mut Session<M>,
     terms: &Terms,
-    left: &Vec<Option<u32>>,
+    left: &Vec<Left>,
     kept: Kept,
 ) -> Result<Option<Choice>, AllocError>
     requires room { length session.old.standing < session.old.limit }
     requires back { M.BackWantsMemory → ⊥ }
     ensures same { Stands session.old session.old.standing session.new }
-    ensures choice { IfOk result (λ choice. option_map choice_of choice ≡ go_on (rules_by session.old.program terms.now) (place_by session.old left.now.items kept)) }
+    ensures choice { IfOk result (λ choice. option_map choice_of choice
+        ≡ go_on (rules_by session.old.program terms.now) (place_by session.old left.now.items kept)) }
 {
-    let passed = pass(
-        session,
-        &terms.recorded,
-        left,
-        kept.along.spare,
-        kept.along.next,
-    )?;
-    Ok(going_on(passed, kept))
+    let past = past(session, terms, left, kept, kept.along.next)?;
+    Ok(going_on(kept, past))
 }
 
 fn is_in_poll(place: Place) -> bool
@@ -298,7 +239,7 @@ fn is_in_poll(place: Place) -> bool
 fn is_due<M: Machine>(
     session: &mut Session<M>,
     terms: &Terms,
-    left: &Vec<Option<u32>>,
+    left: &Vec<Left>,
     kept: Kept,
     number: usize,
 ) -> Result<bool, AllocError>
@@ -333,28 +274,39 @@ fn along_at(recorded: &[Recorded], along: Along, number: usize, spare: u32) -> A
     }
 }
 
+/// An event of a source comes, that of this number: what is left of the source is what is behind it.
+fn come(recorded: &[Recorded], left: &mut Vec<Left>, source: usize, number: usize, event: Event)
+    requires { number < length recorded.now }
+    ensures { left.new.items ≡ come recorded.now left.old.items source number event }
+{
+    if source < left.len() {
+        left[source] = next_of(event, &recorded[number + 1..], number + 1);
+    }
+}
+
 /// A recorded event comes past those before it.
 fn coming(
     recorded: &[Recorded],
-    passed: Passed,
     kept: Kept,
+    source: usize,
     number: usize,
+    past: Option<Passed>,
     event: Option<Event>,
 ) -> Option<Choice>
     requires { number < length recorded.now }
-    ensures { option_map choice_of result ≡ come_by recorded.now passed.left.items kept number passed.spare event }
+    ensures { option_map choice_of result ≡ come_by recorded.now kept source number (option_map passed_of past) event }
 {
-    match (passed.spare, event) {
-        (Some(spare), Some(event)) => {
-            let mut left = passed.left;
-            set_left(&mut left, number, COME);
+    match (past, event) {
+        (Some(past), Some(event)) => {
+            let mut left = past.left;
+            come(recorded, &mut left, source, number, event);
             Some(Choice {
                 event,
                 left,
                 kept: Kept {
                     due: kept.due,
                     owed: kept.owed,
-                    along: along_at(recorded, kept.along, number, spare),
+                    along: along_at(recorded, kept.along, number, past.spare),
                 },
             })
         }
@@ -362,53 +314,60 @@ fn coming(
     }
 }
 
-/// A recorded event comes at its place, or as soon after it as it may, past those before it. Nothing changes.
-fn in_place<M: Machine>(
+/// The event of this number of a source comes at its place, past those before it. Nothing changes.
+fn come_in_place<M: Machine>(
     session: &mut Session<M>,
     terms: &Terms,
-    left: &Vec<Option<u32>>,
+    left: &Vec<Left>,
     kept: Kept,
+    source: usize,
     number: usize,
 ) -> Result<Option<Choice>, AllocError>
-    requires some { number < length terms.now.recorded.items }
     requires room { length session.old.standing < session.old.limit }
     requires back { M.BackWantsMemory → ⊥ }
     ensures same { Stands session.old session.old.standing session.new }
-    ensures choice { IfOk result (λ choice. option_map choice_of choice ≡ in_place (rules_by session.old.program terms.now) (place_by session.old left.now.items kept) number) }
+    ensures choice { IfOk result (λ choice. option_map choice_of choice
+        ≡ come_in_place (rules_by session.old.program terms.now) (place_by session.old left.now.items kept) source number) }
 {
-    if !has_left(AHEAD, left_at(left, number)) {
+    if terms.recorded.len() <= number {
         return Ok(None);
     }
-    if !is_due(session, terms, left, kept, number)? {
-        return Ok(None);
-    }
+    let past = past(session, terms, left, kept, number)?;
     let clock = session.machine().numbers().clock;
-    let event = comes(session.machine(), &terms.recorded, left, number);
-    let passed = pass(session, &terms.recorded, left, kept.along.spare, number)?;
+    let event = comes(session.machine(), &terms.recorded, number);
     Ok(coming(
         &terms.recorded,
-        passed,
         kept,
+        source,
         number,
+        past,
         timed(terms.clock, clock, event),
     ))
 }
 
-/// How many may still come at another place, if this one does.
-fn spare_of(spare: u32, left: Option<Option<u32>>) -> Option<u32>
-    ensures { result ≡ spare_of spare left }
+/// The next event of a source comes at its place, or as soon after it as it may, past those before it. Nothing changes.
+fn in_place<M: Machine>(
+    session: &mut Session<M>,
+    terms: &Terms,
+    left: &Vec<Left>,
+    kept: Kept,
+    source: usize,
+) -> Result<Option<Choice>, AllocError>
+    requires room { length session.old.standing < session.old.limit }
+    requires back { M.BackWantsMemory → ⊥ }
+    ensures same { Stands session.old session.old.standing session.new }
+    ensures choice { IfOk result (λ choice. option_map choice_of choice
+        ≡ in_place (rules_by session.old.program terms.now) (place_by session.old left.now.items kept) source) }
 {
-    match left {
-        Some(Some(left)) => {
-            if left == HELD {
-                Some(spare)
-            } else if left == AHEAD {
-                spent(Some(spare))
+    match left.get(source).copied() {
+        Some(Left::Ahead(number)) => {
+            if is_due(session, terms, left, kept, number)? {
+                come_in_place(session, terms, left, kept, source, number)
             } else {
-                None
+                Ok(None)
             }
         }
-        _ => None,
+        _ => Ok(None),
     }
 }
 
@@ -427,69 +386,109 @@ fn free_of<M: Machine>(machine: &M, kept: Kept, event: Option<Event>) -> Option<
     }
 }
 
-/// A recorded event comes, and no other one is passed.
+/// An event of a source comes, and no other one is passed.
 fn alone(
-    left: &Vec<Option<u32>>,
+    recorded: &[Recorded],
+    left: &Vec<Left>,
     kept: Kept,
+    source: usize,
     number: usize,
-    spare: Option<u32>,
     event: Option<Event>,
 ) -> Result<Option<Choice>, AllocError>
-    ensures { IfOk result (λ choice. option_map choice_of choice ≡ elsewhere_by left.now.items kept number spare event) }
+    requires { number < length recorded.now }
+    ensures { IfOk result (λ choice. option_map choice_of choice ≡ elsewhere_by recorded.now left.now.items kept source number event) }
 {
-    match (spare, event) {
-        (Some(spare), Some(event)) => {
+    match event {
+        None => Ok(None),
+        Some(event) => {
             let mut left = left.clone()?;
-            set_left(&mut left, number, COME);
-            Ok(Some(Choice {
-                event,
-                left,
-                kept: with_spare(kept, spare),
-            }))
+            come(recorded, &mut left, source, number, event);
+            Ok(Some(Choice { event, left, kept }))
         }
+    }
+}
+
+/// The event of this number of a source comes at another place, if so many more may.
+fn elsewhere_with<M: Machine>(
+    session: &Session<M>,
+    terms: &Terms,
+    left: &Vec<Left>,
+    kept: Option<Kept>,
+    source: usize,
+    number: usize,
+) -> Result<Option<Choice>, AllocError>
+    ensures { IfOk result (λ choice. option_map choice_of choice
+        ≡ elsewhere_with (rules_by session.now.program terms.now) (state_in session.now) left.now.items source number kept) }
+{
+    let Some(kept) = kept else {
+        return Ok(None);
+    };
+    if terms.recorded.len() <= number {
+        return Ok(None);
+    }
+    let machine = session.machine();
+    let event = free_of(machine, kept, comes(machine, &terms.recorded, number));
+    let event = timed(terms.clock, machine.numbers().clock, event);
+    alone(&terms.recorded, left, kept, source, number, event)
+}
+
+/// What is kept where one more comes at another place, if it may.
+fn with_less(kept: Kept) -> Option<Kept>
+    ensures { result ≡ option_map (with_spare kept) (spent kept.along.spare) }
+{
+    match spent(kept.along.spare) {
+        None => None,
+        Some(spare) => Some(with_spare(kept, spare)),
+    }
+}
+
+/// The next event of a source comes at another place.
+fn elsewhere<M: Machine>(
+    session: &Session<M>,
+    terms: &Terms,
+    left: &Vec<Left>,
+    kept: Kept,
+    source: usize,
+) -> Result<Option<Choice>, AllocError>
+    ensures { IfOk result (λ choice. option_map choice_of choice
+        ≡ elsewhere (rules_by session.now.program terms.now) (place_by session.now left.now.items kept) source) }
+{
+    match left.get(source).copied() {
+        Some(Left::Ahead(number)) => elsewhere_with(
+            session,
+            terms,
+            left,
+            with_less(kept),
+            source,
+            number,
+        ),
+        Some(Left::Held(number)) => elsewhere_with(
+            session,
+            terms,
+            left,
+            Some(kept),
+            source,
+            number,
+        ),
         _ => Ok(None),
     }
 }
 
-/// A recorded event comes at another place.
-fn elsewhere<M: Machine>(
-    session: &Session<M>,
-    terms: &Terms,
-    left: &Vec<Option<u32>>,
-    kept: Kept,
-    number: usize,
-) -> Result<Option<Choice>, AllocError>
-    ensures { IfOk result (λ choice. option_map choice_of choice ≡ elsewhere (rules_by session.now.program terms.now) (place_by session.now left.now.items kept) number) }
-{
-    let spare = spare_of(kept.along.spare, left_at(left, number));
-    if spare.is_none() {
-        return Ok(None);
-    }
-    let machine = session.machine();
-    let event = free_of(machine, kept, comes(machine, &terms.recorded, left, number));
-    alone(
-        left,
-        kept,
-        number,
-        spare,
-        timed(terms.clock, machine.numbers().clock, event),
-    )
-}
-
-/// By its number: the loop goes on, a recorded event comes at its place, or at another one. Nothing changes.
+/// By its number: the loop goes on, a source's next event comes at its place, or at another one. Nothing changes.
 pub fn choose_recorded<M: Machine>(
     session: &mut Session<M>,
     terms: &Terms,
-    left: &Vec<Option<u32>>,
+    left: &Vec<Left>,
     kept: Kept,
     number: usize,
 ) -> Result<Option<Choice>, AllocError>
     requires room { length session.old.standing < session.old.limit }
     requires back { M.BackWantsMemory → ⊥ }
     ensures same { Stands session.old session.old.standing session.new }
-    ensures choice { IfOk result (λ choice. option_map choice_of choice ≡ recorded_at (rules_by session.old.program terms.now) (place_by session.old left.now.items kept) number) }
+    ensures choice { IfOk result (λ choice. option_map choice_of choice
+        ≡ recorded_at (rules_by session.old.program terms.now) (place_by session.old left.now.items kept) number) }
 {
-    let count = terms.recorded.len();
+    let count = left.len();
     if number == 0 {
         go_on(session, terms, left, kept)
     } else if number <= count {

@@ -6,6 +6,7 @@ ghost use Rattle.uv_model.specs.After.{after};
 ghost use Rattle.uv_script.specs.Program.{worker_count};
 
 use crate::kept::{Kept, owes};
+use crate::left::Left;
 use std::alloc::AllocError;
 use uv_asking::{Most, Offer};
 use uv_ids::{Event, Fault, Id, Var, Why};
@@ -275,12 +276,13 @@ pub fn timed(most: Option<u64>, clock: u64, event: Option<Event>) -> Option<Even
 }
 
 /// Whether an offer may still be taken.
-fn may_take(left: Option<u32>) -> bool
+fn may_take(left: Left) -> bool
     ensures { result ≡ may_take left }
 {
     match left {
-        None => true,
-        Some(left) => 0 < left,
+        Left::AtWill => true,
+        Left::Times(times) => 0 < times,
+        _ => false,
     }
 }
 
@@ -290,7 +292,7 @@ pub fn offered_here<M: Machine>(
     most: Option<u64>,
     kept: Kept,
     offer: Offer,
-    left: Option<u32>,
+    left: Left,
 ) -> Result<Option<Event>, AllocError>
     requires room { length session.old.standing < session.old.limit }
     requires back { M.BackWantsMemory → ⊥ }

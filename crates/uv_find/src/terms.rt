@@ -5,6 +5,7 @@ ghost use Rattle.uv_find.specs.Orders.{move_count_by};
 ghost use Rattle.uv_find.specs.Spots.{rules_by, rules_of};
 
 use crate::beginning::every_offer;
+use crate::left::Left;
 use std::alloc::{AllocError, Global};
 use uv_asking::{Asking, Most, Offered, Question, Recorded, Takes};
 use uv_script::Script;
@@ -45,11 +46,11 @@ pub(crate) fn terms_of(alloc: Global, script: &Script, asking: &Asking) -> Resul
 }
 
 /// How many moves there are.
-pub(crate) fn move_count(terms: &Terms) -> usize
-    ensures { result ≡ move_count_by terms.now.differ (length terms.now.offers.items) (length terms.now.recorded.items) }
+pub(crate) fn move_count(terms: &Terms, left: &Vec<Left>) -> usize
+    ensures { result ≡ move_count_by terms.now.differ (length terms.now.offers.items) (length left.now.items) }
 {
     match terms.differ {
         None => terms.offers.len(),
-        Some(_) => 1 + terms.recorded.len() + terms.recorded.len(),
+        Some(_) => 1 + left.len() + left.len(),
     }
 }

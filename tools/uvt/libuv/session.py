@@ -113,10 +113,16 @@ def is_new(walk: Walk, name: str, left: int, step: int) -> bool:
 # ---- the whole session
 
 
+def order_of(lines: list[str]) -> str:
+    """In which order of the loop the script runs."""
+    return next((it.split(" ")[1] for it in lines if it.startswith("order ")), "1.45")
+
+
 class Leader:
     """Goes along a session, and places each step from outside by how many lines were printed before it, and by how often the loop has looked at
-    the clock since the last of them: behind the line `run default`, on leaving the poll, and at the line `timers` of an iteration. One that came
-    while the loop waited in the poll comes when libuv waits there; but what I/O a poll brings comes at once, and leaves it."""
+    the clock since the last of them: behind the line `run default` (but in the order of 1.44), on leaving the poll, and at the line `timers` of an
+    iteration. One that came while the loop waited in the poll comes when libuv waits there; but what I/O a poll brings comes at once, and leaves
+    it."""
 
     def __init__(self, walk: Walk) -> None:
         self.walk = walk
@@ -125,6 +131,7 @@ class Leader:
         self.lines: list[str] = []
         self.steps: list[int] = []
         self.looks = 0
+        self.looks_as_it_begins = order_of(walk.script.lines) != "1.44"
         # whether the poll was left by a callback of I/O: then its section `done` looks at no clock
         self.left_by_io = False
 
@@ -140,7 +147,7 @@ class Leader:
             self.left_by_io |= step in self.walk.leaving
             if not command.startswith("io "):
                 self.give(command, waits(self.walk.state(step - 1)))
-        elif (line == "done" and not self.left_by_io) or (line == "timers" and self.lines[-1:] != ["run default"]):
+        elif (line == "done" and not self.left_by_io) or (line == "timers" and not self.has_looked()):
             self.looks += 1
         elif line.startswith("poll "):
             self.left_by_io = False
@@ -148,7 +155,11 @@ class Leader:
         if shown is not None:
             self.lines.append(shown)
             self.steps.append(step)
-            self.looks = 1 if line == "run default" else 0
+            self.looks = 1 if self.has_looked() else 0
+
+    def has_looked(self) -> bool:
+        """Whether a run has begun behind the last line, and looked at the clock for the timers with which it begins."""
+        return self.looks_as_it_begins and self.lines[-1:] == ["run default"]
 
 
 def lead(walk: Walk) -> Led:

@@ -1,0 +1,6 @@
+use Rattle.std.proofs.Common.{◌≡◌}
+use Rattle.uv_find.specs.Orders.{is_new}
+use Rattle.uv_find.proofs.sources.is_new.Given as goal
+
+abbrev pub invariant-events : goal.invariant-events
+invariant-events l = l.new ≡ is_new l.recorded l.event l.number

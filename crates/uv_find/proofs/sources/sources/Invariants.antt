@@ -1,0 +1,6 @@
+use Rattle.std.proofs.Common.{◌≡◌}
+use Rattle.uv_find.specs.Orders.{sources}
+use Rattle.uv_find.proofs.sources.sources.Given as goal
+
+abbrev pub invariant-events : goal.invariant-events
+invariant-events l = l.all.items ≡ sources l.recorded l.number
