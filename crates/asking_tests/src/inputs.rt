@@ -126,7 +126,7 @@ fn a_reader_may_fail_at_each_read(rt: HostRuntime) -> Result<(), Fail> {
     Ok(())
 }
 
-const REPEATING: [(&[u8], bool); 7] = [
+const REPEATING: [(&[u8], bool); 9] = [
     (b"var t\nmain start t 1 0\nbegin\nfind stuck\n", false),
     (b"var t\non t start t 1 1\nbegin\nfind stuck\n", true),
     (b"var t\nclosed t repeat t 7\nbegin\nfind stuck\n", true),
@@ -141,6 +141,14 @@ const REPEATING: [(&[u8], bool); 7] = [
     (
         b"var t\nmain start t 1 1\nbegin\nmost clock 9\nfind stuck\n",
         false,
+    ),
+    (
+        b"var t\nmain start t 1 1\nbegin\nmay differ 1\nfind stuck\n",
+        false,
+    ),
+    (
+        b"var i\nmain init i idle\nmain start i\nbegin\nmay differ 1\nfind stuck\n",
+        true,
     ),
     (
         b"var t\nmain start t 1 1\nbegin\nmost t 9\nfind stuck\n",

@@ -17,7 +17,7 @@ use Rattle.uv_script.specs.declared.op.CallbackLine.{CallbackLine}
 use Rattle.uv_script.specs.Program.{Program, Callbacks, no_callbacks, lines_of, lines_in, main_op, op_at}
 use Rattle.uv_inquiry.specs.declared.repeats.Wanted.{Wanted}
 use Rattle.uv_inquiry.specs.declared.repeats.Wanted.TheVariants as wanted
-use Rattle.uv_inquiry.specs.Repeats.{HasOp, Idles, Repeats, starts, sets, idles, is_wanted, is_main, in_lines, HasWanted, NoneAt}
+use Rattle.uv_inquiry.specs.Repeats.{HasOp, Idles, Repeats, starts, sets, is_wanted, is_main, in_lines, HasWanted, NoneAt}
 use Rattle.uv_inquiry.proofs.Steps.{neither, var_is, itself}
 
 -- ---- where it stands
@@ -140,10 +140,9 @@ repeat_wanted {p} h = by h.op h.at h.is where
   by (op.SetRepeat v r) e is = sets v r (record { site = h.site; is = e }) (ltb-true 0 r is)
   by _ e is = absurd cc
 
-pub not_repeated : {p : Program} → (HasWanted p wanted.Repeat → ⊥) → (Idles p → ⊥) → Repeats p → ⊥
-not_repeated none quiet (starts v t r h more) = none (record { op = op.Start v t r; site = h.site; at = h.is; is = lt-ltb 0 r more })
-not_repeated none quiet (sets v r h more) = none (record { op = op.SetRepeat v r; site = h.site; at = h.is; is = lt-ltb 0 r more })
-not_repeated none quiet (idles h) = quiet h
+pub not_repeated : {p : Program} → (HasWanted p wanted.Repeat → ⊥) → Repeats p → ⊥
+not_repeated none (starts v t r h more) = none (record { op = op.Start v t r; site = h.site; at = h.is; is = lt-ltb 0 r more })
+not_repeated none (sets v r h more) = none (record { op = op.SetRepeat v r; site = h.site; at = h.is; is = lt-ltb 0 r more })
 
 pub must : {b : Bool} → (b ≡ false → ⊥) → b ≡ true
 must {b = true} h = refl

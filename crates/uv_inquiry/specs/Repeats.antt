@@ -26,11 +26,16 @@ pub record Idles (p : Program) : Type 0 where
   pub inits : HasOp p (op.Init name kind.Idle)
   pub starts : HasOp p (op.StartWatcher name)
 
--- the script starts a timer with a repeat, sets a repeat, or starts an idle handle
+-- the script starts a timer with a repeat, or sets a repeat
 pub data Repeats (p : Program) : Type 0 where
   starts : (v : Var) (timeout repeat : ℕ) → HasOp p (op.Start v timeout repeat) → 0 < repeat → Repeats p
   sets : (v : Var) (repeat : ℕ) → HasOp p (op.SetRepeat v repeat) → 0 < repeat → Repeats p
-  idles : Idles p → Repeats p
+
+-- callbacks may come without end: those of an idle handle in each iteration, those of a timer as long as the clock goes on. Where what came in a
+-- recording is all that comes, the clock goes on no further than it did there
+pub data GoesOn (p : Program) (a : Asked) : Type 0 where
+  repeats : Repeats p → a.differ ≡ None → GoesOn p a
+  idles : Idles p → GoesOn p a
 
 -- neither the clock nor a name is bounded
 pub record IsUnbounded (a : Asked) : Type 0 where
@@ -40,7 +45,7 @@ pub record IsUnbounded (a : Asked) : Type 0 where
 -- the states may have no end
 pub record MayNeverEnd (p : Program) (a : Asked) : Type 0 where
   pub unbounded : IsUnbounded a
-  pub repeats : Repeats p
+  pub goes_on : GoesOn p a
 
 -- ---- as tests that the code computes
 

@@ -7,7 +7,7 @@ ghost use Rattle.uv_ids.specs.declared.seen.Site.TheVariants.{Main, In};
 ghost use Rattle.uv_script.specs.declared.op.Op.TheVariants.{Init, StartWatcher};
 ghost use Rattle.uv_script.specs.Program.{IsWhole};
 ghost use Rattle.uv_asking.specs.Asked.{asked_in};
-ghost use Rattle.uv_inquiry.specs.Repeats.{MayNeverEnd, IsUnbounded, Repeats, Idles, HasOp, is_wanted, is_main, in_lines, HasWanted, NoneAt};
+ghost use Rattle.uv_inquiry.specs.Repeats.{MayNeverEnd, IsUnbounded, GoesOn, Repeats, Idles, HasOp, is_wanted, is_main, in_lines, HasWanted, NoneAt};
 
 use crate::inquiry::Inquiry;
 use uv_asking::Asking;
@@ -53,14 +53,14 @@ impl Wanted {
     }
 }
 
-/// Whether no bound is given for the clock or for a name, and the script repeats: it starts a timer with a repeat, sets a repeat, or
-/// starts an idle handle.
+/// Whether no bound is given for the clock or for a name, and callbacks may come without end: an idle handle is started, or a timer
+/// repeats and the clock may go on. Where what came in a recording is all that comes, it goes on no further than it did there.
 ///
 /// A script may have no end of states in other ways: a callback that starts its own timer again isn't seen.
 pub fn may_never_end(inquiry: &Inquiry) -> bool
     ensures { IsTrue result ↔ MayNeverEnd inquiry.now.script (asked_in inquiry.now.asking) }
 {
-    is_unbounded(&inquiry.asking) && repeats(&inquiry.script)
+    is_unbounded(&inquiry.asking) && goes_on(&inquiry.script, &inquiry.asking)
 }
 
 /// Whether no bound is given for the clock or for a name.
@@ -70,12 +70,16 @@ fn is_unbounded(asking: &Asking) -> bool
     asking.clock.is_none() && asking.most.is_empty()
 }
 
+/// Whether callbacks may come without end.
 #[tactic(auto, using(crate::proofs::Ops::ops))]
-fn repeats(script: &Script) -> bool
-    ensures { IsTrue result ↔ Repeats script.now }
+fn goes_on(script: &Script, asking: &Asking) -> bool
+    ensures { IsTrue result ↔ GoesOn script.now (asked_in asking.now) }
 {
     let names = script.names().len();
-    has_op(script, Wanted::Repeat) || idles(script, names)
+    match asking.differ {
+        None => has_op(script, Wanted::Repeat) || idles(script, names),
+        Some(_) => idles(script, names),
+    }
 }
 
 /// Whether an idle handle is started.
