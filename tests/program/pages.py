@@ -74,7 +74,6 @@ BROUGHT = (
 ECHO = BROUGHT % ("14 callbacks of I/O, 1 time that went by in no callback, 3 callbacks that took time", 106)
 FRAME = BROUGHT % ("3 times that went by in no callback, 1 callback that took time", 144)
 NEAR = (
-    "uvt: no bound is given, and the script repeats: there may be no end of states\n"
     "uvt find: each callback does what it did in the recording, also where the program would do something else\n"
     "uvt find: `may differ 1`: so many of the steps from outside in examples/frame.rec may come at another place, those of one name, of one "
     "worker or of the clock in their order; each other one comes at its place, or as soon after it as the loop accepts it\n"

@@ -17,7 +17,7 @@ use Rattle.uv_script.specs.declared.op.CallbackLine.{CallbackLine}
 use Rattle.uv_script.specs.Program.{Program, Callbacks, no_callbacks, lines_of, lines_in, main_op, op_at}
 use Rattle.uv_inquiry.specs.declared.repeats.Wanted.{Wanted}
 use Rattle.uv_inquiry.specs.declared.repeats.Wanted.TheVariants as wanted
-use Rattle.uv_inquiry.specs.Repeats.{HasOp, Idles, Repeats, starts, sets, is_wanted, is_main, in_lines, HasWanted, NoneAt}
+use Rattle.uv_inquiry.specs.Repeats.{HasOp, Repeats, starts, sets, is_wanted, is_main, in_lines, HasWanted, NoneAt}
 use Rattle.uv_inquiry.proofs.Steps.{neither, var_is, itself}
 
 -- ---- where it stands
