@@ -3,8 +3,8 @@
 Unlike the times of tests/costs/run these hardly differ from one machine to another. A session of some length is run under valgrind
 (`--tool=callgrind`), and one that is longer; what a step on costs is the difference of their instructions by that of their steps. So
 it is for steps taken back (`back N` behind the longer one) and for steps run again (`forward N` behind that). Lines are printed by a
-step on, and by none of the other two. What a step keeps, in bytes, is the difference of what the program holds (VmRSS) with so many
-steps and with ten times as many, by that of the steps.
+step on, and by none of the other two. What a step keeps, in bytes, is the difference of what the program holds (VmRSS) with some steps
+and with 50,000 more, by that of the steps.
 
 Before any of these steps each session takes 20,000 others of the same kind at least, and 200,000 where slots are to be used up first,
 and so many that no list of steps grows in the midst of what is counted: both halves of it cost the same, or it is a fault. So cases
@@ -44,6 +44,8 @@ SHORT, MIDDLE, LONG = 4, 8, 12
 LIKE, TRIES = 1.01, 8
 # how many steps are taken at least before any that are counted
 BEFORE, LONG_BEFORE = 20_000, 200_000
+# over how many steps it is looked at what each keeps
+KEPT = 50_000
 # how many slots were used before
 WORN = 60_000
 # how many seconds a run of the program beside may take
@@ -247,7 +249,9 @@ def costs(program: Program, case: Case, found: dict[str, float]) -> None:
     more = length(program, long) - length(program, short)
     found["on, printed"] = (counts[-1] - counts[0]) / more
     if "bytes" in program.columns:
-        (few, less), (many, all_of_it) = (held(program, session(case, times)) for times in (100, 1000))
+        each = max(1, more // (LONG - SHORT))
+        first = KEPT // 5 // each + 1
+        (few, less), (many, all_of_it) = (held(program, session(case, times)) for times in (first, first + KEPT // each + 1))
         found["bytes"] = (all_of_it - less) / (many - few)
     for column, line in (("back", f"back {more}"), ("run again", f"forward {more}")):
         if column in program.columns:
