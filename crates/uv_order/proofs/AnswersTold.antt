@@ -13,7 +13,7 @@ use Rattle.uv_order.proofs.Heard.{HeardAt, HeardFollows, did_heard}
 use Rattle.uv_order.proofs.Saying.{op_says, send_says, cancel_answers}
 use Rattle.uv_order.proofs.Documents.{Holds, HoldsNext, holds_next, holds_fresh}
 
-heard_fresh : (p : Program) → HeardAt p [] (fresh p)
+pub heard_fresh : (p : Program) → HeardAt p [] (fresh p)
 heard_fresh p = record {
   stands = λ id. refl;
   begun = λ id h e timer on. cc e;
@@ -34,7 +34,7 @@ still_answers p past s t (Some l) each = tt
 
 did_answers : (p : Program) (past : List Line) (s : State) (n : Next) → Did p s n → Kept s → Working s → KnownAt p (seens past) s →
     StartedAt p (seens past) s → DatedAt p past s → HeardAt p (seens past) s → AnswersNext p past s n
-did_answers p past s n (Did.still x time clock stop idled l q) kept work w b d k = still_answers p past s (timed s x time clock stop idled) l q
+did_answers p past s n (Did.still x time clock stop idled l q none) kept work w b d k = still_answers p past s (timed s x time clock stop idled) l q
 did_answers p past s n (Did.op x at o e) kept work w b d k = rw e (op_says p past s o kept work w b d k)
 did_answers p past s n (Did.begun run q e) kept work w b d k = tt
 did_answers p past s n (Did.sent v) kept work w b d k = send_says p past s v kept w b d k

@@ -237,7 +237,7 @@ cancel_outside p past s v k = cancel_both s v (λ (d : ops.Done). KnownAt p (See
 
 pub did_known : (p : Program) (past : List Seen) (s : State) (n : Next) → Did p s n → Kept s → Working s → StartedAt p past s → KnownAt p past s →
     Follows p past n
-did_known p past s n (Did.still x time clock stop idled l q) kept work begun k = still_known p past (timed s x time clock stop idled) l q k
+did_known p past s n (Did.still x time clock stop idled l q none) kept work begun k = still_known p past (timed s x time clock stop idled) l q k
 did_known p past s n (Did.op x at o e) kept work begun k =
     (op_line p past s at o e kept begun k, op_known p past s o kept (λ id f. new_id p past s id f kept begun) k at e)
 did_known p past s n (Did.collected run part t f) kept work begun k = changed p past s t (records.stopped t.1) f.holds refl refl k

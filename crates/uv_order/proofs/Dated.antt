@@ -328,7 +328,7 @@ cancelled_dated p past s v k = cancel_both s v (λ (d : ops.Done). DatedFollows 
 pub did_dated : (p : Program) (past : List Line) (s : State) (n : Next) → Did p s n → Kept s → KnownAt p (seens past) s → StartedAt p (seens past) s →
     DatedAt p past s → DatedFollows p past s n
 did_dated p past s n (Did.refused why) kept w b k = tt
-did_dated p past s n (Did.still x time clock stop idled l q) kept w b k = still_dated p past s _ l (λ i. refl) refl q k
+did_dated p past s n (Did.still x time clock stop idled l q none) kept w b k = still_dated p past s _ l (λ i. refl) refl q k
 did_dated p past s n (Did.op x at o e) kept w b k = did_op_dated p past s o (do_op s o) (op_did s o) kept w b k at _ e
 did_dated p past s n (Did.begun run WatcherKind.Idle e) kept w b k = still_dated p past s _ (Some (Seen.Section _)) (λ i. refl) refl (IsStill.section _) k
 did_dated p past s n (Did.begun run q e) kept w b k = still_dated p past s _ (Some (Seen.Section _)) (λ i. refl) refl (IsStill.section _) k

@@ -39,6 +39,19 @@ pub data IsStill : Option Seen → Type 0 where
   end : (alive : Bool) → IsStill (Some (Seen.End alive))
   tick : (ms : ℕ) → IsStill (Some (Seen.Tick ms))
 
+-- the section of this word has no list that callbacks of handles are called by in their turn
+abbrev pub IsUnlisted : Phase → Type 0
+IsUnlisted Phase.Idle = ⊥
+IsUnlisted Phase.Prepare = ⊥
+IsUnlisted Phase.Check = ⊥
+IsUnlisted Phase.Closing = ⊥
+IsUnlisted word = Unit {0}
+
+-- nor does one begin that has
+abbrev pub BeginsNoList : Option Seen → Type 0
+BeginsNoList (Some (Seen.Section word)) = IsUnlisted word
+BeginsNoList l = Unit {0}
+
 -- only the place and the times change
 abbrev pub timed : State → Place → ℕ → ℕ → Bool → Bool → State
 timed s x time clock stop idled = record s { place = x; time = time; clock = clock; stop_flag = stop; idled = idled }
@@ -49,7 +62,8 @@ IsSync q = Unit {0}
 
 pub data Did (p : Program) (s : State) : Next → Type 0 where
   refused : (why : Why) → Did p s (Refuses why)
-  still : (x : Place) (time clock : ℕ) (stop idled : Bool) (l : Option Seen) → IsStill l → Did p s (Moves (timed s x time clock stop idled) l)
+  still : (x : Place) (time clock : ℕ) (stop idled : Bool) (l : Option Seen) → IsStill l → BeginsNoList l
+      → Did p s (Moves (timed s x time clock stop idled) l)
   -- an op of the script is done
   op : (x : Place) (at : Site) (o : Op) → op_at p at ≡ Some o
       → Did p s (Moves (record (do_op s o).state { place = x }) (Some (Seen.Op at (do_op s o).answer)))
@@ -98,9 +112,9 @@ pub data Did (p : Program) (s : State) : Next → Type 0 where
 turn_did : (p : Program) (s : State) (run : Run) (turn : Turn) → Did p s (step.turns (order_of p) s run turn)
 turn_did p s run turn = by (step.way (order_of p) run.mode (goes s) turn) where
   by : (w : Way) → Did p s (step.goes_by (order_of p) s run w)
-  by (ToTimers part) = still _ _ s.clock s.stop_flag _ _ (section _)
-  by ToPending = still _ s.time s.clock s.stop_flag _ _ (section _)
-  by ToEnd = still _ s.time s.clock false s.idled _ (end _)
+  by (ToTimers part) = still _ _ s.clock s.stop_flag _ _ (section _) tt
+  by ToPending = still _ s.time s.clock s.stop_flag _ _ (section _) tt
+  by ToEnd = still _ s.time s.clock false s.idled _ (end _) tt
 
 fire_did : (p : Program) (s : State) (run : Run) (part : TimersOf) → Did p s (step.fire p s run part)
 fire_did p s run part = found_both (front s s.ready) _ _ (Did p s)
@@ -120,13 +134,13 @@ stage_did : (p : Program) (s : State) (run : Run) (x : Stage) → BeginsBehind x
 stage_did p s run Pending r = begun run WatcherKind.Idle r
 stage_did p s run (Walking WatcherKind.Idle) r = walk_did p s run WatcherKind.Idle tt (begun run WatcherKind.Prepare r)
 stage_did p s run (Walking WatcherKind.Prepare) r =
-    walk_did p s run WatcherKind.Prepare tt (still _ s.time s.clock s.stop_flag s.idled _ (poll _))
+    walk_did p s run WatcherKind.Prepare tt (still _ s.time s.clock s.stop_flag s.idled _ (poll _) tt)
 stage_did p s run (Poll deadline) r = cond_both (may_leave s deadline) _ _ (Did p s) (λ h. begun_done run s.clock r) (λ h. refused Blocked)
 stage_did p s run (Polled true) r = begun_done run s.time r
-stage_did p s run (Polled false) r = still _ s.time s.clock s.stop_flag s.idled _ (section _)
+stage_did p s run (Polled false) r = still _ s.time s.clock s.stop_flag s.idled _ (section _) tt
 stage_did p s run Done r = found_both (front_request s s.done.yet) _ _ (Did p s)
     (λ t e. ended run t (request_front s s.done.yet t e)) (λ e. begun run WatcherKind.Async r)
-stage_did p s run DoneUnwoken r = still _ s.time s.clock s.stop_flag s.idled _ (section _)
+stage_did p s run DoneUnwoken r = still _ s.time s.clock s.stop_flag s.idled _ (section _) tt
 stage_did p s run (Walking WatcherKind.Async) r = found_both (front s s.watchers.async.yet) _ _ (Did p s)
     (λ t e. let f = front_of s s.watchers.async.yet t e in cond_both t.1.pending _ _ (Did p s) (λ on. woken run t f on) (λ off. passed run t f off))
     (λ e. begun run WatcherKind.Check r)
@@ -140,7 +154,7 @@ stage_did p s run each r = search (turn_did, walk_did, cond_both, found_both, re
 
 body_did : (p : Program) (s : State) (run : Run) (body : Body) (x : Option CallbackLine) →
     slice_get (lines_in p body.callback body.name) body.next ≡ x → Did p s (step.body_step p s run body x)
-body_did p s run body None e = still _ s.time s.clock s.stop_flag s.idled None unseen
+body_did p s run body None e = still _ s.time s.clock s.stop_flag s.idled None unseen tt
 body_did p s run body (Some line) e =
     op _ (Site.In body.callback body.name body.next) line.op (ap (option_map (λ (x : CallbackLine). x.op)) e)
 
@@ -150,7 +164,7 @@ main_did p s i (Some (MainOp.Run m)) e = cond_both (step.refreshes (order_of p) 
     (λ (t : State). Did p s (Moves (record t {
       place = Running (record { mode = m; line = i; stage = Entry; body = None });
     }) (Some (Seen.Run m))))
-    (λ h. still _ s.clock s.clock s.stop_flag s.idled _ (runs m)) (λ h. still _ s.time s.clock s.stop_flag s.idled _ (runs m))
+    (λ h. still _ s.clock s.clock s.stop_flag s.idled _ (runs m) tt) (λ h. still _ s.time s.clock s.stop_flag s.idled _ (runs m) tt)
 main_did p s i (Some (MainOp.Op o)) e = op _ (Site.Main i) o (ap main_op e)
 
 take_did : (p : Program) (s : State) (n : ℕ) (t : Result (Id × Request) Why) → next_work s (slice_get s.running n) ≡ t → Did p s (step.take s n t)
@@ -175,5 +189,5 @@ unfolding next
 did p s (Cancel v) r = cond_both (nat_lt v.0 (length s.names)) _ _ (Did p s) (λ h. cancelled v) (λ h. refused Range)
 did p s (Send v) r = cond_both (nat_lt v.0 (length s.names)) _ _ (Did p s) (λ h. sent v) (λ h. refused Range)
 did p s (Tick ms) r = cond_both (nat_le (s.clock + ms) 4611686018427387904) _ _ (Did p s)
-    (λ h. still s.place s.time (s.clock + ms) s.stop_flag s.idled _ (tick ms)) (λ h. refused Range)
+    (λ h. still s.place s.time (s.clock + ms) s.stop_flag s.idled _ (tick ms) tt) (λ h. refused Range)
 did p s each r = grind (arith, main_did, stage_did, body_did, take_did, finish_did, cond_both, refused, io_did, still)

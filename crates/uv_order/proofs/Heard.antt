@@ -411,7 +411,7 @@ cancelled_heard p past s v k = cancel_both s v (λ (d : ops.Done). HeardFollows 
 pub did_heard : (p : Program) (past : List Seen) (s : State) (n : Next) → Did p s n → Kept s → KnownAt p past s → HeardAt p past s →
     HeardFollows p past n
 did_heard p past s n (Did.refused why) kept w k = tt
-did_heard p past s n (Did.still x time clock stop idled l q) kept w k = still_heard p past s x time clock stop idled l q k
+did_heard p past s n (Did.still x time clock stop idled l q none) kept w k = still_heard p past s x time clock stop idled l q k
 did_heard p past s n (Did.op x at o e) kept w k = did_op_heard p past s o (do_op s o) (op_did s o) kept w k at e
 did_heard p past s n (Did.begun run WatcherKind.Idle e) kept w k =
     heard_hushed p past _ s.arena s.names s.ready (record { held = λ i. refl; bound = λ u. refl }) k

@@ -19,6 +19,7 @@ mod Keeping
 mod KeptSteps
 mod Known
 mod Lemmas
+mod Lined
 mod Lives
 mod Names
 mod OpCases
@@ -36,6 +37,7 @@ mod Started
 pub mod Taking
 mod TimerKeys
 mod TimersFollow
+pub mod TurnsTold
 pub mod Waiting
 mod WatchersFollow
 mod Woken

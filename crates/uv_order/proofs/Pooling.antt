@@ -169,7 +169,7 @@ quiet_step : (p : Program) (s : State) (n : Next) → KeepsWork s n → IsQuiet 
 quiet_step p s n q none = grind (arith, pool_same)
 
 did_quiet : (p : Program) (s : State) (n : Next) (d : Did p s n) → IsOfLoop d → IsQuiet p n
-did_quiet p s n (Did.still x time clock stop idled l IsStill.unseen) h = tt
+did_quiet p s n (Did.still x time clock stop idled l IsStill.unseen none) h = tt
 did_quiet p s n each h = grind arith
 
 outside_pools : (p : Program) (s : State) (v : Var) → Working s →

@@ -105,7 +105,7 @@ IsOfLoop d = Unit {0}
 
 pub did_same : (p : Program) (s : State) (n : Next) (d : Did p s n) → IsOfLoop d → Kept s → KeepsWork s n
 did_same p s n (Did.refused why) h kept = tt
-did_same p s n (Did.still x time clock stop idled l q) h kept = same s
+did_same p s n (Did.still x time clock stop idled l q none) h kept = same s
 did_same p s n (Did.begun run WatcherKind.Idle e) h kept = same s
 did_same p s n (Did.begun run each e) h kept = same s
 did_same p s n (Did.begun_closing run e) h kept = same s

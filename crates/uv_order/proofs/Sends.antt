@@ -209,7 +209,7 @@ placed_sent p names s sent o at e x kept k = grind (arith, op_sent)
 pub did_sent : (p : Program) (told : Told) (names : Names) (s : State) (n : Next) → Did p s n → Agrees names s → Kept s → SentAt told.sent s →
     SentFollows p told names s n
 did_sent p told names s n (Did.refused why) x kept k = tt
-did_sent p told names s n (Did.still y time clock stop idled l IsStill.unseen) x kept k = k
+did_sent p told names s n (Did.still y time clock stop idled l IsStill.unseen none) x kept k = k
 did_sent p told names s n (Did.op y at o e) x kept k = placed_sent p names s told.sent o _ e x kept k
 did_sent p told names s n (Did.begun run WatcherKind.Idle e) x kept k = k
 did_sent p told names s n (Did.collected run part t f) x kept k = changed s told.sent t (records.stopped t.1) f.holds refl refl refl k

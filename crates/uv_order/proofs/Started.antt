@@ -390,7 +390,7 @@ cancelled_started p past s v k = cancel_both s v (λ (d : ops.Done). StartedAt p
 
 pub did_started : (p : Program) (past : List Seen) (s : State) (n : Next) → Did p s n → Kept s → KnownAt p past s → StartedAt p past s →
     StartedFollows p past n
-did_started p past s n (Did.still x time clock stop idled l q) kept w k = search (still_follows, past)
+did_started p past s n (Did.still x time clock stop idled l q none) kept w k = search (still_follows, past)
 did_started p past s n (Did.op x at o e) kept w k = did_op_started p past s o (do_op s o) (op_did s o) kept w k at e
 did_started p past s n (Did.begun run WatcherKind.Idle e) kept w k = unchanged p past _ s (record { made = λ i v m. m; same = λ i. refl }) k
 did_started p past s n (Did.collected run part t f) kept w k = collected_started p past s t f kept k

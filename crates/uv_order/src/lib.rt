@@ -13,6 +13,7 @@ mod pool;
 mod reached;
 mod refused;
 mod told;
+mod turns;
 mod waits;
 
 pub use answers::answers_told;
@@ -23,4 +24,5 @@ pub use pool::pool_follows;
 pub use reached::lists_agree;
 pub use refused::orders_refuse;
 pub use told::handles_told;
+pub use turns::called_in_turn;
 pub use waits::loop_goes_on;
