@@ -1,5 +1,5 @@
 -- What the slots hold, and the lists of ids of handles.
-use Rattle.uv_order.proofs.Names.{◌≡◌, inl, inr, ℕ, ◌<◌, List, ◌∷◌, ◌++◌, Bool, true, false, Option, Some, None, slice_set, refl, ap, sym, subst, ◌∙◌, arith, same_Some, Id, Var, Due, HandleRecord, Slot, held, Content, handle_in, same_id, without_id, with_timer, without_timer, Has, InOrder, has_id, if◌then◌else◌, false_from_ne_true, Kind, option_map, State, handle, ◌==◌, begun_at, due_after, started, restarted, suc, slice_get, AreAll, []}
+use Rattle.uv_order.proofs.Names.{◌≡◌, inl, inr, ℕ, ◌<◌, List, ◌∷◌, ◌++◌, Bool, true, false, Option, Some, None, slice_set, refl, ap, sym, subst, ◌∙◌, arith, same_Some, Id, Var, Due, HandleRecord, Slot, held, Content, handle_in, same_id, without_id, with_timer, without_timer, Has, InOrder, has_id, if◌then◌else◌, false_from_ne_true, Kind, option_map, State, handle, ◌==◌, begun_at, due_after, started, restarted, suc, slice_get, AreAll}
 use Rattle.uv_order.proofs.Contents.{slot_with, turned_to, holds, Turns, set_turns, emptied, emptied_turns, as_handle}
 use Rattle.uv_order.proofs.IdLists.{same, other, distinct_without, distinct_but, AreSome, some_alike, some_less, all_alike, all_less, all_more, has_but_one, but_middle}
 use Rattle.uv_order.proofs.TimerKeys.{one_id, not_before_itself, before_each, still_has, had, in_order_without, IsNew, has_new, has_old, new_or_old, in_order_with, is_new}
@@ -197,10 +197,10 @@ pub everyone_without : (slots : List (Slot Content)) (P : HandleRecord → Type 
 everyone_without slots P id h x ids e g k =
     all_less id (fits_other slots P id h x e) (fits_apart slots P id h x e g) (has_but_one ids id) (distinct_without ids id k.distinct) k
 
--- one that fits from now on is put in front
-pub everyone_front : (slots : List (Slot Content)) (P : HandleRecord → Type 0) (id : Id) (h x : HandleRecord) (ids : List Id) →
-    held_at slots id ≡ Some h → (P h → ⊥) → P x → Everyone slots P ids → Everyone (put slots id x) P (id ∷ ids)
-everyone_front slots P id h x ids e f g k = all_more [] ids id
+-- one that fits from now on is put among them
+pub everyone_more : (slots : List (Slot Content)) (P : HandleRecord → Type 0) (id : Id) (h x : HandleRecord) (xs ys : List Id) →
+    held_at slots id ≡ Some h → (P h → ⊥) → P x → Everyone slots P (xs ++ ys) → Everyone (put slots id x) P (xs ++ id ∷ ys)
+everyone_more slots P id h x xs ys e f g k = all_more xs ys id
     (λ i a. let d = fits_not slots P id h e f i a in (d, fits_other slots P id h x e i d a)) (fitted slots P id h x e)
     (record { handle = x; holds = put_same slots id h x e; fits = g }) k
 

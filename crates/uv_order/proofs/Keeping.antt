@@ -7,7 +7,7 @@ use Rattle.uv_records.specs.Slots as arena
 use Rattle.uv_model.specs.Ops as ops
 use Rattle.uv_order.proofs.IdLists.{same, other, without_absent, without_itself}
 use Rattle.uv_order.proofs.Contents.{slot_with, IsThere, Turns, set_turns, pushed_turns, get_set_other}
-use Rattle.uv_order.proofs.Holding.{held_at, is_held, put, slot_of, SameHandles, Grown, grown, Lists, lists_same, everyone_same, lists_put, lists_without, lists_grown, Everyone, everyone_put, everyone_without, everyone_front, everyone_grown, everyone_listed, IsSet, Times, times_put, times_without, times_with, times_grown, put_same, put_other}
+use Rattle.uv_order.proofs.Holding.{held_at, is_held, put, slot_of, SameHandles, Grown, grown, Lists, lists_same, everyone_same, lists_put, lists_without, lists_grown, Everyone, everyone_put, everyone_without, everyone_more, everyone_grown, everyone_listed, IsSet, Times, times_put, times_without, times_with, times_grown, put_same, put_other}
 use Rattle.uv_order.proofs.OpCases.{timer_kind}
 
 -- ---- what is kept
@@ -217,7 +217,7 @@ closed_kept s id h e stays k =
       timers = off_times s id h x e refl k;
       ready = lists_without s.arena.slots Rests id h x s.ready e k.ready;
       watchers = λ q. off_watched s id h x q e refl (k.watchers q);
-      closing = everyone_front s.arena.slots Closes id h x (members s.closing) e (λ shut. open_shut h shut stays) refl k.closing;
+      closing = everyone_more s.arena.slots Closes id h x [] (members s.closing) e (λ shut. open_shut h shut stays) refl k.closing;
     }
 
 pub started_kept : (s : State) (id : Id) (old h : HandleRecord) (timeout repeat : ℕ) → handle s id ≡ Some old → old.kind ≡ Kind.Timer → old.active ≡
@@ -253,10 +253,10 @@ pub others_times : (s : State) (id : Id) (h x : HandleRecord) (q : Kind) → han
 others_times s id h x q e t u d k = times_put s.arena.slots s.next_start s.timers id h x e
     (λ key a. absurd (grind arith)) (λ key a. absurd (grind arith)) k.timers
 
--- a watcher is put in front of its list
-pub in_front : (s : State) (id : Id) (h x : HandleRecord) (q : Kind) (ids : List Id) → handle s id ≡ Some h → h.active ≡ false → x.kind ≡ q →
-    x.active ≡ true → Everyone s.arena.slots (Watches q) ids → Everyone (put s.arena.slots id x) (Watches q) (id ∷ ids)
-in_front s id h x q ids e off u on l = everyone_front s.arena.slots (Watches q) id h x ids e (λ w. on_off h w.active off) (assumption) l
+-- a watcher is put on its list
+listed_more : (s : State) (id : Id) (h x : HandleRecord) (q : Kind) (xs ys : List Id) → handle s id ≡ Some h → h.active ≡ false → x.kind ≡ q →
+    x.active ≡ true → Everyone s.arena.slots (Watches q) (xs ++ ys) → Everyone (put s.arena.slots id x) (Watches q) (xs ++ id ∷ ys)
+listed_more s id h x q xs ys e off u on l = everyone_more s.arena.slots (Watches q) id h x xs ys e (λ w. on_off h w.active off) (assumption) l
 
 -- a handle that is no timer is started, and the lists of watchers are these then
 activated_kept : (s : State) (id : Id) (h : HandleRecord) (q : Kind) (watching : Watchers) → handle s id ≡ Some h → h.kind ≡ q → Apart q Kind.Timer →
@@ -272,7 +272,7 @@ activated_kept s id h q watching e t untimed stays k listed =
 
 -- the lists of one kind are others, and of another kind as they were
 started_lists : (s : State) (k q : WatcherKind) (id : Id) (x : HandleRecord) →
-    Everyone (put s.arena.slots id x) (Watches (kind_as k)) (id ∷ members (watched s k)) →
+    Everyone (put s.arena.slots id x) (Watches (kind_as k)) (members (with_first (watched s k) id)) →
     (Apart (kind_as k) (kind_as q) → Everyone (put s.arena.slots id x) (Watches (kind_as q)) (members (watched s q))) →
     Everyone (put s.arena.slots id x) (Watches (kind_as q)) (members (watched (with_watched s k (with_first (watched s k) id)) q))
 started_lists s k q id x own other = grind arith
@@ -282,7 +282,7 @@ pub watcher_started_kept : (s : State) (k : WatcherKind) (id : Id) (h : HandleRe
 watcher_started_kept s q id h e t off stays k =
     let x = activated h in
     activated_kept s id h (kind_as q) (with_watched s q (with_first (watched s q) id)).watchers e t (λ f. not_timer q (sym f)) stays k
-    (λ r. started_lists s q r id x (in_front s id h x (kind_as q) (members (watched s q)) e off t refl (k.watchers q))
+    (λ r. started_lists s q r id x (listed_more s id h x (kind_as q) [] (members (watched s q)) e off t refl (k.watchers q))
     (λ apart. others s.arena.slots (kind_as q) (kind_as r) id h x (members (watched s r)) e t t apart (k.watchers r)))
 
 -- one is started, which is on no list

@@ -1,5 +1,5 @@
 -- The lists of idle, prepare, check and closing handles, as the lines tell them and as the state has them: each step keeps that they agree.
-use Rattle.uv_order.proofs.Names.{arith, ◌≡◌, ℕ, subst, List, ◌∷◌, ◌++◌, Bool, true, false, drop, Option, Some, None, Ok, refl, ap, sym, ◌∙◌, append-nil, append_assoc, filter-append, not, Id, Var, Code, Answer, Kind, Phase, Seen, Site, Op, Program, op_at, HandleRecord, WatcherKind, phase_of, Walk, same_id, without_id, walk_without_id, Place, State, fresh, handle, live_handle, live_request, stopped, restarted, do_op, Next, Moves, Refuses, has_id, Answered, bound, kind_as, [], AreDistinct, Watchers, those_of, with_those_of, watchers_without_id, Names, off_by, taken_off, names_by, without_ids}
+use Rattle.uv_order.proofs.Names.{arith, ◌≡◌, ℕ, subst, List, ◌∷◌, ◌++◌, Bool, true, false, drop, Option, Some, None, Ok, refl, ap, sym, ◌∙◌, append-nil, append_assoc, filter-append, not, Id, Var, Code, Answer, Kind, Phase, Seen, Site, Op, Program, op_at, HandleRecord, WatcherKind, phase_of, Walk, same_id, without_id, walk_without_id, Place, State, fresh, handle, live_handle, live_request, stopped, restarted, do_op, Next, Moves, Refuses, has_id, Answered, bound, kind_as, [], AreDistinct, Watchers, those_of, with_those_of, watchers_without_id, Names, off_by, taken_off, names_by, without_ids, front_moved, moved_on}
 use Rattle.uv_records.specs.Walks.{nothing_listed}
 use Rattle.uv_model.specs.Ops as ops
 use Rattle.uv_order.specs.Answers.{facts}
@@ -53,7 +53,8 @@ belonging s k Phase.Async = record { each = λ i h. cc h; distinct = tt }
 -- a handle that doesn't belong there isn't on it
 away : (s : State) (id : Id) (h : HandleRecord) → handle s id ≡ Some h → Kept s → (word : Phase) → (Belongs word h → ⊥) →
     has_id (members (walk_of word s.watchers s.closing)) id ≡ false
-away s id h e k word apart = not_listed s.arena.slots (Belongs word) id h (members (walk_of word s.watchers s.closing)) e apart (belonging s k word).each
+away s id h e k word apart =
+    not_listed s.arena.slots (Belongs word) id h (members (walk_of word s.watchers s.closing)) e apart (belonging s k word).each
 
 -- ---- lists without one
 
@@ -202,7 +203,7 @@ stop_list p past s v t x k word = let b = x.bound in grind (arith, both_without,
 -- one closes
 close_list : (p : Program) (past : List Seen) (s : State) (v : Var) (t : Id × HandleRecord) → Accepted p past s v t → t.1.closing ≡ false → Kept s →
     (word : Phase) →
-    members (walk_of word (watchers_without_id s.watchers t.0) (record s.closing { list = t.0 ∷ s.closing.list }))
+    members (walk_of word (ops.closed s t.0 t.1).watchers (ops.closed s t.0 t.1).closing)
     ≡ listed_op p past (Op.Close v) (Answer.Code Code.Ok) word (members (walk_of word s.watchers s.closing))
 close_list p past s v t x stays k word =
     let b = x.bound in
@@ -380,18 +381,15 @@ due_lined p past s t f kept k =
 first_left : (w : Walk Id) (id : Id) → w.yet ≡ id ∷ drop 1 w.yet → AreDistinct (members w) → drop 1 w.yet ≡ without_id w.yet id
 first_left w id are distinct = grind (arith, distinct_back, itself, without_absent)
 
-moved_list : (w : Walk Id) (id : Id) → w.yet ≡ id ∷ drop 1 w.yet → (w.list ++ id ∷ []) ++ drop 1 w.yet ≡ members w
+moved_list : (w : Walk Id) (id : Id) → w.yet ≡ id ∷ drop 1 w.yet → members (moved_on w id (drop 1 w.yet)) ≡ members w
 moved_list w id are = grind (arith, append_assoc)
 
 walked_lined : (p : Program) (past : List Seen) (s : State) (q : WatcherKind) (t : Id × HandleRecord) → FrontOf s (those_of q s.watchers).yet t →
     has_list (kind_as q) ≡ true → Kept s → LinedAt p past s →
-    Lined p (Seen.Call t.1.name t.0 ∷ past) (with_those_of q (record {
-      list = (those_of q s.watchers).list ++ t.0 ∷ [];
-      yet = drop 1 (those_of q s.watchers).yet;
-    }) s.watchers) s.closing
+    LinedAt p (Seen.Call t.1.name t.0 ∷ past) (front_moved s q t.0)
 walked_lined p past s q t f own kept k = record { list = λ word. list word q f.are; left = λ word. left word q f.are (watches q f) own } where
   more : (q : WatcherKind) → Watchers
-  more q = with_those_of q (record { list = (those_of q s.watchers).list ++ t.0 ∷ []; yet = drop 1 (those_of q s.watchers).yet }) s.watchers
+  more q = (front_moved s q t.0).watchers
 
   list : (word : Phase) (q : WatcherKind) → (those_of q s.watchers).yet ≡ t.0 ∷ drop 1 (those_of q s.watchers).yet →
       members (walk_of word (more q) s.closing) ≡ listed p past word
