@@ -70,12 +70,13 @@ CLAIMS = (
     ),
     Claim(
         "Each handle is what the lines tell of it: made under its name, closing where a `close` was accepted, active where it was started and not "
-        "stopped since, and a timer due as its last start says; each op answers what the lines before it tell; and the loop's step is "
-        "refused only at its end and in a poll that may wait.",
+        "stopped since, and a timer due as its last start says; each op answers what the lines before it tell; idle, prepare, check and closing "
+        "handles are called in the turn that the lines tell; and the loop's step is refused only at its end and in a poll that may wait.",
         (
             Clause("uv_order", "told", "handles_told", ""),
             Clause("uv_order", "dues", "dues_told", ""),
             Clause("uv_order", "answers", "answers_told", ""),
+            Clause("uv_order", "turns", "called_in_turn", ""),
             Clause("uv_order", "waits", "loop_goes_on", ""),
         ),
     ),
