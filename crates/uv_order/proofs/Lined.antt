@@ -109,6 +109,7 @@ pub kind_told : (p : Program) (past : List Seen) (s : State) (id : Id) (h : Hand
     (facts p past id).kind ≡ Some h.kind
 kind_told p past s id h e k = let c = is_held s.arena.slots id h e in let f = k.stands id in grind arith
 
+-- nobody is taken off an empty list
 without_none : (off : List Id) → without_ids [] off ≡ []
 without_none [] = refl
 without_none (x ∷ off) = ap (λ (ids : List Id). without_id ids x) (without_none off)
@@ -310,7 +311,7 @@ none_left : (s : State) (id : Id) (word : Phase) → has_id (members (walk_of wo
     without_id (walk_of word s.watchers s.closing).yet id ≡ (walk_of word s.watchers s.closing).yet
 none_left s id word off = without_absent _ id (has_back (walk_of word s.watchers s.closing).list (walk_of word s.watchers s.closing).yet id off)
 
--- it is called
+-- it is called, and the lists stay
 called_off : (p : Program) (past : List Seen) (all : Watchers) (closing : Walk Id) (v : Var) (id : Id) →
     ((word : Phase) → without_id (walk_of word all closing).yet id ≡ (walk_of word all closing).yet) → Lined p past all closing →
     Lined p (Seen.Call v id ∷ past) all closing
@@ -323,18 +324,17 @@ call_lined : (p : Program) (past : List Seen) (s : State) (v : Var) (id : Id) �
     ((word : Phase) → has_id (members (walk_of word s.watchers s.closing)) id ≡ false) → LinedAt p past s → LinedAt p (Seen.Call v id ∷ past) s
 call_lined p past s v id off k = called_off p past s.watchers s.closing v id (λ word. none_left s id word (off word)) k
 
--- an active handle of another kind is on none
+-- handles of this kind stand on such a list where they are active
 abbrev has_list : Kind → Bool
 has_list Kind.Idle = true
 has_list Kind.Prepare = true
 has_list Kind.Check = true
 has_list q = false
 
+-- one of another kind is on none
 other_kind : (s : State) (id : Id) (h : HandleRecord) (q : Kind) → handle s id ≡ Some h → h.active ≡ true → h.kind ≡ q → has_list q ≡ false →
     Kept s → (word : Phase) → has_id (members (walk_of word s.watchers s.closing)) id ≡ false
-other_kind s id h q e on is none k word =
-    away s id h e k word (apart word)
-  where
+other_kind s id h q e on is none k word = away s id h e k word (apart word) where
     apart : (x : Phase) → Belongs x h → ⊥
     apart Phase.Closing b = on_off h on ((k.sound id h e).shut b)
     apart x b = grind arith
@@ -344,10 +344,7 @@ rests_off : (s : State) (t : Id × HandleRecord) → FrontOf s s.ready t → Kep
     has_id (members (walk_of word s.watchers s.closing)) t.0 ≡ false
 rests_off s t f k word =
     let rests : Rests t.1 = front_fits s Rests [] s.ready t k.ready.each f in
-    let kind = rests.kind in
-    let off = rests.inactive in
-    let stays = rests.stays in
-    nowhere s t.0 t.1 f.holds off stays k word
+    nowhere s t.0 t.1 f.holds rests.inactive rests.stays k word
 
 fired_lined : (p : Program) (past : List Seen) (s : State) (t : Id × HandleRecord) → FrontOf s s.ready t → Kept s → LinedAt p past s →
     LinedAt p (Seen.Call t.1.name t.0 ∷ past) (restarted (record s { ready = drop 1 s.ready }) t.0 t.1)
