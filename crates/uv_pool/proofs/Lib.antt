@@ -9,4 +9,5 @@ pub mod Numbers
 pub mod Replays
 pub mod Results
 pub mod Standing
+pub mod Tellings
 pub mod Turns

@@ -6,6 +6,7 @@ pub use Rattle.std.proofs.lemmas.Bool.{or_right}
 pub use Rattle.std.proofs.lemmas.Bool.Decides.{nat_tests}
 pub use Rattle.std.proofs.lemmas.List.{length-replicate, length-set, map-append, map-set}
 pub use Rattle.std.proofs.lemmas.List.Sums.{sum_by-append}
+pub use Rattle.std.proofs.lemmas.Result.{err_from_is_err_and}
 pub use Rattle.std.proofs.lemmas.Option.{slice_get-map, slice_get_past, slice_get_read, slice_get_within}
 pub use Rattle.std.specs.List.{list_any}
 pub use Rattle.std.specs.Option.{MatchOption}
@@ -24,6 +25,7 @@ pub use Rattle.uv_pool.specs.Rows.{IsIndexed, IsNowhere, Rows, at_number, id_at,
 pub use Rattle.uv_pool.specs.declared.held.Held.{Held}
 pub use Rattle.uv_pool.specs.declared.places.Collected.{Collected}
 pub use Rattle.uv_pool.specs.declared.places.Place.{Place}
+pub use Rattle.uv_pool.specs.Telling.{IsTold, TellsOf}
 pub use Rattle.uv_work.proofs.Replays.{replay_more, same_itself, same_when}
 pub use Rattle.uv_work.specs.Ids.{same_id}
 pub use Rattle.uv_work.specs.Pool.{Done, Pool, has, is_done, is_run, runs, waits, without}

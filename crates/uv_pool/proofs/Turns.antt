@@ -1,5 +1,5 @@
 -- One turn more.
-use Rattle.uv_pool.proofs.Names.{◌≡◌, ◌==◌, ◌&&◌, ℕ, ◌+◌, List, [], ◌∷◌, ◌++◌, Bool, true, false, refl, sym, ◌∙◌, ap, arith, append_assoc, subst, nat_tests, Id, same_id, PoolEvent, finish_count, same_itself, WorkResult, are_turns, turn, Serves, Breaks, Stops}
+use Rattle.uv_pool.proofs.Names.{◌≡◌, ◌==◌, ◌&&◌, ℕ, ◌+◌, List, [], ◌∷◌, ◌++◌, Bool, true, false, refl, sym, ◌∙◌, ap, arith, append_assoc, subst, nat_tests, Fault, Id, same_id, PoolEvent, finish_count, same_itself, WorkResult, are_turns, turn, Serves, Breaks, Stops}
 use Rattle.uv_work.specs.declared.event.PoolEvent.TheVariants as event
 use Rattle.uv_pool.proofs.Replays.{count_more}
 
@@ -40,12 +40,8 @@ served_turns k true b e n b' e' n' before is (id, s0, s1, s2) i = record {
 served_turns k false b e n b' e' n' before is s i = cc
 
 -- turns, and then what the last one came to
-pub stopped : {B : Type 0} (answered : B → List PoolEvent) (refuses : B → ℕ → WorkResult → Type 0) (k : ℕ)
-    (before events here there after : List PoolEvent)
-    → are_turns k events ≡ true → here ≡ before ++ events → Breaks answered refuses k here there → after ≡ there → Stops answered refuses k before
-    after
-stopped answered refuses k before events here there after turns are breaks same = (
-  events,
-  turns,
-  subst (λ xs. Breaks answered refuses k (before ++ events) xs) (sym same) (subst (λ xs. Breaks answered refuses k xs there) are breaks),
-)
+pub stopped : {B : Type 0} (answered : B → List PoolEvent) (refuses : B → ℕ → WorkResult → Fault → B → Type 0) (k : ℕ) (f : Fault)
+    (before events here after : List PoolEvent)
+    → are_turns k events ≡ true → here ≡ before ++ events → Breaks answered refuses k f here after → Stops answered refuses k f before after
+stopped answered refuses k f before events here after turns are breaks =
+    (events, turns, subst (λ (xs : List PoolEvent). Breaks answered refuses k f xs after) are breaks)

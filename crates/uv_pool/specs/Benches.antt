@@ -9,6 +9,7 @@ use Rattle.uv_work.specs.declared.job.Job.{Job}
 use Rattle.uv_work.specs.declared.event.PoolEvent.{PoolEvent}
 use Rattle.uv_work.specs.declared.event.PoolEvent.TheVariants as event
 use Rattle.uv_work.specs.declared.result.WorkResult.{WorkResult}
+use Rattle.uv_pool.specs.declared.sightings.Refusal.{Refusal}
 
 -- why a worker can't begin
 abbrev pub IsEnrolFault : Fault → Type 0
@@ -66,21 +67,25 @@ Serves k true bench events amount bench' events' amount' = (id : Id) × (bench' 
     × (amount' ≡ amount + 1)
 Serves k false bench events amount bench' events' amount' = (bench' ≡ bench) × (events' ≡ events) × (amount' ≡ amount)
 
--- What a bench is when it answers a fault, by what it answered before (`answered`) and by why it may not take a result (`refuses`):
--- nothing more, or one job that was taken and whose result it didn't take
-abbrev pub Breaks : {B : Type 0} → (B → List PoolEvent) → (B → ℕ → WorkResult → Type 0) → ℕ → List PoolEvent → List PoolEvent → Type 0
-Breaks answered refuses k before after =
-    (after ≡ before) ⊎ ((b : _) × (work : WorkResult) × (answered b ≡ before ++ event.Take k work.job.req ∷ []) × refuses b k work ×
+-- What a bench is when a worker stops at a fault, by what it answered before (`answered`) and by why it may not take a result
+-- (`refuses`): nothing more, or one job that was taken and whose result it didn't take, for just that
+abbrev pub Breaks : {B : Type 0} → (B → List PoolEvent) → (B → ℕ → WorkResult → Fault → B → Type 0) → ℕ → Fault → List PoolEvent → List PoolEvent
+    → Type 0
+Breaks answered refuses k f before after =
+    (after ≡ before) ⊎ ((b : _) × (b' : _) × (work : WorkResult) × (answered b ≡ before ++ event.Take k work.job.req ∷ []) × refuses b k work f b' ×
     (after ≡ answered b))
 
 -- turns, and then at most one job that was taken and not finished
-abbrev pub Stops : {B : Type 0} → (B → List PoolEvent) → (B → ℕ → WorkResult → Type 0) → ℕ → List PoolEvent → List PoolEvent → Type 0
-Stops answered refuses k before after = (turns : List PoolEvent) × (are_turns k turns ≡ true) × Breaks answered refuses k (before ++ turns) after
+abbrev pub Stops : {B : Type 0} → (B → List PoolEvent) → (B → ℕ → WorkResult → Fault → B → Type 0) → ℕ → Fault → List PoolEvent → List PoolEvent
+    → Type 0
+Stops answered refuses k f before after =
+    (turns : List PoolEvent) × (are_turns k turns ≡ true) × Breaks answered refuses k f (before ++ turns) after
 
 -- what a desk knows: the events that it answered, the job that it gave and that isn't finished, whether it had no job at
--- last, and whether it was closed
+-- last, whether it was closed, and which result the book didn't take last
 pub record AtDesk : Type 0 where
   pub events : List PoolEvent
   pub job : Option Job
   pub idle : Bool
   pub closed : Bool
+  pub refused : Option Refusal

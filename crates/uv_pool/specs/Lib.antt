@@ -7,3 +7,4 @@ pub mod Book
 pub mod Results
 pub mod Calls
 pub mod Benches
+pub mod Telling

@@ -1,5 +1,5 @@
 //! A worker's bench: what gives it jobs and takes their results.
-ghost use Rattle.std.specs.Prelude.{◌≡◌, ◌+◌, ◌<◌, IfOk, IfErr, OnOk, OnErr, IfSome, IfNone, Some, true, cond, is_ok};
+ghost use Rattle.std.specs.Prelude.{◌≡◌, ◌+◌, ◌<◌, IfOk, IfErr, OnOk, IfSome, IfNone, Some, true, cond, is_ok};
 
 use crate::book::PoolBook;
 use std::sync::ledger::{Ledger, Share};
@@ -9,6 +9,7 @@ use uv_work::{Job, WorkResult};
 /// What gives a worker jobs and takes their results (own). Its meaning is the list of events that it answered.
 pub trait Bench<L: Ledger> {
     ghost use Rattle.std.specs.Prelude.{List, ℕ};
+    ghost use Rattle.uv_ids.specs.declared.fault.Fault.{Fault};
     ghost use Rattle.uv_work.specs.declared.job.Job.{Job};
     ghost use Rattle.uv_work.specs.declared.event.PoolEvent.{PoolEvent};
     ghost use Rattle.uv_work.specs.declared.result.WorkResult.{WorkResult};
@@ -26,8 +27,8 @@ pub trait Bench<L: Ledger> {
     // It was closed.
     ghost shut: { Self → Type 0 };
 
-    // Why it may not take this result of the worker.
-    ghost refuses: { Self → ℕ → WorkResult → Type 0 };
+    // Why it may answer this fault and not take this result of the worker, and what it is then.
+    ghost refuses: { Self → ℕ → WorkResult → Fault → Self → Type 0 };
 
     /// Gives a worker its share of the ledger. `Limit` where the book's own share has one part left.
     fn enrol(&mut self, k: u16) -> Result<Share<L>, Fault>
@@ -48,7 +49,7 @@ pub trait Bench<L: Ledger> {
         ensures answer { Ends k work (answered self.old) result (answered self.new) }
         ensures gave { OnOk result (gave self.old k work.job) }
         ensures faults { IfErr result IsFinishFault }
-        ensures refused { OnErr result (refuses self.old k work) }
+        ensures refused { IfErr result (λ f. refuses self.old k work f self.new) }
         ensures parts { share.new.parts ≡ share.old.parts }
         ensures amount { share.new.amount ≡ share.old.amount + cond (is_ok result) 1 0 };
 
@@ -72,7 +73,7 @@ impl<L: Ledger> Bench<L> for PoolBook<L> {
 
     ghost shut = { λ b. b.rest.closed ≡ true };
 
-    ghost refuses = { λ b k work. RefusesFinish b.hold k work };
+    ghost refuses = { λ b k work f after. RefusesFinish b.hold k work };
 
     fn enrol(&mut self, k: u16) -> Result<Share<L>, Fault>
         ensures call { EnrolsAt self.old k result self.new }
@@ -102,7 +103,7 @@ impl<L: Ledger> Bench<L> for PoolBook<L> {
         ensures answer { Ends k work self.old.hold.contents.log result self.new.hold.contents.log }
         ensures gave { OnOk result (run_at self.old.hold k ≡ Some (Some work.job)) }
         ensures faults { IfErr result IsFinishFault }
-        ensures refused { OnErr result (RefusesFinish self.old.hold k work) }
+        ensures refused { IfErr result (λ f. RefusesFinish self.old.hold k work) }
         ensures parts { share.new.parts ≡ share.old.parts }
         ensures amount { share.new.amount ≡ share.old.amount + cond (is_ok result) 1 0 }
     {

@@ -3,7 +3,7 @@ ghost use Rattle.std.specs.Prelude.{◌≡◌, None, false, []};
 
 use crate::bench::Bench;
 use crate::locked::LockedBook;
-use crate::sightings::{WasClosed, WasOver};
+use crate::sightings::{NotTaken, WasClosed, WasOver};
 use std::alloc::Global;
 use std::marker::Model;
 use std::sync::Wait;
@@ -21,15 +21,22 @@ pub struct Desk<'a, R: Wait, L: Ledger> {
     job: Option<Job>,
     over: Option<WasOver<L>>,
     closed: Option<WasClosed<L>>,
+    refused: Option<NotTaken<L>>,
 }
 
 impl<'a, R: Wait, L: Ledger> Model for Desk<'a, R, L> {
-    ghost use Rattle.std.specs.Prelude.{◌≡◌, ◌<◌, true, is_some, vec_len, vec_capacity};
+    ghost use Rattle.std.specs.Prelude.{◌≡◌, ◌<◌, true, is_some, option_map, vec_len, vec_capacity};
     ghost use Rattle.uv_pool.specs.Benches.{AtDesk};
 
     ghost Value = { AtDesk };
 
-    ghost view = { λ d. record { events = d.events.items; job = d.job; idle = is_some d.over; closed = is_some d.closed } };
+    ghost view = { λ d. record {
+      events = d.events.items;
+      job = d.job;
+      idle = is_some d.over;
+      closed = is_some d.closed;
+      refused = option_map (λ n. n.refusal) d.refused;
+    } };
 
     // While a job isn't finished there is room for its second event.
     ghost invariant = { λ d. is_some d.job ≡ true → vec_len d.events < vec_capacity d.events };
@@ -38,7 +45,7 @@ impl<'a, R: Wait, L: Ledger> Model for Desk<'a, R, L> {
 impl<'a, R: Wait, L: Ledger> Desk<'a, R, L> {
     /// A desk that has answered nothing.
     pub fn new(rt: &'a R, alloc: Global, book: &'a LockedBook<L>) -> Desk<'a, R, L>
-        ensures { result ≡ record { events = []; job = None; idle = false; closed = false } }
+        ensures { result ≡ record { events = []; job = None; idle = false; closed = false; refused = None } }
     {
         Desk {
             rt,
@@ -47,12 +54,15 @@ impl<'a, R: Wait, L: Ledger> Desk<'a, R, L> {
             job: None,
             over: None,
             closed: None,
+            refused: None,
         }
     }
 }
 
 impl<'a, R: Wait, L: Ledger> Bench<L> for Desk<'a, R, L> {
-    ghost use Rattle.std.specs.Prelude.{◌≡◌, Some, true};
+    ghost use Rattle.std.specs.Prelude.{◌≡◌, ◌⊎◌, Some, true};
+    ghost use Rattle.uv_ids.specs.declared.fault.Fault.TheVariants as fault;
+    ghost use Rattle.uv_ids.specs.declared.fault.Why.TheVariants as why;
 
     ghost answered = { λ d. d.events };
 
@@ -62,8 +72,9 @@ impl<'a, R: Wait, L: Ledger> Bench<L> for Desk<'a, R, L> {
 
     ghost shut = { λ d. d.closed ≡ true };
 
-    // The book that is lent may refuse it: what it holds isn't known here.
-    ghost refuses = { λ d k work. Unit {0} };
+    // The desk gave no such job; or the book that is lent refused it for just that, as was seen under the lock.
+    ghost refuses = { λ d k work f after. ((f ≡ fault.Refused why.NoWork) × (d.job ≡ Some work.job → ⊥))
+        ⊎ (after.refused ≡ Some (record { worker = k; work = work; fault = f })) };
 
     fn enrol(&mut self, k: u16) -> Result<Share<L>, Fault> {
         self.book.enrol(self.rt, k)
@@ -94,13 +105,18 @@ impl<'a, R: Wait, L: Ledger> Bench<L> for Desk<'a, R, L> {
                 }
             }
         }
-        self.book.finish(self.rt, k, work, share)?;
+        if let Err(refused) = self.book.finish(self.rt, k, work, share) {
+            let fault = refused.refusal.fault;
+            self.refused = Some(refused);
+            return Err(fault);
+        }
         self.events.push_reserved(PoolEvent::Finish(k, job.req));
         self.job = None;
         Ok(())
     }
 
     fn close(&mut self) {
-        self.closed = Some(self.book.close(self.rt));
+        let (closed, _) = self.book.close(self.rt);
+        self.closed = Some(closed);
     }
 }

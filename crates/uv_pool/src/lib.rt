@@ -5,10 +5,12 @@
 //! `specs/Contents.antt`, then `Calls.antt`.
 #![tactic(auto)]
 
+mod bell;
 mod bench;
 mod book;
 mod calls;
 mod desk;
+mod gate;
 mod held;
 mod locked;
 mod places;
@@ -19,7 +21,8 @@ mod sightings;
 pub use bench::Bench;
 pub use book::PoolBook;
 pub use desk::Desk;
-pub use locked::LockedBook;
+pub use gate::Gate;
+pub use locked::{LockedBook, Woken, WokenWorker};
 pub use places::Collected;
-pub use shift::{Gate, Shift, worker};
+pub use shift::{Shift, worker};
 pub use sightings::{HasFinished, WasClosed, WasOpen};

@@ -7,10 +7,11 @@ ghost use Rattle.std.specs.Prelude.{◌⊎◌, ◌≤◌, true, length, Some, ve
 ghost use Rattle.uv_pool.specs.Calls.{run_at};
 ghost use Rattle.std.specs.Sync.Mutex.{mutex_guard_value};
 
+use crate::bell::{Bell, ForEntry, ForFinish, ForJob, Rung, RungOnce};
 use crate::book::PoolBook;
-use crate::sightings::{HasFinished, WasClosed, WasOver};
+use crate::sightings::{HasFinished, NotTaken, WasClosed, WasOver};
 use std::sync::ledger::{Ledger, Share};
-use std::sync::{Condvar, Mutex, MutexGuard, Wait};
+use std::sync::{Mutex, MutexGuard, Wait};
 use uv_ids::Fault;
 use uv_work::{Job, PoolEvent, WorkResult};
 
@@ -22,11 +23,25 @@ use uv_work::{Job, PoolEvent, WorkResult};
 pub struct LockedBook<L: Ledger> {
     book: Mutex<PoolBook<L>>,
     /// Those who wait for the log to grow.
-    grown: Condvar,
+    grown: Bell<ForEntry>,
     /// Those who wait for a job to be finished.
-    finished: Condvar,
+    finished: Bell<ForFinish>,
     /// Workers who wait for a job.
-    queued: Condvar,
+    queued: Bell<ForJob>,
+}
+
+/// All that wait at a book were woken: workers, and those in `wait_past` and `wait_finished`.
+#[derive(Drop)]
+pub struct Woken {
+    _queued: Rung<ForJob>,
+    _grown: Rung<ForEntry>,
+    _finished: Rung<ForFinish>,
+}
+
+/// One worker that waits for a job was woken, where there was one.
+#[derive(Drop)]
+pub struct WokenWorker {
+    _queued: RungOnce<ForJob>,
 }
 
 impl<L: Ledger> LockedBook<L> {
@@ -34,9 +49,9 @@ impl<L: Ledger> LockedBook<L> {
     pub fn new(book: PoolBook<L>) -> LockedBook<L> {
         LockedBook {
             book: Mutex::new(book),
-            grown: Condvar::new(),
-            finished: Condvar::new(),
-            queued: Condvar::new(),
+            grown: Bell::new(),
+            finished: Bell::new(),
+            queued: Bell::new(),
         }
     }
 
@@ -74,15 +89,19 @@ impl<L: Ledger> LockedBook<L> {
     }
 
     /// Wakes all that wait: workers, and those in `wait_past` and `wait_finished`.
-    pub fn wake(&self) {
-        self.queued.notify_all();
-        self.grown.notify_all();
-        self.finished.notify_all();
+    pub fn wake(&self) -> Woken {
+        Woken {
+            _queued: self.queued.ring(),
+            _grown: self.grown.ring(),
+            _finished: self.finished.ring(),
+        }
     }
 
     /// Wakes one worker that waits for a job: enough for one job that was submitted, where nobody is in `wait_past`.
-    pub fn wake_worker(&self) {
-        self.queued.notify_one();
+    pub fn wake_worker(&self) -> WokenWorker {
+        WokenWorker {
+            _queued: self.queued.ring_once(),
+        }
     }
 
     /// The book, where nobody shares it any more.
@@ -138,26 +157,28 @@ impl<L: Ledger> LockedBook<L> {
         let _ = events;
         let (answer, guard) = self.taken(rt, k);
         drop(guard);
-        self.grown.notify_all();
+        self.grown.ring();
         answer
     }
 
+    /// Takes the result of the job that the worker runs, or says that the book didn't take it.
     pub(crate) fn finish<R: Wait>(
         &self,
         rt: &R,
         k: u16,
         work: WorkResult,
         share: &mut Share<L>,
-    ) -> Result<(), Fault>
+    ) -> Result<(), NotTaken<L>>
         requires { 0 < share.old.parts }
-        ensures faults { IfErr result IsFinishFault }
+        ensures faults { IfErr result (λ n. IsFinishFault n.refusal.fault) }
+        ensures refused { IfErr result (λ n. (n.refusal.worker ≡ k) × (n.refusal.work ≡ work)) }
         ensures parts { share.new.parts ≡ share.old.parts }
         ensures amount { share.new.amount ≡ share.old.amount + cond (is_ok result) 1 0 }
     {
         let (answer, guard) = self.handed_in(rt, k, work, share);
         drop(guard);
-        self.grown.notify_all();
-        self.finished.notify_all();
+        self.grown.ring();
+        self.finished.ring();
         answer
     }
 
@@ -168,25 +189,25 @@ impl<L: Ledger> LockedBook<L> {
         k: u16,
         work: WorkResult,
         share: &mut Share<L>,
-    ) -> (Result<(), Fault>, MutexGuard<'_, PoolBook<L>>)
+    ) -> (Result<(), NotTaken<L>>, MutexGuard<'_, PoolBook<L>>)
         requires { 0 < share.old.parts }
-        ensures faults { IfErr result.0 IsFinishFault }
+        ensures faults { IfErr result.0 (λ n. IsFinishFault n.refusal.fault) }
+        ensures refused { IfErr result.0 (λ n. (n.refusal.worker ≡ k) × (n.refusal.work ≡ work)) }
         ensures finished { OnOk result.0 (EndsWith (Finish k work.job.req) (mutex_guard_value result.1).hold.contents.log) }
         ensures parts { share.new.parts ≡ share.old.parts }
         ensures amount { share.new.amount ≡ share.old.amount + cond (is_ok result.0) 1 0 }
     {
         let mut guard = self.book.lock(rt);
-        let answer = guard.finish_for(k, work, share);
+        let answer = NotTaken::hand_in(&mut guard, k, work, share);
         (answer, guard)
     }
 
     /// Closes the book, and wakes all that wait.
-    pub fn close<R: Wait>(&self, rt: &R) -> WasClosed<L> {
+    pub fn close<R: Wait>(&self, rt: &R) -> (WasClosed<L>, Woken) {
         let mut guard = self.book.lock(rt);
         guard.close();
         let closed = WasClosed::seen(&guard);
         drop(guard);
-        self.wake();
-        closed
+        (closed, self.wake())
     }
 }

@@ -1,12 +1,14 @@
 //! What a thread saw of a book while it held the lock, kept once the lock is let go. No clause knows what lies under a lock
 //! then. But these values are made here alone, each where a book that is lent is just so: who has one has seen it.
-ghost use Rattle.std.specs.Prelude.{◌≡◌, ◌⊎◌, true, false, [], IfSome, IfNone, MatchBool};
+ghost use Rattle.std.specs.Prelude.{◌≡◌, ◌<◌, ◌+◌, ◌⊎◌, true, false, [], Ok, Err, IfOk, IfErr, IfSome, IfNone, MatchBool, cond, is_ok};
 ghost use Rattle.uv_pool.specs.Book.{IsFinishedPast};
+ghost use Rattle.uv_pool.specs.Calls.{Finishes};
 
 use crate::book::PoolBook;
 use std::marker::PhantomData;
-use std::sync::ledger::Ledger;
-use uv_work::PoolEvent;
+use std::sync::ledger::{Ledger, Share};
+use uv_ids::Fault;
+use uv_work::{PoolEvent, WorkResult};
 
 /// The book was open.
 #[derive(Drop)]
@@ -55,6 +57,51 @@ impl<L: Ledger> WasOver<L> {
     {
         let _ = book;
         WasOver { of: PhantomData }
+    }
+}
+
+/// Whose result a book didn't take, and why.
+#[derive(Clone, Copy)]
+pub struct Refusal {
+    pub worker: u16,
+    pub work: WorkResult,
+    pub fault: Fault,
+}
+
+/// The book didn't take a worker's result.
+#[derive(Drop)]
+pub(crate) struct NotTaken<L: Ledger> {
+    pub(crate) refusal: Refusal,
+    of: PhantomData<L>,
+}
+
+impl<L: Ledger> NotTaken<L> {
+    /// Hands a worker's result in, or says why the book didn't take it.
+    pub(crate) fn hand_in(
+        book: &mut PoolBook<L>,
+        k: u16,
+        work: WorkResult,
+        share: &mut Share<L>,
+    ) -> Result<(), NotTaken<L>>
+        requires { 0 < share.old.parts }
+        ensures ok { IfOk result (λ done. Finishes book.old.hold k work (Ok done) book.new.hold) }
+        ensures err { IfErr result (λ n. Finishes book.old.hold k work (Err n.refusal.fault) book.new.hold) }
+        ensures refused { IfErr result (λ n. (n.refusal.worker ≡ k) × (n.refusal.work ≡ work)) }
+        ensures rest { book.new.rest ≡ book.old.rest }
+        ensures parts { share.new.parts ≡ share.old.parts }
+        ensures amount { share.new.amount ≡ share.old.amount + cond (is_ok result) 1 0 }
+    {
+        match book.finish_for(k, work, share) {
+            Ok(()) => Ok(()),
+            Err(fault) => Err(NotTaken {
+                refusal: Refusal {
+                    worker: k,
+                    work,
+                    fault,
+                },
+                of: PhantomData,
+            }),
+        }
     }
 }
 
