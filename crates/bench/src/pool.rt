@@ -13,14 +13,21 @@ use uv_ids::{Fault, Id, MOST_ROUNDS, Why};
 use uv_pool::{Desk, Gate, LockedBook, PoolBook, worker};
 use uv_work::{Job, Task, WorkResult};
 
+#[derive(Clone, Copy)]
 struct Quiet;
 
 impl Gate for Quiet {
-    fn begun(&self, _k: u16, _id: Id) {}
+    ghost begins = { λ g k id after. Unit {0} };
 
-    fn ended(&self, _k: u16, _id: Id) {}
+    ghost ends = { λ g k id after. Unit {0} };
 
-    fn sending(&self, _s: u8) {}
+    ghost sends = { λ g s after. Unit {0} };
+
+    fn begun(&mut self, _k: u16, _id: Id) {}
+
+    fn ended(&mut self, _k: u16, _id: Id) {}
+
+    fn sending(&mut self, _s: u8) {}
 }
 
 /// So many jobs of an empty text.
@@ -124,7 +131,7 @@ fn serve<L: Ledger, R: Wait>(
     k: usize,
 ) -> Option<Fault> {
     let mut desk = Desk::new(rt, alloc, book);
-    worker(rt, alloc, &mut desk, &Quiet, k.min(1024) as u16).err()
+    worker(rt, alloc, &mut desk, &mut Quiet, k.min(1024) as u16).err()
 }
 
 /// What the pool takes to do the jobs: from the first one that is submitted to the last one that is collected.

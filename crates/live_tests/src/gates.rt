@@ -62,15 +62,21 @@ impl<'a, R: Clock + Wait> Ordered<'a, R> {
     }
 }
 
-impl<'a, R: Clock + Wait> Gate for Ordered<'a, R> {
-    fn begun(&self, k: u16, id: Id) {
+impl<'s, 'a, R: Clock + Wait> Gate for &'s Ordered<'a, R> {
+    ghost begins = { λ g k id after. Unit {0} };
+
+    ghost ends = { λ g k id after. Unit {0} };
+
+    ghost sends = { λ g s after. Unit {0} };
+
+    fn begun(&mut self, k: u16, id: Id) {
         let _ = self.begun.lock(self.rt).push((k, id));
         if id == self.held {
             self.wait_for(&self.ended);
         }
     }
 
-    fn ended(&self, _k: u16, id: Id) {
+    fn ended(&mut self, _k: u16, id: Id) {
         // Who is told before the result is handed in hands it in too late.
         if id != self.held {
             self.ended.store(true, Ordering::SeqCst);
@@ -78,7 +84,7 @@ impl<'a, R: Clock + Wait> Gate for Ordered<'a, R> {
         }
     }
 
-    fn sending(&self, s: u8) {
+    fn sending(&mut self, s: u8) {
         if s == 0 {
             self.first.store(true, Ordering::SeqCst);
             self.wait_for(&self.second);
@@ -120,17 +126,23 @@ impl<'a, R: Clock + Wait> Between<'a, R> {
     }
 }
 
-impl<'a, R: Clock + Wait> Gate for Between<'a, R> {
-    fn begun(&self, _k: u16, id: Id) {
+impl<'s, 'a, R: Clock + Wait> Gate for &'s Between<'a, R> {
+    ghost begins = { λ g k id after. Unit {0} };
+
+    ghost ends = { λ g k id after. Unit {0} };
+
+    ghost sends = { λ g s after. Unit {0} };
+
+    fn begun(&mut self, _k: u16, id: Id) {
         if id.generation > 0 {
             self.again.store(true, Ordering::SeqCst);
         }
         self.wait_for(&self.there);
     }
 
-    fn ended(&self, _k: u16, _id: Id) {}
+    fn ended(&mut self, _k: u16, _id: Id) {}
 
-    fn sending(&self, _s: u8) {
+    fn sending(&mut self, _s: u8) {
         self.there.store(true, Ordering::SeqCst);
         self.wait_for(&self.again);
     }
@@ -165,14 +177,20 @@ impl<'a, R: Clock + Wait> Held<'a, R> {
     }
 }
 
-impl<'a, R: Clock + Wait> Gate for Held<'a, R> {
-    fn begun(&self, _k: u16, _id: Id) {
+impl<'s, 'a, R: Clock + Wait> Gate for &'s Held<'a, R> {
+    ghost begins = { λ g k id after. Unit {0} };
+
+    ghost ends = { λ g k id after. Unit {0} };
+
+    ghost sends = { λ g s after. Unit {0} };
+
+    fn begun(&mut self, _k: u16, _id: Id) {
         self.wait_for(&self.flags.ended);
     }
 
-    fn ended(&self, _k: u16, _id: Id) {}
+    fn ended(&mut self, _k: u16, _id: Id) {}
 
-    fn sending(&self, s: u8) {
+    fn sending(&mut self, s: u8) {
         if s > 0 {
             self.wait_for(&self.flags.sent);
         }

@@ -5,14 +5,21 @@ use uv_ids::{Fault, Id};
 use uv_pool::Gate;
 use uv_work::{Job, Task};
 
+#[derive(Clone, Copy)]
 pub struct Quiet;
 
 impl Gate for Quiet {
-    fn begun(&self, _k: u16, _id: Id) {}
+    ghost begins = { λ g k id after. Unit {0} };
 
-    fn ended(&self, _k: u16, _id: Id) {}
+    ghost ends = { λ g k id after. Unit {0} };
 
-    fn sending(&self, _s: u8) {}
+    ghost sends = { λ g s after. Unit {0} };
+
+    fn begun(&mut self, _k: u16, _id: Id) {}
+
+    fn ended(&mut self, _k: u16, _id: Id) {}
+
+    fn sending(&mut self, _s: u8) {}
 }
 
 pub fn id(slot: u32) -> Id {

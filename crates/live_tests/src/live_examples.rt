@@ -44,7 +44,7 @@ fn worked<L: Ledger, R: Abort + Wait>(
     book: &mut PoolBook<L>,
 ) -> Result<Vec<Shift<L>>, Fault> {
     book.submit(job(rt, id(0), b""))?;
-    let shift = worker(rt, alloc, book, &Quiet, 0)?;
+    let shift = worker(rt, alloc, book, &mut Quiet, 0)?;
     book.close();
     let mut shifts = Vec::new(alloc);
     put(&mut shifts, shift)?;

@@ -52,7 +52,7 @@ fn closes<L: Ledger>(book: &mut PoolBook<L>) -> bool {
 }
 
 fn works<L: Ledger, R: Wait>(rt: &R, alloc: Global, book: &mut PoolBook<L>, count: usize) -> bool {
-    match worker(rt, alloc, book, &Quiet, 0) {
+    match worker(rt, alloc, book, &mut Quiet, 0) {
         Ok(shift) => {
             shift.events.len() == count && book.log().ends_with(shift.events.as_slice())
         }

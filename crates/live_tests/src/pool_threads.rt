@@ -18,7 +18,7 @@ fn work<L: Ledger, G: Gate, R: Wait>(
     rt: &R,
     alloc: Global,
     book: &LockedBook<L>,
-    gate: &G,
+    gate: &mut G,
     k: u16,
 ) -> Result<Shift<L>, Fault> {
     let mut desk = Desk::new(rt, alloc, book);
@@ -174,7 +174,7 @@ fn work_all<L: Ledger + Send + Sync, R: Abort + Threads + Wait + Sync>(
                 rt,
                 alloc,
                 workers as usize,
-                &|k| { work(rt, alloc, book, &Quiet, k.min(1024) as u16) },
+                &|k| { work(rt, alloc, book, &mut Quiet, k.min(1024) as u16) },
             )
         },
     );
@@ -244,16 +244,22 @@ impl<'a, R: Wait, L: Ledger> Looking<'a, R, L> {
     }
 }
 
-impl<'a, R: Wait, L: Ledger> Gate for Looking<'a, R, L> {
-    fn begun(&self, k: u16, id: Id) {
+impl<'s, 'a, R: Wait, L: Ledger> Gate for &'s Looking<'a, R, L> {
+    ghost begins = { λ g k id after. Unit {0} };
+
+    ghost ends = { λ g k id after. Unit {0} };
+
+    ghost sends = { λ g s after. Unit {0} };
+
+    fn begun(&mut self, k: u16, id: Id) {
         self.look(PoolEvent::Take(k, id));
     }
 
-    fn ended(&self, k: u16, id: Id) {
+    fn ended(&mut self, k: u16, id: Id) {
         self.look(PoolEvent::Finish(k, id));
     }
 
-    fn sending(&self, _s: u8) {}
+    fn sending(&mut self, _s: u8) {}
 }
 
 /// How often the gate of a worker that does eight jobs missed an event.
@@ -272,7 +278,7 @@ fn missed<L: Ledger, R: Abort + Wait>(rt: &R, alloc: Global, blank: Blank) -> Re
         book: &book,
         missed: AtomicU32::new(0),
     };
-    let shift = work(rt, alloc, &book, &gate, 0)?;
+    let shift = work(rt, alloc, &book, &mut &gate, 0)?;
     assert!(rt; shift.events.len() == 16);
     Ok(gate.missed.load(Ordering::SeqCst))
 }
@@ -290,15 +296,21 @@ struct Grasping<'a, R: Clock + Wait, L: Ledger> {
     book: &'a LockedBook<L>,
 }
 
-impl<'a, R: Clock + Wait, L: Ledger> Gate for Grasping<'a, R, L> {
-    fn begun(&self, _k: u16, _id: Id) {}
+impl<'s, 'a, R: Clock + Wait, L: Ledger> Gate for &'s Grasping<'a, R, L> {
+    ghost begins = { λ g k id after. Unit {0} };
 
-    fn ended(&self, k: u16, _id: Id) {
+    ghost ends = { λ g k id after. Unit {0} };
+
+    ghost sends = { λ g s after. Unit {0} };
+
+    fn begun(&mut self, _k: u16, _id: Id) {}
+
+    fn ended(&mut self, k: u16, _id: Id) {
         let _ = self.book.lock(self.rt).take(k);
         sleep(self.rt, Duration::from_millis(100));
     }
 
-    fn sending(&self, _s: u8) {}
+    fn sending(&mut self, _s: u8) {}
 }
 
 /// The fault of a worker whose take is refused, and whether its book was closed then.
@@ -308,7 +320,7 @@ fn refused<L: Ledger, R: Clock + Wait>(
     book: &LockedBook<L>,
 ) -> (Option<Fault>, bool) {
     let gate = Grasping { rt, book };
-    let fault = work(rt, alloc, book, &gate, 0).err();
+    let fault = work(rt, alloc, book, &mut &gate, 0).err();
     (fault, book.lock(rt).closed())
 }
 

@@ -194,7 +194,7 @@ fn a_job_that_is_held_past_the_end_is_taken_over(rt: HostRuntime) -> Result<(), 
     let text = b"workers 1\nvar w\nmain queue w 1\nmain run nowait\n";
     let flags = Flags::new();
     let gate = Held::new(&rt, &flags);
-    let ran = noted::<PlainLoop, _, _>(&rt, rt.alloc(), text, &flags, &gate)?;
+    let ran = noted::<PlainLoop, _, _>(&rt, rt.alloc(), text, &flags, &&gate)?;
     assert!(&rt; !gate.is_late() && ran.last == Some(Event::Finish(0)));
     Ok(())
 }
@@ -206,7 +206,7 @@ fn a_send_is_absorbed_while_another_sender_is_held(rt: HostRuntime) -> Result<()
         on a @1 stop i\non a @2 close a\nthread 0 send a\nthread 1 send a\n";
     let flags = Flags::new();
     let gate = Held::new(&rt, &flags);
-    let ran = noted::<PlainLoop, _, _>(&rt, rt.alloc(), text, &flags, &gate)?;
+    let ran = noted::<PlainLoop, _, _>(&rt, rt.alloc(), text, &flags, &&gate)?;
     assert!(&rt; !gate.is_late() && ran.counts.sends == 2);
     Ok(())
 }
@@ -270,7 +270,7 @@ fn in_order<R: Abort + Threads + Wait + Clock + Sync>(
     wanted: &[Seen],
 ) -> Result<(), Fault> {
     let gate = Ordered::new(rt, alloc, held);
-    let story = ran(rt, alloc, TWO_JOBS, &gate)?;
+    let story = ran(rt, alloc, TWO_JOBS, &&gate)?;
     assert!(rt; !gate.is_late() && are_called(&story.trace, wanted));
     assert!(rt; are_taken(&story.trace, &gate.into_begun()));
     Ok(())
@@ -322,7 +322,7 @@ fn are_sent<G: Gate + Sync, R: Threads + Wait + Sync>(
 fn two_senders_wait_for_one_another(rt: HostRuntime) -> Result<(), Fault> {
     let gate = Ordered::new(&rt, rt.alloc(), id(1));
     let wanted = [Seen::Call(Var(0), id(0)), Seen::Closed(Var(0), id(0))];
-    assert!(&rt; are_sent(&rt, rt.alloc(), &gate, &wanted)? && !gate.is_late());
+    assert!(&rt; are_sent(&rt, rt.alloc(), &&gate, &wanted)? && !gate.is_late());
     Ok(())
 }
 
@@ -343,7 +343,7 @@ fn the_gate_is_asked_before_the_first_send(rt: HostRuntime) -> Result<(), Fault>
     let text = b"workers 1\nvar a\nvar w\nmain init a async\nmain queue w 1\nmain run default\n\
         after w @1 queue w 1\non a close a\nthread 0 send a\n";
     let gate = Between::new(&rt);
-    let story = ran(&rt, rt.alloc(), text, &gate)?;
+    let story = ran(&rt, rt.alloc(), text, &&gate)?;
     assert!(&rt; !gate.is_late() && calls_back_first(&story.trace));
     Ok(())
 }

@@ -27,14 +27,21 @@ pub enum NoRecording {
 }
 
 /// A gate that holds nobody.
+#[derive(Clone, Copy)]
 struct Open;
 
 impl Gate for Open {
-    fn begun(&self, _k: u16, _id: Id) {}
+    ghost begins = { λ g k id after. Unit {0} };
 
-    fn ended(&self, _k: u16, _id: Id) {}
+    ghost ends = { λ g k id after. Unit {0} };
 
-    fn sending(&self, _s: u8) {}
+    ghost sends = { λ g s after. Unit {0} };
+
+    fn begun(&mut self, _k: u16, _id: Id) {}
+
+    fn ended(&mut self, _k: u16, _id: Id) {}
+
+    fn sending(&mut self, _s: u8) {}
 }
 
 /// The script with the number of workers that is asked for.

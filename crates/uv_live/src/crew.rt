@@ -1,6 +1,8 @@
 //! The workers' threads of a live run.
 ghost use Rattle.std.specs.Prelude.{◌≡◌, ◌+◌, ◌<◌, ◌≤◌, IfOk, IfErr, OnOk, vec_len, vec_capacity};
 ghost use Rattle.uv_ids.specs.declared.fault.Fault.TheVariants.{Memory};
+ghost use Rattle.uv_pool.specs.Benches.{IsWorkerFault};
+ghost use Rattle.uv_pool.specs.Telling.{IsTold};
 ghost use Rattle.uv_live.specs.Running.{first_fault, given_in};
 
 use std::alloc::Global;
@@ -18,9 +20,13 @@ fn work<L: Ledger, G: Gate, R: Wait>(
     rt: &R,
     alloc: Global,
     book: &LockedBook<L>,
-    gate: &G,
+    gate: &mut G,
     k: u16,
-) -> Result<Shift<L>, Fault> {
+) -> Result<Shift<L>, Fault>
+    ensures worker { IfOk result (λ shift. shift.worker ≡ k) }
+    ensures told { IfOk result (λ shift. IsTold G.begins G.ends gate.old shift.events.items gate.new) }
+    ensures faults { IfErr result IsWorkerFault }
+{
     let mut desk = Desk::new(rt, alloc, book);
     worker(rt, alloc, &mut desk, gate, k)
 }
@@ -97,7 +103,11 @@ pub(crate) fn start_workers<
 {
     'workers: for k in 0..crew.workers {
         crew.reserve()?;
-        match scope.spawn(move || work(rt, alloc, book, gate, k)) {
+        let worker = move || -> Answer<L> {
+            let mut gate = *gate;
+            work(rt, alloc, book, &mut gate, k)
+        };
+        match scope.spawn(worker) {
             Ok(worker) => crew.add(worker),
             Err(_) => return Err(Fault::Memory),
         }

@@ -7,6 +7,7 @@
 //! The main call is `live` (`running.rt`), over any `Follower`. Read `specs/Settling.antt` first: what a settled run is.
 #![tactic(auto)]
 
+mod absorbing;
 mod clock;
 mod crew;
 mod follower;
@@ -14,6 +15,7 @@ mod following;
 mod outside;
 mod parts;
 mod running;
+mod sends;
 mod settling;
 mod turning;
 

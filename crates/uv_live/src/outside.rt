@@ -2,23 +2,22 @@
 ghost use Rattle.std.specs.Prelude.{◌≡◌, ◌<◌, ◌+◌, ◌-◌, ◌++◌, ◌∷◌, ◌⊎◌, ℕ, [], Some, true, false, cond, length, slice_index_or, slice_set, All, OnOk, IfOk, IfErr, vec_len};
 ghost use Rattle.std.specs.List.{Contains, count_by, list_any};
 ghost use Rattle.uv_ids.specs.declared.fault.Fault.TheVariants as fault;
-ghost use Rattle.uv_wake.specs.Seats.{names_of, AllCarried, AllJoined};
+ghost use Rattle.uv_wake.specs.Seats.{names_of, AllJoined};
 ghost use Rattle.uv_live.specs.Course.{AreNamed};
 ghost use Rattle.uv_live.specs.Settling.{is_line};
-ghost use Rattle.uv_live.specs.Sending.{Absorbs, AbsorbsEach, AreCarried, AreNoted, HasOwn, LinesCarried, is_by, names_by, names_in, threads_below};
+ghost use Rattle.uv_live.specs.declared.absorbing.Absorbed.{Absorbed};
+ghost use Rattle.uv_live.specs.Sending.{AreCarried, AreNoted, HasOwn, LinesCarried, is_by, names_by, names_in, threads_below};
 
+use crate::absorbing::{Absorbed, absorb_names};
 use crate::follower::Follower;
+use crate::sends::{FreshSeat, Tally, ToldSeat};
 use std::alloc::{AllocError, Global};
 use std::marker::Model;
 use std::mem;
-use std::sync::atomic::{AtomicU64, Ordering};
 use std::thread::{Promise, PromisedHandle, Scope, Threads};
 use uv_ids::{Fault, MOST_SENDERS, ThreadLine, Var};
 use uv_pool::Gate;
 use uv_wake::{Board, LoopSeat, SenderSeat};
-
-/// The count of a name past which its word is absorbed no more (own). No run comes so far.
-const MOST_ABSORBED: u64 = 1 << 62;
 
 /// A sender's thread that isn't joined.
 type Sender<'a> = PromisedHandle<SenderSeat, Sends<'a>>;
@@ -45,49 +44,49 @@ pub(crate) struct Outside<'a> {
     /// The names that some thread sends to, in their order.
     pub(crate) names: Vec<Var>,
     /// How many sends the senders' threads have noted.
-    sent: &'a AtomicU64,
-    /// How many sends were noted when every word was absorbed last; none where a thread was started or joined since.
-    absorbed: Option<u64>,
+    tally: &'a Tally,
+    /// How every word was absorbed last; none where a thread was started or joined since.
+    absorbed: Option<Absorbed>,
     /// Whether a seat was lost with a thread that couldn't be started.
     lost: bool,
     pub ghost seated: { seat.board ≡ board.now.board },
     pub ghost known: { All (λ v. v.0 < names_of board.now.board) names.items },
     pub ghost ours: { All (λ h. h.promise.board.now.board ≡ board.now.board) senders.items },
     pub ghost all: { lost ≡ false → seat.knows.splits ≡ seat.knows.joins + vec_len senders },
-    pub ghost rests: { (n : ℕ) → absorbed ≡ Some n → AreCarried seat.knows names.items },
+    pub ghost rests: { (a : Absorbed) → absorbed ≡ Some a → AreCarried seat.knows names.items },
 }
 
-/// Sends to a name, and notes behind it that a send was made.
-fn send_one(board: &Board, seat: &mut SenderSeat, sent: &AtomicU64, name: Var)
-    requires seat { seat.old.board ≡ board.now.board }
+/// Sends to a name, and notes that a send was made.
+fn send_one(board: &Board, seat: &mut ToldSeat, tally: &Tally, name: Var)
+    requires seat { seat.old.seat.board ≡ board.now.board }
     requires name { name.0 < names_of board.now.board }
-    ensures board { seat.new.board ≡ seat.old.board }
-    ensures sent { names_in seat.new.knows.tickets ≡ names_in seat.old.knows.tickets ++ name ∷ [] }
+    ensures board { seat.new.seat.board ≡ seat.old.seat.board }
+    ensures sent { names_in seat.new.seat.knows.tickets ≡ names_in seat.old.seat.knows.tickets ++ name ∷ [] }
 {
-    board.send(seat, name);
-    sent.fetch_add(1, Ordering::SeqCst);
+    let made = seat.send(board, name);
+    tally.note(made);
 }
 
-/// What the thread of a sender does: the sends to these names, in their order.
+/// What the thread of a sender does: it tells its gate, and then sends to these names, in their order.
 fn send_all<G: Gate>(
     board: &Board,
-    seat: SenderSeat,
-    sent: &AtomicU64,
-    gate: &G,
+    given: FreshSeat,
+    tally: &Tally,
+    gate: &mut G,
     thread: u8,
     names: Vec<Var>,
 ) -> SenderSeat
-    requires seat { seat.board ≡ board.now.board }
+    requires seat { given.seat.board ≡ board.now.board }
     requires names { All (λ v. v.0 < names_of board.now.board) names.items }
     ensures board { result.board ≡ board.now.board }
-    ensures sent { names_in result.knows.tickets ≡ names_in seat.knows.tickets ++ names.items }
+    ensures sent { names_in result.knows.tickets ≡ names.items }
+    ensures told { G.sends gate.old thread gate.new }
 {
-    let mut seat = seat;
-    gate.sending(thread);
+    let mut seat = given.told(gate, thread);
     'own: for n in 0..names.len() {
-        send_one(board, &mut seat, sent, names[n]);
+        send_one(board, &mut seat, tally, names[n]);
     }
-    seat
+    seat.into_seat()
 }
 
 /// For each sender number the names of its lines, in their order.
@@ -152,63 +151,13 @@ impl OwnNames {
     }
 }
 
-/// Absorbs the word of a name, and records a send if one stood in it.
-fn absorb_one<S: Follower>(
-    board: &Board,
-    seat: &mut LoopSeat,
-    name: Var,
-    session: &mut S,
-) -> Result<(), Fault>
-    requires seat { seat.old.board ≡ board.now.board }
-    requires name { name.0 < names_of board.now.board }
-    requires polling { S.polling session.old ≡ true }
-    requires names { names_of board.now.board ≡ (S.plan session.old).names }
-    ensures board { seat.new.board ≡ seat.old.board }
-    ensures absorbs { Absorbs seat.old.knows seat.new.knows }
-    ensures carried { OnOk result (AllCarried seat.new.knows name) }
-    ensures plan { S.plan session.new ≡ S.plan session.old }
-    ensures polling { OnOk result (S.polling session.new ≡ true) }
-    ensures records { OnOk result (AbsorbsEach (name ∷ []) seat.old.knows (S.course session.old) seat.new.knows (S.course session.new)) }
-{
-    if seat.count(name) >= MOST_ABSORBED {
-        return Err(Fault::Limit);
-    }
-    if !board.absorb(seat, name) {
-        return Ok(());
-    }
-    session.send(name)
-}
-
-/// Absorbs the words of these names, in their order, and records a send for each in which one stood.
-fn absorb_names<S: Follower>(
-    board: &Board,
-    seat: &mut LoopSeat,
-    names: &[Var],
-    session: &mut S,
-) -> Result<(), Fault>
-    requires seat { seat.old.board ≡ board.now.board }
-    requires known { All (λ v. v.0 < names_of board.now.board) names.now }
-    requires polling { S.polling session.old ≡ true }
-    requires names { names_of board.now.board ≡ (S.plan session.old).names }
-    ensures board { seat.new.board ≡ seat.old.board }
-    ensures absorbs { Absorbs seat.old.knows seat.new.knows }
-    ensures carried { OnOk result (AreCarried seat.new.knows names.now) }
-    ensures plan { S.plan session.new ≡ S.plan session.old }
-    ensures records { OnOk result (AbsorbsEach names.now seat.old.knows (S.course session.old) seat.new.knows (S.course session.new)) }
-{
-    'names: for n in 0..names.len() {
-        absorb_one(board, seat, names[n], session)?;
-    }
-    Ok(())
-}
-
 impl<'a> Outside<'a> {
     /// No thread is started yet.
     pub(crate) fn new(
         alloc: Global,
         board: &'a Board,
         seat: LoopSeat,
-        sent: &'a AtomicU64,
+        tally: &'a Tally,
     ) -> Outside<'a>
         requires board { seat.board ≡ board.now.board }
         requires joined { AllJoined seat.knows }
@@ -220,7 +169,7 @@ impl<'a> Outside<'a> {
             seat,
             senders: Vec::new(alloc),
             names: Vec::new(alloc),
-            sent,
+            tally,
             absorbed: None,
             lost: false,
         }
@@ -333,12 +282,15 @@ impl<'a> Outside<'a> {
         self.absorbed = None;
         self.senders.reserve(1)?;
         let board = self.board;
-        let sent = self.sent;
-        let given = board.split(&mut self.seat)?;
+        let tally = self.tally;
+        let given = FreshSeat::new(board.split(&mut self.seat)?);
         let sending = move || -> SenderSeat
-            requires { (given.board ≡ board.now.board) × (given.knows.tickets ≡ []) × All (λ v. v.0 < names_of board.now.board) names.items }
+            requires { (given.seat.board ≡ board.now.board) × All (λ v. v.0 < names_of board.now.board) names.items }
             ensures { (result.board ≡ board.entry.now.board) × (names_in result.knows.tickets ≡ names.items) }
-        { send_all(board, given, sent, gate, thread, names) };
+        {
+            let mut gate = *gate;
+            send_all(board, given, tally, &mut gate, thread, names)
+        };
         let promise = Sends {
             board,
             thread,
@@ -368,12 +320,20 @@ impl<'a> Outside<'a> {
         ensures carried { OnOk result (LinesCarried (S.plan session.new).names (S.plan session.new).lines self.new.seat.knows) }
         ensures plan { S.plan session.new ≡ S.plan session.old }
     {
-        let sent = self.sent.load(Ordering::SeqCst);
-        if self.absorbed == Some(sent) {
-            return Ok(());
+        let look = self.tally.look();
+        if let Some(absorbed) = &self.absorbed {
+            if absorbed.is_since(&look) {
+                return Ok(());
+            }
         }
-        absorb_names(self.board, &mut self.seat, self.names.as_slice(), session)?;
-        self.absorbed = Some(sent);
+        let absorbed = absorb_names(
+            self.board,
+            &mut self.seat,
+            self.names.as_slice(),
+            session,
+            look,
+        )?;
+        self.absorbed = Some(absorbed);
         Ok(())
     }
 

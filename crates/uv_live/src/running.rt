@@ -15,12 +15,12 @@ use crate::crew::{Crew, join_workers, lowest_fault, shifts_of, start_workers};
 use crate::follower::{Did, Follower};
 use crate::following::sync;
 use crate::outside::Outside;
+use crate::sends::Tally;
 use crate::settling::settle;
 use crate::turning::turn_rest;
 use std::alloc::Global;
 use std::marker::Brand;
 use std::sync::Wait;
-use std::sync::atomic::AtomicU64;
 use std::sync::ledger::{Blank, Ledger};
 use std::thread;
 use std::thread::{Scope, Threads};
@@ -134,7 +134,9 @@ fn run<S: Follower, L: Ledger, C: Clock, R: Threads + Wait>(
         absorb_in_poll(session, outside)?;
         let (answer, open) = locked_turn(rt, session, book);
         match answer {
-            Ok(Did::Queued(_)) => book.wake_worker(),
+            Ok(Did::Queued(_)) => {
+                book.wake_worker();
+            }
             Ok(_) => {}
             Err(Fault::Refused(Why::Ended)) => return Ok(true),
             Err(Fault::Refused(Why::Blocked)) => match open {
@@ -178,7 +180,7 @@ pub(crate) struct Shared<'a, L: Ledger, G> {
     alloc: Global,
     book: &'a LockedBook<L>,
     board: &'a Board,
-    sent: &'a AtomicU64,
+    tally: &'a Tally,
     lines: &'a [ThreadLine],
     gate: &'a G,
     pub ghost named: { AreNamed (names_of board.now.board) lines.now },
@@ -240,7 +242,7 @@ fn within<
     let mut session = session;
     let alloc = shared.alloc;
     let book = shared.book;
-    let mut outside = Outside::new(alloc, shared.board, seat, shared.sent);
+    let mut outside = Outside::new(alloc, shared.board, seat, shared.tally);
     let mut crew = Crew::new(alloc, session.worker_count());
     let halt = match start_threads(rt, scope, &shared, &session, &mut crew, &mut outside) {
         Ok(()) => run(rt, &mut session, book, &mut outside, clock),
@@ -347,12 +349,12 @@ fn live_over<
     let (board, seat) = Board::new(alloc, names, MOST_SENDERS as u64)?;
     let lines = copied_lines(alloc, &session)?;
     let book = LockedBook::new(book);
-    let sent = AtomicU64::new(0);
+    let tally = Tally::new();
     let shared = Shared {
         alloc,
         book: &book,
         board: &board,
-        sent: &sent,
+        tally: &tally,
         lines: lines.as_slice(),
         gate,
     };

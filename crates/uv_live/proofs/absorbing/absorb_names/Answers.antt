@@ -1,6 +1,6 @@
 use Rattle.uv_live.proofs.Names.{◌∙◌, arith, slice_get-get_or, slice_get_within}
 use Rattle.uv_live.proofs.Absorbed.{absorbs_both, carried_more, each_more}
-use Rattle.uv_live.proofs.outside.absorb_names.Goals as goal
+use Rattle.uv_live.proofs.absorbing.absorb_names.Goals as goal
 
 pub names-preserved : goal.names-preserved
 names-preserved g c =

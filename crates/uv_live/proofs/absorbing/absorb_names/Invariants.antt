@@ -1,6 +1,6 @@
 use Rattle.uv_live.proofs.Names.{◌≡◌, true, take, Absorbs, AbsorbsEach}
 use Rattle.uv_live.proofs.Absorbed.{CarriedBelow}
-use Rattle.uv_live.proofs.outside.absorb_names.Given as goal
+use Rattle.uv_live.proofs.absorbing.absorb_names.Given as goal
 
 abbrev pub invariant-names : goal.invariant-names
 invariant-names g l = record {
