@@ -1,5 +1,6 @@
 -- A live run.
-use Rattle.std.specs.Prelude.{◌≡◌, ◌-◌, ◌<◌, ℕ, List, [], ◌∷◌, Bool, true, Option, Some, None, Result, Ok, Err}
+use Rattle.std.specs.Prelude.{◌≡◌, ◌-◌, ◌<◌, ◌⊎◌, ℕ, List, [], ◌∷◌, Bool, true, Option, Some, None, Result, Ok, Err}
+use Rattle.uv_ids.specs.Limits.{MOST_WORKERS}
 use Rattle.uv_ids.specs.declared.event.Event.TheVariants as step
 use Rattle.uv_ids.specs.declared.fault.Fault.{Fault}
 use Rattle.uv_ids.specs.declared.fault.Why.{Why}
@@ -12,6 +13,10 @@ use Rattle.uv_live.specs.Settling.{Worked, IsSettled}
 abbrev pub HaltsAt : Result Bool Fault → Option Why → Type 0
 HaltsAt (Ok true) refusal = refusal ≡ Some why.Ended
 HaltsAt _ refusal = Unit {0}
+
+-- there are no pools of so many workers
+abbrev pub IsNoWorkerCount : ℕ → Type 0
+IsNoWorkerCount workers = (workers ≡ 0) ⊎ (MOST_WORKERS < workers)
 
 -- with some book, shifts and counts of absorbed words the run is settled
 abbrev pub RunSettles : {S : Type 0} → Plan S → Course → Type 0

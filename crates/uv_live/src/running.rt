@@ -1,10 +1,10 @@
 //! A live run.
-ghost use Rattle.std.specs.Prelude.{◌≡◌, ◌<◌, ◌+◌, Some, Ok, true, IfOk, IfNone};
+ghost use Rattle.std.specs.Prelude.{◌≡◌, ◌<◌, ◌+◌, Some, Ok, Err, true, IfOk, IfNone};
 ghost use Rattle.uv_ids.specs.declared.fault.Why.TheVariants as why;
 ghost use Rattle.uv_wake.specs.Seats.{names_of, AllJoined};
 ghost use Rattle.uv_live.specs.Course.{AreNamed};
 ghost use Rattle.uv_live.specs.Sending.{AreNoted, LinesCarried};
-ghost use Rattle.uv_live.specs.Running.{HaltsAt, RunSettles, PassesTo};
+ghost use Rattle.uv_live.specs.Running.{HaltsAt, IsNoWorkerCount, RunSettles, PassesTo};
 ghost use Rattle.uv_live.specs.Turning.{Refuses};
 ghost use Rattle.uv_live.specs.Working.{is_at_work};
 ghost use Rattle.std.specs.Prelude.{IfSome, IfErr, OnOk, MatchOption, is_some, length, vec_len};
@@ -340,6 +340,7 @@ fn live_over<
     requires name { blank.name ≡ L.name }
     requires parts { blank.parts ≡ L.parts }
     requires more { (S.plan session).workers < blank.parts }
+    ensures range { IsNoWorkerCount (S.plan session).workers → result ≡ Err (fault.Refused why.Range) }
     ensures plan { IfOk result (λ s. S.plan s ≡ S.plan session) }
     ensures end { IfOk result (λ s. S.refusal s ≡ Some why.Ended) }
     ensures settled { IfOk result (λ s. RunSettles (S.plan s) (S.course s)) }
@@ -376,6 +377,7 @@ pub fn live<S: Follower + Drop, C: Clock, G: Gate + Sync, R: Threads + Wait + Sy
     clock: &mut C,
     gate: &G,
 ) -> Result<S, Fault>
+    ensures range { IsNoWorkerCount (S.plan session).workers → result ≡ Err (fault.Refused why.Range) }
     ensures plan { IfOk result (λ s. S.plan s ≡ S.plan session) }
     ensures end { IfOk result (λ s. S.refusal s ≡ Some why.Ended) }
     ensures settled { IfOk result (λ s. RunSettles (S.plan s) (S.course s)) }
