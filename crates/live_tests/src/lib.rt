@@ -8,6 +8,8 @@ mod gates;
 #[cfg(test)]
 mod given;
 #[cfg(test)]
+mod hashing;
+#[cfg(test)]
 mod live_examples;
 #[cfg(test)]
 mod noting;
