@@ -15,4 +15,5 @@ mod ProofNames
 pub mod ReadBack
 pub mod SomeReading
 pub mod Texts
+pub mod Writing
 pub mod Written

@@ -8,6 +8,7 @@ pub mod Checks
 pub mod Names
 pub mod Grammar
 pub mod Text
+pub mod Writes
 pub mod Laws
 pub mod Reading
 pub mod Said

@@ -1,10 +1,13 @@
 //! The text of a script's parts.
+#![tactic(auto, using(crate::proofs::Writing::writing))]
+
 ghost use Rattle.std.specs.Prelude.{◌≡◌, ◌++◌, map, decimal, OnOk, OnErr, IfOk, IfErr};
 ghost use Rattle.uv_ids.specs.declared.fault.Fault.TheVariants.{Memory};
 ghost use Rattle.uv_script.specs.Grammar.{WasRead};
 ghost use Rattle.uv_script.specs.Laws.{IsReadBack};
 ghost use Rattle.uv_script.specs.Program.{arena_size, worker_count, order_of};
 ghost use Rattle.uv_script.specs.declared.op.Op.TheVariants.{Start, Queue};
+ghost use Rattle.uv_script.specs.Writes.{Writes};
 ghost use Rattle.uv_script.specs.Text.{op_text, name_text, task_text, order_line, line_if, workers_line, slots_line, setting_lines, var_line, main_line, call_text, front_text, callback_line, name_lines, callback_lines, thread_line, lines_text, script_text};
 
 use crate::names::Names;
@@ -31,7 +34,7 @@ pub fn push_number(text: &mut Vec<u8>, number: u64) -> Result<(), AllocError>
 
 /// Writes the text of a task at the end of a text, behind a space; nothing where it is empty.
 pub fn push_task_text(text: &mut Vec<u8>, of_task: &[u8]) -> Result<(), AllocError>
-    ensures { OnOk result (text.new.items ≡ text.old.items ++ task_text of_task.now) }
+    ensures { Writes result text.old.items (task_text of_task.now) text.new.items }
 {
     if of_task.is_empty() {
         return Ok(());
@@ -54,7 +57,7 @@ impl Names {
 
     /// Writes a word with the space behind it, and a name.
     fn push_named(&self, text: &mut Vec<u8>, word: &[u8], name: Var) -> Result<(), AllocError>
-        ensures { OnOk result (text.new.items ≡ text.old.items ++ word.now ++ name_text self.now name) }
+        ensures { Writes result text.old.items (word.now ++ name_text self.now name) text.new.items }
     {
         text.extend_from_slice(word)?;
         self.push_name(text, name)
@@ -68,7 +71,7 @@ impl Names {
         timeout: u64,
         repeat: u64,
     ) -> Result<(), AllocError>
-        ensures { OnOk result (text.new.items ≡ text.old.items ++ op_text self.now (Start name timeout repeat)) }
+        ensures { Writes result text.old.items (op_text self.now (Start name timeout repeat)) text.new.items }
     {
         self.push_named(text, b"start ", name)?;
         text.extend_from_slice(b" ")?;
@@ -79,7 +82,7 @@ impl Names {
 
     /// Writes the op that asks for work.
     fn push_queue(&self, text: &mut Vec<u8>, name: Var, task: Task) -> Result<(), AllocError>
-        ensures { OnOk result (text.new.items ≡ text.old.items ++ op_text self.now (Queue name task)) }
+        ensures { Writes result text.old.items (op_text self.now (Queue name task)) text.new.items }
     {
         self.push_named(text, b"queue ", name)?;
         text.extend_from_slice(b" ")?;
@@ -91,7 +94,7 @@ impl Names {
 impl Op {
     /// Writes the op at the end of a text, as a script has it.
     pub fn push_text(self, text: &mut Vec<u8>, names: &Names) -> Result<(), AllocError>
-        ensures { OnOk result (text.new.items ≡ text.old.items ++ op_text names.now self) }
+        ensures { Writes result text.old.items (op_text names.now self) text.new.items }
     {
         match self {
             Op::Init(name, kind) => {
@@ -131,7 +134,7 @@ impl Op {
 impl MainOp {
     /// Writes the line of the main program.
     fn push_line(self, text: &mut Vec<u8>, names: &Names) -> Result<(), AllocError>
-        ensures { OnOk result (text.new.items ≡ text.old.items ++ main_line names.now self) }
+        ensures { Writes result text.old.items (main_line names.now self) text.new.items }
     {
         match self {
             MainOp::Op(op) => {
@@ -160,13 +163,14 @@ fn front(kind: Callback) -> &'static [u8]
 impl CallbackLine {
     /// Writes the op, behind the call that it is for.
     fn push_op(self, text: &mut Vec<u8>, names: &Names) -> Result<(), AllocError>
-        ensures { OnOk result (text.new.items ≡ text.old.items ++ call_text self.call (op_text names.now self.op)) }
+        ensures { Writes result text.old.items (call_text self.call (op_text names.now self.op)) text.new.items }
     {
-        if let Some(call) = self.call {
-            text.extend_from_slice(b"@")?;
-            push_number(text, call as u64)?;
-            text.extend_from_slice(b" ")?;
-        }
+        let Some(call) = self.call else {
+            return self.op.push_text(text, names);
+        };
+        text.extend_from_slice(b"@")?;
+        push_number(text, call as u64)?;
+        text.extend_from_slice(b" ")?;
         self.op.push_text(text, names)
     }
 
@@ -178,7 +182,7 @@ impl CallbackLine {
         kind: Callback,
         name: Var,
     ) -> Result<(), AllocError>
-        ensures { OnOk result (text.new.items ≡ text.old.items ++ callback_line names.now kind name self) }
+        ensures { Writes result text.old.items (callback_line names.now kind name self) text.new.items }
     {
         names.push_named(text, front(kind), name)?;
         text.extend_from_slice(b" ")?;
@@ -188,7 +192,7 @@ impl CallbackLine {
 
 /// Writes the lines of the main program.
 fn push_main(text: &mut Vec<u8>, names: &Names, main: &[MainOp]) -> Result<(), AllocError>
-    ensures { OnOk result (text.new.items ≡ text.old.items ++ lines_text (map (main_line names.now) main.now)) }
+    ensures { Writes result text.old.items (lines_text (map (main_line names.now) main.now)) text.new.items }
 {
     for op in main {
         op.push_line(text, names)?;
@@ -205,7 +209,7 @@ fn push_callback(
     name: Var,
     lines: &[CallbackLine],
 ) -> Result<(), AllocError>
-    ensures { OnOk result (text.new.items ≡ text.old.items ++ lines_text (map (callback_line names.now kind name) lines.now)) }
+    ensures { Writes result text.old.items (lines_text (map (callback_line names.now kind name) lines.now)) text.new.items }
 {
     for line in lines {
         line.push_line(text, names, kind, name)?;
@@ -216,7 +220,7 @@ fn push_callback(
 
 /// Writes a line where it was said, and else nothing.
 fn push_line_if(text: &mut Vec<u8>, said: bool, line: &[u8]) -> Result<(), AllocError>
-    ensures { OnOk result (text.new.items ≡ text.old.items ++ lines_text (line_if said line.now)) }
+    ensures { Writes result text.old.items (lines_text (line_if said line.now)) text.new.items }
 {
     if said {
         text.extend_from_slice(line)?;
@@ -227,7 +231,7 @@ fn push_line_if(text: &mut Vec<u8>, said: bool, line: &[u8]) -> Result<(), Alloc
 
 /// Writes the line of a thread.
 fn push_thread_line(text: &mut Vec<u8>, names: &Names, line: ThreadLine) -> Result<(), AllocError>
-    ensures { OnOk result (text.new.items ≡ text.old.items ++ thread_line names.now line) }
+    ensures { Writes result text.old.items (thread_line names.now line) text.new.items }
 {
     text.extend_from_slice(b"thread ")?;
     push_number(text, line.thread as u64)?;
@@ -237,7 +241,7 @@ fn push_thread_line(text: &mut Vec<u8>, names: &Names, line: ThreadLine) -> Resu
 
 /// Writes the lines of all threads.
 fn push_threads(text: &mut Vec<u8>, names: &Names, lines: &[ThreadLine]) -> Result<(), AllocError>
-    ensures { OnOk result (text.new.items ≡ text.old.items ++ lines_text (map (thread_line names.now) lines.now)) }
+    ensures { Writes result text.old.items (lines_text (map (thread_line names.now) lines.now)) text.new.items }
 {
     for line in lines {
         push_thread_line(text, names, *line)?;
@@ -249,7 +253,7 @@ fn push_threads(text: &mut Vec<u8>, names: &Names, lines: &[ThreadLine]) -> Resu
 impl Names {
     /// Writes the declarations.
     fn push_declarations(&self, text: &mut Vec<u8>) -> Result<(), AllocError>
-        ensures { OnOk result (text.new.items ≡ text.old.items ++ lines_text (map var_line self.now)) }
+        ensures { Writes result text.old.items (lines_text (map var_line self.now)) text.new.items }
     {
         for number in 0..self.len() {
             self.push_named(text, b"var ", Var(number as u32))?;
@@ -275,7 +279,7 @@ impl Script {
 
     /// Writes the text of the script at the end of a text.
     pub fn push_lines(&self, text: &mut Vec<u8>) -> Result<(), AllocError>
-        ensures text { OnOk result (text.new.items ≡ text.old.items ++ script_text self.now) }
+        ensures text { Writes result text.old.items (script_text self.now) text.new.items }
         ensures read { WasRead self.now }
     {
         let main = self.main();
@@ -289,7 +293,7 @@ impl Script {
 
     /// Writes the order of a run's phases.
     fn push_order(&self, text: &mut Vec<u8>) -> Result<(), AllocError>
-        ensures { OnOk result (text.new.items ≡ text.old.items ++ order_line (order_of self.now)) }
+        ensures { Writes result text.old.items (order_line (order_of self.now)) text.new.items }
     {
         text.extend_from_slice(b"order ")?;
         text.extend_from_slice(self.order().word().as_bytes())
@@ -297,7 +301,7 @@ impl Script {
 
     /// Writes how many workers there are.
     fn push_workers(&self, text: &mut Vec<u8>) -> Result<(), AllocError>
-        ensures { OnOk result (text.new.items ≡ text.old.items ++ workers_line (worker_count self.now)) }
+        ensures { Writes result text.old.items (workers_line (worker_count self.now)) text.new.items }
     {
         text.extend_from_slice(b"workers ")?;
         push_number(text, self.workers() as u64)
@@ -305,7 +309,7 @@ impl Script {
 
     /// Writes how large the arena is.
     fn push_slots(&self, text: &mut Vec<u8>) -> Result<(), AllocError>
-        ensures { OnOk result (text.new.items ≡ text.old.items ++ slots_line (arena_size self.now)) }
+        ensures { Writes result text.old.items (slots_line (arena_size self.now)) text.new.items }
     {
         let size = self.arena_size();
         text.extend_from_slice(b"slots ")?;
@@ -316,7 +320,7 @@ impl Script {
 
     /// Writes the lines of all settings.
     fn push_settings(&self, text: &mut Vec<u8>) -> Result<(), AllocError>
-        ensures { OnOk result (text.new.items ≡ text.old.items ++ lines_text (setting_lines self.now)) }
+        ensures { Writes result text.old.items (lines_text (setting_lines self.now)) text.new.items }
     {
         self.push_order(text)?;
         text.extend_from_slice(b"\n")?;
@@ -331,7 +335,7 @@ impl Script {
 
     /// Writes the lines of all callbacks of a name.
     fn push_callbacks_of(&self, text: &mut Vec<u8>, name: Var) -> Result<(), AllocError>
-        ensures { OnOk result (text.new.items ≡ text.old.items ++ lines_text (name_lines self.now name)) }
+        ensures { Writes result text.old.items (lines_text (name_lines self.now name)) text.new.items }
     {
         let names = self.names();
         let handle = self.lines_in(Callback::Handle, name);
@@ -345,7 +349,7 @@ impl Script {
 
     /// Writes the lines of all callbacks.
     fn push_callbacks(&self, text: &mut Vec<u8>) -> Result<(), AllocError>
-        ensures { OnOk result (text.new.items ≡ text.old.items ++ lines_text (callback_lines self.now 0 self.now.names)) }
+        ensures { Writes result text.old.items (lines_text (callback_lines self.now 0 self.now.names)) text.new.items }
     {
         for number in 0..self.names().len() {
             self.push_callbacks_of(text, Var(number as u32))?;

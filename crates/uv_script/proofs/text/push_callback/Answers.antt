@@ -1,18 +1,26 @@
-use Rattle.uv_script.proofs.ProofNames.{◌+◌, [], ◌∷◌, ◌++◌, map, drop, ap, ◌∙◌, arith, callback_line, lines_text}
-use Rattle.uv_script.proofs.Texts.{line_turn, lines_end}
+use Rattle.std.proofs.lemmas.Result.{err_from_is_err_and}
+use Rattle.uv_script.proofs.ProofNames.{arith, callback_line}
+use Rattle.uv_script.proofs.Writing.{line_cut, feed_cut, line_fed}
 use Rattle.uv_script.proofs.text.push_callback.Goals as goal
+
+pub returns-in_err-push_line : goal.returns-in_err-push_line
+returns-in_err-push_line c =
+    let exit = c.from_residual in
+    let p = err_from_is_err_and exit.result exit.ensures.1 in
+    rw (p.1) (line_cut (callback_line c.args.names.now c.args.kind c.args.name) c.args.lines.now c.loop-line.line-index
+    c.line-item.result c.line-item.result (omega arith) c.line-item.is _ _ _ c.loop-line.invariant
+    c.in_err-push_line.ensures)
+
+pub returns-in_err-extend_from_slice : goal.returns-in_err-extend_from_slice
+returns-in_err-extend_from_slice c =
+    let exit = c.from_residual-in_err-extend_from_slice in
+    let p = err_from_is_err_and exit.result exit.ensures.1 in
+    rw (p.1) (feed_cut (callback_line c.args.names.now c.args.kind c.args.name) c.args.lines.now c.loop-line.line-index
+    c.line-item.result c.line-item.result (omega arith) c.line-item.is _ _ _ _ c.loop-line.invariant
+    c.in_ok-push_line.ensures c.in_err-extend_from_slice.ensures.items)
 
 pub loop-line-preserved : goal.loop-line-preserved
 loop-line-preserved c =
-    let line = callback_line c.args.names.now c.args.kind c.args.name in
-    let lines = c.args.lines.now in
-    let i = c.loop-line.line-index in
-    let text = c.loop-line.text.items in
-    let written = c.in_ok-push_line.ensures ∙ ap (λ l. text ++ line l) c.line-item.is in
-    ap (λ t. t ++ lines_text (map line (drop (i + 1) lines))) (c.in_ok-extend_from_slice.ensures.items ∙ ap (λ t. t ++ 10 ∷ []) written)
-    ∙ line_turn line lines i _ c.args.text.now.items text (omega arith) c.loop-line.invariant
-
-pub returns : goal.returns
-returns c =
-    lines_end (callback_line c.args.names.now c.args.kind c.args.name) c.args.lines.now c.loop-line.line-index c.args.text.now.items
-    c.loop-line.text.items (omega arith) c.loop-line.invariant
+    line_fed (callback_line c.args.names.now c.args.kind c.args.name) c.args.lines.now c.loop-line.line-index
+    c.line-item.result c.line-item.result (omega arith) c.line-item.is _ _ _ _ c.loop-line.invariant
+    c.in_ok-push_line.ensures c.in_ok-extend_from_slice.ensures.items

@@ -1,8 +1,7 @@
-use Rattle.uv_script.proofs.ProofNames.{◌≡◌, ◌++◌, map, drop, callback_line, lines_text}
+use Rattle.std.proofs.Common.{take}
+use Rattle.uv_script.proofs.ProofNames.{◌≡◌, ◌++◌, map, callback_line, lines_text}
 use Rattle.uv_script.proofs.text.push_callback.Given as goal
 
--- what is written, with the lines that are left, is all
+-- the lines so far are written
 abbrev pub invariant-loop-line : goal.invariant-loop-line
-invariant-loop-line l =
-    l.text.items ++ lines_text (map (callback_line l.names l.kind l.name) (drop l.line-index l.lines))
-    ≡ l.initial.text.items ++ lines_text (map (callback_line l.names l.kind l.name) l.lines)
+invariant-loop-line l = l.text.items ≡ l.initial.text.items ++ lines_text (map (callback_line l.names l.kind l.name) (take l.line-index l.lines))

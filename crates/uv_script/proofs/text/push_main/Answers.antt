@@ -1,18 +1,26 @@
-use Rattle.uv_script.proofs.ProofNames.{◌+◌, [], ◌∷◌, ◌++◌, map, drop, ap, ◌∙◌, arith, main_line, lines_text}
-use Rattle.uv_script.proofs.Texts.{line_turn, lines_end}
+use Rattle.std.proofs.lemmas.Result.{err_from_is_err_and}
+use Rattle.uv_script.proofs.ProofNames.{arith, main_line}
+use Rattle.uv_script.proofs.Writing.{line_cut, feed_cut, line_fed}
 use Rattle.uv_script.proofs.text.push_main.Goals as goal
+
+pub returns-in_err-push_line : goal.returns-in_err-push_line
+returns-in_err-push_line c =
+    let exit = c.from_residual in
+    let p = err_from_is_err_and exit.result exit.ensures.1 in
+    rw (p.1) (line_cut (main_line c.args.names.now) c.args.main.now c.loop-op.op-index
+    c.op-item.result c.op-item.result (omega arith) c.op-item.is _ _ _ c.loop-op.invariant
+    c.in_err-push_line.ensures)
+
+pub returns-in_err-extend_from_slice : goal.returns-in_err-extend_from_slice
+returns-in_err-extend_from_slice c =
+    let exit = c.from_residual-in_err-extend_from_slice in
+    let p = err_from_is_err_and exit.result exit.ensures.1 in
+    rw (p.1) (feed_cut (main_line c.args.names.now) c.args.main.now c.loop-op.op-index
+    c.op-item.result c.op-item.result (omega arith) c.op-item.is _ _ _ _ c.loop-op.invariant
+    c.in_ok-push_line.ensures c.in_err-extend_from_slice.ensures.items)
 
 pub loop-op-preserved : goal.loop-op-preserved
 loop-op-preserved c =
-    let line = main_line c.args.names.now in
-    let main = c.args.main.now in
-    let i = c.loop-op.op-index in
-    let text = c.loop-op.text.items in
-    let written = c.in_ok-push_line.ensures ∙ ap (λ op. text ++ line op) c.op-item.is in
-    ap (λ t. t ++ lines_text (map line (drop (i + 1) main))) (c.in_ok-extend_from_slice.ensures.items ∙ ap (λ t. t ++ 10 ∷ []) written)
-    ∙ line_turn line main i _ c.args.text.now.items text (omega arith) c.loop-op.invariant
-
-pub returns : goal.returns
-returns c =
-    lines_end (main_line c.args.names.now) c.args.main.now c.loop-op.op-index c.args.text.now.items c.loop-op.text.items (omega arith)
-    c.loop-op.invariant
+    line_fed (main_line c.args.names.now) c.args.main.now c.loop-op.op-index
+    c.op-item.result c.op-item.result (omega arith) c.op-item.is _ _ _ _ c.loop-op.invariant
+    c.in_ok-push_line.ensures c.in_ok-extend_from_slice.ensures.items

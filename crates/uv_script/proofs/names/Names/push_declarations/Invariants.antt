@@ -1,8 +1,7 @@
-use Rattle.uv_script.proofs.ProofNames.{◌≡◌, ◌++◌, map, drop, var_line, lines_text}
+use Rattle.std.proofs.Common.{take}
+use Rattle.uv_script.proofs.ProofNames.{◌≡◌, ◌++◌, map, var_line, lines_text}
 use Rattle.uv_script.proofs.names.Names.push_declarations.Given as goal
 
--- what is written, with the lines that are left, is all
+-- the lines so far are written
 abbrev pub invariant-loop-number : goal.invariant-loop-number
-invariant-loop-number l =
-    l.text.items ++ lines_text (map var_line (drop l.number l.self))
-    ≡ l.initial.text.items ++ lines_text (map var_line l.self)
+invariant-loop-number l = l.text.items ≡ l.initial.text.items ++ lines_text (map var_line (take l.number l.self))
