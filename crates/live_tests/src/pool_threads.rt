@@ -229,11 +229,11 @@ fn eight_threads_end_by_themselves(rt: HostRuntime) -> Result<(), Fault> {
 }
 
 /// A gate that looks into the book at each call: how often the log hadn't what it was told of.
-#[derive(Drop)]
+#[derive(Clone, Copy)]
 struct Looking<'a, R: Wait, L: Ledger> {
     rt: &'a R,
     book: &'a LockedBook<L>,
-    missed: AtomicU32,
+    missed: &'a AtomicU32,
 }
 
 impl<'a, R: Wait, L: Ledger> Looking<'a, R, L> {
@@ -244,7 +244,7 @@ impl<'a, R: Wait, L: Ledger> Looking<'a, R, L> {
     }
 }
 
-impl<'s, 'a, R: Wait, L: Ledger> Gate for &'s Looking<'a, R, L> {
+impl<'a, R: Wait, L: Ledger> Gate for Looking<'a, R, L> {
     ghost begins = { λ g k id after. Unit {0} };
 
     ghost ends = { λ g k id after. Unit {0} };
@@ -273,14 +273,15 @@ fn missed<L: Ledger, R: Abort + Wait>(rt: &R, alloc: Global, blank: Blank) -> Re
         submit(rt, &book, slot)?;
     }
     close(rt, &book);
-    let gate = Looking {
+    let missed = AtomicU32::new(0);
+    let mut gate = Looking {
         rt,
         book: &book,
-        missed: AtomicU32::new(0),
+        missed: &missed,
     };
-    let shift = work(rt, alloc, &book, &mut &gate, 0)?;
+    let shift = work(rt, alloc, &book, &mut gate, 0)?;
     assert!(rt; shift.events.len() == 16);
-    Ok(gate.missed.load(Ordering::SeqCst))
+    Ok(missed.load(Ordering::SeqCst))
 }
 
 #[test]
@@ -290,13 +291,13 @@ fn the_gate_is_told_of_what_the_log_has(rt: HostRuntime) -> Result<(), Fault> {
 }
 
 /// A gate that takes the worker's next job itself, so that the worker's own take is refused, and lets others wait meanwhile.
-#[derive(Drop)]
+#[derive(Clone, Copy)]
 struct Grasping<'a, R: Clock + Wait, L: Ledger> {
     rt: &'a R,
     book: &'a LockedBook<L>,
 }
 
-impl<'s, 'a, R: Clock + Wait, L: Ledger> Gate for &'s Grasping<'a, R, L> {
+impl<'a, R: Clock + Wait, L: Ledger> Gate for Grasping<'a, R, L> {
     ghost begins = { λ g k id after. Unit {0} };
 
     ghost ends = { λ g k id after. Unit {0} };
@@ -314,13 +315,13 @@ impl<'s, 'a, R: Clock + Wait, L: Ledger> Gate for &'s Grasping<'a, R, L> {
 }
 
 /// The fault of a worker whose take is refused, and whether its book was closed then.
-fn refused<L: Ledger, R: Clock + Wait>(
-    rt: &R,
+fn refused<'a, L: Ledger, R: Clock + Wait>(
+    rt: &'a R,
     alloc: Global,
-    book: &LockedBook<L>,
+    book: &'a LockedBook<L>,
 ) -> (Option<Fault>, bool) {
-    let gate = Grasping { rt, book };
-    let fault = work(rt, alloc, book, &mut &gate, 0).err();
+    let mut gate = Grasping { rt, book };
+    let fault = work(rt, alloc, book, &mut gate, 0).err();
     (fault, book.lock(rt).closed())
 }
 
