@@ -1,5 +1,5 @@
 //! A live run of the script of a reader.
-ghost use Rattle.std.specs.Prelude.{◌≡◌, ◌^◌, IfErr, IfSome, OnOk};
+ghost use Rattle.std.specs.Prelude.{◌≡◌, ◌^◌, IfErr, IfSome};
 ghost use Rattle.uv_ids.specs.declared.fault.Fault.TheVariants.{Write};
 ghost use Rattle.uv_script.specs.Program.{IsWorkerCount};
 ghost use Rattle.uv_engine.specs.Devices.{TakesWithin, WriterCounts};
@@ -79,8 +79,8 @@ pub fn run_live<M: Machine, H: Threads + Wait + Sync, R: Source, W: Sink>(
     requires within { IfSome workers IsWorkerCount }
     ensures text { R.Tells → W.Tells → RunsLive workers (R.remaining reader.old) result (W.written writer.old) (W.written writer.new) }
     ensures within { OnRead result (R.Tells → TakesWithin (2 ^ 30) (R.remaining reader.old) (R.remaining reader.new)) }
-    ensures reader { OnOk result (R.failures reader.new ≡ R.failures reader.old) }
-    ensures writer { OnOk result (W.failures writer.new ≡ W.failures writer.old) }
+    ensures reader { OnRead result (R.failures reader.new ≡ R.failures reader.old) }
+    ensures writer { OnRead result (W.failures writer.new ≡ W.failures writer.old) }
 {
     let script = match read_alone(alloc, reader) {
         Ok(script) => script,

@@ -40,9 +40,9 @@ pub fn run<M: Machine, H: Threads + Wait + Sync, R: Source, W: Sink, E: Write>(
     // With any status but 4, that of want of memory and of a device that failed, it has read 2^30 bytes at the most.
     ensures within { result ≢ 4 → R.Tells → TakesWithin (2 ^ 30) (R.remaining reader.old) (R.remaining reader.new) }
 
-    // A terminal doesn't tell its bytes. Yet with status 0 neither device has failed.
-    ensures reader { result ≡ 0 → R.failures reader.new ≡ R.failures reader.old }
-    ensures writer { result ≡ 0 → W.failures writer.new ≡ W.failures writer.old }
+    // A terminal doesn't tell its bytes. Yet with any status but 4 neither device has failed.
+    ensures reader { result ≢ 4 → R.failures reader.new ≡ R.failures reader.old }
+    ensures writer { result ≢ 4 → W.failures writer.new ≡ W.failures writer.old }
 {
     match read_words(alloc, words) {
         Ok(Job::Debug) => debug::<M, _, _, _>(alloc, reader, writer, errors),
@@ -62,8 +62,8 @@ fn debug<M: Machine, R: Source, W: Sink, E: Write>(
     ensures text { R.Tells → W.Tells → Runs (R.remaining reader.old) (W.written writer.old) (W.written writer.new) result }
     ensures status { MayEnd (Some Debug) result }
     ensures within { result ≢ 4 → R.Tells → TakesWithin (2 ^ 30) (R.remaining reader.old) (R.remaining reader.new) }
-    ensures reader { result ≡ 0 → R.failures reader.new ≡ R.failures reader.old }
-    ensures writer { result ≡ 0 → W.failures writer.new ≡ W.failures writer.old }
+    ensures reader { result ≢ 4 → R.failures reader.new ≡ R.failures reader.old }
+    ensures writer { result ≢ 4 → W.failures writer.new ≡ W.failures writer.old }
 {
     match converse::<M, _, _>(alloc, reader, writer) {
         Ok(_) => 0,
@@ -80,8 +80,8 @@ fn rerun<M: Machine, R: Source, W: Sink, E: Write>(
     ensures text { R.Tells → W.Tells → Reruns (R.remaining reader.old) (W.written writer.old) (W.written writer.new) result }
     ensures status { MayEnd (Some Replay) result }
     ensures within { result ≢ 4 → R.Tells → TakesWithin (2 ^ 30) (R.remaining reader.old) (R.remaining reader.new) }
-    ensures reader { result ≡ 0 → R.failures reader.new ≡ R.failures reader.old }
-    ensures writer { result ≡ 0 → W.failures writer.new ≡ W.failures writer.old }
+    ensures reader { result ≢ 4 → R.failures reader.new ≡ R.failures reader.old }
+    ensures writer { result ≢ 4 → W.failures writer.new ≡ W.failures writer.old }
 {
     match replay::<M, _, _>(alloc, reader, writer) {
         Ok(()) => 0,
@@ -101,8 +101,8 @@ fn live<M: Machine, H: Threads + Wait + Sync, R: Source, W: Sink, E: Write>(
     ensures text { R.Tells → W.Tells → Lives workers (R.remaining reader.old) (W.written writer.old) (W.written writer.new) result }
     ensures status { MayEnd (Some (Live workers)) result }
     ensures within { result ≢ 4 → R.Tells → TakesWithin (2 ^ 30) (R.remaining reader.old) (R.remaining reader.new) }
-    ensures reader { result ≡ 0 → R.failures reader.new ≡ R.failures reader.old }
-    ensures writer { result ≡ 0 → W.failures writer.new ≡ W.failures writer.old }
+    ensures reader { result ≢ 4 → R.failures reader.new ≡ R.failures reader.old }
+    ensures writer { result ≢ 4 → W.failures writer.new ≡ W.failures writer.old }
 {
     match run_live::<M, _, _, _>(rt, alloc, workers, reader, writer) {
         Ok(()) => 0,

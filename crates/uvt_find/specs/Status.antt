@@ -1,10 +1,11 @@
 -- What a run of the program comes to.
-use Rattle.std.specs.Prelude.{◌≡◌, ℕ, ◌≤◌, ◌==◌, ◌++◌, true, List, [], ◌∷◌}
+use Rattle.std.specs.Prelude.{◌≡◌, ℕ, ◌≤◌, ◌==◌, ◌++◌, true, List, [], ◌∷◌, Result, Ok, Err, IfOk, IfErr}
 use Rattle.std.specs.List.{list_any}
 use Rattle.uv_ids.specs.declared.event.Event.{Event}
 use Rattle.uv_ids.specs.declared.fault.Fault.{Fault}
 use Rattle.uv_ids.specs.declared.fault.Fault.TheVariants as fault
 use Rattle.uv_script.specs.Program.{Program}
+use Rattle.uv_engine.specs.Devices.{ReaderCounts, WriterCounts}
 use Rattle.uv_engine.specs.Sink.{CutShort}
 use Rattle.uv_asking.specs.Asked.{Asked}
 use Rattle.uv_find.specs.Orders.{Place, beginning}
@@ -37,6 +38,39 @@ status_of _ = 4
 -- the statuses with which a run may end
 abbrev pub MayEnd : ℕ → Type 0
 MayEnd status = list_any (λ s. s == status) (0 ∷ 1 ∷ 2 ∷ 3 ∷ 4 ∷ []) ≡ true
+
+-- the status of an answer: 0, 1 or 3
+abbrev pub IsAnswerStatus : ℕ → Type 0
+IsAnswerStatus status = list_any (λ s. s == status) (0 ∷ 1 ∷ 3 ∷ []) ≡ true
+
+-- the faults by which a run may end
+abbrev pub IsRunFault : Fault → Type 0
+IsRunFault (fault.Script line) = Unit {0}
+IsRunFault fault.Memory = Unit {0}
+IsRunFault fault.Read = Unit {0}
+IsRunFault fault.Write = Unit {0}
+IsRunFault _ = ⊥
+
+-- those of the answer alone
+abbrev pub IsReplyFault : Fault → Type 0
+IsReplyFault fault.Memory = Unit {0}
+IsReplyFault fault.Write = Unit {0}
+IsReplyFault _ = ⊥
+
+-- the status of what a run comes to: that of its answer, or that of its fault
+abbrev pub status_by : Result ℕ Fault → ℕ
+status_by (Ok status) = status
+status_by (Err f) = status_of f
+
+-- a run ends with the status of what it came to, an answer or a fault. The fault is `Read` where the reader failed, and else only where the
+-- input is too long; it is `Write` where the writer failed, and only there
+pub record EndsBy (TooLong : Type 0) (reads reads' writes writes' status : ℕ) : Type 0 where
+  pub came_to : Result ℕ Fault
+  pub is : status ≡ status_by came_to
+  pub answer : IfOk came_to IsAnswerStatus
+  pub fault : IfErr came_to IsRunFault
+  pub reader : ReaderCounts came_to TooLong reads reads'
+  pub writer : WriterCounts came_to writes writes'
 
 -- what is written for what is asked of a script. 0, 1 or 3: the answer. 4: nothing, or a beginning of the answer
 pub data Responds (p : Program) (a : Asked) (old new : List ℕ) : ℕ → Type 0 where

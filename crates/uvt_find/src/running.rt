@@ -1,11 +1,11 @@
 //! The program over any reader and writers.
-ghost use Rattle.std.specs.Prelude.{◌≡◌, ◌≢◌, ◌^◌, IfOk, IfErr, OnOk};
-ghost use Rattle.uv_engine.specs.Devices.{TakesWithin};
+ghost use Rattle.std.specs.Prelude.{◌≡◌, ◌≢◌, ◌^◌, IfOk, IfErr};
+ghost use Rattle.uv_engine.specs.Devices.{IsTooLong, OnAnswer, ReaderCounts, TakesWithin, WriterCounts};
 ghost use Rattle.uv_engine.specs.Sink.{WritesText};
 ghost use Rattle.uv_find.specs.Spots.{rules_of, first_spot};
 ghost use Rattle.uv_ids.specs.declared.fault.Fault.TheVariants.{Memory, Write as WriteFault};
 ghost use Rattle.uv_asking.specs.Asked.{asked_in};
-ghost use Rattle.uvt_find.specs.Status.{Answers, MayEnd, Ran, Responds, status_of};
+ghost use Rattle.uvt_find.specs.Status.{Answers, EndsBy, IsAnswerStatus, IsReplyFault, IsRunFault, MayEnd, Ran, Responds, status_by, status_of};
 
 use std::alloc::Global;
 use std::io::Write;
@@ -86,7 +86,7 @@ fn answer<M: Machine>(alloc: Global, inquiry: &Inquiry) -> Result<Told, Fault>
 fn write_whole<W: Sink>(writer: &mut W, text: &[u8]) -> Result<(), Fault>
     ensures text { W.Tells → WritesText result (W.written writer.old) text.now (W.written writer.new) }
     ensures err { IfErr result (λ fault. fault ≡ WriteFault) }
-    ensures writer { OnOk result (W.failures writer.new ≡ W.failures writer.old) }
+    ensures writer { WriterCounts result (W.failures writer.old) (W.failures writer.new) }
 {
     write_text(writer, text)?;
     if writer.flush().is_err() {
@@ -113,31 +113,49 @@ fn warn<E: Write>(inquiry: &Inquiry, errors: &mut E) {
     }
 }
 
-/// Writes the answer to what is asked of a script, and gives the exit status.
+/// Writes the answer to what is asked of a script, and gives its status.
 fn respond<M: Machine, W: Sink, E: Write>(
     alloc: Global,
     inquiry: &Inquiry,
     writer: &mut W,
     errors: &mut E,
-) -> u8
+) -> Result<u8, Fault>
     requires back { M.BackWantsMemory → ⊥ }
-    ensures text { W.Tells → Responds inquiry.now.script (asked_in inquiry.now.asking) (W.written writer.old) (W.written writer.new) result }
-    ensures status { MayEnd result }
-    ensures writer { result ≢ 4 → W.failures writer.new ≡ W.failures writer.old }
+    ensures text { W.Tells → Responds inquiry.now.script (asked_in inquiry.now.asking)
+        (W.written writer.old) (W.written writer.new) (status_by result) }
+    ensures answer { IfOk result IsAnswerStatus }
+    ensures err { IfErr result IsReplyFault }
+    ensures writer { WriterCounts result (W.failures writer.old) (W.failures writer.new) }
 {
     warn(inquiry, errors);
-    match answer::<M>(alloc, inquiry) {
-        Ok(told) => match write_whole(writer, told.text.as_slice()) {
-            Ok(()) => told.status,
-            Err(fault) => fail(fault, errors),
-        },
-        Err(fault) => fail(fault, errors),
-    }
+    let told = answer::<M>(alloc, inquiry)?;
+    write_whole(writer, told.text.as_slice())?;
+    Ok(told.status)
+}
+
+/// Reads what is asked, answers it, and gives the answer's status.
+fn attempt<M: Machine, R: Source, W: Sink, E: Write>(
+    alloc: Global,
+    reader: &mut R,
+    writer: &mut W,
+    errors: &mut E,
+) -> Result<u8, Fault>
+    requires back { M.BackWantsMemory → ⊥ }
+    ensures text { R.Tells → W.Tells → Ran (R.remaining reader.old) (W.written writer.old) (W.written writer.new) (status_by result) }
+    ensures answer { IfOk result IsAnswerStatus }
+    ensures err { IfErr result IsRunFault }
+    ensures within { OnAnswer result (R.Tells → TakesWithin (2 ^ 30) (R.remaining reader.old) (R.remaining reader.new)) }
+    ensures reader { ReaderCounts result (IsTooLong R.Tells (2 ^ 30) (R.remaining reader.old) (R.given reader.old)
+        (R.given reader.new)) (R.failures reader.old) (R.failures reader.new) }
+    ensures writer { WriterCounts result (W.failures writer.old) (W.failures writer.new) }
+{
+    let inquiry = read_inquiry(alloc, reader)?;
+    respond::<M, _, _>(alloc, &inquiry, writer, errors)
 }
 
 /// Reads what is asked, answers it, and gives the exit status: 0 where steps are found that answer the question, 1 where none do, 3
-/// where that isn't settled, also since the search was out of memory, 2 for a bad line, 4 for any other fault. A fault is a line on the errors, `uvt: ` and its text. So is a
-/// warning, before the search, where there may be no end of states.
+/// where that isn't settled, also since the search was out of memory, 2 for a bad line, 4 for any other fault. A fault is a line on
+/// the errors, `uvt: ` and its text. So is a warning, before the search, where there may be no end of states.
 pub fn run<M: Machine, R: Source, W: Sink, E: Write>(
     alloc: Global,
     reader: &mut R,
@@ -150,14 +168,18 @@ pub fn run<M: Machine, R: Source, W: Sink, E: Write>(
     // On any device, also one that doesn't tell its bytes, it ends with one of these statuses.
     ensures status { MayEnd result }
 
+    // 4 only by a fault of a device, or for want of memory.
+    ensures ends { EndsBy (IsTooLong R.Tells (2 ^ 30) (R.remaining reader.old) (R.given reader.old) (R.given reader.new))
+        (R.failures reader.old) (R.failures reader.new) (W.failures writer.old) (W.failures writer.new) result }
+
     // With any status but 4, that of want of memory and of a device that failed, it has read 2^30 bytes at the most, and neither
     // device has failed.
     ensures within { result ≢ 4 → R.Tells → TakesWithin (2 ^ 30) (R.remaining reader.old) (R.remaining reader.new) }
     ensures reader { result ≢ 4 → R.failures reader.new ≡ R.failures reader.old }
     ensures writer { result ≢ 4 → W.failures writer.new ≡ W.failures writer.old }
 {
-    match read_inquiry(alloc, reader) {
-        Ok(inquiry) => respond::<M, _, _>(alloc, &inquiry, writer, errors),
+    match attempt::<M, _, _, _>(alloc, reader, writer, errors) {
+        Ok(status) => status,
         Err(fault) => fail(fault, errors),
     }
 }
