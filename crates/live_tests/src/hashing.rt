@@ -14,10 +14,10 @@ use uv_pool::{Desk, LockedBook, PoolBook, worker};
 use uv_work::{Job, Task, WorkResult};
 
 /// Of so many tries the least counts, so that what else the machine does doesn't.
-const TRIES: u32 = 50;
+const TRIES: u32 = 20;
 
-/// Some milliseconds of hashing: far more than all else that is done for a job.
-const ROUNDS: u16 = 8000;
+/// Far more hashing than all else that is done for a job takes.
+const ROUNDS: u16 = 1000;
 
 fn now<R: Clock>(rt: &R) -> Result<Instant, Fault> {
     match Instant::now(rt) {

@@ -2,7 +2,7 @@
 ghost use Rattle.std.specs.Prelude.{◌≡◌, ◌<◌};
 
 use crate::given::{Quiet, id, job};
-use std::alloc::Global;
+use std::alloc::{AllocError, Global};
 use std::marker::Brand;
 use std::process::Abort;
 use std::sync::Wait;
@@ -229,7 +229,6 @@ fn eight_threads_end_by_themselves(rt: HostRuntime) -> Result<(), Fault> {
 }
 
 /// A gate that looks into the book at each call: how often the log hadn't what it was told of.
-#[derive(Clone, Copy)]
 struct Looking<'a, R: Wait, L: Ledger> {
     rt: &'a R,
     book: &'a LockedBook<L>,
@@ -243,6 +242,14 @@ impl<'a, R: Wait, L: Ledger> Looking<'a, R, L> {
         }
     }
 }
+
+impl<'a, R: Wait, L: Ledger> Clone for Looking<'a, R, L> {
+    fn clone(&self) -> Result<Looking<'a, R, L>, AllocError> {
+        Ok(*self)
+    }
+}
+
+impl<'a, R: Wait, L: Ledger> Copy for Looking<'a, R, L> {}
 
 impl<'a, R: Wait, L: Ledger> Gate for Looking<'a, R, L> {
     ghost begins = { λ g k id after. Unit {0} };
@@ -291,11 +298,18 @@ fn the_gate_is_told_of_what_the_log_has(rt: HostRuntime) -> Result<(), Fault> {
 }
 
 /// A gate that takes the worker's next job itself, so that the worker's own take is refused, and lets others wait meanwhile.
-#[derive(Clone, Copy)]
 struct Grasping<'a, R: Clock + Wait, L: Ledger> {
     rt: &'a R,
     book: &'a LockedBook<L>,
 }
+
+impl<'a, R: Clock + Wait, L: Ledger> Clone for Grasping<'a, R, L> {
+    fn clone(&self) -> Result<Grasping<'a, R, L>, AllocError> {
+        Ok(*self)
+    }
+}
+
+impl<'a, R: Clock + Wait, L: Ledger> Copy for Grasping<'a, R, L> {}
 
 impl<'a, R: Clock + Wait, L: Ledger> Gate for Grasping<'a, R, L> {
     ghost begins = { λ g k id after. Unit {0} };
