@@ -3,3 +3,4 @@ pub mod Taking
 pub mod Leading
 pub mod Moving
 pub mod Results
+pub mod Refusing

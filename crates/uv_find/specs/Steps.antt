@@ -1,9 +1,11 @@
 -- One step of a session, within bounds.
-use Rattle.std.specs.Prelude.{◌≡◌, ℕ, List, [], ◌∷◌, ◌++◌, Option, Some, None, option_map, Result, Ok, Err}
+use Rattle.std.specs.Prelude.{◌≡◌, ℕ, List, [], ◌∷◌, ◌++◌, Bool, true, false, Option, Some, None, is_none, option_map, Result, Ok, Err}
 use Rattle.uv_ids.specs.declared.event.Event.{Event}
+use Rattle.uv_ids.specs.declared.event.Event.TheVariants as event
 use Rattle.uv_model.specs.declared.machine.Outcome.{Outcome}
 use Rattle.uv_model.specs.After.{after}
 use Rattle.uv_model.specs.Next.{next}
+use Rattle.uv_model.specs.Queries.{run_by}
 use Rattle.uv_model.specs.State.{State}
 use Rattle.uv_session.specs.Shown.{Shown}
 use Rattle.uv_asking.specs.declared.asking.Most.{Most}
@@ -13,7 +15,7 @@ use Rattle.uv_find.specs.declared.choices.Choice as choices
 use Rattle.uv_find.specs.declared.choices.Moved as moved
 use Rattle.uv_find.specs.declared.recorded.Passed as recorded
 use Rattle.uv_find.specs.declared.terms.Terms.{Terms}
-use Rattle.uv_find.specs.Orders.{Rules, Place, Choice, Led, led, reached, choice_at}
+use Rattle.uv_find.specs.Orders.{Rules, Place, Choice, Led, led, led_by, reached, choice_at}
 use Rattle.uv_find.specs.Spots.{Searched, rules_by, place_by}
 
 -- a session of the same script, with these steps
@@ -41,10 +43,15 @@ choice_of c = record { event = c.event; left = c.left.items; kept = c.kept }
 abbrev pub passed_of : recorded.Passed → List Left × ℕ
 passed_of t = (t.left.items, t.spare)
 
--- what may be answered where a move is asked for by its number
-abbrev pub Chooses : {E : Type 0} → Rules → Place → ℕ → Result (Option choices.Choice) E → Type 0
-Chooses r p number (Ok choice) = option_map choice_of choice ≡ choice_at r p number
-Chooses r p number (Err fault) = Unit {0}
+-- a worker would finish that runs nothing: this event leads nowhere
+abbrev pub is_idle : State → Option Event → Bool
+is_idle s (Some (event.Finish worker)) = is_none (run_by s worker)
+is_idle s e = false
+
+-- what the move of this number is in the program, if it is any; none also where it leads nowhere
+abbrev pub Chooses : Rules → Place → Option Choice → Option choices.Choice → Type 0
+Chooses r p choice (Some c) = choice ≡ Some (choice_of c)
+Chooses r p choice None = led_by r p choice ≡ None
 
 -- what may be answered where a move is to be made, and the session then
 abbrev pub MakesMove : {E : Type 0} → Terms → Shown → List Left → Kept → ℕ → Result (Option moved.Moved) E → Shown → Type 0

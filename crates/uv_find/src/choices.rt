@@ -3,7 +3,7 @@ ghost use Rattle.std.specs.Prelude.{◌≡◌, ◌<◌, IfOk, length, slice_get,
 ghost use Rattle.uv_asking.specs.declared.asking.Offered.{Offered};
 ghost use Rattle.uv_find.specs.Orders.{less, lessened, chosen, offered_by, offer_at, choice_at};
 ghost use Rattle.uv_find.specs.Spots.{rules_by, place_by};
-ghost use Rattle.uv_find.specs.Steps.{Stands, MakesMove, choice_of};
+ghost use Rattle.uv_find.specs.Steps.{Stands, MakesMove, Chooses, choice_of, is_idle, state_in};
 
 use crate::kept::Kept;
 use crate::left::Left;
@@ -92,7 +92,17 @@ fn offered<M: Machine>(
     }
 }
 
-/// The offer of this number, if it may still be taken. Nothing changes.
+/// Whether a worker would finish that runs nothing.
+fn is_idle<M: Machine>(session: &Session<M>, event: Option<Event>) -> bool
+    ensures { result ≡ is_idle (state_in session.now) event }
+{
+    match event {
+        Some(Event::Finish(worker)) => session.machine().run_by(worker as usize).is_none(),
+        _ => false,
+    }
+}
+
+/// The offer of this number, if it may still be taken, and may lead on. Nothing changes.
 fn choose_offer<M: Machine>(
     session: &mut Session<M>,
     terms: &Terms,
@@ -103,14 +113,17 @@ fn choose_offer<M: Machine>(
     requires room { length session.old.standing < session.old.limit }
     requires back { M.BackWantsMemory → ⊥ }
     ensures same { Stands session.old session.old.standing session.new }
-    ensures choice { IfOk result (λ choice. option_map choice_of choice
-        ≡ offer_at (rules_by session.old.program terms.now) (place_by session.old left.now.items kept) number) }
+    ensures choice { IfOk result (λ choice. Chooses (rules_by session.old.program terms.now) (place_by session.old left.now.items kept)
+        (offer_at (rules_by session.old.program terms.now) (place_by session.old left.now.items kept) number) choice) }
 {
     let event = offered(session, terms, left, kept, number)?;
+    if is_idle(session, event) {
+        return Ok(None);
+    }
     chosen(left, kept, number, event)
 }
 
-/// What the move of this number is here, if it is any. Nothing changes.
+/// What the move of this number is here, if it is any, and may lead on. Nothing changes.
 #[tactic(auto, unfolding(crate::specs::Orders::choice_at))]
 fn choose<M: Machine>(
     session: &mut Session<M>,
@@ -122,8 +135,8 @@ fn choose<M: Machine>(
     requires room { length session.old.standing < session.old.limit }
     requires back { M.BackWantsMemory → ⊥ }
     ensures same { Stands session.old session.old.standing session.new }
-    ensures choice { IfOk result (λ choice. option_map choice_of choice
-        ≡ choice_at (rules_by session.old.program terms.now) (place_by session.old left.now.items kept) number) }
+    ensures choice { IfOk result (λ choice. Chooses (rules_by session.old.program terms.now) (place_by session.old left.now.items kept)
+        (choice_at (rules_by session.old.program terms.now) (place_by session.old left.now.items kept) number) choice) }
 {
     if number < move_count(terms, left) {
         match terms.differ {
