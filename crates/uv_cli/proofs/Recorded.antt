@@ -1,6 +1,6 @@
 -- What a live run wrote.
 use Rattle.std.proofs.Common.{◌≡◌, ℕ, List, [], ◌++◌, append-nil}
-use Rattle.uv_engine.specs.Sink.{CutShort}
+use Rattle.uv_script.specs.Writes.{CutShort}
 use Rattle.uv_session.specs.Shown.{Shown}
 use Rattle.uv_text.specs.Recording.{recording_text}
 use Rattle.uv_script.specs.Program.{Program}

@@ -6,7 +6,7 @@ use Rattle.uv_script.specs.Program.{Program, with_workers}
 use Rattle.uv_session.specs.Shown.{Shown}
 use Rattle.uv_text.specs.Recording.{recording_text}
 use Rattle.uv_engine.specs.Alone.{SaysInFront}
-use Rattle.uv_engine.specs.Sink.{CutShort}
+use Rattle.uv_script.specs.Writes.{CutShort}
 use Rattle.uv_live.specs.Running.{RunSettles}
 use Rattle.uv_run.specs.Bound.{plan_of, course_of, refusal_in}
 use Rattle.uv_cli.specs.declared.live.NoRecording.{NoRecording}

@@ -7,7 +7,7 @@ use Rattle.uv_engine.specs.declared.conversation.Ended.{Ended}
 use Rattle.uv_engine.specs.declared.verdict.Verdict.{Verdict}
 use Rattle.uv_engine.specs.declared.verdict.Verdict.TheVariants.{Same, Differs, Refused, Full}
 use Rattle.uv_engine.specs.Out.{Out, Ends, BadScript, IsCut, IsWhole}
-use Rattle.uv_engine.specs.Sink.{CutShort}
+use Rattle.uv_script.specs.Writes.{CutShort}
 use Rattle.uv_engine.specs.Recordings.{IsBadLine}
 use Rattle.uv_engine.specs.Verdict.{HasVerdict, verdict_text}
 use Rattle.uv_words.specs.declared.command_line.Job.{Job}

@@ -3,7 +3,7 @@ ghost use Rattle.std.specs.Prelude.{◌≡◌, ◌^◌, IfErr, IfSome};
 ghost use Rattle.uv_ids.specs.declared.fault.Fault.TheVariants.{Write};
 ghost use Rattle.uv_script.specs.Program.{IsWorkerCount};
 ghost use Rattle.uv_engine.specs.Devices.{TakesWithin, WriterCounts};
-ghost use Rattle.uv_engine.specs.Sink.{WritesText};
+ghost use Rattle.uv_script.specs.Writes.{Writes};
 ghost use Rattle.uv_cli.specs.Live.{to_run, OnRead, RunsLive};
 
 use std::alloc::Global;
@@ -57,7 +57,7 @@ fn with_workers(mut script: Script, workers: Option<u16>) -> Script
 
 /// Writes a whole text, and passes it on.
 fn write_whole<W: Sink>(writer: &mut W, text: &[u8]) -> Result<(), Fault>
-    ensures text { W.Tells → WritesText result (W.written writer.old) text.now (W.written writer.new) }
+    ensures text { W.Tells → Writes result (W.written writer.old) text.now (W.written writer.new) }
     ensures err { IfErr result (λ fault. fault ≡ Write) }
     ensures writer { WriterCounts result (W.failures writer.old) (W.failures writer.new) }
 {

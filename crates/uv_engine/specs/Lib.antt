@@ -1,5 +1,4 @@
 pub mod Devices
-pub mod Sink
 pub mod Input
 pub mod Taking
 pub mod Reply

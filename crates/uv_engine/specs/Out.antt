@@ -18,7 +18,7 @@ use Rattle.uv_text.specs.Recording.{recording_text}
 use Rattle.uv_engine.specs.declared.conversation.Ended.{Ended}
 use Rattle.uv_engine.specs.declared.conversation.Ended.TheVariants as ended
 use Rattle.uv_engine.specs.Input.{NoFeed}
-use Rattle.uv_engine.specs.Sink.{CutShort}
+use Rattle.uv_script.specs.Writes.{CutShort}
 use Rattle.uv_engine.specs.Reply.{reply, reply_text, reply_after, loop_text, loop_after, back_text, back_after, forward_text, forward_after, add_text, add_after, last_break, break_back_text, break_back_after, trace_text}
 
 -- what `image` prints: the text of a memory that stands for the state, or that the machine has no one memory. Which of these it is, and how

@@ -6,7 +6,7 @@ use Rattle.uv_text.specs.declared.command.Asked.{Asked}
 use Rattle.uv_text.specs.Commands.{Asks}
 use Rattle.uv_engine.specs.Input.{TakesLine}
 use Rattle.uv_engine.specs.declared.conversation.Ended.{Ended}
-use Rattle.uv_engine.specs.Sink.{CutShort}
+use Rattle.uv_script.specs.Writes.{CutShort}
 use Rattle.uv_engine.specs.Out.{Talks}
 
 -- a line is taken of what is left, and asks for this; or nothing is left

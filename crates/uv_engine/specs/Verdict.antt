@@ -11,7 +11,7 @@ use Rattle.uv_model.specs.After.{after, Accepts, STEPS}
 use Rattle.uv_text.specs.Recording.{callback_lines}
 use Rattle.uv_engine.specs.declared.verdict.Verdict.{Verdict}
 use Rattle.uv_engine.specs.declared.verdict.Verdict.TheVariants.{Same, Differs, Refused, Full}
-use Rattle.uv_engine.specs.Sink.{CutShort}
+use Rattle.uv_script.specs.Writes.{CutShort}
 use Rattle.uv_engine.specs.Recordings.{IsRecording, IsBadLine}
 
 -- the first step that isn't taken: the loop refuses it, or as many stand as may

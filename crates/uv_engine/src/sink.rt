@@ -2,7 +2,7 @@
 ghost use Rattle.std.specs.Prelude.{◌≡◌, ◌<◌, ◌≤◌, ◌++◌, ℕ, List, [], IfOk, IfErr, OnOk, OnErr, length, take, drop};
 ghost use Rattle.uv_ids.specs.declared.fault.Fault.TheVariants.{Write};
 ghost use Rattle.uv_engine.specs.Devices.{Counted, WriteCount, WriterCounts};
-ghost use Rattle.uv_engine.specs.Sink.{WritesText};
+ghost use Rattle.uv_script.specs.Writes.{Writes};
 ghost use Rattle.uv_engine.specs.Gather.{Gathers};
 
 use uv_ids::Fault;
@@ -37,7 +37,7 @@ pub trait Sink {
 
 /// Writes a whole text, or a beginning of it.
 pub fn write_text<W: Sink>(writer: &mut W, text: &[u8]) -> Result<(), Fault>
-    ensures text { W.Tells → WritesText result (W.written writer.old) text.now (W.written writer.new) }
+    ensures text { W.Tells → Writes result (W.written writer.old) text.now (W.written writer.new) }
     ensures err { IfErr result (λ fault. fault ≡ Write) }
     ensures writer { WriterCounts result (W.failures writer.old) (W.failures writer.new) }
 {

@@ -6,7 +6,7 @@ use Rattle.uv_ids.specs.declared.fault.Fault.{Fault}
 use Rattle.uv_ids.specs.declared.fault.Fault.TheVariants as fault
 use Rattle.uv_script.specs.Program.{Program}
 use Rattle.uv_engine.specs.Devices.{ReaderCounts, WriterCounts}
-use Rattle.uv_engine.specs.Sink.{CutShort}
+use Rattle.uv_script.specs.Writes.{CutShort}
 use Rattle.uv_asking.specs.Asked.{Asked}
 use Rattle.uv_find.specs.Orders.{Place, beginning}
 use Rattle.uv_find.specs.Courses.{IsAnswer}

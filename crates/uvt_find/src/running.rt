@@ -1,7 +1,7 @@
 //! The program over any reader and writers.
 ghost use Rattle.std.specs.Prelude.{◌≡◌, ◌≢◌, ◌^◌, IfOk, IfErr};
 ghost use Rattle.uv_engine.specs.Devices.{IsTooLong, OnAnswer, ReaderCounts, TakesWithin, WriterCounts};
-ghost use Rattle.uv_engine.specs.Sink.{WritesText};
+ghost use Rattle.uv_script.specs.Writes.{Writes};
 ghost use Rattle.uv_find.specs.Spots.{rules_of, first_spot};
 ghost use Rattle.uv_ids.specs.declared.fault.Fault.TheVariants.{Memory, Write as WriteFault};
 ghost use Rattle.uv_asking.specs.Asked.{asked_in};
@@ -84,7 +84,7 @@ fn answer<M: Machine>(alloc: Global, inquiry: &Inquiry) -> Result<Told, Fault>
 
 /// Writes a whole text, and passes it on.
 fn write_whole<W: Sink>(writer: &mut W, text: &[u8]) -> Result<(), Fault>
-    ensures text { W.Tells → WritesText result (W.written writer.old) text.now (W.written writer.new) }
+    ensures text { W.Tells → Writes result (W.written writer.old) text.now (W.written writer.new) }
     ensures err { IfErr result (λ fault. fault ≡ WriteFault) }
     ensures writer { WriterCounts result (W.failures writer.old) (W.failures writer.new) }
 {

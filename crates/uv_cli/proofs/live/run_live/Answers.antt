@@ -1,5 +1,5 @@
 use Rattle.std.proofs.Common.{ℕ, List, subst}
-use Rattle.uv_engine.specs.Sink.{CutShort}
+use Rattle.uv_script.specs.Writes.{CutShort}
 use Rattle.uv_cli.specs.Live.{cut_short}
 use Rattle.uv_cli.proofs.Recorded.{recording}
 use Rattle.uv_cli.proofs.live.run_live.Goals as goal
