@@ -243,7 +243,8 @@ long_alone input text rest (Err _) h k = absurd k
 -- ---- a command
 
 long_asks : (names : List (List ℕ)) (line : List ℕ) → 256 < length line → Asks names line Bad
-long_asks names line long = bad (λ is skipped. let short = is.short in omega (arith, short, long)) (λ is. let short = is.short in absurd (omega (arith, short, long)))
+long_asks names line long = bad (λ is skipped. let short = is.short in omega (arith, short, long))
+    (λ is. let short = is.short in absurd (omega (arith, short, long)))
 
 -- the line whose first bytes were taken, and its rest
 long_line : (old mid new : List ℕ) (fed : Bool) (h : TakesLong old mid) (k : TakesRest mid fed new) → TakesLine old (h.front ++ k.rest) fed new

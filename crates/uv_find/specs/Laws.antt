@@ -138,7 +138,8 @@ leads_spot r s l is on =
     subst (λ x. next r.program x l.event ≡ Moves l.place.state l.line) is.state on.accepted in
     record { state = sym (after-push r.program s.steps l.event ∙ ap (state_of (after r.program s.steps)) accepted) }
 
-pub spots_lead : (r : Rules) (s : Spot) (i : ℕ) (t : Spot) (b : Bool) → IsSpot r s → i < move_count r s.place → next_spot r s i ≡ Some (t, b) → IsSpot r t
+pub spots_lead : (r : Rules) (s : Spot) (i : ℕ) (t : Spot) (b : Bool) → IsSpot r s → i < move_count r s.place
+    → next_spot r s i ≡ Some (t, b) → IsSpot r t
 spots_lead r s i t b is below goes = by (led r s.place i) refl goes
   where
     by : (o : Option Led) → led r s.place i ≡ o → spot_of r s o ≡ Some (t, b) → IsSpot r t

@@ -299,7 +299,8 @@ pub fn kept_after<M: Machine>(
     event: Event,
     line: Option<Seen>,
 ) -> Kept
-    ensures { result ≡ kept_after terms.now.recorded.items terms.now.takes.items terms.now.question kept event (after (M.program machine.now) (M.standing machine.now)) line }
+    ensures { result ≡ kept_after terms.now.recorded.items terms.now.takes.items terms.now.question kept event
+        (after (M.program machine.now) (M.standing machine.now)) line }
 {
     Kept {
         due: kept_due(machine, terms.question, kept.due),

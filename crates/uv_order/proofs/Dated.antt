@@ -141,7 +141,8 @@ by_quiet p past s o d none k place t at = k _ (quiet_line p past _ (op_says p (s
 -- one that changes a handle
 by_touched : (p : Program) (past : List Line) (s : State) (o : Op) (d : ops.Done) (id : Id) (h x : HandleRecord) → is_calm o ≡ true →
     Touches s id h x d.state → d.state.next_start ≡ s.next_start →
-    (is_timer x.kind ≡ true → x.active ≡ true → (is_timer h.kind ≡ true) × (h.active ≡ true) × (x.due ≡ h.due)) → DatedAt p past s → DatedBy p past s o d
+    (is_timer x.kind ≡ true → x.active ≡ true → (is_timer h.kind ≡ true) × (h.active ≡ true) × (x.due ≡ h.due)) → DatedAt p past s →
+    DatedBy p past s o d
 by_touched p past s o d id h x calm t n alike k = by_quiet p past s o d (calm_op p (seens past) o d.answer calm)
     (λ now q. dated_touched p past now s d.state id h x t n alike q k)
 
@@ -150,7 +151,8 @@ start_dated : (p : Program) (past : List Line) (s : State) (v : Var) (timeout re
 start_dated p past s v timeout repeat t e w k place u at =
     dated_started p past _ s _ t.0 t.1 _ (behind s.time timeout)
     (start_touches s (stopped s t.0 t.1) t.0 t.1 (records.stopped t.1) timeout repeat (assumption (live_held s v t e))) refl refl
-    (starts_line p past _ t.0 timeout (op_starts p (seens past) place (Op.Start v timeout repeat) v t.0 at refl (w.binding v t.0 (live_bound s v t e)))) k
+    (starts_line p past _ t.0 timeout
+    (op_starts p (seens past) place (Op.Start v timeout repeat) v t.0 at refl (w.binding v t.0 (live_bound s v t e)))) k
 
 -- a stopped timer is started again where it repeats, by a line that says so
 again_dated : (p : Program) (past : List Line) (l : Line) (s u : State) (id : Id) (h x : HandleRecord) → Touches s id h x u →
@@ -192,14 +194,16 @@ made_dated : (p : Program) (past : List Line) (s : State) (v : Var) (q : Kind) (
     DatedAt p past s → DatedBy p past s (Op.Init v q) (record { state = ops.with_new s v q id; answer = Answer.Id id })
 made_dated p past s v q id e kept k place u at = by q at where
   made : (x : Kind) → op_at p place ≡ Some (Op.Init v x) →
-      Dated p (record { before = s; seen = Seen.Op place (Answer.Id id); after = u } ∷ past) (taken id (Content.Handle (inited v x)) s.arena) s.next_start
+      Dated p (record { before = s; seen = Seen.Op place (Answer.Id id); after = u } ∷ past)
+      (taken id (Content.Handle (inited v x)) s.arena) s.next_start
   made x f =
       let t = (fills s.arena s.arena.free id (Content.Handle (inited v x)) refl kept.free e).0 in
       dated_turned p past _ s.arena (taken id (Content.Handle (inited v x)) s.arena) s.next_start id None _ t (none t)
       (quiet_line p past _ (op_says p (seens past) place (Op.Init v x) (Answer.Id id) f ∙ calm_op p (seens past) (Op.Init v x) (Answer.Id id) refl)) k
     where
       none : Turns s.arena.slots (taken id (Content.Handle (inited v x)) s.arena).slots id None (Some (Content.Handle (inited v x))) →
-          (y : HandleRecord) → held_at (taken id (Content.Handle (inited v x)) s.arena).slots id ≡ Some y → is_timer y.kind ≡ true → y.active ≡ true → ⊥
+          (y : HandleRecord) → held_at (taken id (Content.Handle (inited v x)) s.arena).slots id ≡ Some y → is_timer y.kind ≡ true →
+          y.active ≡ true → ⊥
       none t y g timer on = grind (arith, t.here)
 
   by : (x : Kind) → op_at p place ≡ Some (Op.Init v x) →
@@ -222,7 +226,8 @@ did_op_dated p past s o d (DidOp.queued v task id e) kept w b k =
     by_quiet p past s (Op.Queue v task) d (calm_op p (seens past) (Op.Queue v task) d.answer refl)
     (λ now q. dated_turned p past now s.arena d.state.arena s.next_start id None _
     (fills s.arena s.arena.free id (Content.Request (queued v task)) refl kept.free e).0
-    (λ y f timer on. request_no_handle _ id (queued v task) (fills s.arena s.arena.free id (Content.Request (queued v task)) refl kept.free e).0.here y f)
+    (λ y f timer on. request_no_handle _ id (queued v task)
+    (fills s.arena s.arena.free id (Content.Request (queued v task)) refl kept.free e).0.here y f)
     q k)
 did_op_dated p past s o d (DidOp.cancelled v t live on) kept w b k =
     by_quiet p past s (Op.Cancel v) d (calm_op p (seens past) (Op.Cancel v) d.answer refl)
@@ -330,7 +335,8 @@ pub did_dated : (p : Program) (past : List Line) (s : State) (n : Next) → Did 
 did_dated p past s n (Did.refused why) kept w b k = tt
 did_dated p past s n (Did.still x time clock stop idled l q none) kept w b k = still_dated p past s _ l (λ i. refl) refl q k
 did_dated p past s n (Did.op x at o e) kept w b k = did_op_dated p past s o (do_op s o) (op_did s o) kept w b k at _ e
-did_dated p past s n (Did.begun run WatcherKind.Idle e) kept w b k = still_dated p past s _ (Some (Seen.Section _)) (λ i. refl) refl (IsStill.section _) k
+did_dated p past s n (Did.begun run WatcherKind.Idle e) kept w b k =
+    still_dated p past s _ (Some (Seen.Section _)) (λ i. refl) refl (IsStill.section _) k
 did_dated p past s n (Did.begun run q e) kept w b k = still_dated p past s _ (Some (Seen.Section _)) (λ i. refl) refl (IsStill.section _) k
 did_dated p past s n (Did.begun_closing run e) kept w b k = still_dated p past s _ (Some (Seen.Section _)) (λ i. refl) refl (IsStill.section _) k
 did_dated p past s n (Did.begun_done run time e) kept w b k = still_dated p past s _ (Some (Seen.Section _)) (λ i. refl) refl (IsStill.section _) k
@@ -342,7 +348,8 @@ did_dated p past s n (Did.walked run WatcherKind.Idle t sync f) kept w b k =
     walked_dated p past _ s s WatcherKind.Idle t t.1 refl f (still_touches s s.ready t.0 t.1 f.holds) refl refl kept b k
 did_dated p past s n (Did.walked run q t sync f) kept w b k =
     walked_dated p past _ s s q t t.1 refl f (still_touches s s.ready t.0 t.1 f.holds) refl refl kept b k
-did_dated p past s n (Did.passed run t f off) kept w b k = dated_same p past past s (front_moved s WatcherKind.Async t.0) (λ i. refl) refl (none_more p past) k
+did_dated p past s n (Did.passed run t f off) kept w b k =
+    dated_same p past past s (front_moved s WatcherKind.Async t.0) (λ i. refl) refl (none_more p past) k
 did_dated p past s n (Did.woken run t f on) kept w b k =
     walked_dated p past _ s (with_handle (front_moved s WatcherKind.Async t.0) t.0 (records.woken t.1)) WatcherKind.Async t (records.woken t.1) refl f
     (assumption f.holds) refl refl kept b k

@@ -70,8 +70,8 @@ heard_touched p past now s u id h x change t tells names own lists begun k = rec
   stands i true d = let f = touched_held s u id h x t i in let is = same i id d in grind (arith, had, tells, k.stands)
   stands i false d = let f = touched_held s u id h x t i in grind (arith, tells, k.stands)
 
-  begins : (i : Id) (y : HandleRecord) → held_at u.arena.slots i ≡ Some y → is_timer y.kind ≡ true → (has_id u.ready i || y.active) ≡ true → (b : Bool) →
-      same_id i id ≡ b → y.begun ≡ true
+  begins : (i : Id) (y : HandleRecord) → held_at u.arena.slots i ≡ Some y → is_timer y.kind ≡ true → (has_id u.ready i || y.active) ≡ true →
+      (b : Bool) → same_id i id ≡ b → y.begun ≡ true
   begins i y e timer on true d =
       let is = same i id d in
       let now : x ≡ y = same_Some x y (sym (touched_here s u id h x t i d) ∙ e) in
@@ -205,8 +205,8 @@ made_heard p past s place o v id c at says bind still e kept k = record {
   away = false_from_ne_true (has_id s.ready id)
       (λ on. let g = kept.ready.each id on in cc (is_held s.arena.slots id g.handle g.holds, t.before))
 
-  begins : (i : Id) (y : HandleRecord) → held_at (taken id c s.arena).slots i ≡ Some y → is_timer y.kind ≡ true → (has_id s.ready i || y.active) ≡ true →
-      (b : Bool) → same_id i id ≡ b → y.begun ≡ true
+  begins : (i : Id) (y : HandleRecord) → held_at (taken id c s.arena).slots i ≡ Some y → is_timer y.kind ≡ true →
+      (has_id s.ready i || y.active) ≡ true → (b : Bool) → same_id i id ≡ b → y.begun ≡ true
   begins i y f timer on true d =
       let is = same i id d in
       let off = still y (sym (ap handle_in (ap (held (taken id c s.arena).slots) is ∙ t.here)) ∙ f) timer in
@@ -221,8 +221,8 @@ made_heard p past s place o v id c at says bind still e kept k = record {
 handle_heard : (p : Program) (past : List Seen) (s : State) (v : Var) (q : Kind) (id : Id) → next_free s.arena ≡ Some id → Kept s →
     HeardAt p past s → HeardBy p past (Op.Init v q) (record { state = ops.with_new s v q id; answer = Answer.Id id })
 handle_heard p past s v q id e kept k place at = by q at where
-  made : (x : Kind) → op_at p place ≡ Some (Op.Init v x) → Heard p (Seen.Op place (Answer.Id id) ∷ past) (taken id (Content.Handle (inited v x)) s.arena)
-      (slice_set s.names v.0 (record (named s v) { id = Some id })) s.ready
+  made : (x : Kind) → op_at p place ≡ Some (Op.Init v x) → Heard p (Seen.Op place (Answer.Id id) ∷ past)
+      (taken id (Content.Handle (inited v x)) s.arena) (slice_set s.names v.0 (record (named s v) { id = Some id })) s.ready
   made x f = made_heard p past s place (Op.Init v x) v id (Content.Handle (inited v x)) f (λ i. grind arith) (λ u b. refl) (grind arith) e kept k
 
   by : (x : Kind) → op_at p place ≡ Some (Op.Init v x) → HeardAt p (Seen.Op place (Answer.Id id) ∷ past) (ops.with_new s v x id)
@@ -371,8 +371,8 @@ collected_heard p past s t f kept k =
 
 -- a slot is freed or retired
 freed_heard : (p : Program) (past : List Seen) (l : Seen) (s : State) (last : ℕ) (id : Id) (c : Content) → held s.arena.slots id ≡ Some c →
-    ((i : Id) → facts_held p (l ∷ past) i ≡ (if same_id i id then None else facts_held p past i)) → ((v : Var) → bound p (l ∷ past) v ≡ bound p past v) →
-    HeardAt p past s → Heard p (l ∷ past) (freed last id s.arena) s.names s.ready
+    ((i : Id) → facts_held p (l ∷ past) i ≡ (if same_id i id then None else facts_held p past i)) →
+    ((v : Var) → bound p (l ∷ past) v ≡ bound p past v) → HeardAt p past s → Heard p (l ∷ past) (freed last id s.arena) s.names s.ready
 freed_heard p past l s last id c e tells names k = record {
   stands = λ i. tells i ∙ stands i (same_id i id) refl;
   begun = λ i y f timer on. begins i y f timer on (same_id i id) refl;
@@ -382,7 +382,8 @@ freed_heard p past l s last id c e tells names k = record {
   t : Turns s.arena.slots (freed last id s.arena).slots id (Some c) None
   t = freed_turns last s.arena id c e
 
-  stands : (i : Id) (b : Bool) → same_id i id ≡ b → (if b then None else facts_held p past i) ≡ option_map facts_of (held (freed last id s.arena).slots i)
+  stands : (i : Id) (b : Bool) → same_id i id ≡ b → (if b then None else facts_held p past i)
+      ≡ option_map facts_of (held (freed last id s.arena).slots i)
   stands i true d = let turns = turned_to t i in grind arith
   stands i false d = let turns = turned_to t i in grind (arith, k.stands)
 

@@ -335,9 +335,9 @@ has_list q = false
 other_kind : (s : State) (id : Id) (h : HandleRecord) (q : Kind) → handle s id ≡ Some h → h.active ≡ true → h.kind ≡ q → has_list q ≡ false →
     Kept s → (word : Phase) → has_id (members (walk_of word s.watchers s.closing)) id ≡ false
 other_kind s id h q e on is none k word = away s id h e k word (apart word) where
-    apart : (x : Phase) → Belongs x h → ⊥
-    apart Phase.Closing b = on_off h on ((k.sound id h e).shut b)
-    apart x b = grind arith
+  apart : (x : Phase) → Belongs x h → ⊥
+  apart Phase.Closing b = on_off h on ((k.sound id h e).shut b)
+  apart x b = grind arith
 
 -- a timer is called, from the ready list or straight from the order of timers
 rests_off : (s : State) (t : Id × HandleRecord) → FrontOf s s.ready t → Kept s → (word : Phase) →

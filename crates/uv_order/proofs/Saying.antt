@@ -31,7 +31,10 @@ bound_now : (p : Program) (past : List Seen) (s : State) (v : Var) → HeardAt p
 bound_now p past s v k = by (nat_lt v.0 (length p.callbacks)) refl where
   by : (b : Bool) → nat_lt v.0 (length p.callbacks) ≡ b → (if b then bound p past v else None) ≡ (named s v).id
   by true e = k.bound v (grind (arith, nat_tests))
-  by false e = let n : slice_get s.names v.0 ≡ None = slice_get_past s.names v.0 (let l = k.long in let m : length p.callbacks ≤ v.0 = ltb-false v.0 (length p.callbacks) e in omega arith) in
+  by false e =
+      let l = k.long in
+      let m : length p.callbacks ≤ v.0 = ltb-false v.0 (length p.callbacks) e in
+      let n : slice_get s.names v.0 ≡ None = slice_get_past s.names v.0 (omega (arith, l, m)) in
       sym (ap (λ (o : Option Named). (unwrap_or o unbound).id) n)
 
 held_now : (p : Program) (past : List Seen) (s : State) (o : Option Id) → HeardAt p past s → held_as p past o ≡ option_map told_of (live_id s o)
@@ -177,13 +180,14 @@ op_says p past s (Op.Stop v) kept work w b d k = handle_says p past s (Op.Stop v
 op_says p past s (Op.Again v) kept work w b d k =
     handle_says p past s (Op.Again v) v _ _ (λ id h x. let c = x.closing in grind arith) kept w b d k
 op_says p past s (Op.SetRepeat v n) kept work w b d k = handle_says p past s (Op.SetRepeat v n) v _ _ (λ id h x. grind arith) kept w b d k
-op_says p past s (Op.DueIn v) kept work w b d k = handle_says p past s (Op.DueIn v) v _ _ (λ id h x. due_says id h x (is_timer h.kind) refl) kept w b d k where
-  due_says : (id : Id) (h : HandleRecord) → Shown p past s id h → (timer : Bool) → is_timer h.kind ≡ timer →
-      (found_or (timer_refusal h) (ops.refuses s) (ops.says s (Answer.Number (due_in s.time h)))).answer
-      ≡ says_of (is_timer h.kind) false (asked p past s (Op.DueIn v) id (facts_of (Content.Handle h)))
-  due_says id h x true e = rw e (ap Answer.Number (sym (x.due e)
-      ∙ sym (ap (λ (on : Bool). if on then (due_told p past id).at - s.time else 0) x.active)))
-  due_says id h x false e = rw e refl
+op_says p past s (Op.DueIn v) kept work w b d k =
+    handle_says p past s (Op.DueIn v) v _ _ (λ id h x. due_says id h x (is_timer h.kind) refl) kept w b d k where
+      due_says : (id : Id) (h : HandleRecord) → Shown p past s id h → (timer : Bool) → is_timer h.kind ≡ timer →
+          (found_or (timer_refusal h) (ops.refuses s) (ops.says s (Answer.Number (due_in s.time h)))).answer
+          ≡ says_of (is_timer h.kind) false (asked p past s (Op.DueIn v) id (facts_of (Content.Handle h)))
+      due_says id h x true e = rw e (ap Answer.Number (sym (x.due e)
+          ∙ sym (ap (λ (on : Bool). if on then (due_told p past id).at - s.time else 0) x.active)))
+      due_says id h x false e = rw e refl
 op_says p past s (Op.Close v) kept work w b d k =
     handle_says p past s (Op.Close v) v _ _ (λ id h x. let c = x.closing in grind arith) kept w b d k
 op_says p past s (Op.Ref v) kept work w b d k = handle_says p past s (Op.Ref v) v _ _ (λ id h x. refl) kept w b d k

@@ -31,5 +31,6 @@ module _ {G : Type 0} (begins ends : G → ℕ → Id → G → Type 0) where
   )
 
   -- the same, where what it began with is another word for what was answered before
-  pub tells_more : (q r s t : List PoolEvent) (g h i : G) → r ≡ q → TellsOf begins ends r s g h → TellsOf begins ends s t h i → TellsOf begins ends q t g i
+  pub tells_more : (q r s t : List PoolEvent) (g h i : G) → r ≡ q → TellsOf begins ends r s g h → TellsOf begins ends s t h i
+      → TellsOf begins ends q t g i
   tells_more q r s t g h i is a b = subst (λ (l : List PoolEvent). TellsOf begins ends l t g i) is (tells_both r s t g h i a b)

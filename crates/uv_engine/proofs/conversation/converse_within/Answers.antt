@@ -53,7 +53,8 @@ returns-clause-reader g c =
 pub returns-in_err-script-clause-stops : goal.returns-in_err-script-clause-stops
 returns-in_err-script-clause-stops g c =
     let p = err_from_is_err_and c.from_residual.result c.from_residual.ensures.1 in
-    rw (p.1, p.2) (λ reads. whole_stops c.in_err-script.field-0.0 c.new-input.result _ _ c.new-input.ensures.empty (c.in_err-script.ensures.stops reads))
+    rw (p.1, p.2) (λ reads. whole_stops c.in_err-script.field-0.0 c.new-input.result _ _ c.new-input.ensures.empty
+    (c.in_err-script.ensures.stops reads))
 
 pub returns-clause-stops : goal.returns-clause-stops
 returns-clause-stops g c = talk_stops g.R.Source.Tells c.talk.result _ _ c.talk.ensures.err
