@@ -124,7 +124,7 @@ returns-in_err-push_slots c =
       c.in_ok-extend_from_slice.ensures.items,
       c.in_ok-push_order.ensures,
     ) (six old (order_line (order_of s)) (10 ∷ []) (lines_text (line_if (has_io s) io_line)) (lines_text (line_if (from_heap s) heap_line))
-      (workers_line (worker_count s)) (10 ∷ [])) in
+    (workers_line (worker_count s)) (10 ∷ [])) in
     let exit = c.from_residual-in_err-push_slots in
     let p = err_from_is_err_and exit.result exit.ensures.1 in
     rw (p.1) (cut_at old (to_sizes s) _ (slots_line (arena_size s)) _ c.extend_from_slice-2.new.self.items _
@@ -143,7 +143,7 @@ returns-in_err-extend_from_slice-2 c =
       c.in_ok-extend_from_slice.ensures.items,
       c.in_ok-push_order.ensures,
     ) (five old (order_line (order_of s)) (10 ∷ []) (lines_text (line_if (has_io s) io_line)) (lines_text (line_if (from_heap s) heap_line))
-      (workers_line (worker_count s))) in
+    (workers_line (worker_count s))) in
     let exit = c.from_residual-in_err-extend_from_slice-2 in
     let p = err_from_is_err_and exit.result exit.ensures.1 in
     rw (p.1) (cut_whole old (to_workers s) _ _ (c.in_err-extend_from_slice-2.ensures.items ∙ before) (begins_workers s))
@@ -163,7 +163,7 @@ returns-in_err-extend_from_slice-3 c =
       c.in_ok-extend_from_slice.ensures.items,
       c.in_ok-push_order.ensures,
     ) (seven old (order_line (order_of s)) (10 ∷ []) (lines_text (line_if (has_io s) io_line)) (lines_text (line_if (from_heap s) heap_line))
-      (workers_line (worker_count s)) (10 ∷ []) (slots_line (arena_size s))) in
+    (workers_line (worker_count s)) (10 ∷ []) (slots_line (arena_size s))) in
     let exit = c.from_residual-in_err-extend_from_slice-3 in
     let p = err_from_is_err_and exit.result exit.ensures.1 in
     rw (p.1) (cut_whole old (to_slots s) _ _ (c.in_err-extend_from_slice-3.ensures.items ∙ before) (begins_slots s))
