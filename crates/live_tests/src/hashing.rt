@@ -68,13 +68,18 @@ fn by_worker<L: Ledger, R: Abort + Clock + Wait>(
     Ok(took)
 }
 
+/// What it takes a worker of a book of its own.
+fn by_one_worker<R: Abort + Clock + Wait>(rt: &R, alloc: Global) -> Result<u64, Fault> {
+    by_worker::<Brand, _>(rt, alloc, Blank::new(2))
+}
+
 #[test]
 fn a_job_is_hashed_once(rt: HostRuntime) -> Result<(), Fault> {
     let mut once = u64::MAX;
     let mut whole = u64::MAX;
     for _ in 0..TRIES {
         once = once.min(alone(&rt)?);
-        whole = whole.min(by_worker::<Brand, _>(&rt, rt.alloc(), Blank::new(2))?);
+        whole = whole.min(by_one_worker(&rt, rt.alloc())?);
     }
     assert!(&rt; whole.saturating_mul(2) < once.saturating_mul(3));
     Ok(())
