@@ -1,0 +1,13 @@
+mod Names
+mod Cases
+pub mod Later
+pub mod Slots
+pub mod Timers
+mod Ops
+pub mod Steps
+pub mod Short
+pub mod Retimed
+pub mod Base
+pub mod Timed
+pub mod Alike
+pub mod Reached

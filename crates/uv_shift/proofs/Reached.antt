@@ -1,0 +1,90 @@
+-- Each state that steps lead to can be moved, where the script's numbers are small.
+use Rattle.uv_shift.proofs.Names.{◌≡◌, ℕ, suc, ◌+◌, ◌<◌, ◌≤◌, ◌^◌, true, List, [], ◌∷◌, refl, ap, sym, ◌∙◌, arith, elements, replicate, same_Some, Option, Some, None, Id, Due, Event, Program, Op, HandleRecord, State, handle, front, first_due, fresh, goes_on, state_of, is_timer, with_id, unbound, Next}
+use Rattle.std.proofs.Common.{inl}
+use Rattle.uv_ids.specs.declared.phase.Kind.TheVariants as kind
+use Rattle.uv_model.specs.After.{after}
+use Rattle.uv_model.specs.Limits.{LATEST}
+use Rattle.uv_model.specs.Next.{next}
+use Rattle.uv_model.proofs.Bounded.{next_bounded}
+use Rattle.uv_model.proofs.Counting.{Counts, IsBounded, StaysBounded}
+use Rattle.uv_order.specs.Active.{has_id, Has, IsTimer}
+use Rattle.uv_order.specs.Reached.{AreSetAside}
+use Rattle.uv_order.proofs.Reaching.{reached}
+use Rattle.uv_shift.specs.Shift.{FitsOp, IsShort, IsShortOp}
+use Rattle.uv_shift.specs.Earliest.{IsTimed}
+use Rattle.uv_shift.proofs.Short.{held_short, after_short}
+use Rattle.uv_shift.proofs.Slots.{front_held}
+use Rattle.uv_shift.proofs.Timers.{first_due_held}
+
+-- ---- the loop's time, after however many steps
+
+state_bounded : (p : Program) (n : ℕ) (s : State) (e : Event) → IsBounded n s → IsBounded (suc n) (state_of s (next p s e))
+state_bounded p n s e h = kept (next p s e) (next_bounded p n s e h) where
+  kept : (x : Next) → StaysBounded (suc n) x → IsBounded (suc n) (state_of s x)
+  kept x k = grind arith
+
+goes_on_early : (p : Program) (n : ℕ) (s : State) (es : List Event) → IsBounded n s → (goes_on p s es).time ≤ LATEST
+goes_on_early p n s [] h = h.time
+goes_on_early p n s (e ∷ es) h = goes_on_early p (suc n) (state_of s (next p s e)) es (state_bounded p n s e h)
+
+fresh_names : (n : ℕ) → Counts 0 (replicate n unbound)
+fresh_names n = grind (arith, elements)
+
+after_early : (p : Program) (es : List Event) → (after p es).time ≤ LATEST
+unfolding after
+after_early p es = goes_on_early p 0 (fresh p) es (grind (arith, fresh_names))
+
+-- ---- who is called as a timer
+
+has_first : (id : Id) (ids : List Id) → has_id (id ∷ ids) id ≡ true
+has_first id ids = grind arith
+
+timer_kind : (s : State) (id : Id) (its h : HandleRecord) → handle s id ≡ Some its → its.kind ≡ kind.Timer → handle s id ≡ Some h →
+    is_timer h.kind ≡ true
+timer_kind s id its h holds is there =
+    let same : its ≡ h = same_Some its h (sym holds ∙ there) in
+    ap (λ (x : HandleRecord). is_timer x.kind) (sym same) ∙ ap is_timer is
+
+front_id : (s : State) (id : Id) (ids : List Id) (t : Id × HandleRecord) → front s (id ∷ ids) ≡ Some t → id ≡ t.0
+front_id s id ids t e = by (handle s id) e where
+  by : (o : Option HandleRecord) → with_id id o ≡ Some t → id ≡ t.0
+  by None f = cc f
+  by (Some h) f = ap (λ (x : Id × HandleRecord). x.0) (same_Some (id, h) t f)
+
+ready_timers : (s : State) (ids : List Id) (t : Id × HandleRecord) → AreSetAside s ids → front s ids ≡ Some t → is_timer t.1.kind ≡ true
+ready_timers s [] t h e = cc e
+ready_timers s (id ∷ ids) t h e =
+    let k = h.each id (has_first id ids) in
+    timer_kind s id k.its t.1 k.holds k.kind (ap (handle s) (front_id s id ids t e) ∙ front_held s (id ∷ ids) t e)
+
+first_id : (s : State) (u : Due × Id) (ts : List (Due × Id)) (t : Id × HandleRecord) → first_due s (u ∷ ts) ≡ Some t → u.1 ≡ t.0
+first_id s u ts t e = grind arith
+
+first_timers : (s : State) (ts : List (Due × Id)) (t : Id × HandleRecord) → ((due : Due) (id : Id) → Has ts due id → IsTimer s due id) →
+    first_due s ts ≡ Some t → is_timer t.1.kind ≡ true
+first_timers s [] t h e = cc e
+first_timers s (u ∷ ts) t h e =
+    let k = h u.0 u.1 (inl (refl, refl)) in
+    timer_kind s u.1 k.its t.1 k.holds k.kind (ap (handle s) (first_id s u ts t e) ∙ first_due_held s (u ∷ ts) t e)
+
+-- ---- the whole
+
+fits_op : (n time : ℕ) (o : Op) → IsShortOp n o → time + n ≤ 2 ^ 64 → FitsOp time o
+fits_op n time o b l = grind arith
+
+-- for every list of steps, however long
+pub after_timed : (p : Program) (n : ℕ) (es : List Event) → 0 < n → n + LATEST ≤ 2 ^ 64 → IsShort n p → IsTimed p (after p es)
+after_timed p n es some few short =
+    let s = after p es in
+    let k = reached p es in
+    let time = after_early p es in
+    let kept = after_short p n es some short in
+    record {
+      timers = k.timers;
+      fits = record {
+        starts = λ site o is. fits_op n s.time o (short site o is) (omega (arith, time, few));
+        repeats = λ id h is. (let l = held_short n s id h kept is in omega (arith, time, few, l));
+        ready = λ t is. ready_timers s s.ready t k.ready is;
+        first = λ t is. first_timers s s.timers t k.timers.each is;
+      };
+    }

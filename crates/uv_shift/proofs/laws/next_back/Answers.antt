@@ -1,0 +1,5 @@
+use Rattle.uv_shift.proofs.Steps as steps
+use Rattle.uv_shift.proofs.laws.next_back.Goals as goal
+
+pub returns : goal.returns
+returns c = steps.next_back

@@ -1,0 +1,3 @@
+pub mod Retimed
+pub mod Shift
+pub mod Earliest

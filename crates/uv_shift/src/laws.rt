@@ -1,0 +1,55 @@
+//! What a step is where all times are later.
+ghost use Rattle.std.specs.Prelude.{◌≡◌, ◌≤◌, ◌<◌, ◌+◌, ◌^◌, ℕ, List, Option};
+ghost use Rattle.uv_ids.specs.declared.event.Event.{Event};
+ghost use Rattle.uv_ids.specs.declared.seen.Seen.{Seen};
+ghost use Rattle.uv_script.specs.Program.{Program};
+ghost use Rattle.uv_model.specs.State.{State};
+ghost use Rattle.uv_model.specs.Next.{Moves, next};
+ghost use Rattle.uv_model.specs.After.{after};
+ghost use Rattle.uv_model.specs.Limits.{LATEST};
+ghost use Rattle.uv_order.specs.Active.{AreTimers};
+ghost use Rattle.uv_shift.specs.Shift.{By, shift, shift_next, TimesFit, ClockFits, IsMoved, IsShort};
+ghost use Rattle.uv_shift.specs.Earliest.{base, earliest, IsTimed, GoesAlike};
+
+/// For every script, state and event: a step from a state whose times are all later by as many ms is the step from the state itself,
+/// with all times later. So long as no due time that it sets comes to the largest number, and the clock doesn't come to its limit. It
+/// does nothing, and is called for its clause.
+pub fn times_shift()
+    ensures { (p : Program) (d : By) (s : State) (e : Event) → TimesFit p (shift d s) → ClockFits (shift d s) e →
+        next p (shift d s) e ≡ shift_next p d (next p s e) }
+{}
+
+/// What the later state takes the state itself takes, wherever the clock's limit is: that refuses only the later one. It does nothing,
+/// and is called for its clause.
+pub fn next_back()
+    ensures { (p : Program) (d : By) (s : State) (e : Event) (t : State) (line : Option Seen) → TimesFit p (shift d s) →
+        next p (shift d s) e ≡ Moves t line → IsMoved p d (next p s e) t line }
+{}
+
+/// The earliest form of a state, moved to its base, is the state; and whatever a state is later by, its earliest form is the same. It
+/// does nothing, and is called for its clause.
+pub fn earliest_form()
+    ensures moved { (s : State) → AreTimers s s.timers → shift (base s) (earliest s) ≡ s }
+    ensures same { (d : By) (s : State) → earliest (shift d s) ≡ earliest s }
+{}
+
+/// What one of two states takes that have the same earliest form, the other one takes as well, where the clock doesn't come to its
+/// limit: to states with the same earliest form again, with lines that are the same but for the answer of `now`. So it is of a state and
+/// its earliest form. It does nothing, and is called for its clause.
+pub fn goes_alike()
+    ensures alike { (p : Program) (s other : State) (e : Event) (t : State) (line : Option Seen) → IsTimed p s → IsTimed p other →
+        earliest s ≡ earliest other → next p s e ≡ Moves t line → ClockFits other e → GoesAlike p (next p other e) t line }
+    ensures forward { (p : Program) (s : State) (e : Event) (t : State) (line : Option Seen) → IsTimed p s → next p s e ≡ Moves t line →
+        GoesAlike p (next p (earliest s) e) t line }
+    ensures backward { (p : Program) (s : State) (e : Event) (t : State) (line : Option Seen) → IsTimed p s →
+        next p (earliest s) e ≡ Moves t line → ClockFits s e → GoesAlike p (next p s e) t line }
+{}
+
+/// Each state that steps lead to, however many they are, can be moved so: where the numbers of the script and the clock's limit together
+/// are no larger than the largest number. So can what such a state is later than, and its earliest form. It does nothing, and is called
+/// for its clause.
+pub fn stays_timed()
+    ensures reached { (p : Program) (n : ℕ) (es : List Event) → 0 < n → n + LATEST ≤ 2 ^ 64 → IsShort n p → IsTimed p (after p es) }
+    ensures earlier { (p : Program) (d : By) (s : State) → IsTimed p (shift d s) → IsTimed p s }
+    ensures earliest { (p : Program) (s : State) → IsTimed p s → IsTimed p (earliest s) }
+{}
