@@ -3,3 +3,4 @@ mod Codes
 mod Timers
 mod Slots
 pub mod States
+pub mod Earliest

@@ -18,6 +18,7 @@ use Rattle.uv_model.specs.declared.place.Place.{Place}
 use Rattle.uv_model.specs.After.{after}
 use Rattle.uv_model.specs.Queries.{numbers}
 use Rattle.uv_model.specs.State.{State, request}
+use Rattle.uv_order.specs.Active.{AreTimers}
 use Rattle.uv_order.specs.Once.{SaysTrue}
 use Rattle.uv_order.proofs.Documents.{holds_after}
 use Rattle.uv_order.proofs.Reaching.{reached}
@@ -109,12 +110,21 @@ same_state a b e timers = λ i. let p = e i in record {
   idled = p.1.idled;
 }
 
+-- what a state keeps of which the bytes tell all: its order of timers is that of the active timers, and each digest is that of its task
+pub record IsTold (s : State) : Type 0 where
+  pub timers : AreTimers s s.timers
+  pub digests : (id : Id) (r : Request) → request s id ≡ Some r → IsDigest r.task r.outcome
+
+pub states_tell : (a b : State) (x y : List ℕ) → IsTold a → IsTold b → state_code a ++ x ≡ state_code b ++ y → (a ≡ b) × (x ≡ y)
+states_tell a b x y h k e =
+    let r = parts_tell a b x y (arena_fits a.arena.slots h.digests) (arena_fits b.arena.slots k.digests) e in
+    let timers = same_timers a b (ap (λ (q : Part). q.0.0.0.0.0.1) r.0) h.timers k.timers in
+    (same_state a b r.0 timers, r.1)
+
+pub after_told : (p : Program) (es : List Event) → IsTold (after p es)
+after_told p es = record { timers = (reached p es).timers; digests = told p es }
+
 -- equal bytes are equal states, whatever lists of steps lead to them
 pub keys_tell : (p : Program) (es fs : List Event) (x y : List ℕ) → state_code (after p es) ++ x ≡ state_code (after p fs) ++ y →
     (after p es ≡ after p fs) × (x ≡ y)
-keys_tell p es fs x y e =
-    let a = after p es in
-    let b = after p fs in
-    let r = parts_tell a b x y (arena_fits a.arena.slots (told p es)) (arena_fits b.arena.slots (told p fs)) e in
-    let timers = same_timers a b (ap (λ (q : Part). q.0.0.0.0.0.1) r.0) (reached p es).timers (reached p fs).timers in
-    (same_state a b r.0 timers, r.1)
+keys_tell p es fs x y e = states_tell (after p es) (after p fs) x y (after_told p es) (after_told p fs) e
