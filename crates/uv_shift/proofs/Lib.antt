@@ -1,5 +1,5 @@
 mod Names
-mod Cases
+pub mod Cases
 pub mod Later
 pub mod Slots
 pub mod Timers

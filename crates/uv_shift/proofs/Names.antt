@@ -1,17 +1,10 @@
 -- The names that proofs of this crate bring in.
-pub use Rattle.std.proofs.Common.{All, Bool, Err, List, None, Ok, Option, Result, Some, [], add-one, add-zero, ap, ap₂, arith, cond, drop, drop-cons, false, get_or, if◌then◌else◌, length, length-append, length-take, nat_le, nat_lt, not, option_and_then, refl, replicate, rules, slice_get, slice_set, subst, suc, sym, take, true, unwrap_or, zero, zero-add, ℕ, ◌&&◌, ◌++◌, ◌+◌, ◌-◌, ◌<◌, ◌==◌, ◌^◌, ◌∙◌, ◌∷◌, ◌≡◌, ◌≤◌}
-pub use Rattle.std.proofs.lemmas.Bool.{cond_both, eqb-true}
-pub use Rattle.std.proofs.lemmas.Bool.Decides.{nat_tests}
-pub use Rattle.std.proofs.lemmas.Cmp.{nat_cmp_total, on_total, then_total}
-pub use Rattle.std.proofs.lemmas.Fn.{filter_same}
-pub use Rattle.std.proofs.lemmas.Grind.{common_steps, elements}
-pub use Rattle.std.proofs.lemmas.List.{set-set, take_more}
-pub use Rattle.std.proofs.lemmas.Option.{none-some, same_Some, slice_get_read}
-pub use Rattle.std.specs.Cmp.{IsTotalOrder}
-pub use Rattle.std.specs.List.{AllByRecursion, list_any}
-pub use Rattle.std.specs.List.Sorted.{IsStrictlySortedBy}
-pub use Rattle.std.specs.Map.{keys_of}
-pub use Rattle.std.specs.Ordering.{is_eq, match_ordering, nat_cmp, ordering_reverse, ordering_then}
+pub use Rattle.std.proofs.Common.{All, Bool, Err, List, None, Ok, Option, Result, Some, [], ap, ap₂, arith, drop, false, if◌then◌else◌, length, nat_le, nat_lt, not, option_and_then, refl, replicate, slice_get, slice_set, subst, suc, sym, true, zero, ℕ, ◌&&◌, ◌++◌, ◌+◌, ◌-◌, ◌<◌, ◌==◌, ◌^◌, ◌∙◌, ◌∷◌, ◌≡◌, ◌≤◌}
+pub use Rattle.std.proofs.lemmas.Bool.{cond_both}
+pub use Rattle.std.proofs.lemmas.Grind.{elements}
+pub use Rattle.std.proofs.lemmas.Option.{none-some, same_Some}
+pub use Rattle.std.specs.List.{list_any}
+pub use Rattle.std.specs.Ordering.{is_eq, match_ordering, nat_cmp}
 pub use Rattle.std.specs.declared.cmp.Ordering.{Ordering}
 pub use Rattle.std.specs.declared.cmp.Ordering.TheVariants.{Equal, Greater, Less}
 pub use Rattle.uv_ids.specs.Due.{due_cmp}
@@ -19,9 +12,8 @@ pub use Rattle.uv_ids.specs.declared.code.Code.{Code}
 pub use Rattle.uv_ids.specs.declared.due.Due.{Due}
 pub use Rattle.uv_ids.specs.declared.event.Event.{Event}
 pub use Rattle.uv_ids.specs.declared.event.Event.TheVariants.{Cancel, Finish, Io, Loop, Send, Take, Tick}
-pub use Rattle.uv_ids.specs.declared.fault.Fault.{Fault}
 pub use Rattle.uv_ids.specs.declared.fault.Why.{Why}
-pub use Rattle.uv_ids.specs.declared.fault.Why.TheVariants.{Blocked, IdleWorker}
+pub use Rattle.uv_ids.specs.declared.fault.Why.TheVariants.{IdleWorker}
 pub use Rattle.uv_ids.specs.declared.id.Id.{Id}
 pub use Rattle.uv_ids.specs.declared.id.Var.{Var}
 pub use Rattle.uv_ids.specs.declared.order.Order.{Order}
@@ -29,17 +21,13 @@ pub use Rattle.uv_ids.specs.declared.order.Order.TheVariants.{V144, V145}
 pub use Rattle.uv_ids.specs.declared.phase.Kind.{Kind}
 pub use Rattle.uv_ids.specs.declared.seen.Callback.{Callback}
 pub use Rattle.uv_ids.specs.declared.seen.Seen.{Seen}
-pub use Rattle.uv_model.specs.After.{AcceptsFrom, Answers, IsMove, STEPS, goes_on, refusal_of, seen_from, seen_of, state_of}
-pub use Rattle.uv_model.specs.Bounds.{AreBelow, CanStep, HoldsBefore, StartsBefore, line_of}
+pub use Rattle.uv_model.specs.After.{goes_on, state_of}
 pub use Rattle.uv_model.specs.Content.{handle_in, request_in}
 pub use Rattle.uv_model.specs.Found.{found_or}
-pub use Rattle.uv_model.specs.Handing.{AnswersResult, RefusesResult}
 pub use Rattle.uv_model.specs.Ids.{same_id, without_id}
-pub use Rattle.uv_model.specs.Next.{Moves, Next, Refuses, after_walk, begin_done, begin_walk, body_from, body_step, call_due, call_io, calls, io, io_handle, io_run, leave_polled, stage_polled, takes_io, time_polled, cancels, close_front, collect_request, collected, ends, finish, fire, first_due, front_moved, goes, goes_by, idled_at, idled_then, loop_step, main_step, may_leave, next_work, refreshes, run_step, sent_to, stage_step, tick, time_at, timers, turns, walk, walk_async, way, work_of}
+pub use Rattle.uv_model.specs.Next.{Moves, Next, Refuses, first_due}
 pub use Rattle.uv_model.specs.Ops.{do_op, refuses}
-pub use Rattle.uv_model.specs.Queries.{runner_from, timer_ids}
-pub use Rattle.uv_model.specs.State.{State, Watchers, as_handle, as_request, fresh, front, front_request, handle, live, live_handle, live_id, live_request, named, refreshed, request, those_of, watched, with_handle, with_id, with_named, with_request, with_those_of, with_watched}
-pub use Rattle.uv_model.specs.Steps.{IsOfLoop, Steps}
+pub use Rattle.uv_model.specs.State.{State, as_handle, as_request, fresh, front, front_request, handle, live, live_handle, live_id, live_request, named, refreshed, request, watched, with_handle, with_id, with_request, with_watched}
 pub use Rattle.uv_model.specs.Timers.{due_after, restarted, started, stopped, taken_off, with_timer, without_timer}
 pub use Rattle.uv_model.specs.declared.place.Body.{Body}
 pub use Rattle.uv_model.specs.declared.place.Place.{Place}
@@ -56,25 +44,20 @@ pub use Rattle.uv_model.specs.declared.place.Way.{Way}
 pub use Rattle.uv_model.specs.declared.place.Way.TheVariants.{ToEnd, ToPending, ToTimers}
 pub use Rattle.uv_records.specs.Handles.{activated, begun_at, inited, is_async, is_timer, referenced_as, repeating}
 pub use Rattle.uv_records.specs.Lists.{watcher_kind}
-pub use Rattle.uv_records.specs.Names.{count_of, counted, unbound}
+pub use Rattle.uv_records.specs.Names.{unbound}
 pub use Rattle.uv_records.specs.Refusals.{again_refusal, close_refusal, invalid_if, is_startable, no_refusal, only_if, send_refusal, start_timer_refusal, start_watcher_refusal, stop_refusal, timer_refusal}
 pub use Rattle.uv_records.specs.Slots.{Slots, freed, held, held_in, id_of, next_free, next_id, taken, taken_from}
-pub use Rattle.uv_records.specs.Walks.{Walk, all_yet, with_first, with_last}
+pub use Rattle.uv_records.specs.Walks.{with_first, with_last}
 pub use Rattle.uv_records.specs.declared.handle.HandleRecord.{HandleRecord}
 pub use Rattle.uv_records.specs.declared.lists.WatcherKind.{WatcherKind}
-pub use Rattle.uv_records.specs.declared.named.Calls.{Calls}
-pub use Rattle.uv_records.specs.declared.named.Named.{Named}
 pub use Rattle.uv_records.specs.declared.slot.Slot.{Slot}
 pub use Rattle.uv_script.specs.Program.{Program, arena_size, from_heap, has_io, lines_in, order_of}
 pub use Rattle.uv_script.specs.declared.op.CallbackLine.{CallbackLine}
 pub use Rattle.uv_script.specs.declared.op.MainOp.{MainOp}
 pub use Rattle.uv_script.specs.declared.op.Op.{Op}
-pub use Rattle.uv_work.specs.Pool.{is_run}
-pub use Rattle.uv_work.specs.Requests.{digest_in, queued}
-pub use Rattle.uv_work.specs.Tasks.{text_of}
+pub use Rattle.uv_work.specs.Requests.{queued}
 pub use Rattle.uv_work.specs.declared.content.Content.{Content}
-pub use Rattle.uv_work.specs.declared.job.Job.{Job}
 pub use Rattle.uv_work.specs.declared.outcome.Outcome.{Outcome}
-pub use Rattle.uv_work.specs.declared.outcome.Outcome.TheVariants.{Cancelled, Finished}
+pub use Rattle.uv_work.specs.declared.outcome.Outcome.TheVariants.{Cancelled}
 pub use Rattle.uv_work.specs.declared.request.Request.{Request}
 pub use Rattle.uv_work.specs.declared.task.Task.{Task}

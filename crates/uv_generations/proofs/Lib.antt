@@ -1,0 +1,6 @@
+mod Names
+pub mod Lists
+pub mod Slots
+mod Timers
+mod Ops
+pub mod Steps

@@ -1,0 +1,8 @@
+//! Slots that were freed more often: the loop goes on alike.
+//!
+//! Its calls have no code: each is a theorem. Read `specs/Renamed.antt`.
+#![tactic(auto)]
+
+mod laws;
+
+pub use laws::generations_rename;
