@@ -5,7 +5,8 @@ use Rattle.uv_records.specs.declared.lists.WatcherKind.TheVariants as watcher
 use Rattle.uv_model.specs.Ids.{has_some, walk_without_id}
 use Rattle.uv_model.specs.Timers.{watchers_without_id}
 use Rattle.uv_shift.proofs.Cases.{if_shift}
-use Rattle.uv_generations.specs.Renamed.{More, rename, renamed_walk, renamed_watchers}
+use Rattle.uv_generations.specs.More.{More}
+use Rattle.uv_generations.proofs.More.{rename, renamed_walk, renamed_watchers}
 
 -- ---- ids
 

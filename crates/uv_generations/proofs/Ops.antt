@@ -11,7 +11,8 @@ use Rattle.uv_work.specs.declared.outcome.Outcome.TheVariants.{Cancelled}
 use Rattle.uv_model.specs.Ops as ops
 use Rattle.uv_model.specs.Ops.{Coded}
 use Rattle.uv_shift.proofs.Cases.{if_shift}
-use Rattle.uv_generations.specs.Renamed.{More, rename, renamed, renamed_walk, renamed_watchers, renamed_answer}
+use Rattle.uv_generations.specs.More.{More}
+use Rattle.uv_generations.proofs.More.{rename, renamed, renamed_walk, renamed_watchers, renamed_answer}
 use Rattle.uv_generations.proofs.Lists.{append_map, without_renamed, any_renamed}
 use Rattle.uv_generations.proofs.Slots.{renamed_pair, renamed_found, named_renamed, with_named_renamed, live_renamed, live_handle_renamed, live_request_renamed, with_handle_renamed, with_request_renamed, alive_renamed, in_use_renamed, next_free_renamed, taken_renamed}
 use Rattle.uv_generations.proofs.Timers.{taken_off_renamed, stopped_renamed, started_renamed, restarted_renamed, backend_timeout_renamed}

@@ -7,15 +7,16 @@ use Rattle.uv_work.specs.declared.content.Content.TheVariants as content
 use Rattle.uv_model.specs.Content.{content_keeps, content_pends, is_used}
 use Rattle.uv_model.specs.Timeout.{is_alive, has_pending, has_closing, has_idle}
 use Rattle.uv_model.specs.Ops.{is_in_use}
-use Rattle.uv_generations.specs.Renamed.{More, rename, renamed, renamed_named, renamed_slots, renamed_arena}
+use Rattle.uv_generations.specs.More.{More}
+use Rattle.uv_generations.proofs.More.{rename, renamed, renamed_named, renamed_slots, renamed_arena}
 use Rattle.uv_generations.proofs.Lists.{set_map, some_renamed}
 
 -- ---- slots
 
-abbrev renamed_slot : ℕ → Slot Content → Slot Content
+abbrev pub renamed_slot : ℕ → Slot Content → Slot Content
 renamed_slot n slot = record slot { generation = slot.generation + n }
 
-get_renamed : (k : More) (slots : List (Slot Content)) (i : ℕ) →
+pub get_renamed : (k : More) (slots : List (Slot Content)) (i : ℕ) →
     slice_get (renamed_slots k slots) i ≡ option_map (renamed_slot (k i)) (slice_get slots i)
 get_renamed k [] i = refl
 get_renamed k (x ∷ xs) zero = refl

@@ -23,7 +23,8 @@ use Rattle.uv_model.specs.Next as steps
 use Rattle.uv_model.specs.Next.{next}
 use Rattle.uv_shift.proofs.Cases.{found_shift, if_shift}
 use Rattle.uv_shift.proofs.Slots.{front_held}
-use Rattle.uv_generations.specs.Renamed.{More, rename, renamed, renamed_named, renamed_walk, renamed_watchers, renamed_entry, renamed_line, renamed_next, CanRename}
+use Rattle.uv_generations.specs.More.{More, CanRename}
+use Rattle.uv_generations.proofs.More.{rename, renamed, renamed_named, renamed_walk, renamed_watchers, renamed_entry, renamed_line, renamed_next}
 use Rattle.uv_generations.proofs.Lists.{drop_map, append_map, set_map, some_renamed}
 use Rattle.uv_generations.proofs.Slots.{renamed_pair, renamed_found, front_renamed, front_request_renamed, named_renamed, with_named_renamed, live_handle_renamed, live_request_renamed, request_renamed, with_id_renamed, with_handle_renamed, alive_renamed, pending_renamed, freed_renamed}
 use Rattle.uv_generations.proofs.Timers.{stopped_renamed, restarted_renamed, first_due_renamed, collected_renamed, poll_timeout_renamed}

@@ -8,7 +8,8 @@ use Rattle.uv_records.specs.Handles as records
 use Rattle.uv_model.specs.Timeout.{until_first, backend_timeout, poll_timeout}
 use Rattle.uv_model.specs.Next.{first_due, collected}
 use Rattle.uv_shift.proofs.Cases.{if_shift}
-use Rattle.uv_generations.specs.Renamed.{More, rename, renamed, renamed_entry}
+use Rattle.uv_generations.specs.More.{More}
+use Rattle.uv_generations.proofs.More.{rename, renamed, renamed_entry}
 use Rattle.uv_generations.proofs.Lists.{drop_map, append_map, without_renamed, watchers_without_renamed}
 use Rattle.uv_generations.proofs.Slots.{renamed_pair, handle_renamed, with_id_renamed, with_handle_renamed, alive_renamed, idle_renamed, closes_renamed}
 

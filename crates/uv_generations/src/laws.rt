@@ -1,13 +1,32 @@
 //! What a step is where slots were freed more often.
-ghost use Rattle.std.specs.Prelude.{◌≡◌};
+ghost use Rattle.std.specs.Prelude.{◌≡◌, ◌<◌, ℕ, List, length, slice_get, Option, None};
 ghost use Rattle.uv_ids.specs.declared.event.Event.{Event};
-ghost use Rattle.uv_script.specs.Program.{Program};
+ghost use Rattle.uv_ids.specs.declared.seen.Seen.{Seen};
+ghost use Rattle.uv_script.specs.Program.{Program, arena_size};
 ghost use Rattle.uv_model.specs.State.{State};
-ghost use Rattle.uv_model.specs.Next.{next};
-ghost use Rattle.uv_generations.specs.Renamed.{More, renamed, renamed_next, CanRename};
+ghost use Rattle.uv_model.specs.Next.{Moves, next};
+ghost use Rattle.uv_model.specs.After.{after};
+ghost use Rattle.uv_generations.specs.More.{More, more, more_next, CanRename};
+ghost use Rattle.uv_generations.specs.Youngest.{base, youngest, IsYoung, TakesAlike};
 
 /// For every script, state and event: a step from a state whose slots were freed more often is the step from the state itself, with
 /// their ids renamed. So long as no slot comes to its last generation by that. It does nothing, and is called for its clause.
 pub fn generations_rename()
-    ensures { (p : Program) (k : More) (s : State) (e : Event) → CanRename p k s → next p (renamed k s) e ≡ renamed_next k (next p s e) }
+    ensures { (p : Program) (k : More) (s : State) (e : Event) → CanRename p k s → next p (more k s) e ≡ more_next k (next p s e) }
+{}
+
+/// The youngest form of a state, freed more often by its base, is the state; and however often its slots were freed more, its youngest
+/// form is the same, if those that were never used were never freed. It does nothing, and is called for its clause.
+pub fn youngest_form()
+    ensures renamed { (p : Program) (s : State) → IsYoung p s → more (base s) (youngest s) ≡ s }
+    ensures same { (k : More) (s : State) → ((slot : ℕ) → slice_get s.arena.slots slot ≡ None → k slot ≡ 0) → youngest (more k s) ≡ youngest s }
+{}
+
+/// What one of two states takes that have the same youngest form, the other one takes as well: to states with the same youngest form
+/// again, with lines that are the same but for the generations. Each state is so that fewer steps lead to than its last generation is
+/// large. It does nothing, and is called for its clause.
+pub fn takes_alike()
+    ensures alike { (p : Program) (s other : State) (e : Event) (t : State) (line : Option Seen) → IsYoung p s → IsYoung p other →
+        youngest s ≡ youngest other → next p s e ≡ Moves t line → TakesAlike (next p other e) t line }
+    ensures reached { (p : Program) (es : List Event) → length es < (arena_size p).last_generation → IsYoung p (after p es) }
 {}

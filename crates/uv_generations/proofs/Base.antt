@@ -1,0 +1,159 @@
+-- The youngest form of a state, and that of the state once its slots were freed more often.
+use Rattle.uv_generations.proofs.Names.{◌≡◌, ℕ, zero, suc, ◌+◌, ◌==◌, List, [], ◌∷◌, Bool, true, false, Option, Some, None, slice_get, option_and_then, refl, ap, sym, ◌∙◌, arith, if◌then◌else◌, Id, Slot, Content, Named, State, Program, held_in}
+use Rattle.std.proofs.Common.{subst}
+use Rattle.std.specs.Prelude.{map, option_map, min, ◌-◌, ◌≤◌}
+use Rattle.uv_order.specs.Active.{run_ids}
+use Rattle.uv_records.specs.declared.lists.WatcherKind.TheVariants as watcher
+use Rattle.uv_generations.specs.Renamed as any
+use Rattle.uv_generations.specs.Renamed.{Renaming, renamed}
+use Rattle.uv_generations.specs.More.{More, freed_more, more}
+use Rattle.uv_generations.specs.Youngest.{freed_less, or_bound, least_bound, least_of, base, youngest, IsHeld, IsYoung}
+use Rattle.uv_generations.proofs.More.{rename, renamed_named}
+use Rattle.uv_generations.proofs.Slots.{get_renamed}
+use Rattle.uv_generations.proofs.Twice.{both, twice, has_front, has_behind, ids_same, walk_same, running_same, timers_same, slots_same}
+
+-- ---- none of its ids is younger than its base
+
+or_least : (slot : ℕ) (o : Option Id) (least : ℕ) → or_bound slot o least ≤ least
+or_least slot None least = omega arith
+or_least slot (Some id) least = by (id.slot == slot) where
+  by : (b : Bool) → (if b then min id.generation least else least) ≤ least
+  by true = omega arith
+  by false = omega arith
+
+bound_least : (slot : ℕ) (ns : List Named) (least : ℕ) → least_bound slot ns least ≤ least
+bound_least slot [] least = omega arith
+bound_least slot (n ∷ ns) least =
+    let l = or_least slot n.id (least_bound slot ns least) in
+    let m = bound_least slot ns least in
+    omega (arith, l, m)
+
+own_least : (id : Id) (least : ℕ) → or_bound id.slot (Some id) least ≤ id.generation
+own_least id least = grind arith
+
+-- a name stands among the names
+named_least : (ns : List Named) (i : ℕ) (n : Named) (id : Id) (least : ℕ) → slice_get ns i ≡ Some n → n.id ≡ Some id →
+    least_bound id.slot ns least ≤ id.generation
+named_least [] i n id least e f = absurd (let f : ⊥ = cc in f)
+named_least (x ∷ xs) zero n id least e f =
+    let same : x ≡ n = cc in
+    let its : x.id ≡ Some id = ap (λ (y : Named). y.id) same ∙ f in
+    subst (λ (o : Option Id). or_bound id.slot o (least_bound id.slot xs least) ≤ id.generation) (sym its)
+    (own_least id (least_bound id.slot xs least))
+named_least (x ∷ xs) (suc i) n id least e f =
+    let l = or_least id.slot x.id (least_bound id.slot xs least) in
+    let m = named_least xs i n id least e f in
+    omega (arith, l, m)
+
+-- ---- what is made younger, and older again
+
+abbrev again : More → Renaming
+again k = both (freed_more k) (freed_less k)
+
+back_again : (g n : ℕ) → n ≤ g → g - n + n ≡ g
+back_again g n h = omega arith
+
+id_again : (k : More) (id : Id) → k id.slot ≤ id.generation → any.rename (again k) id ≡ id
+id_again k id h = ap (λ (g : ℕ). record { slot = id.slot; generation = g }) (back_again id.generation (k id.slot) h)
+
+pub slot_of : (slots : List (Slot Content)) (id : Id) (x : Content) (o : Option (Slot Content)) → option_and_then (held_in id) o ≡ Some x →
+    (slot : Slot Content) × (o ≡ Some slot) × (slot.generation ≡ id.generation)
+slot_of slots id x None e = absurd (let f : ⊥ = cc in f)
+slot_of slots id x (Some slot) e = (slot, refl, same (slot.generation == id.generation) refl e) where
+  same : (b : Bool) → (slot.generation == id.generation) ≡ b → (if b then slot.content else None) ≡ Some x → slot.generation ≡ id.generation
+  same true f e = grind (arith, f)
+  same false f e = absurd (let f : ⊥ = cc in f)
+
+held_least : (s : State) (id : Id) → IsHeld s id → base s id.slot ≤ id.generation
+held_least s id h =
+    let slot = slot_of s.arena.slots id h.its (slice_get s.arena.slots id.slot) h.holds in
+    let l = bound_least id.slot s.names slot.0.generation in
+    let m : least_of id.slot s.names (Some slot.0) ≤ id.generation = omega (arith, l, slot.2) in
+    subst (λ (o : Option (Slot Content)). least_of id.slot s.names o ≤ id.generation) (sym slot.1) m
+
+name_least : (s : State) (i : ℕ) (n : Named) (id : Id) → slice_get s.names i ≡ Some n → n.id ≡ Some id → base s id.slot ≤ id.generation
+name_least s i n id e f = by (slice_get s.arena.slots id.slot) where
+  by : (o : Option (Slot Content)) → least_of id.slot s.names o ≤ id.generation
+  by None = omega arith
+  by (Some it) = named_least s.names i n id it.generation e f
+
+names_same : (f : Renaming) (ns : List Named) →
+    ((i : ℕ) (n : Named) (id : Id) → slice_get ns i ≡ Some n → n.id ≡ Some id → any.rename f id ≡ id) → map (any.renamed_named f) ns ≡ ns
+names_same f [] h = refl
+names_same f (n ∷ ns) h =
+    let first = by n.id refl in
+    let rest = names_same f ns (λ i m id e k. h (suc i) m id e k) in
+    λ i. record n { id = first i } ∷ rest i where
+      by : (o : Option Id) → n.id ≡ o → option_map (any.rename f) o ≡ o
+      by None e = refl
+      by (Some id) e = ap Some (h zero n id refl e)
+
+slot_least : (s : State) (n : ℕ) (slot : Slot Content) → slice_get s.arena.slots n ≡ Some slot → base s n ≤ slot.generation
+slot_least s n slot e = subst (λ (o : Option (Slot Content)). least_of n s.names o ≤ slot.generation) (sym e)
+    (bound_least n s.names slot.generation)
+
+-- the youngest form, whose slots were freed more often by as much as those of the state itself, is the state
+pub youngest_more : (p : Program) (s : State) → IsYoung p s → more (base s) (youngest s) ≡ s
+youngest_more p s h =
+    let f = again (base s) in
+    let each : (id : Id) → IsHeld s id → any.rename f id ≡ id = λ id k. id_again (base s) id (held_least s id k) in
+    let names = names_same f s.names (λ i n id e k. id_again (base s) id (name_least s i n id e k)) in
+    let slots = slots_same f s.arena.slots (λ n slot e. back_again slot.generation (base s n) (slot_least s n slot e)) in
+    let timers = timers_same f s.timers (λ due id k. each id (h.timers due id k)) in
+    let ready = ids_same f s.ready (λ id k. each id (h.ready id k)) in
+    let idle = walk_same f s.watchers.idle (λ id k. each id (h.watchers watcher.Idle id k)) in
+    let prepare = walk_same f s.watchers.prepare (λ id k. each id (h.watchers watcher.Prepare id k)) in
+    let check = walk_same f s.watchers.check (λ id k. each id (h.watchers watcher.Check id k)) in
+    let async = walk_same f s.watchers.async (λ id k. each id (h.watchers watcher.Async id k)) in
+    let closing = walk_same f s.closing (λ id k. each id (h.closing id k)) in
+    let waiting = ids_same f s.waiting (λ id k. each id (h.opened id (has_front s.waiting (run_ids s.running) id k))) in
+    let running = running_same f s.running (λ id k. each id (h.opened id (has_behind s.waiting (run_ids s.running) id k))) in
+    let done = walk_same f s.done (λ id k. each id (h.done id k)) in
+    twice (freed_more (base s)) (freed_less (base s)) s
+    ∙ (λ i. record s {
+      names = names i;
+      arena = record s.arena { slots = slots i };
+      timers = timers i;
+      ready = ready i;
+      watchers = record { idle = idle i; prepare = prepare i; check = check i; async = async i };
+      closing = closing i;
+      waiting = waiting i;
+      running = running i;
+      done = done i;
+    })
+
+-- ---- however often slots were freed more, the youngest form is the same
+
+or_more : (k : More) (slot : ℕ) (o : Option Id) (least : ℕ) →
+    or_bound slot (option_map (rename k) o) (least + k slot) ≡ or_bound slot o least + k slot
+or_more k slot None least = refl
+or_more k slot (Some id) least = by (id.slot == slot) refl where
+  by : (b : Bool) → (id.slot == slot) ≡ b →
+      (if b then min (id.generation + k id.slot) (least + k slot) else least + k slot) ≡ (if b then min id.generation least else least) + k slot
+  by false e = refl
+  by true e =
+      let same : id.slot ≡ slot = grind (arith, e) in
+      let moved : k id.slot ≡ k slot = ap k same in
+      omega (arith, moved)
+
+bound_more : (k : More) (slot : ℕ) (ns : List Named) (least : ℕ) →
+    least_bound slot (map (renamed_named k) ns) (least + k slot) ≡ least_bound slot ns least + k slot
+bound_more k slot [] least = refl
+bound_more k slot (n ∷ ns) least =
+    ap (or_bound slot (option_map (rename k) n.id)) (bound_more k slot ns least) ∙ or_more k slot n.id (least_bound slot ns least)
+
+base_more : (k : More) (s : State) (slot : ℕ) → (slice_get s.arena.slots slot ≡ None → k slot ≡ 0) → base (more k s) slot ≡ base s slot + k slot
+base_more k s slot unused = ap (least_of slot (map (renamed_named k) s.names)) (get_renamed k s.arena.slots slot)
+    ∙ by (slice_get s.arena.slots slot) refl where
+      by : (o : Option (Slot Content)) → slice_get s.arena.slots slot ≡ o →
+          least_of slot (map (renamed_named k) s.names) (option_map (λ (it : Slot Content). record it { generation = it.generation + k slot }) o)
+          ≡ least_of slot s.names o + k slot
+      by None e = let none : k slot ≡ 0 = unused e in omega (arith, none)
+      by (Some it) e = bound_more k slot s.names it.generation
+
+pub youngest_same : (k : More) (s : State) → ((slot : ℕ) → slice_get s.arena.slots slot ≡ None → k slot ≡ 0) → youngest (more k s) ≡ youngest s
+youngest_same k s unused =
+    let b = base (more k s) in
+    let each : (slot g : ℕ) → g + k slot - b slot ≡ g - base s slot = λ slot g. (let e = base_more k s slot (unused slot) in omega (arith, e)) in
+    let same : both (freed_less b) (freed_more k) ≡ freed_less (base s) = λ i slot g. each slot g i in
+    twice (freed_less b) (freed_more k) s ∙ ap (λ (r : Renaming). renamed r s) same

@@ -1,0 +1,69 @@
+-- Who stands on a list of a state that steps lead to is held, and no slot is at its last generation after few steps.
+use Rattle.uv_generations.proofs.Names.{◌≡◌, ℕ, ◌+◌, ◌<◌, List, [], ◌∷◌, length, Option, Some, None, refl, arith, replicate, add-zero, Id, Event, HandleRecord, Content, Request, Program, State, Next, handle, request, handle_in, request_in, held, fresh, goes_on, state_of, unbound, arena_size, slice_get}
+use Rattle.std.proofs.Common.{suc, subst}
+use Rattle.std.proofs.lemmas.Grind.{elements}
+use Rattle.std.specs.Prelude.{◌≤◌}
+use Rattle.uv_model.specs.After.{after}
+use Rattle.uv_model.specs.Next.{next}
+use Rattle.uv_model.proofs.Bounded.{next_bounded}
+use Rattle.uv_model.proofs.Counting.{Counts, Freed, IsBounded, StaysBounded, slot_freed}
+use Rattle.uv_order.proofs.Reaching.{reached}
+use Rattle.uv_generations.specs.Youngest.{IsHeld, IsYoung}
+use Rattle.uv_generations.proofs.Base.{slot_of}
+
+-- ---- how often slots were freed
+
+state_bounded : (p : Program) (n : ℕ) (s : State) (e : Event) → IsBounded n s → IsBounded (suc n) (state_of s (next p s e))
+state_bounded p n s e h = kept (next p s e) (next_bounded p n s e h) where
+  kept : (x : Next) → StaysBounded (suc n) x → IsBounded (suc n) (state_of s x)
+  kept x k = grind arith
+
+goes_on_freed : (p : Program) (n : ℕ) (s : State) (es : List Event) → IsBounded n s → Freed (n + length es) (goes_on p s es).arena.slots
+goes_on_freed p n s [] h = rw add-zero h.freed
+goes_on_freed p n s (e ∷ es) h =
+    let t = state_of s (next p s e) in
+    let same : suc n + length es ≡ n + length (e ∷ es) = omega arith in
+    subst (λ (m : ℕ). Freed m (goes_on p t es).arena.slots) same (goes_on_freed p (suc n) t es (state_bounded p n s e h))
+
+fresh_names : (n : ℕ) → Counts 0 (replicate n unbound)
+fresh_names n = grind (arith, elements)
+
+after_freed : (p : Program) (es : List Event) → Freed (length es) (after p es).arena.slots
+unfolding after
+after_freed p es =
+    let same : 0 + length es ≡ length es = omega arith in
+    subst (λ (m : ℕ). Freed m (goes_on p (fresh p) es).arena.slots) same (goes_on_freed p 0 (fresh p) es (grind (arith, fresh_names)))
+
+held_freed : (s : State) (n : ℕ) (id : Id) (x : Content) → Freed n s.arena.slots → held s.arena.slots id ≡ Some x → id.generation ≤ n
+held_freed s n id x h e =
+    let slot = slot_of s.arena.slots id x (slice_get s.arena.slots id.slot) e in
+    let l = slot_freed n s.arena.slots id.slot slot.0 slot.1 h in
+    omega (arith, l, slot.2)
+
+-- ---- who is held
+
+handle_held : (s : State) (id : Id) (h : HandleRecord) → handle s id ≡ Some h → IsHeld s id
+handle_held s id h e = by (held s.arena.slots id) refl e where
+  by : (o : Option Content) → held s.arena.slots id ≡ o → handle_in o ≡ Some h → IsHeld s id
+  by None f g = cc g
+  by (Some x) f g = record { its = x; holds = f }
+
+request_held : (s : State) (id : Id) (r : Request) → request s id ≡ Some r → IsHeld s id
+request_held s id r e = by (held s.arena.slots id) refl e where
+  by : (o : Option Content) → held s.arena.slots id ≡ o → request_in o ≡ Some r → IsHeld s id
+  by None f g = cc g
+  by (Some x) f g = record { its = x; holds = f }
+
+pub after_young : (p : Program) (es : List Event) → length es < (arena_size p).last_generation → IsYoung p (after p es)
+after_young p es few =
+    let s = after p es in
+    let k = reached p es in
+    record {
+      timers = λ due id h. (let its = k.timers.each due id h in handle_held s id its.its its.holds);
+      ready = λ id h. (let its = k.ready.each id h in handle_held s id its.its its.holds);
+      watchers = λ q id h. (let its = (k.watchers q).each id h in handle_held s id its.its its.holds);
+      closing = λ id h. (let its = k.closing.each id h in handle_held s id its.its its.holds);
+      opened = λ id h. (let its = k.opened.each id h in request_held s id its.its its.holds);
+      done = λ id h. (let its = k.done.each id h in request_held s id its.its its.holds);
+      left = λ id x e. (let l = held_freed s (length es) id x (after_freed p es) e in omega (arith, l, few));
+    }

@@ -1,0 +1,132 @@
+-- What becomes of a state that is renamed twice, and where no id becomes another.
+use Rattle.uv_generations.proofs.Names.{◌≡◌, ℕ, zero, suc, List, [], ◌∷◌, ◌++◌, true, Option, Some, None, slice_get, refl, ap, ap₂, Id, Due, Seen, Slot, Content, Named, State, Walk}
+use Rattle.std.proofs.Common.{arith, inl, inr}
+use Rattle.std.specs.Prelude.{map, option_map}
+use Rattle.uv_ids.specs.declared.code.Answer.{Answer}
+use Rattle.uv_ids.specs.declared.seen.Seen.TheVariants as seen
+use Rattle.uv_order.specs.Active.{has_id, run_ids, Has}
+use Rattle.uv_generations.specs.Renamed.{Renaming, rename, renamed_walk, renamed_named, renamed_slots, renamed_entry, renamed, renamed_answer, renamed_line}
+use Rattle.uv_generations.specs.Youngest.{unfreed, unfreed_line}
+
+-- ---- twice
+
+abbrev pub both : Renaming → Renaming → Renaming
+both f g = λ slot generation. f slot (g slot generation)
+
+ids_twice : (f g : Renaming) (ids : List Id) → map (rename f) (map (rename g) ids) ≡ map (rename (both f g)) ids
+ids_twice f g [] = refl
+ids_twice f g (id ∷ ids) = ap (λ (xs : List Id). rename (both f g) id ∷ xs) (ids_twice f g ids)
+
+walk_twice : (f g : Renaming) (w : Walk Id) → renamed_walk f (renamed_walk g w) ≡ renamed_walk (both f g) w
+walk_twice f g w =
+    let list = ids_twice f g w.list in
+    let yet = ids_twice f g w.yet in
+    λ i. record { list = list i; yet = yet i }
+
+id_twice : (f g : Renaming) (o : Option Id) → option_map (rename f) (option_map (rename g) o) ≡ option_map (rename (both f g)) o
+id_twice f g None = refl
+id_twice f g (Some id) = refl
+
+running_twice : (f g : Renaming) (running : List (Option Id)) →
+    map (option_map (rename f)) (map (option_map (rename g)) running) ≡ map (option_map (rename (both f g))) running
+running_twice f g [] = refl
+running_twice f g (o ∷ os) = ap₂ (λ (x : Option Id) (xs : List (Option Id)). x ∷ xs) (id_twice f g o) (running_twice f g os)
+
+names_twice : (f g : Renaming) (ns : List Named) → map (renamed_named f) (map (renamed_named g) ns) ≡ map (renamed_named (both f g)) ns
+names_twice f g [] = refl
+names_twice f g (n ∷ ns) = ap₂ (λ (x : Option Id) (xs : List Named). record n { id = x } ∷ xs) (id_twice f g n.id) (names_twice f g ns)
+
+timers_twice : (f g : Renaming) (ts : List (Due × Id)) → map (renamed_entry f) (map (renamed_entry g) ts) ≡ map (renamed_entry (both f g)) ts
+timers_twice f g [] = refl
+timers_twice f g (t ∷ ts) = ap (λ (us : List (Due × Id)). renamed_entry (both f g) t ∷ us) (timers_twice f g ts)
+
+slots_twice : (f g : Renaming) (slots : List (Slot Content)) → renamed_slots f (renamed_slots g slots) ≡ renamed_slots (both f g) slots
+slots_twice f g [] = refl
+slots_twice f g (x ∷ xs) = ap (λ (ys : List (Slot Content)). record x { generation = f 0 (g 0 x.generation) } ∷ ys)
+    (slots_twice (λ n. f (suc n)) (λ n. g (suc n)) xs)
+
+pub twice : (f g : Renaming) (s : State) → renamed f (renamed g s) ≡ renamed (both f g) s
+twice f g s =
+    let names = names_twice f g s.names in
+    let slots = slots_twice f g s.arena.slots in
+    let timers = timers_twice f g s.timers in
+    let ready = ids_twice f g s.ready in
+    let idle = walk_twice f g s.watchers.idle in
+    let prepare = walk_twice f g s.watchers.prepare in
+    let check = walk_twice f g s.watchers.check in
+    let async = walk_twice f g s.watchers.async in
+    let closing = walk_twice f g s.closing in
+    let waiting = ids_twice f g s.waiting in
+    let running = running_twice f g s.running in
+    let done = walk_twice f g s.done in
+    λ i. record s {
+      names = names i;
+      arena = record s.arena { slots = slots i };
+      timers = timers i;
+      ready = ready i;
+      watchers = record { idle = idle i; prepare = prepare i; check = check i; async = async i };
+      closing = closing i;
+      waiting = waiting i;
+      running = running i;
+      done = done i;
+    }
+
+-- a line is the same without its generations
+answer_unfreed : (f : Renaming) (a : Answer) → renamed_answer unfreed (renamed_answer f a) ≡ renamed_answer unfreed a
+answer_unfreed f a = grind arith
+
+line_unfreed : (f : Renaming) (line : Seen) → unfreed_line (renamed_line f line) ≡ unfreed_line line
+line_unfreed f (seen.Op site a) = ap (seen.Op site) (answer_unfreed f a)
+line_unfreed f (seen.Cancel v a) = ap (seen.Cancel v) (answer_unfreed f a)
+line_unfreed f line = refl
+
+pub lines_unfreed : (f : Renaming) (o : Option Seen) → option_map unfreed_line (option_map (renamed_line f) o) ≡ option_map unfreed_line o
+lines_unfreed f None = refl
+lines_unfreed f (Some line) = ap Some (line_unfreed f line)
+
+-- ---- where no id becomes another
+
+has_first : (id : Id) (ids : List Id) → has_id (id ∷ ids) id ≡ true
+has_first id ids = grind arith
+
+has_rest : (x id : Id) (ids : List Id) → has_id ids id ≡ true → has_id (x ∷ ids) id ≡ true
+has_rest x id ids h = grind arith
+
+pub has_front : (xs ys : List Id) (id : Id) → has_id xs id ≡ true → has_id (xs ++ ys) id ≡ true
+has_front [] ys id h = absurd (let f : ⊥ = cc in f)
+has_front (x ∷ xs) ys id h = grind (arith, has_front xs ys id)
+
+pub has_behind : (xs ys : List Id) (id : Id) → has_id ys id ≡ true → has_id (xs ++ ys) id ≡ true
+has_behind [] ys id h = h
+has_behind (x ∷ xs) ys id h = has_rest x id (xs ++ ys) (has_behind xs ys id h)
+
+pub ids_same : (f : Renaming) (ids : List Id) → ((id : Id) → has_id ids id ≡ true → rename f id ≡ id) → map (rename f) ids ≡ ids
+ids_same f [] h = refl
+ids_same f (x ∷ xs) h = ap₂ (λ (y : Id) (ys : List Id). y ∷ ys) (h x (has_first x xs)) (ids_same f xs (λ id k. h id (has_rest x id xs k)))
+
+pub walk_same : (f : Renaming) (w : Walk Id) → ((id : Id) → has_id (w.list ++ w.yet) id ≡ true → rename f id ≡ id) → renamed_walk f w ≡ w
+walk_same f w h =
+    let list = ids_same f w.list (λ id k. h id (has_front w.list w.yet id k)) in
+    let yet = ids_same f w.yet (λ id k. h id (has_behind w.list w.yet id k)) in
+    λ i. record { list = list i; yet = yet i }
+
+pub running_same : (f : Renaming) (running : List (Option Id)) → ((id : Id) → has_id (run_ids running) id ≡ true → rename f id ≡ id) →
+    map (option_map (rename f)) running ≡ running
+running_same f [] h = refl
+running_same f (None ∷ os) h = ap (λ (xs : List (Option Id)). None ∷ xs) (running_same f os h)
+running_same f (Some id ∷ os) h = ap₂ (λ (x : Id) (xs : List (Option Id)). Some x ∷ xs) (h id (has_first id (run_ids os)))
+    (running_same f os (λ it k. h it (has_rest id it (run_ids os) k)))
+
+pub timers_same : (f : Renaming) (ts : List (Due × Id)) → ((due : Due) (id : Id) → Has ts due id → rename f id ≡ id) →
+    map (renamed_entry f) ts ≡ ts
+timers_same f [] h = refl
+timers_same f (t ∷ ts) h =
+    let first = h t.0 t.1 (inl (refl, refl)) in
+    let rest = timers_same f ts (λ due id k. h due id (inr k)) in
+    λ i. (t.0, first i) ∷ rest i
+
+pub slots_same : (f : Renaming) (slots : List (Slot Content)) →
+    ((n : ℕ) (slot : Slot Content) → slice_get slots n ≡ Some slot → f n slot.generation ≡ slot.generation) → renamed_slots f slots ≡ slots
+slots_same f [] h = refl
+slots_same f (x ∷ xs) h = ap₂ (λ (g : ℕ) (ys : List (Slot Content)). record x { generation = g } ∷ ys) (h zero x refl)
+    (slots_same (λ n. f (suc n)) xs (λ n slot e. h (suc n) slot e))

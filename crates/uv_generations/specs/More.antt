@@ -1,0 +1,33 @@
+-- A state whose slots were freed more often: so many times as the slot's number tells.
+use Rattle.std.specs.Prelude.{◌≡◌, ℕ, ◌+◌, ◌<◌, length, Some}
+use Rattle.uv_ids.specs.declared.id.Id.{Id}
+use Rattle.uv_ids.specs.declared.seen.Seen.{Seen}
+use Rattle.uv_script.specs.Program.{Program, arena_size}
+use Rattle.uv_records.specs.Slots.{held}
+use Rattle.uv_work.specs.declared.content.Content.{Content}
+use Rattle.uv_model.specs.State.{State}
+use Rattle.uv_model.specs.Next.{Next}
+use Rattle.uv_generations.specs.Renamed.{Renaming, renamed, renamed_line, renamed_next}
+
+-- how many times more each slot was freed, by its number
+abbrev pub More : Type 0
+More = ℕ → ℕ
+
+abbrev pub freed_more : More → Renaming
+freed_more k = λ slot generation. generation + k slot
+
+abbrev pub more : More → State → State
+more k s = renamed (freed_more k) s
+
+abbrev pub more_line : More → Seen → Seen
+more_line k line = renamed_line (freed_more k) line
+
+abbrev pub more_next : More → Next → Next
+more_next k x = renamed_next (freed_more k) x
+
+-- where a step is that of the state itself, renamed
+pub record CanRename (p : Program) (k : More) (s : State) : Type 0 where
+  -- the slot that is used next for the first time was never freed
+  pub unused : k (length s.arena.slots) ≡ 0
+  -- none that holds something comes to its last generation as it is freed
+  pub left : (id : Id) (x : Content) → held s.arena.slots id ≡ Some x → id.generation + k id.slot < (arena_size p).last_generation
