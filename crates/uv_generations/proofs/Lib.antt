@@ -10,3 +10,5 @@ pub mod Base
 mod Grows
 pub mod Alike
 pub mod Reached
+pub mod Bare
+pub mod Ordered

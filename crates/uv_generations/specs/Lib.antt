@@ -1,3 +1,4 @@
 pub mod Renamed
 pub mod More
 pub mod Youngest
+pub mod Bare

@@ -62,7 +62,7 @@ pub record IsYoung (p : Program) (s : State) : Type 0 where
   pub done : (id : Id) → has_id (s.done.list ++ s.done.yet) id ≡ true → IsHeld s id
   pub left : (id : Id) (x : Content) → held s.arena.slots id ≡ Some x → id.generation < (arena_size p).last_generation
 
--- ---- steps that are the same but for the generations
+-- ---- steps that are the same except for the generations
 
 abbrev pub unfreed : Renaming
 unfreed = λ slot generation. 0
@@ -71,7 +71,7 @@ unfreed = λ slot generation. 0
 abbrev pub unfreed_line : Seen → Seen
 unfreed_line line = renamed_line unfreed line
 
--- this step, too, is taken: it comes to a state with the youngest form of the other one, with a line that is the same but for the
+-- this step, too, is taken: it comes to a state with the youngest form of the other one, with a line that is the same except for the
 -- generations of its ids
 pub record TakesAlike (x : Next) (t : State) (line : Option Seen) : Type 0 where
   pub state : State

@@ -8,6 +8,9 @@ ghost use Rattle.uv_model.specs.Next.{Moves, next};
 ghost use Rattle.uv_model.specs.After.{after};
 ghost use Rattle.uv_generations.specs.More.{More, more, more_next, CanRename};
 ghost use Rattle.uv_generations.specs.Youngest.{base, youngest, IsYoung, TakesAlike};
+ghost use Rattle.uv_generations.specs.Bare.{bare, GoesBare};
+ghost use Rattle.uv_shift.specs.Earliest.{IsTimed};
+ghost use Rattle.uv_shift.specs.Shift.{ClockFits};
 
 /// For every script, state and event: a step from a state whose slots were freed more often is the step from the state itself, with
 /// their ids renamed. So long as no slot comes to its last generation by that. It does nothing, and is called for its clause.
@@ -23,10 +26,18 @@ pub fn youngest_form()
 {}
 
 /// What one of two states takes that have the same youngest form, the other one takes as well: to states with the same youngest form
-/// again, with lines that are the same but for the generations. Each state is so that fewer steps lead to than its last generation is
+/// again, with lines that are the same except for the generations. Each state is so that fewer steps lead to than its last generation is
 /// large. It does nothing, and is called for its clause.
 pub fn takes_alike()
     ensures alike { (p : Program) (s other : State) (e : Event) (t : State) (line : Option Seen) → IsYoung p s → IsYoung p other →
         youngest s ≡ youngest other → next p s e ≡ Moves t line → TakesAlike (next p other e) t line }
     ensures reached { (p : Program) (es : List Event) → length es < (arena_size p).last_generation → IsYoung p (after p es) }
+{}
+
+/// What one of two states takes that have the same bare form, the other one takes as well, where the clock doesn't come to its limit: to
+/// states with the same bare form again. Each state that steps lead to is so (`stays_timed` of uv_shift, and `takes_alike`). It does
+/// nothing, and is called for its clause.
+pub fn bare_alike()
+    ensures { (p : Program) (s other : State) (e : Event) (t : State) (line : Option Seen) → IsTimed p s → IsYoung p s → IsTimed p other →
+        IsYoung p other → bare s ≡ bare other → next p s e ≡ Moves t line → ClockFits other e → GoesBare p (next p other e) t line }
 {}

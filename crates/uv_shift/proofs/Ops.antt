@@ -165,7 +165,7 @@ due_at d time true timer due e = rw e (later due.at) where
   later at = omega arith
 due_at d time false timer due e = refl
 
--- an op answers the same, but for the op `now`
+-- an op answers the same, except for the op `now`
 pub op_shift : (d : By) (s : State) (o : Op) → FitsOp (s.time + d.ms) o →
     ((id : Id) (h : HandleRecord) → handle s id ≡ Some h → s.time + d.ms + h.repeat < 2 ^ 64)
     → do_op (shift d s) o ≡ shift_op d o (do_op s o)

@@ -23,7 +23,7 @@ same_due d a b e =
     let two : a.start ≡ b.start = omega (arith, start) in
     λ i. record { at = one i; start = two i }
 
-has_later : (d : By) (ts : List (Due × Id)) (due : Due) (id : Id) → Has ts due id → Has (map (shift_entry d) ts) (shift_due d due) id
+pub has_later : (d : By) (ts : List (Due × Id)) (due : Due) (id : Id) → Has ts due id → Has (map (shift_entry d) ts) (shift_due d due) id
 has_later d [] due id h = h
 has_later d (t ∷ ts) due id (inl is) = inl (ap (shift_due d) is.0, is.1)
 has_later d (t ∷ ts) due id (inr rest) = inr (has_later d ts due id rest)

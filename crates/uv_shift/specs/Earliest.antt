@@ -59,7 +59,7 @@ pub record IsTimed (p : Program) (s : State) : Type 0 where
   pub timers : AreTimers s s.timers
   pub fits : TimesFit p s
 
--- ---- steps that are the same but for the times
+-- ---- steps that are the same except for the times
 
 abbrev pub untimed : Retiming
 untimed = record { time = λ at. 0; start = λ n. 0 }
@@ -68,7 +68,7 @@ untimed = record { time = λ at. 0; start = λ n. 0 }
 abbrev pub untimed_line : Program → Seen → Seen
 untimed_line p line = retimed_line p untimed line
 
--- this step, too, is taken: it comes to a state with the earliest form of the other one, with a line that is the same but for the
+-- this step, too, is taken: it comes to a state with the earliest form of the other one, with a line that is the same except for the
 -- answer of `now`
 pub record GoesAlike (p : Program) (x : Next) (t : State) (line : Option Seen) : Type 0 where
   pub state : State

@@ -34,7 +34,7 @@ pub fn earliest_form()
 {}
 
 /// What one of two states takes that have the same earliest form, the other one takes as well, where the clock doesn't come to its
-/// limit: to states with the same earliest form again, with lines that are the same but for the answer of `now`. So it is of a state and
+/// limit: to states with the same earliest form again, with lines that are the same except for the answer of `now`. So it is of a state and
 /// its earliest form. It does nothing, and is called for its clause.
 pub fn goes_alike()
     ensures alike { (p : Program) (s other : State) (e : Event) (t : State) (line : Option Seen) → IsTimed p s → IsTimed p other →

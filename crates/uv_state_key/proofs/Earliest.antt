@@ -1,14 +1,22 @@
--- The bytes of the earliest form of a state tell that form.
+-- The bytes of the earliest form of a state tell that form, and those of its bare form tell that one.
 use Rattle.std.proofs.Common.{◌≡◌, ℕ, List, ◌++◌, ap, sym, subst, ◌∙◌}
 use Rattle.uv_ids.specs.declared.event.Event.{Event}
 use Rattle.uv_script.specs.Program.{Program}
 use Rattle.uv_model.specs.After.{after}
 use Rattle.uv_model.specs.State.{State, request}
 use Rattle.uv_order.specs.Active.{AreTimers}
-use Rattle.uv_shift.specs.Earliest.{base, earliest}
+use Rattle.uv_shift.specs.Earliest.{base, earliest, IsTimed}
 use Rattle.uv_shift.proofs.Slots.{request_shift}
 use Rattle.uv_shift.proofs.Base.{earliest_later}
 use Rattle.uv_shift.proofs.Timed.{timers_earlier}
+use Rattle.uv_generations.specs.Youngest.{youngest, IsYoung}
+use Rattle.uv_generations.specs.Youngest as old
+use Rattle.uv_generations.specs.Bare.{bare}
+use Rattle.uv_generations.proofs.More.{rename}
+use Rattle.uv_generations.proofs.Slots.{request_renamed}
+use Rattle.uv_generations.proofs.Base.{youngest_more}
+use Rattle.uv_generations.proofs.Bare.{earliest_young}
+use Rattle.uv_generations.proofs.Ordered.{youngest_timers}
 use Rattle.uv_state_key.specs.Key.{state_code}
 use Rattle.uv_state_key.proofs.States.{IsTold, states_tell, after_told}
 
@@ -30,3 +38,21 @@ earliest_tells s t x y h k e = states_tell (earliest s) (earliest t) x y (earlie
 pub earliest_keys_tell : (p : Program) (es fs : List Event) (x y : List ℕ) →
     state_code (earliest (after p es)) ++ x ≡ state_code (earliest (after p fs)) ++ y → (earliest (after p es) ≡ earliest (after p fs)) × (x ≡ y)
 earliest_keys_tell p es fs x y e = earliest_tells (after p es) (after p fs) x y (after_told p es) (after_told p fs) e
+
+-- ---- the bare form
+
+youngest_told : (p : Program) (s : State) → IsYoung p s → IsTold s → IsTold (youngest s)
+youngest_told p s young h =
+    let same = youngest_more p s young in
+    record {
+      timers = youngest_timers p s young h.timers;
+      digests = λ id r e. h.digests (rename (old.base s) id) r
+          (ap (λ (x : State). request x (rename (old.base s) id)) (sym same) ∙ request_renamed (old.base s) (youngest s) id ∙ e);
+    }
+
+-- equal bytes of two bare forms are equal forms
+pub bare_tells : (p : Program) (s t : State) (x y : List ℕ) → IsTimed p s → IsYoung p s → IsTold s → IsTimed p t → IsYoung p t → IsTold t →
+    state_code (bare s) ++ x ≡ state_code (bare t) ++ y → (bare s ≡ bare t) × (x ≡ y)
+bare_tells p s t x y timed young h timely youth k e =
+    states_tell (bare s) (bare t) x y (youngest_told p (earliest s) (earliest_young p s timed young) (earliest_told s h))
+    (youngest_told p (earliest t) (earliest_young p t timely youth) (earliest_told t k)) e
