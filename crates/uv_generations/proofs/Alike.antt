@@ -6,7 +6,7 @@ use Rattle.std.specs.Prelude.{option_map, ◌≤◌}
 use Rattle.uv_model.specs.Next.{next}
 use Rattle.uv_generations.specs.Renamed as any
 use Rattle.uv_generations.specs.Renamed.{Renaming}
-use Rattle.uv_generations.specs.More.{More, freed_more, more, more_line, more_next, CanRename}
+use Rattle.uv_generations.specs.More.{Frees, freed_more, more, more_line, more_next, CanRename}
 use Rattle.uv_generations.specs.Youngest.{freed_less, least_of, base, youngest, unfreed_line, IsYoung, TakesAlike}
 use Rattle.uv_generations.proofs.More.{rename}
 use Rattle.uv_generations.proofs.Slots.{held_renamed}
@@ -40,14 +40,14 @@ youngest_next p s e h = ap (λ (x : State). next p x e) (sym (youngest_more p s 
 
 -- ---- two states
 
-record IsMore (k : More) (x : Next) (t : State) (line : Option Seen) : Type 0 where
+record IsMore (k : Frees) (x : Next) (t : State) (line : Option Seen) : Type 0 where
   pub state : State
   pub says : Option Seen
   pub takes : x ≡ Moves state says
   pub moved : t ≡ more k state
   pub moved_line : line ≡ option_map (more_line k) says
 
-moved_as : (k : More) (x : Next) (t : State) (line : Option Seen) → more_next k x ≡ Moves t line → IsMore k x t line
+moved_as : (k : Frees) (x : Next) (t : State) (line : Option Seen) → more_next k x ≡ Moves t line → IsMore k x t line
 moved_as k (Refuses w) t line same = absurd (let f : ⊥ = cc in f)
 moved_as k (Moves u says) t line same =
     let one : more k u ≡ t = cc in

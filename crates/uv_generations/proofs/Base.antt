@@ -6,7 +6,7 @@ use Rattle.uv_order.specs.Active.{run_ids}
 use Rattle.uv_records.specs.declared.lists.WatcherKind.TheVariants as watcher
 use Rattle.uv_generations.specs.Renamed as any
 use Rattle.uv_generations.specs.Renamed.{Renaming, renamed}
-use Rattle.uv_generations.specs.More.{More, freed_more, more}
+use Rattle.uv_generations.specs.More.{Frees, freed_more, more}
 use Rattle.uv_generations.specs.Youngest.{freed_less, or_bound, least_bound, least_of, base, youngest, IsHeld, IsYoung}
 use Rattle.uv_generations.proofs.More.{rename, renamed_named}
 use Rattle.uv_generations.proofs.Slots.{get_renamed}
@@ -47,13 +47,13 @@ named_least (x ∷ xs) (suc i) n id least e f =
 
 -- ---- what is made younger, and older again
 
-abbrev again : More → Renaming
+abbrev again : Frees → Renaming
 again k = both (freed_more k) (freed_less k)
 
 back_again : (g n : ℕ) → n ≤ g → g - n + n ≡ g
 back_again g n h = omega arith
 
-id_again : (k : More) (id : Id) → k id.slot ≤ id.generation → any.rename (again k) id ≡ id
+id_again : (k : Frees) (id : Id) → k id.slot ≤ id.generation → any.rename (again k) id ≡ id
 id_again k id h = ap (λ (g : ℕ). record { slot = id.slot; generation = g }) (back_again id.generation (k id.slot) h)
 
 pub slot_of : (slots : List (Slot Content)) (id : Id) (x : Content) (o : Option (Slot Content)) → option_and_then (held_in id) o ≡ Some x →
@@ -124,7 +124,7 @@ youngest_more p s h =
 
 -- ---- however often slots were freed more, the youngest form is the same
 
-or_more : (k : More) (slot : ℕ) (o : Option Id) (least : ℕ) →
+or_more : (k : Frees) (slot : ℕ) (o : Option Id) (least : ℕ) →
     or_bound slot (option_map (rename k) o) (least + k slot) ≡ or_bound slot o least + k slot
 or_more k slot None least = refl
 or_more k slot (Some id) least = by (id.slot == slot) refl where
@@ -136,13 +136,13 @@ or_more k slot (Some id) least = by (id.slot == slot) refl where
       let moved : k id.slot ≡ k slot = ap k same in
       omega (arith, moved)
 
-bound_more : (k : More) (slot : ℕ) (ns : List Named) (least : ℕ) →
+bound_more : (k : Frees) (slot : ℕ) (ns : List Named) (least : ℕ) →
     least_bound slot (map (renamed_named k) ns) (least + k slot) ≡ least_bound slot ns least + k slot
 bound_more k slot [] least = refl
 bound_more k slot (n ∷ ns) least =
     ap (or_bound slot (option_map (rename k) n.id)) (bound_more k slot ns least) ∙ or_more k slot n.id (least_bound slot ns least)
 
-base_more : (k : More) (s : State) (slot : ℕ) → (slice_get s.arena.slots slot ≡ None → k slot ≡ 0) → base (more k s) slot ≡ base s slot + k slot
+base_more : (k : Frees) (s : State) (slot : ℕ) → (slice_get s.arena.slots slot ≡ None → k slot ≡ 0) → base (more k s) slot ≡ base s slot + k slot
 base_more k s slot unused = ap (least_of slot (map (renamed_named k) s.names)) (get_renamed k s.arena.slots slot)
     ∙ by (slice_get s.arena.slots slot) refl where
       by : (o : Option (Slot Content)) → slice_get s.arena.slots slot ≡ o →
@@ -151,7 +151,7 @@ base_more k s slot unused = ap (least_of slot (map (renamed_named k) s.names)) (
       by None e = let none : k slot ≡ 0 = unused e in omega (arith, none)
       by (Some it) e = bound_more k slot s.names it.generation
 
-pub youngest_same : (k : More) (s : State) → ((slot : ℕ) → slice_get s.arena.slots slot ≡ None → k slot ≡ 0) → youngest (more k s) ≡ youngest s
+pub youngest_same : (k : Frees) (s : State) → ((slot : ℕ) → slice_get s.arena.slots slot ≡ None → k slot ≡ 0) → youngest (more k s) ≡ youngest s
 youngest_same k s unused =
     let b = base (more k s) in
     let each : (slot g : ℕ) → g + k slot - b slot ≡ g - base s slot = λ slot g. (let e = base_more k s slot (unused slot) in omega (arith, e)) in

@@ -23,7 +23,7 @@ use Rattle.uv_model.specs.Next as steps
 use Rattle.uv_model.specs.Next.{next}
 use Rattle.uv_shift.proofs.Cases.{found_shift, if_shift}
 use Rattle.uv_shift.proofs.Slots.{front_held}
-use Rattle.uv_generations.specs.More.{More, CanRename}
+use Rattle.uv_generations.specs.More.{Frees, CanRename}
 use Rattle.uv_generations.proofs.More.{rename, renamed, renamed_named, renamed_walk, renamed_watchers, renamed_entry, renamed_line, renamed_next}
 use Rattle.uv_generations.proofs.Lists.{drop_map, append_map, set_map, some_renamed}
 use Rattle.uv_generations.proofs.Slots.{renamed_pair, renamed_found, front_renamed, front_request_renamed, named_renamed, with_named_renamed, live_handle_renamed, live_request_renamed, request_renamed, with_id_renamed, with_handle_renamed, alive_renamed, pending_renamed, freed_renamed}
@@ -32,10 +32,10 @@ use Rattle.uv_generations.proofs.Ops.{op_renamed, ended_renamed, cancel_renamed,
 
 -- ---- how a run goes on
 
-goes_renamed : (k : More) (s : State) → steps.goes (renamed k s) ≡ steps.goes s
+goes_renamed : (k : Frees) (s : State) → steps.goes (renamed k s) ≡ steps.goes s
 goes_renamed k s = ap (λ (b : Bool). b && not s.stop_flag) (alive_renamed k s)
 
-way_renamed : (k : More) (o : Order) (s : State) (run : Run) (w : Way) →
+way_renamed : (k : Frees) (o : Order) (s : State) (run : Run) (w : Way) →
     steps.goes_by o (renamed k s) run w ≡ renamed_next k (steps.goes_by o s run w)
 way_renamed k V145 s run (ToTimers timers_of.Entry) = refl
 way_renamed k V145 s run (ToTimers timers_of.Iteration) = refl
@@ -47,12 +47,12 @@ way_renamed k V144 s run ToPending = refl
 way_renamed k o s run ToEnd =
     ap (λ (b : Bool). Moves (record (renamed k s) { place = Main (run.line + 1); stop_flag = false }) (Some (seen.End b))) (alive_renamed k s)
 
-turn_renamed : (k : More) (o : Order) (s : State) (run : Run) (turn : Turn) →
+turn_renamed : (k : Frees) (o : Order) (s : State) (run : Run) (turn : Turn) →
     steps.turns o (renamed k s) run turn ≡ renamed_next k (steps.turns o s run turn)
 turn_renamed k o s run turn = ap (λ (b : Bool). steps.goes_by o (renamed k s) run (steps.way o run.mode b turn)) (goes_renamed k s)
     ∙ way_renamed k o s run (steps.way o run.mode (steps.goes s) turn)
 
-calls_renamed : (p : Program) (k : More) (s : State) (run : Run) (kind : Callback) (v : Var) (line : Seen) →
+calls_renamed : (p : Program) (k : Frees) (s : State) (run : Run) (kind : Callback) (v : Var) (line : Seen) →
     steps.calls p (renamed k s) run kind v (renamed_line k line) ≡ renamed_next k (steps.calls p s run kind v line)
 calls_renamed p k s run kind v line =
     let counts = counted kind (named s v).calls in
@@ -66,13 +66,13 @@ calls_renamed p k s run kind v line =
     (Some (renamed_line k line)))
     (with_named_renamed k s v (record (named s v) { calls = counts }))
 
-call_renamed : (p : Program) (k : More) (s : State) (run : Run) (id : Id) (v : Var) →
+call_renamed : (p : Program) (k : Frees) (s : State) (run : Run) (id : Id) (v : Var) →
     steps.call p (renamed k s) run (rename k id) v ≡ renamed_next k (steps.call p s run id v)
 call_renamed p k s run id v = calls_renamed p k s run callback.Handle v (seen.Call v id)
 
 -- ---- the timers
 
-fire_renamed : (p : Program) (k : More) (s : State) (run : Run) (part : TimersOf) →
+fire_renamed : (p : Program) (k : Frees) (s : State) (run : Run) (part : TimersOf) →
     steps.fire p (renamed k s) run part ≡ renamed_next k (steps.fire p s run part)
 fire_renamed p k s run part = found_shift (renamed_next k) (renamed_pair k) (front s s.ready) (front (renamed k s) (map (rename k) s.ready)) _ _ _ _
     (front_renamed k s s.ready)
@@ -84,7 +84,7 @@ fire_renamed p k s run part = found_shift (renamed_next k) (renamed_pair k) (fro
     ∙ call_renamed p k (restarted u t.0 t.1) fired t.0 t.1.name)
     (turn_renamed k (order_of p) s run (Behind part))
 
-collect_renamed : (p : Program) (k : More) (s : State) (run : Run) (part : TimersOf) →
+collect_renamed : (p : Program) (k : Frees) (s : State) (run : Run) (part : TimersOf) →
     steps.collect p (renamed k s) run part ≡ renamed_next k (steps.collect p s run part)
 collect_renamed p k s run part = found_shift (renamed_next k) (renamed_pair k) (steps.first_due s s.timers)
     (steps.first_due (renamed k s) (map (renamed_entry k) s.timers)) _ _ _ _
@@ -92,7 +92,7 @@ collect_renamed p k s run part = found_shift (renamed_next k) (renamed_pair k) (
     (λ t e. ap (λ (u : State). Moves (steps.at u run (Timers part Collecting)) None) (collected_renamed k s t.0 t.1))
     (fire_renamed p k s run part)
 
-call_due_renamed : (p : Program) (k : More) (s : State) (run : Run) (part : TimersOf) →
+call_due_renamed : (p : Program) (k : Frees) (s : State) (run : Run) (part : TimersOf) →
     steps.call_due p (renamed k s) run part ≡ renamed_next k (steps.call_due p s run part)
 call_due_renamed p k s run part = found_shift (renamed_next k) (renamed_pair k) (steps.first_due s s.timers)
     (steps.first_due (renamed k s) (map (renamed_entry k) s.timers)) _ _ _ _
@@ -104,7 +104,7 @@ call_due_renamed p k s run part = found_shift (renamed_next k) (renamed_pair k) 
     ∙ call_renamed p k (restarted u t.0 t.1) fired t.0 t.1.name)
     (turn_renamed k (order_of p) s run (Behind part))
 
-timers_renamed : (p : Program) (k : More) (s : State) (run : Run) (part : TimersOf) (timing : Timing) →
+timers_renamed : (p : Program) (k : Frees) (s : State) (run : Run) (part : TimersOf) (timing : Timing) →
     steps.timers p (renamed k s) run part timing ≡ renamed_next k (steps.timers p s run part timing)
 timers_renamed p k s run part Collecting = if_shift (renamed_next k) (from_heap p) (from_heap p) _ _ _ _ refl (call_due_renamed p k s run part)
     (collect_renamed p k s run part)
@@ -112,7 +112,7 @@ timers_renamed p k s run part Firing = fire_renamed p k s run part
 
 -- ---- the poll
 
-begin_poll_renamed : (k : More) (s : State) (run : Run) → steps.begin_poll (renamed k s) run ≡ renamed_next k (steps.begin_poll s run)
+begin_poll_renamed : (k : Frees) (s : State) (run : Run) → steps.begin_poll (renamed k s) run ≡ renamed_next k (steps.begin_poll s run)
 begin_poll_renamed k s run =
     ap (λ (t : Option ℕ). Moves (steps.at (renamed k s) run (Poll (deadline_of (renamed k s) t))) (Some (seen.Poll t)))
     (poll_timeout_renamed k s run.mode)
@@ -122,10 +122,10 @@ begin_poll_renamed k s run =
       deadline_renamed None = refl
       deadline_renamed (Some timeout) = refl
 
-woken_renamed : (k : More) (s : State) → steps.is_woken (renamed k s) ≡ steps.is_woken s
+woken_renamed : (k : Frees) (s : State) → steps.is_woken (renamed k s) ≡ steps.is_woken s
 woken_renamed k s = ap₂ (λ (a b : Bool). a || b) (some_renamed k s.done.list) (pending_renamed k s)
 
-poll_renamed : (k : More) (s : State) (run : Run) (deadline : Option ℕ) →
+poll_renamed : (k : Frees) (s : State) (run : Run) (deadline : Option ℕ) →
     steps.poll (renamed k s) run deadline ≡ renamed_next k (steps.poll s run deadline)
 poll_renamed k s run deadline = if_shift (renamed_next k) (steps.may_leave s deadline) (steps.may_leave (renamed k s) deadline) _ _ _ _
     (ap (λ (b : Bool). has_passed s.clock deadline || b) (woken_renamed k s))
@@ -134,21 +134,21 @@ poll_renamed k s run deadline = if_shift (renamed_next k) (steps.may_leave s dea
 
 -- ---- the sections that walk a list
 
-after_walk_renamed : (k : More) (s : State) (run : Run) (kind : WatcherKind) →
+after_walk_renamed : (k : Frees) (s : State) (run : Run) (kind : WatcherKind) →
     steps.after_walk (renamed k s) run kind ≡ renamed_next k (steps.after_walk s run kind)
 after_walk_renamed k s run watcher.Idle = refl
 after_walk_renamed k s run watcher.Prepare = begin_poll_renamed k s run
 after_walk_renamed k s run watcher.Check = refl
 after_walk_renamed k s run watcher.Async = refl
 
-yet_renamed : (k : More) (s : State) (kind : WatcherKind) →
+yet_renamed : (k : Frees) (s : State) (kind : WatcherKind) →
     front (renamed k s) (watched (renamed k s) kind).yet ≡ option_map (renamed_pair k) (front s (watched s kind).yet)
 yet_renamed k s watcher.Idle = front_renamed k s s.watchers.idle.yet
 yet_renamed k s watcher.Prepare = front_renamed k s s.watchers.prepare.yet
 yet_renamed k s watcher.Check = front_renamed k s s.watchers.check.yet
 yet_renamed k s watcher.Async = front_renamed k s s.watchers.async.yet
 
-moved_renamed : (k : More) (s : State) (kind : WatcherKind) (id : Id) →
+moved_renamed : (k : Frees) (s : State) (kind : WatcherKind) (id : Id) →
     steps.front_moved (renamed k s) kind (rename k id) ≡ renamed k (steps.front_moved s kind id)
 moved_renamed k s watcher.Idle id = ap₂ (λ (list yet : List Id). record (renamed k s) {
   watchers = record (renamed_watchers k s.watchers) { idle = record { list = list; yet = yet } };
@@ -163,7 +163,7 @@ moved_renamed k s watcher.Async id = ap₂ (λ (list yet : List Id). record (ren
   watchers = record (renamed_watchers k s.watchers) { async = record { list = list; yet = yet } };
 }) (append_map (rename k) s.watchers.async.list id) (drop_map (rename k) s.watchers.async.yet)
 
-walk_renamed : (p : Program) (k : More) (s : State) (run : Run) (kind : WatcherKind) →
+walk_renamed : (p : Program) (k : Frees) (s : State) (run : Run) (kind : WatcherKind) →
     steps.walk p (renamed k s) run kind ≡ renamed_next k (steps.walk p s run kind)
 walk_renamed p k s run kind = found_shift (renamed_next k) (renamed_pair k) (front s (watched s kind).yet)
     (front (renamed k s) (watched (renamed k s) kind).yet) _ _ _ _
@@ -172,7 +172,7 @@ walk_renamed p k s run kind = found_shift (renamed_next k) (renamed_pair k) (fro
     ∙ call_renamed p k (steps.front_moved s kind t.0) run t.0 t.1.name)
     (after_walk_renamed k s run kind)
 
-walk_async_renamed : (p : Program) (k : More) (s : State) (run : Run) →
+walk_async_renamed : (p : Program) (k : Frees) (s : State) (run : Run) →
     steps.walk_async p (renamed k s) run ≡ renamed_next k (steps.walk_async p s run)
 walk_async_renamed p k s run = found_shift (renamed_next k) (renamed_pair k) (front s s.watchers.async.yet)
     (front (renamed k s) (map (rename k) s.watchers.async.yet)) _ _ _ _
@@ -186,7 +186,7 @@ walk_async_renamed p k s run = found_shift (renamed_next k) (renamed_pair k) (fr
     (ap (λ (x : State). Moves (steps.at x run (Walking watcher.Async)) None) same))
     (after_walk_renamed k s run watcher.Async)
 
-in_walk_renamed : (p : Program) (k : More) (s : State) (run : Run) (kind : WatcherKind) →
+in_walk_renamed : (p : Program) (k : Frees) (s : State) (run : Run) (kind : WatcherKind) →
     steps.in_walk p (renamed k s) run kind ≡ renamed_next k (steps.in_walk p s run kind)
 in_walk_renamed p k s run watcher.Async = walk_async_renamed p k s run
 in_walk_renamed p k s run watcher.Idle = walk_renamed p k s run watcher.Idle
@@ -214,7 +214,7 @@ front_request_held : (s : State) (ids : List Id) (t : Id × Request) → front_r
 front_request_held s [] t e = cc e
 front_request_held s (id ∷ ids) t e = ap (request s) (sym (request_id id (request s id) t e)) ∙ request_of id (request s id) t e
 
-close_front_renamed : (p : Program) (k : More) (s : State) (run : Run) → CanRename p k s →
+close_front_renamed : (p : Program) (k : Frees) (s : State) (run : Run) → CanRename p k s →
     steps.close_front p (renamed k s) run ≡ renamed_next k (steps.close_front p s run)
 close_front_renamed p k s run h = found_shift (renamed_next k) (renamed_pair k) (front s s.closing.yet)
     (front (renamed k s) (map (rename k) s.closing.yet)) _ _ _ _
@@ -229,7 +229,7 @@ close_front_renamed p k s run h = found_shift (renamed_next k) (renamed_pair k) 
     ∙ calls_renamed p k gone run callback.Close t.1.name line)
     (turn_renamed k (order_of p) s run BehindClosing)
 
-collect_request_renamed : (p : Program) (k : More) (s : State) (run : Run) → CanRename p k s →
+collect_request_renamed : (p : Program) (k : Frees) (s : State) (run : Run) → CanRename p k s →
     steps.collect_request p (renamed k s) run ≡ renamed_next k (steps.collect_request p s run)
 collect_request_renamed p k s run h = found_shift (renamed_next k) (renamed_pair k) (front_request s s.done.yet)
     (front_request (renamed k s) (map (rename k) s.done.yet)) _ _ _ _
@@ -246,7 +246,7 @@ collect_request_renamed p k s run h = found_shift (renamed_next k) (renamed_pair
 
 -- ---- the loop's own steps
 
-stage_renamed : (p : Program) (k : More) (s : State) (run : Run) (stage : Stage) → CanRename p k s →
+stage_renamed : (p : Program) (k : Frees) (s : State) (run : Run) (stage : Stage) → CanRename p k s →
     steps.stage_step p (renamed k s) run stage ≡ renamed_next k (steps.stage_step p s run stage)
 stage_renamed p k s run Entry h = turn_renamed k (order_of p) s run AtEntry
 stage_renamed p k s run Pending h = refl
@@ -259,7 +259,7 @@ stage_renamed p k s run DoneUnwoken h = refl
 stage_renamed p k s run Closing h = close_front_renamed p k s run h
 stage_renamed p k s run (Timers part when) h = timers_renamed p k s run part when
 
-body_renamed : (p : Program) (k : More) (s : State) (run : Run) (body : Body) (x : Option CallbackLine) → CanRename p k s →
+body_renamed : (p : Program) (k : Frees) (s : State) (run : Run) (body : Body) (x : Option CallbackLine) → CanRename p k s →
     steps.body_step p (renamed k s) run body x ≡ renamed_next k (steps.body_step p s run body x)
 body_renamed p k s run body None h = refl
 body_renamed p k s run body (Some line) h =
@@ -267,12 +267,12 @@ body_renamed p k s run body (Some line) h =
     ap (λ (x : ops.Done). Moves (record x.state { place = place }) (Some (seen.Op (site.In body.callback body.name body.next) x.answer)))
     (op_renamed k s line.op h.unused)
 
-run_renamed : (p : Program) (k : More) (s : State) (run : Run) (body : Option Body) → CanRename p k s →
+run_renamed : (p : Program) (k : Frees) (s : State) (run : Run) (body : Option Body) → CanRename p k s →
     steps.run_step p (renamed k s) run body ≡ renamed_next k (steps.run_step p s run body)
 run_renamed p k s run None h = stage_renamed p k s run run.stage h
 run_renamed p k s run (Some body) h = body_renamed p k s run body (slice_get (lines_in p body.callback body.name) body.next) h
 
-main_renamed : (p : Program) (k : More) (s : State) (line : ℕ) (x : Option MainOp) → CanRename p k s →
+main_renamed : (p : Program) (k : Frees) (s : State) (line : ℕ) (x : Option MainOp) → CanRename p k s →
     steps.main_step (order_of p) (renamed k s) line x ≡ renamed_next k (steps.main_step (order_of p) s line x)
 main_renamed p k s line None h = refl
 main_renamed p k s line (Some (main.Run mode)) h =
@@ -283,49 +283,49 @@ main_renamed p k s line (Some (main.Run mode)) h =
 main_renamed p k s line (Some (main.Op o)) h =
     ap (λ (x : ops.Done). Moves (record x.state { place = Main (line + 1) }) (Some (seen.Op (site.Main line) x.answer))) (op_renamed k s o h.unused)
 
-loop_renamed : (p : Program) (k : More) (s : State) (place : Place) → CanRename p k s →
+loop_renamed : (p : Program) (k : Frees) (s : State) (place : Place) → CanRename p k s →
     steps.loop_step p (renamed k s) place ≡ renamed_next k (steps.loop_step p s place)
 loop_renamed p k s (Main line) h = main_renamed p k s line (slice_get p.main line) h
 loop_renamed p k s (Running run) h = run_renamed p k s run run.body h
 
 -- ---- what comes from outside
 
-tick_renamed : (k : More) (s : State) (ms : ℕ) → steps.tick (renamed k s) ms ≡ renamed_next k (steps.tick s ms)
+tick_renamed : (k : Frees) (s : State) (ms : ℕ) → steps.tick (renamed k s) ms ≡ renamed_next k (steps.tick s ms)
 tick_renamed k s ms = if_shift (renamed_next k) (nat_le (s.clock + ms) LATEST) (nat_le (s.clock + ms) LATEST) _ _ _ _ refl refl refl
 
 length_map : {A B : Type 0} (f : A → B) (xs : List A) → length (map f xs) ≡ length xs
 length_map f [] = refl
 length_map f (x ∷ xs) = ap (λ (n : ℕ). suc n) (length_map f xs)
 
-known_renamed : (k : More) (s : State) (v : Var) → nat_lt v.0 (length (map (renamed_named k) s.names)) ≡ nat_lt v.0 (length s.names)
+known_renamed : (k : Frees) (s : State) (v : Var) → nat_lt v.0 (length (map (renamed_named k) s.names)) ≡ nat_lt v.0 (length s.names)
 known_renamed k s v = ap (nat_lt v.0) (length_map (renamed_named k) s.names)
 
-sent_to_renamed : (k : More) (s : State) (v : Var) → steps.sent_to (renamed k s) v ≡ renamed_next k (steps.sent_to s v)
+sent_to_renamed : (k : Frees) (s : State) (v : Var) → steps.sent_to (renamed k s) v ≡ renamed_next k (steps.sent_to s v)
 sent_to_renamed k s v = if_shift (renamed_next k) (nat_lt v.0 (length s.names)) (nat_lt v.0 (length (map (renamed_named k) s.names))) _ _ _ _
     (known_renamed k s v)
     (ap (λ (c : Coded). Moves c.state (Some (seen.Send v c.code))) (send_renamed k s v))
     refl
 
-cancels_renamed : (k : More) (s : State) (v : Var) → steps.cancels (renamed k s) v ≡ renamed_next k (steps.cancels s v)
+cancels_renamed : (k : Frees) (s : State) (v : Var) → steps.cancels (renamed k s) v ≡ renamed_next k (steps.cancels s v)
 cancels_renamed k s v = if_shift (renamed_next k) (nat_lt v.0 (length s.names)) (nat_lt v.0 (length (map (renamed_named k) s.names))) _ _ _ _
     (known_renamed k s v)
     (ap (λ (x : ops.Done). Moves x.state (Some (seen.Cancel v x.answer)))
     (ap (cancel (renamed k s)) (live_request_renamed k s v) ∙ cancel_renamed k s (live_request s v)))
     refl
 
-found_work : (k : More) (w : Why) (o : Option (Id × Request)) →
+found_work : (k : Frees) (w : Why) (o : Option (Id × Request)) →
     found_or (option_map (renamed_pair k) o) Ok (Err w) ≡ renamed_found k (found_or o Ok (Err w))
 found_work k w None = refl
 found_work k w (Some t) = refl
 
-next_work_renamed : (k : More) (s : State) (o : Option (Option Id)) →
+next_work_renamed : (k : Frees) (s : State) (o : Option (Option Id)) →
     steps.next_work (renamed k s) (option_map (option_map (rename k)) o) ≡ renamed_found k (steps.next_work s o)
 next_work_renamed k s None = refl
 next_work_renamed k s (Some (Some id)) = refl
 next_work_renamed k s (Some None) = ap (λ (x : Option (Id × Request)). found_or x Ok (Err why.NoWork)) (front_request_renamed k s s.waiting)
     ∙ found_work k why.NoWork (front_request s s.waiting)
 
-take_renamed : (k : More) (s : State) (n : ℕ) (t : Result (Id × Request) Why) →
+take_renamed : (k : Frees) (s : State) (n : ℕ) (t : Result (Id × Request) Why) →
     steps.take (renamed k s) n (renamed_found k t) ≡ renamed_next k (steps.take s n t)
 take_renamed k s n (Err w) = refl
 take_renamed k s n (Ok t) =
@@ -333,7 +333,7 @@ take_renamed k s n (Ok t) =
     Moves (record (renamed k s) { waiting = ids; running = running }) (Some (seen.Take n t.1.name (rename k t.0))))
     (drop_map (rename k) s.waiting) (set_map (option_map (rename k)) s.running n (Some t.0))
 
-work_of_renamed : (k : More) (s : State) (o : Option (Option Id)) →
+work_of_renamed : (k : Frees) (s : State) (o : Option (Option Id)) →
     steps.work_of (renamed k s) (option_map (option_map (rename k)) o) ≡ renamed_found k (steps.work_of s o)
 work_of_renamed k s None = refl
 work_of_renamed k s (Some None) = refl
@@ -341,7 +341,7 @@ work_of_renamed k s (Some (Some id)) = ap (λ (x : Option (Id × Request)). foun
     (ap (with_id (rename k id)) (request_renamed k s id) ∙ with_id_renamed k id (request s id))
     ∙ found_work k IdleWorker (with_id id (request s id))
 
-finish_renamed : (k : More) (s : State) (n : ℕ) (t : Result (Id × Request) Why) →
+finish_renamed : (k : Frees) (s : State) (n : ℕ) (t : Result (Id × Request) Why) →
     steps.finish (renamed k s) n (renamed_found k t) ≡ renamed_next k (steps.finish s n t)
 finish_renamed k s n (Err w) = refl
 finish_renamed k s n (Ok t) =
@@ -354,7 +354,7 @@ finish_renamed k s n (Ok t) =
 
 -- ---- I/O
 
-takes_renamed : (k : More) (s : State) (stage : Stage) (body : Option Body) → steps.takes_io (renamed k s) stage body ≡ steps.takes_io s stage body
+takes_renamed : (k : Frees) (s : State) (stage : Stage) (body : Option Body) → steps.takes_io (renamed k s) stage body ≡ steps.takes_io s stage body
 takes_renamed k s stage (Some body) = refl
 takes_renamed k s Entry None = refl
 takes_renamed k s Pending None = refl
@@ -369,18 +369,18 @@ takes_renamed k s DoneUnwoken None = refl
 takes_renamed k s Closing None = refl
 takes_renamed k s (Timers part when) None = refl
 
-io_run_renamed : (p : Program) (k : More) (s : State) (place : Place) → steps.io_run p (renamed k s) place ≡ steps.io_run p s place
+io_run_renamed : (p : Program) (k : Frees) (s : State) (place : Place) → steps.io_run p (renamed k s) place ≡ steps.io_run p s place
 io_run_renamed p k s (Main line) = refl
 io_run_renamed p k s (Running run) = ap (λ (b : Bool). if has_io p && b then Some run else None) (takes_renamed k s run.stage run.body)
 
-io_handle_renamed : (k : More) (t : Result (Id × HandleRecord) Code) → steps.io_handle (renamed_found k t) ≡ option_map (rename k) (steps.io_handle t)
+io_handle_renamed : (k : Frees) (t : Result (Id × HandleRecord) Code) → steps.io_handle (renamed_found k t) ≡ option_map (rename k) (steps.io_handle t)
 io_handle_renamed k (Err code) = refl
 io_handle_renamed k (Ok t) = by (records.is_io t.1.kind && t.1.active) where
   by : (b : Bool) → (if b then Some (rename k t.0) else None) ≡ option_map (rename k) (if b then Some t.0 else None)
   by true = refl
   by false = refl
 
-stage_polled_renamed : (k : More) (s : State) (stage : Stage) → steps.stage_polled (renamed k s) stage ≡ steps.stage_polled s stage
+stage_polled_renamed : (k : Frees) (s : State) (stage : Stage) → steps.stage_polled (renamed k s) stage ≡ steps.stage_polled s stage
 stage_polled_renamed k s (Poll deadline) = ap Polled (woken_renamed k s)
 stage_polled_renamed k s Entry = refl
 stage_polled_renamed k s Pending = refl
@@ -391,7 +391,7 @@ stage_polled_renamed k s DoneUnwoken = refl
 stage_polled_renamed k s Closing = refl
 stage_polled_renamed k s (Timers part when) = refl
 
-time_as : (k : More) (s : State) (stage : Stage) → steps.time_polled (renamed k s) stage ≡ steps.time_polled s stage
+time_as : (k : Frees) (s : State) (stage : Stage) → steps.time_polled (renamed k s) stage ≡ steps.time_polled s stage
 time_as k s (Poll deadline) = refl
 time_as k s Entry = refl
 time_as k s Pending = refl
@@ -402,7 +402,7 @@ time_as k s DoneUnwoken = refl
 time_as k s Closing = refl
 time_as k s (Timers part when) = refl
 
-call_io_renamed : (p : Program) (k : More) (s : State) (v : Var) (r : Option Run) (o : Option Id) →
+call_io_renamed : (p : Program) (k : Frees) (s : State) (v : Var) (r : Option Run) (o : Option Id) →
     steps.call_io p (renamed k s) v r (option_map (rename k) o) ≡ renamed_next k (steps.call_io p s v r o)
 call_io_renamed p k s v None None = refl
 call_io_renamed p k s v None (Some id) = refl
@@ -415,7 +415,7 @@ call_io_renamed p k s v (Some run) (Some id) =
     ∙ calls_renamed p k (record s { time = steps.time_polled s run.stage }) (record run { stage = steps.stage_polled s run.stage })
     callback.Handle v line
 
-io_renamed : (p : Program) (k : More) (s : State) (v : Var) → steps.io p (renamed k s) v ≡ renamed_next k (steps.io p s v)
+io_renamed : (p : Program) (k : Frees) (s : State) (v : Var) → steps.io p (renamed k s) v ≡ renamed_next k (steps.io p s v)
 io_renamed p k s v = if_shift (renamed_next k) (nat_lt v.0 (length s.names)) (nat_lt v.0 (length (map (renamed_named k) s.names))) _ _ _ _
     (known_renamed k s v)
     (ap₂ (λ (r : Option Run) (o : Option Id). steps.call_io p (renamed k s) v r o) (io_run_renamed p k s s.place)
@@ -425,11 +425,11 @@ io_renamed p k s v = if_shift (renamed_next k) (nat_lt v.0 (length s.names)) (na
 
 -- ---- one step
 
-by_worker : (k : More) (s : State) (n : ℕ) →
+by_worker : (k : Frees) (s : State) (n : ℕ) →
     slice_get (map (option_map (rename k)) s.running) n ≡ option_map (option_map (rename k)) (slice_get s.running n)
 by_worker k s n = slice_get-map (option_map (rename k)) s.running n
 
-pub next_renamed : (p : Program) (k : More) (s : State) (e : Event) → CanRename p k s → next p (renamed k s) e ≡ renamed_next k (next p s e)
+pub next_renamed : (p : Program) (k : Frees) (s : State) (e : Event) → CanRename p k s → next p (renamed k s) e ≡ renamed_next k (next p s e)
 unfolding next
 next_renamed p k s Loop h = loop_renamed p k s s.place h
 next_renamed p k s (Take n) h =

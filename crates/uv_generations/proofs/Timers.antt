@@ -8,12 +8,12 @@ use Rattle.uv_records.specs.Handles as records
 use Rattle.uv_model.specs.Timeout.{until_first, backend_timeout, poll_timeout}
 use Rattle.uv_model.specs.Next.{first_due, collected}
 use Rattle.uv_shift.proofs.Cases.{if_shift}
-use Rattle.uv_generations.specs.More.{More}
+use Rattle.uv_generations.specs.More.{Frees}
 use Rattle.uv_generations.proofs.More.{rename, renamed, renamed_entry}
 use Rattle.uv_generations.proofs.Lists.{drop_map, append_map, without_renamed, watchers_without_renamed}
 use Rattle.uv_generations.proofs.Slots.{renamed_pair, handle_renamed, with_id_renamed, with_handle_renamed, alive_renamed, idle_renamed, closes_renamed}
 
-insert_renamed : (k : More) (ts : List (Due × Id)) (due : Due) (id : Id) →
+insert_renamed : (k : Frees) (ts : List (Due × Id)) (due : Due) (id : Id) →
     with_timer (map (renamed_entry k) ts) due (rename k id) ≡ map (renamed_entry k) (with_timer ts due id)
 insert_renamed k [] due id = refl
 insert_renamed k (t ∷ ts) due id = by (due_cmp due t.0) (insert_renamed k ts due id) where
@@ -25,30 +25,30 @@ insert_renamed k (t ∷ ts) due id = by (due_cmp due t.0) (insert_renamed k ts d
   by Equal h = refl
   by Greater h = ap (λ (us : List (Due × Id)). renamed_entry k t ∷ us) h
 
-remove_renamed : (k : More) (ts : List (Due × Id)) (due : Due) →
+remove_renamed : (k : Frees) (ts : List (Due × Id)) (due : Due) →
     without_timer (map (renamed_entry k) ts) due ≡ map (renamed_entry k) (without_timer ts due)
 remove_renamed k [] due = refl
 remove_renamed k (t ∷ ts) due = if_shift (map (renamed_entry k)) (is_at (due_cmp due) t.0) (is_at (due_cmp due) t.0) _ _ _ _
     refl refl (ap (λ (us : List (Due × Id)). renamed_entry k t ∷ us) (remove_renamed k ts due))
 
-off_renamed : (k : More) (on : Bool) (ts : List (Due × Id)) (due : Due) →
+off_renamed : (k : Frees) (on : Bool) (ts : List (Due × Id)) (due : Due) →
     (if on then without_timer (map (renamed_entry k) ts) due else map (renamed_entry k) ts)
     ≡ map (renamed_entry k) (if on then without_timer ts due else ts)
 off_renamed k true ts due = remove_renamed k ts due
 off_renamed k false ts due = refl
 
-pub taken_off_renamed : (k : More) (s : State) (id : Id) (h : HandleRecord) → taken_off (renamed k s) (rename k id) h ≡ renamed k (taken_off s id h)
+pub taken_off_renamed : (k : Frees) (s : State) (id : Id) (h : HandleRecord) → taken_off (renamed k s) (rename k id) h ≡ renamed k (taken_off s id h)
 taken_off_renamed k s id h =
     let timers = off_renamed k (is_timer h.kind && h.active) s.timers h.due in
     let ready = without_renamed k s.ready id in
     let watchers = watchers_without_renamed k s.watchers id in
     λ i. record (renamed k s) { timers = timers i; ready = ready i; watchers = watchers i }
 
-pub stopped_renamed : (k : More) (s : State) (id : Id) (h : HandleRecord) → stopped (renamed k s) (rename k id) h ≡ renamed k (stopped s id h)
+pub stopped_renamed : (k : Frees) (s : State) (id : Id) (h : HandleRecord) → stopped (renamed k s) (rename k id) h ≡ renamed k (stopped s id h)
 stopped_renamed k s id h = ap (λ (t : State). with_handle t (rename k id) (records.stopped h)) (taken_off_renamed k s id h)
     ∙ with_handle_renamed k (taken_off s id h) id (records.stopped h)
 
-pub started_renamed : (k : More) (s : State) (id : Id) (h : HandleRecord) (timeout repeat : ℕ) →
+pub started_renamed : (k : Frees) (s : State) (id : Id) (h : HandleRecord) (timeout repeat : ℕ) →
     started (renamed k s) (rename k id) h timeout repeat ≡ renamed k (started s id h timeout repeat)
 started_renamed k s id h timeout repeat =
     let due = due_after s timeout in
@@ -57,16 +57,16 @@ started_renamed k s id h timeout repeat =
     (insert_renamed k s.timers due id)
     ∙ with_handle_renamed k u id (begun_at due repeat h)
 
-pub restarted_renamed : (k : More) (s : State) (id : Id) (h : HandleRecord) → restarted (renamed k s) (rename k id) h ≡ renamed k (restarted s id h)
+pub restarted_renamed : (k : Frees) (s : State) (id : Id) (h : HandleRecord) → restarted (renamed k s) (rename k id) h ≡ renamed k (restarted s id h)
 restarted_renamed k s id h = if_shift (renamed k) (h.repeat == 0) (h.repeat == 0) _ _ _ _ refl refl (started_renamed k s id h h.repeat h.repeat)
 
-pub first_due_renamed : (k : More) (s : State) (ts : List (Due × Id)) →
+pub first_due_renamed : (k : Frees) (s : State) (ts : List (Due × Id)) →
     first_due (renamed k s) (map (renamed_entry k) ts) ≡ option_map (renamed_pair k) (first_due s ts)
 first_due_renamed k s [] = refl
 first_due_renamed k s (t ∷ ts) = if_shift (option_map (renamed_pair k)) (nat_le t.0.at s.time) (nat_le t.0.at s.time) _ _ _ _
     refl (ap (with_id (rename k t.1)) (handle_renamed k s t.1) ∙ with_id_renamed k t.1 (handle s t.1)) refl
 
-pub collected_renamed : (k : More) (s : State) (id : Id) (h : HandleRecord) → collected (renamed k s) (rename k id) h ≡ renamed k (collected s id h)
+pub collected_renamed : (k : Frees) (s : State) (id : Id) (h : HandleRecord) → collected (renamed k s) (rename k id) h ≡ renamed k (collected s id h)
 collected_renamed k s id h =
     let u = record s { timers = drop 1 s.timers; ready = s.ready ++ id ∷ [] } in
     ap₂ (λ (ts : List (Due × Id)) (ids : List Id). with_handle (record (renamed k s) { timers = ts; ready = ids }) (rename k id) (records.stopped h))
@@ -75,11 +75,11 @@ collected_renamed k s id h =
 
 -- ---- how long a poll waits
 
-until_renamed : (k : More) (time : ℕ) (ts : List (Due × Id)) → until_first time (map (renamed_entry k) ts) ≡ until_first time ts
+until_renamed : (k : Frees) (time : ℕ) (ts : List (Due × Id)) → until_first time (map (renamed_entry k) ts) ≡ until_first time ts
 until_renamed k time [] = refl
 until_renamed k time (t ∷ ts) = refl
 
-pub backend_timeout_renamed : (k : More) (s : State) → backend_timeout (renamed k s) ≡ backend_timeout s
+pub backend_timeout_renamed : (k : Frees) (s : State) → backend_timeout (renamed k s) ≡ backend_timeout s
 backend_timeout_renamed k s =
     let alive = alive_renamed k s in
     let idle = idle_renamed k s in
@@ -88,7 +88,7 @@ backend_timeout_renamed k s =
     λ i. if s.stop_flag then Some 0
     else (if not (alive i) then Some 0 else (if idle i then Some 0 else (if closes i then Some 0 else until i)))
 
-pub poll_timeout_renamed : (k : More) (s : State) (mode : Mode) → poll_timeout (renamed k s) mode ≡ poll_timeout s mode
+pub poll_timeout_renamed : (k : Frees) (s : State) (mode : Mode) → poll_timeout (renamed k s) mode ≡ poll_timeout s mode
 poll_timeout_renamed k s Nowait = refl
 poll_timeout_renamed k s Once = ap (λ (t : Option ℕ). if s.idled then Some 0 else t) (backend_timeout_renamed k s)
 poll_timeout_renamed k s Default = backend_timeout_renamed k s

@@ -10,23 +10,23 @@ use Rattle.uv_model.specs.Next.{Next}
 use Rattle.uv_generations.specs.Renamed.{Renaming, renamed, renamed_line, renamed_next}
 
 -- how many times more each slot was freed, by its number
-abbrev pub More : Type 0
-More = ℕ → ℕ
+abbrev pub Frees : Type 0
+Frees = ℕ → ℕ
 
-abbrev pub freed_more : More → Renaming
+abbrev pub freed_more : Frees → Renaming
 freed_more k = λ slot generation. generation + k slot
 
-abbrev pub more : More → State → State
+abbrev pub more : Frees → State → State
 more k s = renamed (freed_more k) s
 
-abbrev pub more_line : More → Seen → Seen
+abbrev pub more_line : Frees → Seen → Seen
 more_line k line = renamed_line (freed_more k) line
 
-abbrev pub more_next : More → Next → Next
+abbrev pub more_next : Frees → Next → Next
 more_next k x = renamed_next (freed_more k) x
 
 -- where a step is that of the state itself, renamed
-pub record CanRename (p : Program) (k : More) (s : State) : Type 0 where
+pub record CanRename (p : Program) (k : Frees) (s : State) : Type 0 where
   -- the slot that is used next for the first time was never freed
   pub unused : k (length s.arena.slots) ≡ 0
   -- none that holds something comes to its last generation as it is freed

@@ -14,12 +14,12 @@ use Rattle.uv_model.specs.State.{State, watched}
 use Rattle.uv_model.specs.Next.{Next, Moves}
 use Rattle.uv_order.specs.Active.{has_id, run_ids, Has}
 use Rattle.uv_generations.specs.Renamed.{Renaming, renamed, renamed_line}
-use Rattle.uv_generations.specs.More.{More}
+use Rattle.uv_generations.specs.More.{Frees}
 
-abbrev pub freed_less : More → Renaming
+abbrev pub freed_less : Frees → Renaming
 freed_less k = λ slot generation. generation - k slot
 
-abbrev pub less : More → State → State
+abbrev pub less : Frees → State → State
 less k s = renamed (freed_less k) s
 
 -- ---- the least generation of each slot
@@ -39,7 +39,7 @@ least_of slot names None = 0
 least_of slot names (Some it) = least_bound slot names it.generation
 
 -- how many times more the slots of a state were freed than those of its youngest form
-abbrev pub base : State → More
+abbrev pub base : State → Frees
 base s = λ slot. least_of slot s.names (slice_get s.arena.slots slot)
 
 abbrev pub youngest : State → State
