@@ -54,7 +54,7 @@ earliest s = back (base s) s
 
 -- ---- what holds of each state that steps lead to, where the script's numbers are small
 
--- the order of timers is that of the active timers, and no due time that the next step sets comes to the largest number
+-- the order of timers is that of the active timers, and no due time that the next step sets is cut at the largest number
 pub record IsTimed (p : Program) (s : State) : Type 0 where
   pub timers : AreTimers s s.timers
   pub fits : TimesFit p s

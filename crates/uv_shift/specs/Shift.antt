@@ -34,12 +34,12 @@ shift_next p d x = retimed_next p (later d) x
 
 -- ---- where a step is that of the earlier state, moved
 
--- the due time of a start doesn't come to the largest number
+-- the due time of a start isn't cut at the largest number
 abbrev pub FitsOp : ℕ → Op → Type 0
 FitsOp time (op.Start v timeout repeat) = time + timeout < 2 ^ 64
 FitsOp time o = Unit {0}
 
--- no due time that the next step sets comes to the largest number, and who is called as a timer is one
+-- no due time that the next step sets is cut at the largest number, and who is called as a timer is one
 pub record TimesFit (p : Program) (s : State) : Type 0 where
   -- no timeout of the script is that long
   pub starts : (site : Site) (o : Op) → op_at p site ≡ Some o → FitsOp s.time o

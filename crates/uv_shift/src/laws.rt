@@ -12,7 +12,7 @@ ghost use Rattle.uv_shift.specs.Shift.{By, shift, shift_next, TimesFit, ClockFit
 ghost use Rattle.uv_shift.specs.Earliest.{base, earliest, IsTimed, GoesAlike};
 
 /// For every script, state and event: a step from a state whose times are all later by as many ms is the step from the state itself,
-/// with all times later. So long as no due time that it sets comes to the largest number, and the clock doesn't come to its limit. It
+/// with all times later. So long as no due time that it sets is cut at the largest number, and the clock doesn't come to its limit. It
 /// does nothing, and is called for its clause.
 pub fn times_shift()
     ensures { (p : Program) (d : By) (s : State) (e : Event) → TimesFit p (shift d s) → ClockFits (shift d s) e →
