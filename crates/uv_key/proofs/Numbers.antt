@@ -1,5 +1,5 @@
 -- The bytes of a number tell which one it is.
-use Rattle.std.proofs.Common.{arith, ◌≡◌, ◌⊎◌, inl, inr, ℕ, zero, suc, ◌+◌, ◌*◌, ◌<◌, ◌≤◌, ◌/◌, ◌%◌, true, false, cond, nat_lt, List, [], ◌∷◌, ◌++◌, refl, ap, sym, ◌∙◌, append_assoc}
+use Rattle.std.proofs.Common.{arith, ◌≡◌, ◌⊎◌, inl, inr, ℕ, zero, suc, ◌+◌, ◌*◌, ◌^◌, ◌<◌, ◌≤◌, ◌/◌, ◌%◌, length, true, false, cond, nat_lt, List, [], ◌∷◌, ◌++◌, refl, ap, sym, ◌∙◌, append_assoc}
 use Rattle.std.proofs.lemmas.Bool.{cases_lt}
 use Rattle.std.proofs.lemmas.Nat.{div_below, div-add-mod'}
 use Rattle.uv_key.specs.Codes.{digits, number_code, Tells}
@@ -77,3 +77,27 @@ one_byte out more start n rest l e k =
 pub last_byte : (out more start : List ℕ) (n rest : ℕ) → rest < 128 → more ≡ out ++ rest ∷ [] →
     out ++ number_code rest ≡ start ++ number_code n → more ≡ start ++ number_code n
 last_byte out more start n rest l e k = e ∙ ap (λ ds. out ++ ds) (sym (number_small rest l)) ∙ k
+
+-- ---- how many bytes
+
+pub length-small : (n : ℕ) → n < 128 → length (number_code n) ≡ 1
+length-small n l = ap length (number_small n l)
+
+pub length-large : (n : ℕ) → 128 ≤ n → length (number_code n) ≡ length (number_code (n / 128)) + 1
+length-large n l = ap length (number_large n l) ∙ omega arith
+
+-- at most so many and one
+length_upto : (k n : ℕ) → n < 128 ^ k * 128 → length (number_code n) ≤ k + 1
+length_upto zero n l = let one = length-small n (omega (arith, l)) in omega (arith, one)
+length_upto (suc k) n l = by (cases_lt n 128) (length_upto k (n / 128)) where
+  by : (n < 128) ⊎ (128 ≤ n) → (n / 128 < 128 ^ k * 128 → length (number_code (n / 128)) ≤ k + 1) → length (number_code n) ≤ suc k + 1
+  by (inl c) more = let one = length-small n c in omega (arith, one)
+  by (inr c) more =
+      let h : n < (128 ^ k * 128) * 128 = omega (arith, l) in
+      let rest = more (div_below n 128 (128 ^ k * 128) (omega arith) h) in
+      let one = length-large n c in
+      omega (arith, rest, one)
+
+-- a number of 64 bits is ten bytes at most
+pub length-number : (n : ℕ) → n < 2 ^ 64 → length (number_code n) ≤ 10
+length-number n l = length_upto 9 n (omega (arith, l))
