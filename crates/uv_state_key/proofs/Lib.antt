@@ -4,3 +4,4 @@ mod Timers
 mod Slots
 pub mod States
 pub mod Earliest
+pub mod Listed

@@ -1,30 +1,46 @@
 //! The bytes of names, and of what the slots hold.
-ghost use Rattle.std.specs.Prelude.{◌≡◌, ◌++◌, OnOk};
+ghost use Rattle.std.specs.Prelude.{◌≡◌, ◌+◌, ◌≤◌, ◌++◌, OnOk, vec_len, vec_capacity};
 ghost use Rattle.uv_work.specs.declared.request.Request.{Request};
 ghost use Rattle.uv_state_key.specs.Key.{calls_code, named_code, kind_number, flags_of, handle_code, outcome_number, request_code, content_code, slot_code};
 
-use crate::places::{bit, push_byte, push_id_option};
+use crate::places::{bit, put_byte, put_id_option};
 use std::alloc::AllocError;
 use uv_ids::Kind;
-use uv_key::{push_bytes, push_number};
+use uv_key::{push_bytes, put_number};
 use uv_records::{Calls, HandleRecord, Named, Slot};
 use uv_work::{Content, Outcome, Request};
 
 #[tactic(auto, unfolding(crate::specs::Key::calls_code))]
-fn push_calls(out: &mut Vec<u8>, calls: Calls) -> Result<(), AllocError>
-    ensures { OnOk result (out.new.items ≡ out.old.items ++ calls_code calls) }
+#[inline(always)]
+fn put_calls(out: &mut Vec<u8>, calls: Calls)
+    requires { vec_len out.old + 30 ≤ vec_capacity out.old }
+    ensures items { out.new.items ≡ out.old.items ++ calls_code calls }
+    ensures len { vec_len out.new ≤ vec_len out.old + 30 }
+    ensures room { vec_capacity out.new ≡ vec_capacity out.old }
 {
-    push_number(out, u64::from(calls.handle))?;
-    push_number(out, u64::from(calls.after))?;
-    push_number(out, u64::from(calls.close))
+    put_number(out, u64::from(calls.handle));
+    put_number(out, u64::from(calls.after));
+    put_number(out, u64::from(calls.close));
 }
 
 #[tactic(auto, unfolding(crate::specs::Key::named_code))]
+#[inline(always)]
+fn put_named(out: &mut Vec<u8>, named: Named)
+    requires { vec_len out.old + 51 ≤ vec_capacity out.old }
+    ensures items { out.new.items ≡ out.old.items ++ named_code named }
+    ensures len { vec_len out.new ≤ vec_len out.old + 51 }
+    ensures room { vec_capacity out.new ≡ vec_capacity out.old }
+{
+    put_id_option(out, named.id);
+    put_calls(out, named.calls);
+}
+
 pub(crate) fn push_named(out: &mut Vec<u8>, named: Named) -> Result<(), AllocError>
     ensures { OnOk result (out.new.items ≡ out.old.items ++ named_code named) }
 {
-    push_id_option(out, named.id)?;
-    push_calls(out, named.calls)
+    out.reserve(51)?;
+    put_named(out, named);
+    Ok(())
 }
 
 fn kind_number(kind: Kind) -> u8
@@ -52,15 +68,19 @@ fn flags_of(handle: HandleRecord) -> u8
 }
 
 #[tactic(auto, unfolding(crate::specs::Key::handle_code))]
-fn push_handle(out: &mut Vec<u8>, handle: HandleRecord) -> Result<(), AllocError>
-    ensures { OnOk result (out.new.items ≡ out.old.items ++ handle_code handle) }
+#[inline(always)]
+fn put_handle(out: &mut Vec<u8>, handle: HandleRecord)
+    requires { vec_len out.old + 42 ≤ vec_capacity out.old }
+    ensures items { out.new.items ≡ out.old.items ++ handle_code handle }
+    ensures len { vec_len out.new ≤ vec_len out.old + 42 }
+    ensures room { vec_capacity out.new ≡ vec_capacity out.old }
 {
-    push_byte(out, kind_number(handle.kind))?;
-    push_byte(out, flags_of(handle))?;
-    push_number(out, u64::from(handle.name.0))?;
-    push_number(out, handle.due.at)?;
-    push_number(out, handle.due.start)?;
-    push_number(out, handle.repeat)
+    put_byte(out, kind_number(handle.kind));
+    put_byte(out, flags_of(handle));
+    put_number(out, u64::from(handle.name.0));
+    put_number(out, handle.due.at);
+    put_number(out, handle.due.start);
+    put_number(out, handle.repeat);
 }
 
 fn outcome_number(outcome: Outcome) -> u8
@@ -75,25 +95,31 @@ fn outcome_number(outcome: Outcome) -> u8
 
 #[tactic(auto, unfolding(crate::specs::Key::request_code))]
 fn push_request(out: &mut Vec<u8>, request: Request) -> Result<(), AllocError>
+    requires { vec_len out.old + 21 ≤ vec_capacity out.old }
     ensures { OnOk result (out.new.items ≡ out.old.items ++ request_code request) }
 {
-    push_byte(out, outcome_number(request.outcome))?;
-    push_number(out, u64::from(request.name.0))?;
-    push_number(out, u64::from(request.task.rounds()))?;
+    put_byte(out, outcome_number(request.outcome));
+    put_number(out, u64::from(request.name.0));
+    put_number(out, u64::from(request.task.rounds()));
     push_bytes(out, request.task.text())
 }
 
 fn push_content(out: &mut Vec<u8>, content: Option<Content>) -> Result<(), AllocError>
+    requires { vec_len out.old + 43 ≤ vec_capacity out.old }
     ensures { OnOk result (out.new.items ≡ out.old.items ++ content_code content) }
 {
     match content {
-        None => push_byte(out, 0),
+        None => {
+            put_byte(out, 0);
+            Ok(())
+        }
         Some(Content::Handle(handle)) => {
-            push_byte(out, 1)?;
-            push_handle(out, handle)
+            put_byte(out, 1);
+            put_handle(out, handle);
+            Ok(())
         }
         Some(Content::Request(request)) => {
-            push_byte(out, 2)?;
+            put_byte(out, 2);
             push_request(out, request)
         }
     }
@@ -103,6 +129,7 @@ fn push_content(out: &mut Vec<u8>, content: Option<Content>) -> Result<(), Alloc
 pub(crate) fn push_slot(out: &mut Vec<u8>, slot: Slot<Content>) -> Result<(), AllocError>
     ensures { OnOk result (out.new.items ≡ out.old.items ++ slot_code slot) }
 {
-    push_number(out, u64::from(slot.generation))?;
+    out.reserve(53)?;
+    put_number(out, u64::from(slot.generation));
     push_content(out, slot.content)
 }

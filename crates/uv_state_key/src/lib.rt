@@ -4,6 +4,7 @@
 #![tactic(auto)]
 
 mod contents;
+mod holds;
 mod laws;
 mod lists;
 mod places;

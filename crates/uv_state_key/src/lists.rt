@@ -1,5 +1,5 @@
 //! The bytes of lists of slots.
-ghost use Rattle.std.specs.Prelude.{◌≡◌, ◌++◌, OnOk};
+ghost use Rattle.std.specs.Prelude.{◌≡◌, ◌++◌, false, [], OnOk};
 ghost use Rattle.uv_key.specs.Codes.{number_code, list_code};
 ghost use Rattle.uv_model.specs.After.{after};
 ghost use Rattle.uv_model.specs.Queries.{members};
@@ -35,6 +35,32 @@ pub(crate) fn push_members<M: Machine>(
         return Err(AllocError);
     };
     push_ids(out, ids.as_slice())
+}
+
+/// No members.
+#[tactic(auto, unfolding(uv_key::specs::Codes::list_code), using(uv_key::proofs::Numbers::number_small))]
+fn push_none(out: &mut Vec<u8>) -> Result<(), AllocError>
+    ensures { OnOk result (out.new.items ≡ out.old.items ++ ids_code []) }
+{
+    out.push(0)?;
+    Ok(())
+}
+
+/// The members of a list, which is empty unless it may have some.
+pub(crate) fn push_members_if<M: Machine>(
+    out: &mut Vec<u8>,
+    machine: &M,
+    list: ListName,
+    may: bool,
+) -> Result<(), AllocError>
+    requires { may ≡ false → members (after (M.program machine.now) (M.standing machine.now)) list ≡ [] }
+    ensures { OnOk result (out.new.items ≡ out.old.items ++ ids_code (members (after (M.program machine.now) (M.standing machine.now)) list)) }
+{
+    if may {
+        push_members(out, machine, list)
+    } else {
+        push_none(out)
+    }
 }
 
 #[tactic(auto, unfolding(uv_key::specs::Codes::list_code))]

@@ -1,12 +1,14 @@
 //! The bytes of a state.
-ghost use Rattle.std.specs.Prelude.{◌≡◌, ◌++◌, ◌<◌, length, slice_get, OnOk};
+ghost use Rattle.std.specs.Prelude.{◌≡◌, ◌++◌, ◌<◌, length, slice_get, OnOk, IfOk};
 ghost use Rattle.uv_key.specs.Codes.{list_code, option_code};
 ghost use Rattle.uv_model.specs.After.{after};
 ghost use Rattle.uv_key.proofs.Loops.{piece};
+ghost use Rattle.uv_state_key.specs.Holding.{content_at, held_by, with_content};
 ghost use Rattle.uv_state_key.specs.Key.{id_code, named_code, slot_code, arena_code, watchers_code, requests_code, state_code};
 
 use crate::contents::{push_named, push_slot};
-use crate::lists::{push_free, push_members};
+use crate::holds::{Holds, no_holds, with_content};
+use crate::lists::{push_free, push_members_if};
 use crate::places::{push_id_option, push_numbers, push_place};
 use std::alloc::AllocError;
 use uv_ids::Var;
@@ -21,12 +23,12 @@ pub fn push_key<M: Machine>(out: &mut Vec<u8>, machine: &M) -> Result<(), AllocE
 {
     push_place(out, machine.place())?;
     push_names(out, machine)?;
-    push_arena(out, machine)?;
-    push_members(out, machine, ListName::Ready)?;
-    push_watchers(out, machine)?;
-    push_members(out, machine, ListName::Closing)?;
-    push_members(out, machine, ListName::ClosingYet)?;
-    push_requests(out, machine)?;
+    let holds = push_arena(out, machine)?;
+    push_members_if(out, machine, ListName::Ready, holds.rests)?;
+    push_watchers(out, machine, holds)?;
+    push_members_if(out, machine, ListName::Closing, holds.closing)?;
+    push_members_if(out, machine, ListName::ClosingYet, holds.closing)?;
+    push_requests(out, machine, holds)?;
     push_numbers(out, machine.numbers())
 }
 
@@ -43,51 +45,67 @@ fn push_names<M: Machine>(out: &mut Vec<u8>, machine: &M) -> Result<(), AllocErr
     Ok(())
 }
 
-/// A slot that was used.
-fn push_used<M: Machine>(out: &mut Vec<u8>, machine: &M, number: u32) -> Result<(), AllocError>
-    ensures { OnOk result (out.new.items ≡ out.old.items
+/// A slot that was used, and what the slots hold with it.
+fn push_used<M: Machine>(
+    out: &mut Vec<u8>,
+    machine: &M,
+    number: u32,
+    holds: Holds,
+) -> Result<Holds, AllocError>
+    ensures items { OnOk result (out.new.items ≡ out.old.items
         ++ piece slot_code (slice_get (after (M.program machine.now) (M.standing machine.now)).arena.slots number)) }
+    ensures holds { IfOk result (λ more. more
+        ≡ with_content holds (content_at (after (M.program machine.now) (M.standing machine.now)).arena.slots number)) }
 {
     match machine.slot(number) {
-        Some(slot) => push_slot(out, slot),
-        None => Ok(()),
+        Some(slot) => {
+            push_slot(out, slot)?;
+            Ok(with_content(holds, slot.content))
+        }
+        None => Ok(with_content(holds, None)),
     }
 }
 
+/// All of them, and what they hold.
 #[tactic(auto, unfolding(uv_key::specs::Codes::list_code))]
-fn push_slots<M: Machine>(out: &mut Vec<u8>, machine: &M) -> Result<(), AllocError>
-    ensures { OnOk result (out.new.items ≡ out.old.items
+fn push_slots<M: Machine>(out: &mut Vec<u8>, machine: &M) -> Result<Holds, AllocError>
+    ensures items { OnOk result (out.new.items ≡ out.old.items
         ++ list_code slot_code (after (M.program machine.now) (M.standing machine.now)).arena.slots) }
+    ensures holds { IfOk result (λ holds. holds ≡ held_by (after (M.program machine.now) (M.standing machine.now))) }
 {
     push_number(out, u64::from(machine.used()))?;
+    let mut holds = no_holds();
     for number in 0..machine.used() {
-        push_used(out, machine, number)?;
+        holds = push_used(out, machine, number, holds)?;
     }
-    Ok(())
+    Ok(holds)
 }
 
 #[tactic(auto, unfolding(crate::specs::Key::arena_code))]
-fn push_arena<M: Machine>(out: &mut Vec<u8>, machine: &M) -> Result<(), AllocError>
-    ensures { OnOk result (out.new.items ≡ out.old.items ++ arena_code (after (M.program machine.now) (M.standing machine.now)).arena) }
+fn push_arena<M: Machine>(out: &mut Vec<u8>, machine: &M) -> Result<Holds, AllocError>
+    ensures items { OnOk result (out.new.items ≡ out.old.items ++ arena_code (after (M.program machine.now) (M.standing machine.now)).arena) }
+    ensures holds { IfOk result (λ holds. holds ≡ held_by (after (M.program machine.now) (M.standing machine.now))) }
 {
-    push_slots(out, machine)?;
+    let holds = push_slots(out, machine)?;
     push_free(out, machine)?;
-    push_number(out, u64::from(machine.unused()))
+    push_number(out, u64::from(machine.unused()))?;
+    Ok(holds)
 }
 
 /// The lists that sections walk.
 #[tactic(auto, unfolding(crate::specs::Key::watchers_code))]
-fn push_watchers<M: Machine>(out: &mut Vec<u8>, machine: &M) -> Result<(), AllocError>
+fn push_watchers<M: Machine>(out: &mut Vec<u8>, machine: &M, holds: Holds) -> Result<(), AllocError>
+    requires { holds ≡ held_by (after (M.program machine.now) (M.standing machine.now)) }
     ensures { OnOk result (out.new.items ≡ out.old.items ++ watchers_code (after (M.program machine.now) (M.standing machine.now))) }
 {
-    push_members(out, machine, ListName::Idle)?;
-    push_members(out, machine, ListName::IdleYet)?;
-    push_members(out, machine, ListName::Prepare)?;
-    push_members(out, machine, ListName::PrepareYet)?;
-    push_members(out, machine, ListName::Check)?;
-    push_members(out, machine, ListName::CheckYet)?;
-    push_members(out, machine, ListName::Async)?;
-    push_members(out, machine, ListName::AsyncYet)
+    push_members_if(out, machine, ListName::Idle, holds.idle)?;
+    push_members_if(out, machine, ListName::IdleYet, holds.idle)?;
+    push_members_if(out, machine, ListName::Prepare, holds.prepare)?;
+    push_members_if(out, machine, ListName::PrepareYet, holds.prepare)?;
+    push_members_if(out, machine, ListName::Check, holds.check)?;
+    push_members_if(out, machine, ListName::CheckYet, holds.check)?;
+    push_members_if(out, machine, ListName::Async, holds.wakes)?;
+    push_members_if(out, machine, ListName::AsyncYet, holds.wakes)
 }
 
 /// What each worker runs.
@@ -105,11 +123,12 @@ fn push_runs<M: Machine>(out: &mut Vec<u8>, machine: &M) -> Result<(), AllocErro
 
 /// The requests that wait, that workers run, and that are done.
 #[tactic(auto, unfolding(crate::specs::Key::requests_code))]
-fn push_requests<M: Machine>(out: &mut Vec<u8>, machine: &M) -> Result<(), AllocError>
+fn push_requests<M: Machine>(out: &mut Vec<u8>, machine: &M, holds: Holds) -> Result<(), AllocError>
+    requires { holds ≡ held_by (after (M.program machine.now) (M.standing machine.now)) }
     ensures { OnOk result (out.new.items ≡ out.old.items ++ requests_code (after (M.program machine.now) (M.standing machine.now))) }
 {
-    push_members(out, machine, ListName::Waiting)?;
+    push_members_if(out, machine, ListName::Waiting, holds.opened)?;
     push_runs(out, machine)?;
-    push_members(out, machine, ListName::Done)?;
-    push_members(out, machine, ListName::DoneYet)
+    push_members_if(out, machine, ListName::Done, holds.ended)?;
+    push_members_if(out, machine, ListName::DoneYet, holds.ended)
 }

@@ -1,11 +1,27 @@
-use Rattle.std.proofs.Common.{◌∙◌}
+use Rattle.std.proofs.Common.{◌≡◌, ◌+◌, ◌<◌, suc, length, ap, ◌∙◌, arith}
 use Rattle.uv_model.specs.After.{after}
 use Rattle.uv_key.proofs.Loops.{piece_turn}
+use Rattle.uv_state_key.specs.Holding.{content_at, holds_in, with_content}
 use Rattle.uv_state_key.specs.Key.{slot_code}
 use Rattle.uv_state_key.proofs.state.push_slots.Goals as goal
 
 pub loop-number-preserved : goal.loop-number-preserved
 loop-number-preserved g c =
     let slots = (after (g.M.Machine.program c.args.machine.now) (g.M.Machine.standing c.args.machine.now)).arena.slots in
-    c.in_ok-push_used.ensures
-    ∙ piece_turn slot_code slots c.loop-number.number c.push_number.new.out.items c.loop-number.out.items c.loop-number.invariant
+    let number = c.loop-number.number in
+    let next : suc number ≡ number + 1 = omega arith in
+    let below : number < length slots = omega (arith, c.loop-number-test.true, c.used-number-end.ensures) in
+    record {
+      items = c.in_ok-holds.ensures.items
+          ∙ piece_turn slot_code slots number c.push_number.new.out.items c.loop-number.out.items c.loop-number.invariant.items;
+      holds = c.in_ok-holds.ensures.holds ∙ ap (λ holds. with_content holds (content_at slots number)) c.loop-number.invariant.holds
+          ∙ ap (λ n. holds_in slots n) next;
+      within = omega (arith, below);
+    }
+
+pub returns-clause-holds : goal.returns-clause-holds
+returns-clause-holds g c =
+    let slots = (after (g.M.Machine.program c.args.machine.now) (g.M.Machine.standing c.args.machine.now)).arena.slots in
+    let all : c.loop-number.number ≡ length slots =
+    omega (arith, c.loop-number-test.false, c.used-number-end.ensures, c.loop-number.invariant.within) in
+    c.loop-number.invariant.holds ∙ ap (λ n. holds_in slots n) all
