@@ -1,7 +1,7 @@
 //! The bytes of names, and of what the slots hold.
 ghost use Rattle.std.specs.Prelude.{◌≡◌, ◌+◌, ◌≤◌, ◌++◌, OnOk, vec_len, vec_capacity};
 ghost use Rattle.uv_work.specs.declared.request.Request.{Request};
-ghost use Rattle.uv_state_key.specs.Key.{calls_code, named_code, kind_number, flags_of, handle_code, outcome_number, request_code, content_code, slot_code};
+ghost use Rattle.uv_state_key.specs.Key.{calls_code, named_code, kind_number, flags_of, handle_code, outcome_number, request_code, slot_code};
 
 use crate::places::{bit, put_byte, put_id_option};
 use std::alloc::AllocError;
@@ -104,32 +104,29 @@ fn push_request(out: &mut Vec<u8>, request: Request) -> Result<(), AllocError>
     push_bytes(out, request.task.text())
 }
 
-fn push_content(out: &mut Vec<u8>, content: Option<Content>) -> Result<(), AllocError>
-    requires { vec_len out.old + 43 ≤ vec_capacity out.old }
-    ensures { OnOk result (out.new.items ≡ out.old.items ++ content_code content) }
+/// The number of what a slot holds stands in each arm: so nothing is read of the slot that isn't written.
+#[tactic(auto, unfolding(crate::specs::Key::slot_code))]
+#[inline(always)]
+pub(crate) fn push_slot(out: &mut Vec<u8>, slot: Slot<Content>) -> Result<(), AllocError>
+    requires { vec_len out.old + 53 ≤ vec_capacity out.old }
+    ensures { OnOk result (out.new.items ≡ out.old.items ++ slot_code slot) }
 {
-    match content {
+    match slot.content {
         None => {
+            put_number(out, u64::from(slot.generation));
             put_byte(out, 0);
             Ok(())
         }
         Some(Content::Handle(handle)) => {
+            put_number(out, u64::from(slot.generation));
             put_byte(out, 1);
             put_handle(out, handle);
             Ok(())
         }
         Some(Content::Request(request)) => {
+            put_number(out, u64::from(slot.generation));
             put_byte(out, 2);
             push_request(out, request)
         }
     }
-}
-
-#[tactic(auto, unfolding(crate::specs::Key::slot_code))]
-pub(crate) fn push_slot(out: &mut Vec<u8>, slot: Slot<Content>) -> Result<(), AllocError>
-    ensures { OnOk result (out.new.items ≡ out.old.items ++ slot_code slot) }
-{
-    out.reserve(53)?;
-    put_number(out, u64::from(slot.generation));
-    push_content(out, slot.content)
 }

@@ -44,6 +44,7 @@ pub(crate) fn no_holds() -> Holds
 }
 
 /// With an active handle of this kind.
+#[inline(always)]
 fn with_active(holds: Holds, kind: Kind) -> Holds
     ensures { result ≡ with_active holds kind }
 {
@@ -69,6 +70,7 @@ fn with_active(holds: Holds, kind: Kind) -> Holds
     }
 }
 
+#[inline(always)]
 fn with_handle(holds: Holds, handle: HandleRecord) -> Holds
     ensures { result ≡ with_handle holds handle }
 {
@@ -86,6 +88,7 @@ fn with_handle(holds: Holds, handle: HandleRecord) -> Holds
     }
 }
 
+#[inline(always)]
 fn with_request(holds: Holds, request: Request) -> Holds
     ensures { result ≡ with_request holds request }
 {
@@ -103,6 +106,7 @@ fn with_request(holds: Holds, request: Request) -> Holds
 }
 
 /// With a slot that holds this.
+#[inline(always)]
 pub(crate) fn with_content(holds: Holds, content: Option<Content>) -> Holds
     ensures { result ≡ with_content holds content }
 {

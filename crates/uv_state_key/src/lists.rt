@@ -47,6 +47,7 @@ fn push_none(out: &mut Vec<u8>) -> Result<(), AllocError>
 }
 
 /// The members of a list, which is empty unless it may have some.
+#[inline(always)]
 pub(crate) fn push_members_if<M: Machine>(
     out: &mut Vec<u8>,
     machine: &M,

@@ -46,6 +46,7 @@ fn push_names<M: Machine>(out: &mut Vec<u8>, machine: &M) -> Result<(), AllocErr
 }
 
 /// A slot that was used, and what the slots hold with it.
+#[inline(always)]
 fn push_used<M: Machine>(
     out: &mut Vec<u8>,
     machine: &M,
@@ -57,10 +58,12 @@ fn push_used<M: Machine>(
     ensures holds { IfOk result (λ more. more
         ≡ with_content holds (content_at (after (M.program machine.now) (M.standing machine.now)).arena.slots number)) }
 {
+    out.reserve(53)?;
     match machine.slot(number) {
         Some(slot) => {
+            let more = with_content(holds, slot.content);
             push_slot(out, slot)?;
-            Ok(with_content(holds, slot.content))
+            Ok(more)
         }
         None => Ok(with_content(holds, None)),
     }
