@@ -96,10 +96,6 @@ Closing c = (h : HandleRecord) × ((c ≡ Some (content.Handle h)) × (h.closing
 abbrev Opens : Bool → Option Content → Type 0
 Opens b c = (r : Request) × ((c ≡ Some (content.Request r)) × (is_open r.outcome ≡ b))
 
-or_true : (b : Bool) → (b || true) ≡ true
-or_true true = refl
-or_true false = refl
-
 active_told : (q : WatcherKind) → Told (watch_flag q) (Active (kind_as q))
 active_told watcher.Idle = record { adds = λ f c is. rw (is.1.0, is.1.2, is.1.1) refl; stays = λ f c e. grind arith }
 active_told watcher.Prepare = record { adds = λ f c is. rw (is.1.0, is.1.2, is.1.1) refl; stays = λ f c e. grind arith }
@@ -107,10 +103,10 @@ active_told watcher.Check = record { adds = λ f c is. rw (is.1.0, is.1.2, is.1.
 active_told watcher.Async = record { adds = λ f c is. rw (is.1.0, is.1.2, is.1.1) refl; stays = λ f c e. grind arith }
 
 rests_told : Told (λ f. f.rests) Rests
-rests_told = record { adds = λ f c is. rw (is.1.0, is.1.2, is.1.1) (or_true f.rests); stays = λ f c e. grind arith }
+rests_told = record { adds = λ f c is. rw (is.1.0, is.1.2, is.1.1) refl; stays = λ f c e. grind arith }
 
 closing_told : Told (λ f. f.closing) Closing
-closing_told = record { adds = λ f c is. grind (arith, or_true); stays = λ f c e. grind arith }
+closing_told = record { adds = λ f c is. grind arith; stays = λ f c e. grind arith }
 
 opens_told : Told (λ f. f.opened) (Opens true)
 opens_told = record { adds = λ f c is. rw (is.1.0, is.1.1) refl; stays = λ f c e. grind arith }

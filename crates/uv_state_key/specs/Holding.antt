@@ -1,5 +1,5 @@
 -- Of what stands on lists, which the slots of a state hold.
-use Rattle.std.specs.Prelude.{ℕ, zero, suc, ◌||◌, Bool, true, false, List, length, Option, Some, None, option_and_then, slice_get, if◌then◌else◌}
+use Rattle.std.specs.Prelude.{ℕ, zero, suc, Bool, true, false, List, length, Option, Some, None, option_and_then, slice_get, if◌then◌else◌}
 use Rattle.uv_ids.specs.declared.phase.Kind.{Kind}
 use Rattle.uv_ids.specs.declared.phase.Kind.TheVariants as kind
 use Rattle.uv_records.specs.declared.handle.HandleRecord.{HandleRecord}
@@ -33,10 +33,18 @@ with_active f kind.Check = record f { check = true }
 with_active f kind.Async = record f { wakes = true }
 with_active f kind.Io = f
 
+abbrev pub with_closing : Holds → Bool → Holds
+with_closing f true = record f { closing = true }
+with_closing f false = f
+
+abbrev pub with_resting : Holds → Bool → Holds
+with_resting f true = record f { rests = true }
+with_resting f false = f
+
 abbrev pub with_handle : Holds → HandleRecord → Holds
 with_handle f h =
-    let g = record f { closing = f.closing || h.closing } in
-    if h.active then with_active g h.kind else record g { rests = f.rests || is_timer h.kind }
+    let g = with_closing f h.closing in
+    if h.active then with_active g h.kind else with_resting g (is_timer h.kind)
 
 abbrev pub with_request : Holds → Request → Holds
 with_request f r = if is_open r.outcome then record f { opened = true } else record f { ended = true }

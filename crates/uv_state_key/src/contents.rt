@@ -111,20 +111,21 @@ pub(crate) fn push_slot(out: &mut Vec<u8>, slot: Slot<Content>) -> Result<(), Al
     requires { vec_len out.old + 53 ≤ vec_capacity out.old }
     ensures { OnOk result (out.new.items ≡ out.old.items ++ slot_code slot) }
 {
+    let generation = u64::from(slot.generation);
     match slot.content {
         None => {
-            put_number(out, u64::from(slot.generation));
+            put_number(out, generation);
             put_byte(out, 0);
             Ok(())
         }
         Some(Content::Handle(handle)) => {
-            put_number(out, u64::from(slot.generation));
+            put_number(out, generation);
             put_byte(out, 1);
             put_handle(out, handle);
             Ok(())
         }
         Some(Content::Request(request)) => {
-            put_number(out, u64::from(slot.generation));
+            put_number(out, generation);
             put_byte(out, 2);
             push_request(out, request)
         }

@@ -45,74 +45,52 @@ pub(crate) fn no_holds() -> Holds
 
 /// With an active handle of this kind.
 #[inline(always)]
-fn with_active(holds: Holds, kind: Kind) -> Holds
-    ensures { result ≡ with_active holds kind }
+fn add_active(holds: &mut Holds, kind: Kind)
+    ensures { holds.new ≡ with_active holds.old kind }
 {
     match kind {
-        Kind::Timer => holds,
-        Kind::Idle => Holds {
-            idle: true,
-            ..holds
-        },
-        Kind::Prepare => Holds {
-            prepare: true,
-            ..holds
-        },
-        Kind::Check => Holds {
-            check: true,
-            ..holds
-        },
-        Kind::Async => Holds {
-            wakes: true,
-            ..holds
-        },
-        Kind::Io => holds,
+        Kind::Timer => {}
+        Kind::Idle => holds.idle = true,
+        Kind::Prepare => holds.prepare = true,
+        Kind::Check => holds.check = true,
+        Kind::Async => holds.wakes = true,
+        Kind::Io => {}
     }
 }
 
 #[inline(always)]
-fn with_handle(holds: Holds, handle: HandleRecord) -> Holds
-    ensures { result ≡ with_handle holds handle }
+fn add_handle(holds: &mut Holds, handle: HandleRecord)
+    ensures { holds.new ≡ with_handle holds.old handle }
 {
-    let holds = Holds {
-        closing: holds.closing || handle.closing,
-        ..holds
-    };
+    if handle.closing {
+        holds.closing = true;
+    }
     if handle.active {
-        with_active(holds, handle.kind)
-    } else {
-        Holds {
-            rests: holds.rests || handle.is_timer(),
-            ..holds
-        }
+        add_active(holds, handle.kind);
+    } else if handle.is_timer() {
+        holds.rests = true;
     }
 }
 
 #[inline(always)]
-fn with_request(holds: Holds, request: Request) -> Holds
-    ensures { result ≡ with_request holds request }
+fn add_request(holds: &mut Holds, request: Request)
+    ensures { holds.new ≡ with_request holds.old request }
 {
     if request.is_open() {
-        Holds {
-            opened: true,
-            ..holds
-        }
+        holds.opened = true;
     } else {
-        Holds {
-            ended: true,
-            ..holds
-        }
+        holds.ended = true;
     }
 }
 
 /// With a slot that holds this.
 #[inline(always)]
-pub(crate) fn with_content(holds: Holds, content: Option<Content>) -> Holds
-    ensures { result ≡ with_content holds content }
+pub(crate) fn add_content(holds: &mut Holds, content: Option<Content>)
+    ensures { holds.new ≡ with_content holds.old content }
 {
     match content {
-        None => holds,
-        Some(Content::Handle(handle)) => with_handle(holds, handle),
-        Some(Content::Request(request)) => with_request(holds, request),
+        None => {}
+        Some(Content::Handle(handle)) => add_handle(holds, handle),
+        Some(Content::Request(request)) => add_request(holds, request),
     }
 }

@@ -7,7 +7,7 @@ ghost use Rattle.uv_state_key.specs.Holding.{content_at, held_by, with_content};
 ghost use Rattle.uv_state_key.specs.Key.{id_code, named_code, slot_code, arena_code, watchers_code, requests_code, state_code};
 
 use crate::contents::{push_named, push_slot};
-use crate::holds::{Holds, no_holds, with_content};
+use crate::holds::{Holds, add_content, no_holds};
 use crate::lists::{push_free, push_members_if};
 use crate::places::{push_id_option, push_numbers, push_place};
 use std::alloc::AllocError;
@@ -51,21 +51,20 @@ fn push_used<M: Machine>(
     out: &mut Vec<u8>,
     machine: &M,
     number: u32,
-    holds: Holds,
-) -> Result<Holds, AllocError>
+    holds: &mut Holds,
+) -> Result<(), AllocError>
     ensures items { OnOk result (out.new.items ≡ out.old.items
         ++ piece slot_code (slice_get (after (M.program machine.now) (M.standing machine.now)).arena.slots number)) }
-    ensures holds { IfOk result (λ more. more
-        ≡ with_content holds (content_at (after (M.program machine.now) (M.standing machine.now)).arena.slots number)) }
+    ensures holds { OnOk result (holds.new
+        ≡ with_content holds.old (content_at (after (M.program machine.now) (M.standing machine.now)).arena.slots number)) }
 {
     out.reserve(53)?;
     match machine.slot(number) {
         Some(slot) => {
-            let more = with_content(holds, slot.content);
-            push_slot(out, slot)?;
-            Ok(more)
+            add_content(holds, slot.content);
+            push_slot(out, slot)
         }
-        None => Ok(with_content(holds, None)),
+        None => Ok(()),
     }
 }
 
@@ -79,7 +78,7 @@ fn push_slots<M: Machine>(out: &mut Vec<u8>, machine: &M) -> Result<Holds, Alloc
     push_number(out, u64::from(machine.used()))?;
     let mut holds = no_holds();
     for number in 0..machine.used() {
-        holds = push_used(out, machine, number, holds)?;
+        push_used(out, machine, number, &mut holds)?;
     }
     Ok(holds)
 }

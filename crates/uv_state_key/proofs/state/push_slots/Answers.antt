@@ -12,9 +12,9 @@ loop-number-preserved g c =
     let next : suc number ≡ number + 1 = omega arith in
     let below : number < length slots = omega (arith, c.loop-number-test.true, c.used-number-end.ensures) in
     record {
-      items = c.in_ok-holds.ensures.items
+      items = c.in_ok-push_used.ensures.items
           ∙ piece_turn slot_code slots number c.push_number.new.out.items c.loop-number.out.items c.loop-number.invariant.items;
-      holds = c.in_ok-holds.ensures.holds ∙ ap (λ holds. with_content holds (content_at slots number)) c.loop-number.invariant.holds
+      holds = c.in_ok-push_used.ensures.holds ∙ ap (λ holds. with_content holds (content_at slots number)) c.loop-number.invariant.holds
           ∙ ap (λ n. holds_in slots n) next;
       within = omega (arith, below);
     }
