@@ -1,5 +1,6 @@
 pub mod Idle
 pub mod Taking
+pub mod Undone
 pub mod Leading
 pub mod Moving
 pub mod Results

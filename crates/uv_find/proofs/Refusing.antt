@@ -1,27 +1,66 @@
--- What a worker that runs nothing would finish leads nowhere.
-use Rattle.std.proofs.Common.{◌≡◌, ℕ, true, List, Option, Some, None, is_none, option_and_then, Err, slice_get, refl, ap, ◌∙◌}
+-- An offer that is spent, or has no event that leads on, leads nowhere.
+use Rattle.std.proofs.Common.{◌≡◌, ℕ, true, false, Bool, List, Option, Some, None, is_none, nat_lt, option_and_then, Err, slice_get, if◌then◌else◌, refl, sym, ap, ◌∙◌}
 use Rattle.uv_ids.specs.declared.event.Event.{Event}
 use Rattle.uv_ids.specs.declared.event.Event.TheVariants as event
 use Rattle.uv_ids.specs.declared.fault.Why.{Why}
 use Rattle.uv_ids.specs.declared.fault.Why.TheVariants as why
 use Rattle.uv_ids.specs.declared.id.Id.{Id}
+use Rattle.uv_asking.specs.declared.asking.Offer.{Offer}
+use Rattle.uv_asking.specs.declared.asking.Offer.TheVariants.{Step, SendDuring, Take, Wait}
+use Rattle.uv_asking.specs.declared.asking.Offered.{Offered}
 use Rattle.uv_model.specs.Next.{Refuses, next, finish, work_of}
 use Rattle.uv_model.specs.State.{State}
 use Rattle.uv_find.specs.declared.kept.Kept.{Kept}
 use Rattle.uv_find.specs.declared.left.Left.{Left}
-use Rattle.uv_find.specs.Orders.{Rules, Place, Choice, chosen, led_by, placed, reached}
-use Rattle.uv_find.specs.Steps.{is_idle}
+use Rattle.uv_find.specs.declared.left.Left.TheVariants as left
+use Rattle.uv_find.specs.Orders.{Rules, Place, Choice, Led, chosen, choice_at, choice_by, deadline_at, event_of, keeps_clock, led, led_by, lessened, may_take, move_count, offer_at, offered_by, placed, reached, timed, wait_until}
+use Rattle.uv_find.specs.Steps.{has_none, is_idle}
 
 runs_nothing : (s : State) (x : Option (Option Id)) → is_none (option_and_then (λ run. run) x) ≡ true → (w : Why) × (work_of s x ≡ Err w)
 runs_nothing s None e = (why.NoWorker, refl)
 runs_nothing s (Some None) e = (why.IdleWorker, refl)
 runs_nothing s (Some (Some id)) e = absurd (let f : ⊥ = cc in f)
 
-pub idle_leads_nowhere : (r : Rules) (p : Place) (xs : List Left) (kept : Kept) (e : Option Event) → is_idle p.state e ≡ true
-    → led_by r p (chosen xs kept e) ≡ None
+-- where a worker would finish that runs nothing, the loop refuses
+finish_refused : (r : Rules) (p : Place) (xs : List Left) (kept : Kept) (worker : ℕ) → is_none (option_and_then (λ run. run) (slice_get p.state.running worker)) ≡ true
+    → led_by r p (chosen xs kept (Some (event.Finish worker))) ≡ None
 unfolding next
-idle_leads_nowhere r p xs kept (Some (event.Finish worker)) idle =
+finish_refused r p xs kept worker idle =
     let c : Choice = record { event = event.Finish worker; left = xs; kept = kept } in
     let none = runs_nothing p.state (slice_get p.state.running worker) idle in
     ap (λ x. placed r c (reached r.most x)) (ap (finish p.state worker) none.1)
-idle_leads_nowhere r p xs kept e idle = absurd (let f : ⊥ = cc in f)
+
+finish_keeps : (most : Option ℕ) (clock worker : ℕ) → keeps_clock most clock (event.Finish worker) ≡ true
+finish_keeps None clock worker = refl
+finish_keeps (Some most) clock worker = refl
+
+none_waits : (r : Rules) (p : Place) (deadline : Option ℕ) → is_none deadline ≡ true → wait_until r.program p.state deadline ≡ None
+none_waits r p None e = refl
+none_waits r p (Some deadline) e = absurd (let f : ⊥ = cc e in f)
+
+has_none_led : (r : Rules) (p : Place) (xs : List Left) (offer : Offer) → has_none p.state offer ≡ true
+    → led_by r p (chosen xs p.kept (timed r.clock p.state.clock (event_of r.program p.state p.kept offer))) ≡ None
+has_none_led r p xs (Step (event.Finish worker)) e =
+    rw (finish_keeps r.clock p.state.clock worker) (finish_refused r p xs p.kept worker e)
+has_none_led r p xs Wait e =
+    ap (λ o. led_by r p (chosen xs p.kept (timed r.clock p.state.clock o))) (none_waits r p (deadline_at p.state.place) e)
+has_none_led r p xs offer e = absurd (let f : ⊥ = cc e in f)
+
+idle_by : (r : Rules) (p : Place) (xs : List Left) (offered : Option Offered) (x : Option Left) → is_idle p.state offered x ≡ true
+    → led_by r p (chosen xs p.kept (offered_by r p offered x)) ≡ None
+idle_by r p xs None x e = refl
+idle_by r p xs (Some offered) None e = refl
+idle_by r p xs (Some offered) (Some x) e = by (may_take x) refl where
+  by : (b : Bool) → may_take x ≡ b → led_by r p (chosen xs p.kept (offered_by r p (Some offered) (Some x))) ≡ None
+  by true may = rw may (has_none_led r p xs offered.offer (rw may at e))
+  by false may = rw may refl
+
+-- a spent offer, and one without an event that leads on, leads nowhere
+pub idle_leads_nowhere : (r : Rules) (p : Place) (number : ℕ) → r.differ ≡ None
+    → is_idle p.state (slice_get r.offers number) (slice_get p.left number) ≡ true → led r p number ≡ None
+unfolding choice_at
+idle_leads_nowhere r p number offers idle = by (nat_lt number (move_count r p)) where
+  by : (b : Bool) → led_by r p (if b then choice_by r p number r.differ else None) ≡ None
+  by true = ap (λ d. led_by r p (choice_by r p number d)) offers
+      ∙ idle_by r p (lessened p.left number) (slice_get r.offers number) (slice_get p.left number) idle
+  by false = refl

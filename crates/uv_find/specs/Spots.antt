@@ -1,5 +1,5 @@
 -- What a search goes through: places, each with the steps that led there, and its key.
-use Rattle.std.specs.Prelude.{◌≡◌, ℕ, ◌+◌, ◌-◌, ◌≤◌, take, Bool, List, [], ◌∷◌, ◌++◌, length, reverse, Option, Some, None}
+use Rattle.std.specs.Prelude.{◌≡◌, ℕ, ◌+◌, ◌-◌, ◌≤◌, take, Bool, List, [], ◌∷◌, ◌++◌, length, reverse, slice_set, Option, Some, None}
 use Rattle.uv_ids.specs.declared.event.Event.{Event}
 use Rattle.uv_key.specs.Codes.{number_code}
 use Rattle.uv_model.specs.After.{after, STEPS}
@@ -12,6 +12,8 @@ use Rattle.uv_find.specs.declared.left.Left.{Left}
 use Rattle.uv_find.specs.declared.left.Left.TheVariants as left
 use Rattle.uv_find.specs.declared.terms.Terms.{Terms}
 use Rattle.uv_find.specs.declared.orders.Made.{Made}
+use Rattle.uv_find.specs.declared.orders.Was.{Was}
+use Rattle.uv_find.specs.declared.orders.Was.TheVariants as was
 use Rattle.uv_asking.specs.Asked.{Asked}
 use Rattle.uv_script.specs.Program.{Program, worker_count}
 use Rattle.uv_session.specs.Shown.{Shown}
@@ -65,12 +67,18 @@ spot_code s = place_code s.place
 pub record IsSpot (r : Rules) (s : Spot) : Type 0 where
   pub state : s.place.state ≡ after r.program s.steps
 
--- where one can go back to, from so many steps, by what stood before each that was taken, the last one first
-abbrev pub spots_before : Program → List Event → List Made → List Spot
-spots_before p es [] = []
-spots_before p es (m ∷ ms) =
+-- what was left before a move, where this is left behind it
+abbrev pub left_before : Was → List Left → List Left
+left_before (was.One number x) xs = slice_set xs number x
+left_before (was.All ys) xs = ys.items
+
+-- where one can go back to, from so many steps and from what is left, by what stood before each that was taken, the last one first
+abbrev pub spots_before : Program → List Event → List Left → List Made → List Spot
+spots_before p es xs [] = []
+spots_before p es xs (m ∷ ms) =
     let fs = take (length es - 1) es in
-    record { place = record { state = after p fs; left = m.left.items; kept = m.kept }; steps = fs } ∷ spots_before p fs ms
+    let ys = left_before m.was xs in
+    record { place = record { state = after p fs; left = ys; kept = m.kept }; steps = fs } ∷ spots_before p fs ys ms
 
 -- what is searched: where it stands, and where it can go back to
 pub record Searched : Type 0 where
@@ -116,7 +124,7 @@ abbrev pub searched : Shown → Terms → List Left → Kept → List Made → S
 searched s terms xs kept made = record {
   rules = rules_by s.program terms;
   spot = record { place = place_by s xs kept; steps = s.standing };
-  before = spots_before s.program s.standing (reverse made);
+  before = spots_before s.program s.standing xs (reverse made);
 }
 
 -- what the fields of a search keep: as many steps stand as choices were taken, a step back wants no memory

@@ -1,20 +1,21 @@
 //! The choices of a place.
-ghost use Rattle.std.specs.Prelude.{◌≡◌, ◌<◌, IfOk, length, slice_get, option_map};
+ghost use Rattle.std.specs.Prelude.{◌≡◌, ◌<◌, IfOk, None, length, slice_get, slice_set, option_map};
 ghost use Rattle.uv_asking.specs.declared.asking.Offered.{Offered};
-ghost use Rattle.uv_find.specs.Orders.{less, lessened, chosen, offered_by, offer_at, choice_at};
+ghost use Rattle.uv_find.specs.Orders.{less, lessened, offered_by, choice_at};
 ghost use Rattle.uv_find.specs.Spots.{rules_by, place_by};
-ghost use Rattle.uv_find.specs.Steps.{Stands, MakesMove, Chooses, choice_of, is_idle, state_in};
+ghost use Rattle.uv_find.specs.Steps.{Stands, MakesMove, TakesOffer, choice_of, has_none, is_idle, state_in};
 
 use crate::kept::Kept;
 use crate::left::Left;
 use crate::recorded::choose_recorded;
-use crate::steps::{offered_here, step_within};
+use crate::steps::{deadline_at, may_take, offered_here, step_within};
 use crate::terms::{Terms, move_count};
 use std::alloc::AllocError;
-use uv_asking::Offered;
+use uv_asking::{Offer, Offered};
 use uv_ids::Event;
 use uv_model::{Machine, Outcome};
 use uv_session::Session;
+use uv_work::WorkResult;
 
 /// An event that may come, with what is left and kept of the place where it does.
 #[derive(Drop)]
@@ -31,6 +32,13 @@ pub struct Moved {
     pub outcome: Outcome,
 }
 
+/// The event of an offer that was taken, and what its step did.
+#[derive(Clone, Copy)]
+pub struct Taken {
+    pub event: Event,
+    pub outcome: Outcome,
+}
+
 /// Once less.
 fn less(left: Left) -> Left
     ensures { result ≡ less left }
@@ -41,32 +49,18 @@ fn less(left: Left) -> Left
     }
 }
 
-/// The offer of this number may be taken once less.
-fn lessen(left: &mut Vec<Left>, number: usize)
-    ensures { left.new.items ≡ lessened left.old.items number }
+/// The offer of this number may be taken once less. What was left of it before.
+#[tactic(auto, using(crate::proofs::Undone::set_beyond))]
+pub fn lessen(left: &mut Vec<Left>, number: usize) -> Left
+    ensures less { left.new.items ≡ lessened left.old.items number }
+    ensures was { slice_set left.new.items number result ≡ left.old.items }
 {
     if number < left.len() {
-        left[number] = less(left[number]);
-    }
-}
-
-/// The event of an offer, with what is left where it is taken.
-fn chosen(
-    left: &Vec<Left>,
-    kept: Kept,
-    number: usize,
-    event: Option<Event>,
-) -> Result<Option<Choice>, AllocError>
-    ensures { IfOk result (λ choice. option_map choice_of choice
-        ≡ chosen (lessened left.now.items number) kept event) }
-{
-    match event {
-        None => Ok(None),
-        Some(event) => {
-            let mut left = left.clone()?;
-            lessen(&mut left, number);
-            Ok(Some(Choice { event, left, kept }))
-        }
+        let was = left[number];
+        left[number] = less(was);
+        was
+    } else {
+        Left::Over
     }
 }
 
@@ -92,38 +86,68 @@ fn offered<M: Machine>(
     }
 }
 
-/// Whether a worker would finish that runs nothing.
-fn is_idle<M: Machine>(session: &Session<M>, event: Option<Event>) -> bool
-    ensures { result ≡ is_idle (state_in session.now) event }
+/// Whether no event that is offered leads on: a worker would finish that runs nothing, or there is no deadline to wait for.
+fn has_none<M: Machine>(session: &Session<M>, offer: Offer) -> bool
+    ensures { result ≡ has_none (state_in session.now) offer }
 {
-    match event {
-        Some(Event::Finish(worker)) => session.machine().run_by(worker as usize).is_none(),
+    match offer {
+        Offer::Step(Event::Finish(worker)) => session.machine().run_by(worker as usize).is_none(),
+        Offer::Wait => deadline_at(session.machine().place()).is_none(),
         _ => false,
     }
 }
 
-/// The offer of this number, if it may still be taken, and may lead on. Nothing changes.
-fn choose_offer<M: Machine>(
+/// Whether the offer of this number is spent, or has no event that leads on: then it isn't tried.
+#[inline(always)]
+pub fn is_idle<M: Machine>(
+    session: &Session<M>,
+    terms: &Terms,
+    left: &Vec<Left>,
+    number: usize,
+) -> bool
+    ensures { result ≡ is_idle (state_in session.now) (slice_get terms.now.offers.items number) (slice_get left.now.items number) }
+{
+    match (terms.offers.get(number).copied(), left.get(number).copied()) {
+        (Some(offered), Some(left)) => {
+            if may_take(left) {
+                has_none(session, offered.offer)
+            } else {
+                true
+            }
+        }
+        _ => true,
+    }
+}
+
+/// Takes the offer of this number, if it may be taken, the loop accepts it and the bounds hold then; nothing changes else.
+#[inline(always)]
+#[tactic(auto, unfolding(crate::specs::Orders::choice_at))]
+pub fn make_offer<M: Machine>(
     session: &mut Session<M>,
     terms: &Terms,
     left: &Vec<Left>,
     kept: Kept,
     number: usize,
-) -> Result<Option<Choice>, AllocError>
+    results: &mut Vec<WorkResult>,
+) -> Result<Option<Taken>, AllocError>
     requires room { length session.old.standing < session.old.limit }
     requires back { M.BackWantsMemory → ⊥ }
-    ensures same { Stands session.old session.old.standing session.new }
-    ensures choice { IfOk result (λ choice. Chooses (rules_by session.old.program terms.now) (place_by session.old left.now.items kept)
-        (offer_at (rules_by session.old.program terms.now) (place_by session.old left.now.items kept) number) choice) }
+    requires offers { terms.now.differ ≡ None }
+    ensures { TakesOffer terms.now session.old left.now.items kept number result session.new }
 {
-    let event = offered(session, terms, left, kept, number)?;
-    if is_idle(session, event) {
+    if number >= terms.offers.len() {
         return Ok(None);
     }
-    chosen(left, kept, number, event)
+    match offered(session, terms, left, kept, number)? {
+        None => Ok(None),
+        Some(event) => match step_within(session, event, &terms.most, results)? {
+            None => Ok(None),
+            Some(outcome) => Ok(Some(Taken { event, outcome })),
+        },
+    }
 }
 
-/// What the move of this number is here, if it is any, and may lead on. Nothing changes.
+/// What the move of this number along a recording is here, if it is any. Nothing changes.
 #[tactic(auto, unfolding(crate::specs::Orders::choice_at))]
 fn choose<M: Machine>(
     session: &mut Session<M>,
@@ -134,13 +158,14 @@ fn choose<M: Machine>(
 ) -> Result<Option<Choice>, AllocError>
     requires room { length session.old.standing < session.old.limit }
     requires back { M.BackWantsMemory → ⊥ }
+    requires along { terms.now.differ ≡ None → ⊥ }
     ensures same { Stands session.old session.old.standing session.new }
-    ensures choice { IfOk result (λ choice. Chooses (rules_by session.old.program terms.now) (place_by session.old left.now.items kept)
-        (choice_at (rules_by session.old.program terms.now) (place_by session.old left.now.items kept) number) choice) }
+    ensures choice { IfOk result (λ choice. option_map choice_of choice
+        ≡ choice_at (rules_by session.old.program terms.now) (place_by session.old left.now.items kept) number) }
 {
     if number < move_count(terms, left) {
         match terms.differ {
-            None => choose_offer(session, terms, left, kept, number),
+            None => Ok(None),
             Some(_) => choose_recorded(session, terms, left, kept, number),
         }
     } else {
@@ -148,21 +173,23 @@ fn choose<M: Machine>(
     }
 }
 
-/// Makes the move of this number, if it is one, the loop accepts it and the bounds hold then; nothing changes else.
+/// Makes the move of this number along a recording, if it is one, the loop accepts it and the bounds hold then; nothing changes else.
 pub fn make_move<M: Machine>(
     session: &mut Session<M>,
     terms: &Terms,
     left: &Vec<Left>,
     kept: Kept,
     number: usize,
+    results: &mut Vec<WorkResult>,
 ) -> Result<Option<Moved>, AllocError>
     requires room { length session.old.standing < session.old.limit }
     requires back { M.BackWantsMemory → ⊥ }
+    requires along { terms.now.differ ≡ None → ⊥ }
     ensures { MakesMove terms.now session.old left.now.items kept number result session.new }
 {
     match choose(session, terms, left, kept, number)? {
         None => Ok(None),
-        Some(choice) => match step_within(session, choice.event, &terms.most)? {
+        Some(choice) => match step_within(session, choice.event, &terms.most, results)? {
             None => Ok(None),
             Some(outcome) => Ok(Some(Moved { choice, outcome })),
         },

@@ -7,6 +7,7 @@
 mod beginning;
 mod choices;
 mod finding;
+mod jobs;
 mod kept;
 mod left;
 mod orders;
@@ -16,10 +17,10 @@ mod sources;
 mod steps;
 mod terms;
 
-pub use choices::{Choice, Moved};
+pub use choices::{Choice, Moved, Taken};
 pub use finding::{Answer, find, place_keys_tell};
 pub use kept::{Along, Kept};
 pub use left::Left;
-pub use orders::{Made, Orders};
+pub use orders::{Made, Orders, Was};
 pub use recorded::Passed;
 pub use terms::Terms;

@@ -1,17 +1,17 @@
 //! A session that goes on by what is offered, and back.
-ghost use Rattle.std.specs.Prelude.{◌≡◌, ◌∷◌, ◌++◌, ◌<◌, ◌+◌, [], OnOk, reverse, length, IfOk};
+ghost use Rattle.std.specs.Prelude.{◌≡◌, ◌∷◌, ◌++◌, ◌<◌, ◌≤◌, ◌+◌, [], OnOk, reverse, length, IfOk, None, true, vec_len, vec_capacity};
 ghost use Rattle.uv_model.specs.After.{after, STEPS};
 ghost use Rattle.uv_key.specs.Codes.{number_code};
 ghost use Rattle.uv_asking.specs.Asked.{asked_in};
 ghost use Rattle.uv_asking.specs.declared.asking.Question.TheVariants.{Stuck};
 ghost use Rattle.uv_find.specs.Kept.{kept_after};
-ghost use Rattle.uv_find.specs.Orders.{is_blocked, move_count};
+ghost use Rattle.uv_find.specs.Orders.{is_blocked, led, move_count};
 ghost use Rattle.uv_find.specs.Questions.{none_leads, line_answers, place_answers, step_answers};
-ghost use Rattle.uv_find.specs.Spots.{Searched, IsSearched, IsSpot, searched, rules_of, first_spot, kind_code, event_code, each_code, left_code, along_code, kept_code, next_spot, spot_code, IsDeep};
+ghost use Rattle.uv_find.specs.Spots.{Searched, IsSearched, IsSpot, searched, rules_of, first_spot, kind_code, event_code, each_code, left_code, along_code, kept_code, next_spot, spot_code, left_before, IsDeep};
 ghost use Rattle.uv_find.specs.Steps.{Takes as TakesOne};
 
 use crate::beginning::first_left;
-use crate::choices::{Moved, make_move};
+use crate::choices::{Moved, is_idle, lessen, make_move, make_offer};
 use crate::kept::{Along, Kept, kept_after, none_kept};
 use crate::left::Left;
 use crate::questions::{has_ended, is_uncalled, line_answers};
@@ -22,17 +22,41 @@ use std::marker::Model;
 use std::mem;
 use uv_asking::{Asking, Question};
 use uv_ids::{Event, Seen};
-use uv_key::push_number;
+use uv_key::{push_number, put_number};
 use uv_model::{Machine, Outcome, STEPS};
 use uv_search::{Maze, Went};
 use uv_session::Session;
 use uv_state_key::push_key;
+use uv_work::WorkResult;
 
-/// What stood before a choice that was made.
+/// What was left before a move.
+#[derive(Drop)]
+pub enum Was {
+    /// This of the offer of this number, and of the others as much as behind it.
+    One(usize, Left),
+    /// All of this.
+    All(Vec<Left>),
+}
+
+/// What stood before a move that was made.
 #[derive(Drop)]
 pub struct Made {
-    left: Vec<Left>,
+    was: Was,
     kept: Kept,
+}
+
+/// What was left before a move is left again.
+fn put_back(left: &mut Vec<Left>, was: Was)
+    ensures { left.new.items ≡ left_before was left.old.items }
+{
+    match was {
+        Was::One(number, one) => {
+            if number < left.len() {
+                left[number] = one;
+            }
+        }
+        Was::All(all) => *left = all,
+    }
 }
 
 /// The orders of what may come: a session that goes on by one choice after another, and exactly back.
@@ -43,6 +67,7 @@ pub struct Orders<M: Machine> {
     left: Vec<Left>,
     kept: Kept,
     made: Vec<Made>,
+    results: Vec<WorkResult>,
 }
 
 impl<M: Machine> Model for Orders<M> {
@@ -71,6 +96,7 @@ impl<M: Machine> Orders<M> {
             left,
             kept,
             made: Vec::new(alloc),
+            results: Vec::new(alloc),
         })
     }
 
@@ -81,9 +107,45 @@ impl<M: Machine> Orders<M> {
         self.session.steps()
     }
 
-    /// Makes a move, if the loop accepts it and the bounds hold then. After an error all is as before.
-    pub(crate) fn take(&mut self, number: usize) -> Result<Option<Outcome>, AllocError>
+    /// Takes an offer, if the loop accepts it and the bounds hold then. After an error all is as before.
+    fn take_offer(&mut self, number: usize) -> Result<Option<Outcome>, AllocError>
         requires room { length self.old.spot.steps < STEPS }
+        requires offers { self.old.rules.differ ≡ None }
+        ensures { TakesOne self.old number result self.new }
+    {
+        self.made.reserve(1)?;
+        match make_offer(
+            &mut self.session,
+            &self.terms,
+            &self.left,
+            self.kept,
+            number,
+            &mut self.results,
+        )? {
+            None => Ok(None),
+            Some(taken) => {
+                let was = lessen(&mut self.left, number);
+                self.made.push_reserved(Made {
+                    was: Was::One(number, was),
+                    kept: self.kept,
+                });
+                self.kept = kept_after(
+                    self.session.machine(),
+                    &self.terms,
+                    self.kept,
+                    taken.event,
+                    taken.outcome.seen,
+                );
+                Ok(Some(taken.outcome))
+            }
+        }
+    }
+
+    /// Makes a move along the recording, if the loop accepts it and the bounds hold then. After an error all is as before.
+    #[inline(never)]
+    fn take_recorded(&mut self, number: usize) -> Result<Option<Outcome>, AllocError>
+        requires room { length self.old.spot.steps < STEPS }
+        requires along { self.old.rules.differ ≡ None → ⊥ }
         ensures { TakesOne self.old number result self.new }
     {
         self.made.reserve(1)?;
@@ -93,13 +155,14 @@ impl<M: Machine> Orders<M> {
             &self.left,
             self.kept,
             number,
+            &mut self.results,
         )? {
             None => Ok(None),
             Some(moved) => {
                 let Moved { choice, outcome } = moved;
                 let left = mem::replace(&mut self.left, choice.left);
                 self.made.push_reserved(Made {
-                    left,
+                    was: Was::All(left),
                     kept: self.kept,
                 });
                 self.kept = kept_after(
@@ -114,6 +177,29 @@ impl<M: Machine> Orders<M> {
         }
     }
 
+    /// Makes a move, if the loop accepts it and the bounds hold then. After an error all is as before.
+    pub(crate) fn take(&mut self, number: usize) -> Result<Option<Outcome>, AllocError>
+        requires room { length self.old.spot.steps < STEPS }
+        ensures { TakesOne self.old number result self.new }
+    {
+        match self.terms.differ {
+            None => self.take_offer(number),
+            Some(_) => self.take_recorded(number),
+        }
+    }
+
+    /// Whether the move of this number surely leads nowhere, so that it needn't be tried.
+    #[inline(always)]
+    #[tactic(auto, using(crate::proofs::Refusing::idle_leads_nowhere))]
+    fn refuses(&self, number: usize) -> bool
+        ensures { result ≡ true → led self.now.rules self.now.spot.place number ≡ None }
+    {
+        match self.terms.differ {
+            None => is_idle(&self.session, &self.terms, &self.left, number),
+            Some(_) => false,
+        }
+    }
+
     /// Takes the last move back.
     pub(crate) fn untake(&mut self)
         requires { 0 < length self.old.before }
@@ -122,7 +208,7 @@ impl<M: Machine> Orders<M> {
     {
         if let Some(made) = self.made.pop() {
             take_back(&mut self.session);
-            self.left = made.left;
+            put_back(&mut self.left, made.was);
             self.kept = made.kept;
         }
     }
@@ -240,22 +326,25 @@ fn kind_code(left: Left) -> u64
     }
 }
 
-/// Appends the number of a recorded event.
-fn push_event(out: &mut Vec<u8>, left: Left) -> Result<(), AllocError>
-    ensures { OnOk result (out.new.items ≡ out.old.items ++ event_code left) }
+/// Puts the number of a recorded event.
+fn put_event(out: &mut Vec<u8>, left: Left)
+    requires { vec_len out.old + 10 ≤ vec_capacity out.old }
+    ensures { out.new.items ≡ out.old.items ++ event_code left }
 {
     match left {
-        Left::Ahead(number) => push_number(out, number as u64),
-        Left::Held(number) => push_number(out, number as u64),
-        _ => Ok(()),
+        Left::Ahead(number) => put_number(out, number as u64),
+        Left::Held(number) => put_number(out, number as u64),
+        _ => {}
     }
 }
 
 fn push_one(out: &mut Vec<u8>, left: Left) -> Result<(), AllocError>
     ensures { OnOk result (out.new.items ≡ out.old.items ++ (number_code (kind_code left) ++ event_code left)) }
 {
-    push_number(out, kind_code(left))?;
-    push_event(out, left)
+    out.reserve(20)?;
+    put_number(out, kind_code(left));
+    put_event(out, left);
+    Ok(())
 }
 
 fn push_each(out: &mut Vec<u8>, left: &[Left]) -> Result<(), AllocError>
@@ -275,23 +364,26 @@ fn push_left(out: &mut Vec<u8>, left: &[Left]) -> Result<(), AllocError>
     push_each(out, left)
 }
 
-/// Appends how far the order is along the recording.
-fn push_along(out: &mut Vec<u8>, along: Along) -> Result<(), AllocError>
-    ensures { OnOk result (out.new.items ≡ out.old.items ++ along_code along) }
+/// Puts how far the order is along the recording.
+fn put_along(out: &mut Vec<u8>, along: Along)
+    requires { vec_len out.old + 40 ≤ vec_capacity out.old }
+    ensures { out.new.items ≡ out.old.items ++ along_code along }
 {
-    push_number(out, along.next as u64)?;
-    push_number(out, u64::from(along.polls))?;
-    push_number(out, u64::from(along.steps))?;
-    push_number(out, u64::from(along.spare))
+    put_number(out, along.next as u64);
+    put_number(out, u64::from(along.polls));
+    put_number(out, u64::from(along.steps));
+    put_number(out, u64::from(along.spare));
 }
 
 /// Appends what is kept.
 fn push_kept(out: &mut Vec<u8>, kept: Kept) -> Result<(), AllocError>
     ensures { OnOk result (out.new.items ≡ out.old.items ++ kept_code kept) }
 {
-    push_number(out, kept.due)?;
-    push_number(out, kept.owed)?;
-    push_along(out, kept.along)
+    out.reserve(60)?;
+    put_number(out, kept.due);
+    put_number(out, kept.owed);
+    put_along(out, kept.along);
+    Ok(())
 }
 
 impl<M: Machine> Maze for Orders<M> {
@@ -327,6 +419,9 @@ impl<M: Machine> Maze for Orders<M> {
     fn go(&mut self, number: usize) -> Result<Went, AllocError> {
         if self.step_count() >= STEPS - 1 {
             return Ok(Went::TooDeep);
+        }
+        if self.refuses(number) {
+            return Ok(Went::Refused);
         }
         let due = self.due();
         match self.take(number)? {

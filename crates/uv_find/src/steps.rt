@@ -2,9 +2,11 @@
 ghost use Rattle.std.specs.Prelude.{◌≡◌, ◌<◌, ◌-◌, ◌&&◌, nat_le, take, length, IfOk};
 ghost use Rattle.uv_find.specs.Orders.{idle_among, take_by, aim, is_made, is_blocked, deadline_at, wait_until, is_behind_poll, is_quiet, is_closing, closes, is_seen, is_free, spending, step_of, is_run, event_of, keeps_clock, timed, may_take, offered_here, is_called_within, is_within};
 ghost use Rattle.uv_find.specs.Steps.{Stands, StepsWithin, state_in};
+ghost use Rattle.uv_ids.specs.declared.event.Event.TheVariants.{Finish};
 ghost use Rattle.uv_model.specs.After.{after};
 ghost use Rattle.uv_script.specs.Program.{worker_count};
 
+use crate::jobs::result_by;
 use crate::kept::{Kept, owes};
 use crate::left::Left;
 use std::alloc::AllocError;
@@ -13,7 +15,7 @@ use uv_ids::{Event, Fault, Id, Var, Why};
 use uv_model::{Machine, Outcome, Place, Stage};
 use uv_records::{Calls, WatcherKind};
 use uv_session::Session;
-use uv_work::Content;
+use uv_work::{Content, WorkResult};
 
 /// Takes the last step back.
 pub fn take_back<M: Machine>(session: &mut Session<M>)
@@ -69,7 +71,7 @@ fn take_by(worker: Option<u16>) -> Option<Event>
 }
 
 /// The deadline of a poll.
-fn deadline_at(place: Place) -> Option<u64>
+pub fn deadline_at(place: Place) -> Option<u64>
     ensures { result ≡ deadline_at place }
 {
     match place {
@@ -276,7 +278,7 @@ pub fn timed(most: Option<u64>, clock: u64, event: Option<Event>) -> Option<Even
 }
 
 /// Whether an offer may still be taken.
-fn may_take(left: Left) -> bool
+pub fn may_take(left: Left) -> bool
     ensures { result ≡ may_take left }
 {
     match left {
@@ -322,7 +324,8 @@ fn is_within<M: Machine>(machine: &M, most: &[Most]) -> bool
 }
 
 /// Does a step, if the loop accepts it and the bounds on calls hold then; none is done else.
-pub fn step_within<M: Machine>(
+#[inline(always)]
+fn event_within<M: Machine>(
     session: &mut Session<M>,
     event: Event,
     most: &[Most],
@@ -343,4 +346,52 @@ pub fn step_within<M: Machine>(
         Err(Fault::Refused(_)) => Ok(None),
         Err(_) => Err(AllocError),
     }
+}
+
+/// The same of a finish, whose job's result this may be.
+#[inline(never)]
+fn finish_within<M: Machine>(
+    session: &mut Session<M>,
+    worker: u16,
+    work: WorkResult,
+    most: &[Most],
+) -> Result<Option<Outcome>, AllocError>
+    requires room { length session.old.standing < session.old.limit }
+    requires back { M.BackWantsMemory → ⊥ }
+    ensures { StepsWithin most.now session.old (Finish worker) result session.new }
+{
+    match session.finish_with(worker, work) {
+        Ok(outcome) => {
+            if is_within(session.machine(), most) {
+                Ok(Some(outcome))
+            } else {
+                take_back(session);
+                Ok(None)
+            }
+        }
+        Err(Fault::Refused(_)) => event_within(session, Event::Finish(worker), most),
+        Err(Fault::Memory) => Err(AllocError),
+        Err(Fault::StepsFull) => Err(AllocError),
+        Err(_) => Err(AllocError),
+    }
+}
+
+/// Does a step, if the loop accepts it and the bounds on calls hold then; none is done else. A job that was done before isn't done anew.
+#[inline(always)]
+pub fn step_within<M: Machine>(
+    session: &mut Session<M>,
+    event: Event,
+    most: &[Most],
+    results: &mut Vec<WorkResult>,
+) -> Result<Option<Outcome>, AllocError>
+    requires room { length session.old.standing < session.old.limit }
+    requires back { M.BackWantsMemory → ⊥ }
+    ensures { StepsWithin most.now session.old event result session.new }
+{
+    if let Event::Finish(worker) = event {
+        if let Some(work) = result_by(session.machine(), worker, results)? {
+            return finish_within(session, worker, work, most);
+        }
+    }
+    event_within(session, event, most)
 }

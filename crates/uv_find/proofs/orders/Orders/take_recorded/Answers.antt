@@ -2,9 +2,11 @@ use Rattle.std.proofs.Common.{refl, ◌∙◌, ap₂, ap}
 use Rattle.std.specs.declared.alloc.AllocError.{AllocError}
 use Rattle.uv_model.specs.After.{after}
 use Rattle.uv_find.specs.declared.orders.Made.{Made}
+use Rattle.uv_find.specs.declared.orders.Was.TheVariants as was
 use Rattle.uv_find.specs.Kept.{kept_after}
+use Rattle.uv_find.specs.Steps.{choice_of}
 use Rattle.uv_find.proofs.Taking.{takes_one}
-use Rattle.uv_find.proofs.orders.Orders.take.Goals as goal
+use Rattle.uv_find.proofs.orders.Orders.take_recorded.Goals as goal
 
 pub returns-in-Some : goal.returns-in-Some
 returns-in-Some g c =
@@ -14,7 +16,7 @@ returns-in-Some g c =
     let state = ap₂ after c.machine.ensures.program c.machine.ensures.steps in
     let kept = c.kept_after-self-inside.ensures
     ∙ ap (λ s. kept_after i.terms.recorded.items i.terms.takes.items i.terms.question m.choice.kept m.choice.event s m.outcome.seen) state in
-    let made : Made = record { left = c.replace-left.result; kept = i.kept } in
+    let made : Made = record { was = was.All c.replace-left.result; kept = i.kept } in
     rw (← c.self.view_is, c.push_reserved.ensures.items, c.in_ok-reserve.ensures.items, c.replace-left.ensures.after, kept)
-    (takes_one AllocError i.session c.make_move.new.session i.terms i.left.items i.kept i.made.items c.args.number m made
+    (takes_one AllocError i.session c.make_move.new.session i.terms i.left.items i.kept i.made.items c.args.number (choice_of m.choice) m.outcome made
     (ap (λ v. v.items) c.replace-left.ensures.value) refl goes)
