@@ -1,5 +1,5 @@
 -- The bytes of each part of a state tell which one it is.
-use Rattle.std.proofs.Common.{arith, ◌≤◌, ◌≡◌, ℕ, ◌+◌, ◌*◌, ◌==◌, Bool, true, false, List, ◌++◌, Option, if◌then◌else◌, refl, ap}
+use Rattle.std.proofs.Common.{arith, ◌≤◌, ◌≡◌, ℕ, ◌+◌, ◌*◌, ◌<◌, ◌==◌, Bool, true, false, List, [], ◌∷◌, ◌++◌, Option, Some, if◌then◌else◌, refl, ap}
 use Rattle.uv_ids.specs.declared.id.Id.{Id}
 use Rattle.uv_ids.specs.declared.phase.Kind.{Kind}
 use Rattle.uv_ids.specs.declared.phase.Kind.TheVariants as kind
@@ -11,6 +11,7 @@ use Rattle.uv_records.specs.declared.handle.HandleRecord.{HandleRecord}
 use Rattle.uv_records.specs.declared.named.Calls.{Calls}
 use Rattle.uv_records.specs.declared.named.Named.{Named}
 use Rattle.uv_records.specs.Walks.{Walk}
+use Rattle.uv_work.specs.declared.content.Content.TheVariants as content
 use Rattle.uv_model.specs.declared.numbers.Numbers.{Numbers}
 use Rattle.uv_model.specs.declared.place.Body.{Body}
 use Rattle.uv_model.specs.declared.place.Place.TheVariants.{Main, Running}
@@ -21,8 +22,9 @@ use Rattle.uv_records.specs.declared.lists.WatcherKind.TheVariants as watcher
 use Rattle.uv_model.specs.declared.place.TimersOf.TheVariants.{Entry, Iteration}
 use Rattle.uv_model.specs.declared.place.Timing.TheVariants.{Collecting, Firing}
 use Rattle.uv_key.specs.Codes.{number_code, byte_code, Tells}
+use Rattle.uv_key.proofs.Numbers.{number_small}
 use Rattle.uv_key.proofs.Telling.{numbers_tell, byte_tells, pair_tells, part_tells, list_tells, option_tells, settled_back}
-use Rattle.uv_state_key.specs.Key.{id_code, ids_code, bit, mode_number, callback_number, stage_part, stage_code, body_code, run_code, place_code, calls_code, named_code, kind_number, handle_code, walk_code, numbers_code}
+use Rattle.uv_state_key.specs.Key.{id_code, ids_code, bit, mode_number, callback_number, stage_part, stage_code, body_code, run_code, place_code, calls_code, named_code, kind_number, flags_of, handle_code, slot_code, walk_code, numbers_code}
 
 -- ---- ids
 
@@ -228,3 +230,30 @@ unfolding handle_code
 handle_tells = part_tells _ handle_part (settled_back handle_part handle_of (λ h. refl))
     (pair_tells _ _ (pair_tells _ _ (pair_tells _ _ (pair_tells _ _ (pair_tells _ _ kind_tells flags_tell) numbers_tell) numbers_tell) numbers_tell)
     numbers_tell)
+
+-- ---- numbers below 128, a byte each
+
+pub small_named : (id : Id) (c : Calls) → id.slot < 128 → id.generation < 128 → c.handle < 128 → c.after < 128 → c.close < 128
+    → named_code (record { id = Some id; calls = c }) ≡ 1 ∷ id.slot ∷ id.generation ∷ c.handle ∷ c.after ∷ c.close ∷ []
+unfolding named_code calls_code byte_code
+small_named id c slot generation handle after close =
+    rw (
+      number_small id.slot slot,
+      number_small id.generation generation,
+      number_small c.handle handle,
+      number_small c.after after,
+      number_small c.close close,
+    ) refl
+
+pub small_handle : (n : ℕ) (h : HandleRecord) → n < 128 → h.name.0 < 128 → h.due.at < 128 → h.due.start < 128 → h.repeat < 128
+    → slot_code (record { generation = n; content = Some (content.Handle h) })
+    ≡ n ∷ 1 ∷ kind_number h.kind ∷ flags_of h ∷ h.name.0 ∷ h.due.at ∷ h.due.start ∷ h.repeat ∷ []
+unfolding slot_code handle_code byte_code
+small_handle n h generation name at start repeat =
+    rw (
+      number_small n generation,
+      number_small h.name.0 name,
+      number_small h.due.at at,
+      number_small h.due.start start,
+      number_small h.repeat repeat,
+    ) refl

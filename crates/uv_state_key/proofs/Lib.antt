@@ -1,5 +1,5 @@
 mod Lengths
-mod Codes
+pub mod Codes
 mod Timers
 mod Slots
 pub mod States
