@@ -22,7 +22,8 @@ runs_nothing s (Some None) e = (why.IdleWorker, refl)
 runs_nothing s (Some (Some id)) e = absurd (let f : ⊥ = cc in f)
 
 -- where a worker would finish that runs nothing, the loop refuses
-finish_refused : (r : Rules) (p : Place) (xs : List Left) (kept : Kept) (worker : ℕ) → is_none (option_and_then (λ run. run) (slice_get p.state.running worker)) ≡ true
+finish_refused : (r : Rules) (p : Place) (xs : List Left) (kept : Kept) (worker : ℕ)
+    → is_none (option_and_then (λ run. run) (slice_get p.state.running worker)) ≡ true
     → led_by r p (chosen xs kept (Some (event.Finish worker))) ≡ None
 unfolding next
 finish_refused r p xs kept worker idle =

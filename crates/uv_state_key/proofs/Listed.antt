@@ -1,5 +1,7 @@
 -- What stands on lists is held by slots: where no slot holds any of it, a list is empty.
-use Rattle.std.proofs.Common.{arith, ◌≡◌, ◌⊎◌, inl, inr, ℕ, zero, suc, ◌+◌, ◌<◌, ◌||◌, Bool, true, false, List, [], ◌∷◌, ◌++◌, length, Option, Some, None, option_and_then, slice_get, if◌then◌else◌, refl, ap, sym, subst, ◌∙◌}
+use Rattle.std.proofs.Common.{arith, ◌≡◌, ◌⊎◌, inl, inr, ℕ, zero, suc, ◌<◌, Bool, true, false, List, [], ◌∷◌, ◌++◌, length, Option, Some, None, option_and_then, slice_get, if◌then◌else◌, refl, ap, sym, subst, ◌∙◌}
+use Rattle.std.proofs.lemmas.Bool.{eqb-true}
+use Rattle.std.proofs.lemmas.List.{append-nil}
 use Rattle.uv_ids.specs.declared.event.Event.{Event}
 use Rattle.uv_ids.specs.declared.id.Id.{Id}
 use Rattle.uv_ids.specs.declared.phase.Kind.{Kind}
@@ -18,11 +20,16 @@ use Rattle.uv_work.specs.Requests.{is_open}
 use Rattle.uv_model.specs.After.{after}
 use Rattle.uv_model.specs.Content.{handle_in, request_in}
 use Rattle.uv_model.specs.State.{State, kind_as, watched}
-use Rattle.uv_order.specs.Active.{has_id, AreAll, IsActive, run_ids}
+use Rattle.uv_order.specs.Active.{has_id, AreAll, AreDistinct, IsActive, IsClosing, IsEnded, run_ids}
 use Rattle.uv_order.specs.Reached.{IsReached}
 use Rattle.uv_order.proofs.Reaching.{reached}
+use Rattle.uv_key.specs.Codes.{list_code}
+use Rattle.uv_key.proofs.Numbers.{number_small}
+use Rattle.uv_state_key.specs.Key.{id_code, ids_code}
 use Rattle.uv_state_key.specs.declared.holds.Holds.{Holds}
-use Rattle.uv_state_key.specs.Holding.{with_content, content_at, holds_in, held_by}
+use Rattle.uv_state_key.specs.declared.holds.Few.{Few}
+use Rattle.uv_state_key.specs.declared.holds.Few.TheVariants as few
+use Rattle.uv_state_key.specs.Holding.{AreFew, one_more, with_content, content_at, id_at, id_by, holds_in, held_by, no_holds, with_active, with_closing, with_handle, with_request, with_resting}
 
 -- ---- what one of them holds is told
 
@@ -34,17 +41,18 @@ or_last (suc k) (suc n) l = elim (or_last k n (omega arith)) [ inl e ↦ inl (ap
 
 -- something of a slot is told by a flag: it is set by such a slot, and stays set
 record Told (flag : Holds → Bool) (Is : Option Content → Type 0) : Type 0 where
-  pub adds : (f : Holds) (c : Option Content) → Is c → flag (with_content f c) ≡ true
-  pub stays : (f : Holds) (c : Option Content) → flag f ≡ true → flag (with_content f c) ≡ true
+  pub adds : (f : Holds) (id : Id) (c : Option Content) → Is c → flag (with_content f id c) ≡ true
+  pub stays : (f : Holds) (id : Id) (c : Option Content) → flag f ≡ true → flag (with_content f id c) ≡ true
 
 told_by : (flag : Holds → Bool) (Is : Option Content → Type 0) → Told flag Is → (slots : List (Slot Content)) (k n : ℕ) → k < n
     → Is (content_at slots k) → flag (holds_in slots n) ≡ true
 told_by flag Is t slots k zero l is = absurd (omega (arith, l))
 told_by flag Is t slots k (suc n) l is = by (or_last k n l) (λ m. told_by flag Is t slots k n m is)
   where
-    by : ((k ≡ n) ⊎ (k < n)) → (k < n → flag (holds_in slots n) ≡ true) → flag (with_content (holds_in slots n) (content_at slots n)) ≡ true
-    by (inl e) more = t.adds (holds_in slots n) (content_at slots n) (subst (λ i. Is (content_at slots i)) e is)
-    by (inr m) more = t.stays (holds_in slots n) (content_at slots n) (more m)
+    by : ((k ≡ n) ⊎ (k < n)) → (k < n → flag (holds_in slots n) ≡ true)
+        → flag (with_content (holds_in slots n) (id_at slots n) (content_at slots n)) ≡ true
+    by (inl e) more = t.adds (holds_in slots n) (id_at slots n) (content_at slots n) (subst (λ i. Is (content_at slots i)) e is)
+    by (inr m) more = t.stays (holds_in slots n) (id_at slots n) (content_at slots n) (more m)
 
 -- an id that something is held under has a slot that holds it
 slot_below : (xs : List (Slot Content)) (n : ℕ) (slot : Slot Content) → slice_get xs n ≡ Some slot → n < length xs
@@ -52,13 +60,20 @@ slot_below [] n slot e = absurd (let f : ⊥ = cc in f)
 slot_below (x ∷ xs) zero slot e = omega arith
 slot_below (x ∷ xs) (suc n) slot e = let l = slot_below xs n slot e in omega (arith, l)
 
+same_generation : (id : Id) (slot : Slot Content) (c : Content) → held_in id slot ≡ Some c → slot.generation ≡ id.generation
+same_generation id slot c e = grind (arith, eqb-true, e)
+
 held_there : (slots : List (Slot Content)) (id : Id) (c : Content) → held slots id ≡ Some c
-    → (id.slot < length slots) × (content_at slots id.slot ≡ Some c)
+    → (id.slot < length slots) × (content_at slots id.slot ≡ Some c) × (id_at slots id.slot ≡ id)
 held_there slots id c e = by (slice_get slots id.slot) refl e where
   by : (x : Option (Slot Content)) → slice_get slots id.slot ≡ x → option_and_then (held_in id) x ≡ Some c
-      → (id.slot < length slots) × (content_at slots id.slot ≡ Some c)
+      → (id.slot < length slots) × (content_at slots id.slot ≡ Some c) × (id_at slots id.slot ≡ id)
   by None f g = absurd (let h : ⊥ = cc in h)
-  by (Some slot) f g = (slot_below slots id.slot slot f, grind (arith, f, g))
+  by (Some slot) f g = (
+    slot_below slots id.slot slot f,
+    grind (arith, f, g),
+    ap (id_by id.slot) f ∙ (let h = same_generation id slot c g in λ i. record { slot = id.slot; generation = h i }),
+  )
 
 -- where the flag isn't set, nothing of it is held
 none_held : (flag : Holds → Bool) (Is : Option Content → Type 0) → Told flag Is → (s : State) (id : Id) (c : Content)
@@ -76,13 +91,142 @@ both_empty : (xs ys : List Id) → xs ++ ys ≡ [] → (xs ≡ []) × (ys ≡ []
 both_empty [] ys e = (refl, e)
 both_empty (x ∷ xs) ys e = absurd (let f : ⊥ = cc in f)
 
--- ---- each flag
+-- ---- how many slots hold something: none, one, or more
 
-abbrev watch_flag : WatcherKind → Holds → Bool
-watch_flag watcher.Idle f = f.idle
-watch_flag watcher.Prepare f = f.prepare
-watch_flag watcher.Check f = f.check
-watch_flag watcher.Async f = f.wakes
+-- what becomes of the count with one more slot: it counts it, if that is so, or stays
+abbrev Counts : Few → Id → Few → Type 0 → Type 0
+Counts was id is There = (is ≡ was) ⊎ (There × (is ≡ one_more was id))
+
+record Counted (count : Holds → Few) (Is : Option Content → Type 0) : Type 0 where
+  pub begins : count no_holds ≡ few.None
+  pub adds : (f : Holds) (id : Id) (c : Option Content) → Is c → count (with_content f id c) ≡ one_more (count f) id
+  pub counts : (f : Holds) (id : Id) (c : Option Content) → Counts (count f) id (count (with_content f id c)) (Is c)
+
+not_none : (x : Few) (id : Id) → one_more x id ≡ few.None → ⊥
+not_none few.None id e = cc e
+not_none (few.One y) id e = cc e
+not_none few.Many id e = cc e
+
+first_one : (x : Few) (id y : Id) → one_more x id ≡ few.One y → (x ≡ few.None) × (id ≡ y)
+first_one few.None id y e = (refl, cc e)
+first_one (few.One z) id y e = absurd (let f : ⊥ = cc e in f)
+first_one few.Many id y e = absurd (let f : ⊥ = cc e in f)
+
+not_again : (x : Few) (id y z : Id) → x ≡ few.One y → few.One z ≡ one_more x id → ⊥
+not_again few.None id y z e a = cc e
+not_again (few.One w) id y z e a = cc a
+not_again few.Many id y z e a = cc e
+
+module _ (count : Holds → Few) (Is : Option Content → Type 0) (t : Counted count Is) (slots : List (Slot Content)) where
+  none_there : (n k : ℕ) → count (holds_in slots n) ≡ few.None → k < n → Is (content_at slots k) → ⊥
+  none_there zero k e l is = absurd (omega (arith, l))
+  none_there (suc n) k e l is =
+      by (t.counts (holds_in slots n) (id_at slots n) (content_at slots n)) (or_last k n l) (λ h m. none_there n k h m is)
+    where
+      f : Holds
+      f = holds_in slots n
+
+      id : Id
+      id = id_at slots n
+
+      by : Counts (count f) id (count (with_content f id (content_at slots n))) (Is (content_at slots n)) → (k ≡ n) ⊎ (k < n)
+          → (count f ≡ few.None → k < n → ⊥) → ⊥
+      by (inr there) at more = not_none (count f) id (sym there.1 ∙ e)
+      by (inl same) (inr m) more = more (sym same ∙ e) m
+      by (inl same) (inl last) more =
+          not_none (count f) id (sym (t.adds f id (content_at slots n) (subst (λ i. Is (content_at slots i)) last is)) ∙ e)
+
+  one_there : (n k : ℕ) (x : Id) → count (holds_in slots n) ≡ few.One x → k < n → Is (content_at slots k) → id_at slots k ≡ x
+  one_there zero k x e l is = absurd (omega (arith, l))
+  one_there (suc n) k x e l is =
+      by (t.counts (holds_in slots n) (id_at slots n) (content_at slots n)) (or_last k n l) (λ h m. one_there n k x h m is)
+    where
+      f : Holds
+      f = holds_in slots n
+
+      id : Id
+      id = id_at slots n
+
+      by : Counts (count f) id (count (with_content f id (content_at slots n))) (Is (content_at slots n)) → (k ≡ n) ⊎ (k < n)
+          → (count f ≡ few.One x → k < n → id_at slots k ≡ x) → id_at slots k ≡ x
+      by (inl same) (inr m) more = more (sym same ∙ e) m
+      by (inl same) (inl last) more = absurd (not_again (count f) id x x (sym same ∙ e)
+          (sym e ∙ t.adds f id (content_at slots n) (subst (λ i. Is (content_at slots i)) last is)))
+      by (inr there) (inl last) more = ap (id_at slots) last ∙ (first_one (count f) id x (sym there.1 ∙ e)).1
+      by (inr there) (inr m) more = absurd (none_there n k (first_one (count f) id x (sym there.1 ∙ e)).0 m is)
+
+  -- there is that one
+  one_is : (n : ℕ) (x : Id) → count (holds_in slots n) ≡ few.One x
+      → (k : ℕ) × ((k < n) × Is (content_at slots k) × (id_at slots k ≡ x))
+  one_is zero x e = absurd (let f : ⊥ = cc (sym t.begins ∙ e) in f)
+  one_is (suc n) x e = by (t.counts (holds_in slots n) (id_at slots n) (content_at slots n)) (one_is n x)
+    where
+      f : Holds
+      f = holds_in slots n
+
+      id : Id
+      id = id_at slots n
+
+      by : Counts (count f) id (count (with_content f id (content_at slots n))) (Is (content_at slots n))
+          → (count f ≡ few.One x → (k : ℕ) × ((k < n) × Is (content_at slots k) × (id_at slots k ≡ x)))
+          → (k : ℕ) × ((k < suc n) × Is (content_at slots k) × (id_at slots k ≡ x))
+      by (inl same) more = let one = more (sym same ∙ e) in (one.0, (omega (arith, one.1.0), one.1.1, one.1.2))
+      by (inr there) more = (n, (omega arith, there.0, (first_one (count f) id x (sym there.1 ∙ e)).1))
+
+-- what a slot holds is held under its id
+held_at : (slots : List (Slot Content)) (k : ℕ) (c : Content) → content_at slots k ≡ Some c → held slots (id_at slots k) ≡ Some c
+held_at slots k c e = by (slice_get slots k) refl e where
+  by : (x : Option (Slot Content)) → slice_get slots k ≡ x → option_and_then (λ (slot : Slot Content). slot.content) x ≡ Some c
+      → held slots (id_by k (slice_get slots k)) ≡ Some c
+  by None f g = absurd (let h : ⊥ = cc in h)
+  by (Some slot) f g = rw f (rw f (grind (arith, g)))
+
+-- a list of which each is this one, and this one is on it, and none stands twice
+single : (xs : List Id) (x : Id) → ((id : Id) → has_id xs id ≡ true → id ≡ x) → has_id xs x ≡ true → AreDistinct xs → xs ≡ x ∷ []
+single [] x all has distinct = absurd (let f : ⊥ = cc has in f)
+single (y ∷ []) x all has distinct = ap (λ z. z ∷ []) (all y (grind arith))
+single (y ∷ z ∷ zs) x all has distinct =
+    let one : y ≡ x = all y (grind arith) in
+    let two : z ≡ x = all z (grind arith) in
+    absurd (twice y z zs (one ∙ sym two) distinct.0)
+  where
+    twice : (y z : Id) (zs : List Id) → y ≡ z → has_id (z ∷ zs) y ≡ false → ⊥
+    twice y z zs e f = grind arith
+
+-- what stands on two lists is what slots hold: so many as they do
+record Listed (slots : List (Slot Content)) (P : Id → Type 0) (Is : Option Content → Type 0) : Type 0 where
+  pub holds : (id : Id) → P id → (c : Content) × ((held slots id ≡ Some c) × Is (Some c))
+  pub held : (id : Id) (c : Content) → held slots id ≡ Some c → Is (Some c) → P id
+  pub some : Is None → ⊥
+
+module _ (count : Holds → Few) (Is : Option Content → Type 0) (t : Counted count Is) (slots : List (Slot Content)) (P : Id → Type 0)
+    (listed : Listed slots P Is) where
+  is_there : (c : Option Content) → Is c → (x : Content) × (c ≡ Some x)
+  is_there None is = absurd (listed.some is)
+  is_there (Some x) is = (x, refl)
+
+  are_few : (x : Few) → count (holds_in slots (length slots)) ≡ x → (xs ys : List Id) → AreAll P (xs ++ ys) → AreFew x xs ys
+  are_few few.None e xs ys all = both_empty xs ys (none_listed (xs ++ ys) (λ id has.
+      let h = listed.holds id (all.each id has) in
+      let at = held_there slots id h.0 h.1.0 in
+      none_there count Is t slots (length slots) id.slot e at.0 (subst Is (sym at.1) h.1.1)))
+  are_few (few.One x) e xs ys all =
+      let one = one_is count Is t slots (length slots) x e in
+      let c = is_there (content_at slots one.0) one.1.1 in
+      let there : P x = listed.held x c.0 (subst (λ id. held slots id ≡ Some c.0) one.1.2 (held_at slots one.0 c.0 c.1)) (subst Is c.1 one.1.1) in
+      single (xs ++ ys) x (λ id has.
+      let h = listed.holds id (all.each id has) in
+      let at = held_there slots id h.0 h.1.0 in
+      sym at.2 ∙ one_there count Is t slots (length slots) id.slot x e at.0 (subst Is (sym at.1) h.1.1)) (all.all x there) all.distinct
+  are_few few.Many e xs ys all = tt
+
+-- ---- each count
+
+abbrev watch_count : WatcherKind → Holds → Few
+watch_count watcher.Idle f = f.idle
+watch_count watcher.Prepare f = f.prepare
+watch_count watcher.Check f = f.check
+watch_count watcher.Async f = f.wakes
 
 abbrev Active : Kind → Option Content → Type 0
 Active k c = (h : HandleRecord) × ((c ≡ Some (content.Handle h)) × (h.kind ≡ k) × (h.active ≡ true))
@@ -96,88 +240,223 @@ Closing c = (h : HandleRecord) × ((c ≡ Some (content.Handle h)) × (h.closing
 abbrev Opens : Bool → Option Content → Type 0
 Opens b c = (r : Request) × ((c ≡ Some (content.Request r)) × (is_open r.outcome ≡ b))
 
-active_told : (q : WatcherKind) → Told (watch_flag q) (Active (kind_as q))
-active_told watcher.Idle = record { adds = λ f c is. rw (is.1.0, is.1.2, is.1.1) refl; stays = λ f c e. grind arith }
-active_told watcher.Prepare = record { adds = λ f c is. rw (is.1.0, is.1.2, is.1.1) refl; stays = λ f c e. grind arith }
-active_told watcher.Check = record { adds = λ f c is. rw (is.1.0, is.1.2, is.1.1) refl; stays = λ f c e. grind arith }
-active_told watcher.Async = record { adds = λ f c is. rw (is.1.0, is.1.2, is.1.1) refl; stays = λ f c e. grind arith }
+-- ---- where the slots hold handles of a kind
+
+active_told : (q : WatcherKind) (f : Holds) (id : Id) (k : Kind) → Counts (watch_count q f) id (watch_count q (with_active f id k)) (k ≡ kind_as q)
+active_told watcher.Idle f id kind.Idle = inr (refl, refl)
+active_told watcher.Prepare f id kind.Prepare = inr (refl, refl)
+active_told watcher.Check f id kind.Check = inr (refl, refl)
+active_told watcher.Async f id kind.Async = inr (refl, refl)
+active_told q f id k = inl refl
+
+closing_stays : (q : WatcherKind) (f : Holds) (id : Id) (b : Bool) → watch_count q (with_closing f id b) ≡ watch_count q f
+closing_stays watcher.Idle f id true = refl
+closing_stays watcher.Prepare f id true = refl
+closing_stays watcher.Check f id true = refl
+closing_stays watcher.Async f id true = refl
+closing_stays q f id false = refl
+
+resting_stays : (q : WatcherKind) (f : Holds) (b : Bool) → watch_count q (with_resting f b) ≡ watch_count q f
+resting_stays watcher.Idle f true = refl
+resting_stays watcher.Prepare f true = refl
+resting_stays watcher.Check f true = refl
+resting_stays watcher.Async f true = refl
+resting_stays q f false = refl
+
+request_stays : (q : WatcherKind) (f : Holds) (id : Id) (r : Request) (b : Bool) → is_open r.outcome ≡ b
+    → watch_count q (with_request f id r) ≡ watch_count q f
+request_stays watcher.Idle f id r true e = rw e refl
+request_stays watcher.Prepare f id r true e = rw e refl
+request_stays watcher.Check f id r true e = rw e refl
+request_stays watcher.Async f id r true e = rw e refl
+request_stays watcher.Idle f id r false e = rw e refl
+request_stays watcher.Prepare f id r false e = rw e refl
+request_stays watcher.Check f id r false e = rw e refl
+request_stays watcher.Async f id r false e = rw e refl
+
+active_adds : (q : WatcherKind) (f : Holds) (id : Id) → watch_count q (with_active f id (kind_as q)) ≡ one_more (watch_count q f) id
+active_adds watcher.Idle f id = refl
+active_adds q f id = refl
+
+active_counted : (q : WatcherKind) → Counted (watch_count q) (Active (kind_as q))
+active_counted q = record {
+  begins = begins q;
+  adds = λ f id c is. rw (is.1.0, is.1.2, is.1.1)
+      (active_adds q (with_closing f id is.0.closing) id ∙ ap (λ x. one_more x id) (closing_stays q f id is.0.closing));
+  counts = counts;
+} where
+  begins : (q : WatcherKind) → watch_count q no_holds ≡ few.None
+  begins watcher.Idle = refl
+  begins q = refl
+
+  handle : (f : Holds) (id : Id) (h : HandleRecord) (b : Bool) → h.active ≡ b
+      → Counts (watch_count q f) id (watch_count q (with_handle f id h)) (Active (kind_as q) (Some (content.Handle h)))
+  handle f id h false e = rw e (inl (resting_stays q (with_closing f id h.closing) (is_timer h.kind) ∙ closing_stays q f id h.closing))
+  handle f id h true e =
+      let g : Holds = with_closing f id h.closing in
+      let step : watch_count q (with_handle f id h) ≡ watch_count q (with_active g id h.kind) =
+      ap (λ (b : Bool). watch_count q (if b then with_active g id h.kind else with_resting g (is_timer h.kind))) e in
+      let one : Counts (watch_count q f) id (watch_count q (with_active g id h.kind)) (Active (kind_as q) (Some (content.Handle h))) =
+      elim (active_told q g id h.kind) [
+        | inl same ↦ inl (same ∙ closing_stays q f id h.closing)
+        | inr one ↦ inr ((h, (refl, one.0, e)), one.1 ∙ ap (λ x. one_more x id) (closing_stays q f id h.closing))
+      ] in
+      subst (λ x. Counts (watch_count q f) id x (Active (kind_as q) (Some (content.Handle h)))) (sym step) one
+
+  counts : (f : Holds) (id : Id) (c : Option Content) → Counts (watch_count q f) id (watch_count q (with_content f id c)) (Active (kind_as q) c)
+  counts f id None = inl refl
+  counts f id (Some (content.Request r)) = inl (request_stays q f id r (is_open r.outcome) refl)
+  counts f id (Some (content.Handle h)) = handle f id h h.active refl
+
+-- ---- where they hold handles that close, and requests that ended
+
+active_else : (f : Holds) (id : Id) (k : Kind) → ((with_active f id k).closing ≡ f.closing) × ((with_active f id k).ended ≡ f.ended)
+active_else f id kind.Timer = (refl, refl)
+active_else f id k = (refl, refl)
+
+resting_else : (f : Holds) (b : Bool) → ((with_resting f b).closing ≡ f.closing) × ((with_resting f b).ended ≡ f.ended)
+resting_else f true = (refl, refl)
+resting_else f false = (refl, refl)
+
+handle_else : (f : Holds) (id : Id) (h : HandleRecord) (b : Bool) → h.active ≡ b
+    → ((with_handle f id h).closing ≡ (with_closing f id h.closing).closing) × ((with_handle f id h).ended ≡ (with_closing f id h.closing).ended)
+handle_else f id h true e = rw e (active_else (with_closing f id h.closing) id h.kind)
+handle_else f id h false e = rw e (resting_else (with_closing f id h.closing) (is_timer h.kind))
+
+closing_counted : Counted (λ f. f.closing) Closing
+closing_counted = record { begins = refl; adds = adds; counts = counts } where
+  adds : (f : Holds) (id : Id) (c : Option Content) → Closing c → (with_content f id c).closing ≡ one_more f.closing id
+  adds f id c (h, (is, on)) = rw is ((handle_else f id h h.active refl).0 ∙ rw on refl)
+
+  closes : (f : Holds) (id : Id) (h : HandleRecord) (b : Bool) → h.closing ≡ b
+      → Counts f.closing id (with_closing f id b).closing (Closing (Some (content.Handle h)))
+  closes f id h true e = inr ((h, (refl, e)), refl)
+  closes f id h false e = inl refl
+
+  counts : (f : Holds) (id : Id) (c : Option Content) → Counts f.closing id (with_content f id c).closing (Closing c)
+  counts f id None = inl refl
+  counts f id (Some (content.Request r)) = by (is_open r.outcome) refl where
+    by : (b : Bool) → is_open r.outcome ≡ b → Counts f.closing id (with_request f id r).closing (Closing (Some (content.Request r)))
+    by true e = rw e (inl refl)
+    by false e = rw e (inl refl)
+  counts f id (Some (content.Handle h)) =
+      subst (λ x. Counts f.closing id x (Closing (Some (content.Handle h)))) (sym (handle_else f id h h.active refl).0)
+      (closes f id h h.closing refl)
+
+ended_counted : Counted (λ f. f.ended) (Opens false)
+ended_counted = record { begins = refl; adds = λ f id c is. rw (is.1.0, is.1.1) refl; counts = counts } where
+  ends : (f : Holds) (id : Id) (b : Bool) → (with_closing f id b).ended ≡ f.ended
+  ends f id true = refl
+  ends f id false = refl
+
+  counts : (f : Holds) (id : Id) (c : Option Content) → Counts f.ended id (with_content f id c).ended (Opens false c)
+  counts f id None = inl refl
+  counts f id (Some (content.Request r)) = by (is_open r.outcome) refl where
+    by : (b : Bool) → is_open r.outcome ≡ b → Counts f.ended id (with_request f id r).ended (Opens false (Some (content.Request r)))
+    by true e = rw e (inl refl)
+    by false e = rw e (inr ((r, (refl, e)), refl))
+  counts f id (Some (content.Handle h)) = inl ((handle_else f id h h.active refl).1 ∙ ends f id h.closing)
+
+-- ---- timers that rest, and requests that are open, are told by a flag
 
 rests_told : Told (λ f. f.rests) Rests
-rests_told = record { adds = λ f c is. rw (is.1.0, is.1.2, is.1.1) refl; stays = λ f c e. grind arith }
-
-closing_told : Told (λ f. f.closing) Closing
-closing_told = record { adds = λ f c is. grind arith; stays = λ f c e. grind arith }
+rests_told = record { adds = λ f id c is. rw (is.1.0, is.1.2, is.1.1) refl; stays = λ f id c e. grind arith }
 
 opens_told : Told (λ f. f.opened) (Opens true)
-opens_told = record { adds = λ f c is. rw (is.1.0, is.1.1) refl; stays = λ f c e. grind arith }
+opens_told = record { adds = λ f id c is. rw (is.1.0, is.1.1) refl; stays = λ f id c e. grind arith }
 
-ended_told : Told (λ f. f.ended) (Opens false)
-ended_told = record { adds = λ f c is. rw (is.1.0, is.1.1) refl; stays = λ f c e. grind arith }
+-- ---- so many stand on the lists
 
--- ---- where a flag isn't set, a list is empty
-
-held_handle : (s : State) (id : Id) (h : HandleRecord) → handle_in (held s.arena.slots id) ≡ Some h
-    → held s.arena.slots id ≡ Some (content.Handle h)
-held_handle s id h e = by (held s.arena.slots id) e where
+held_handle : (slots : List (Slot Content)) (id : Id) (h : HandleRecord) → handle_in (held slots id) ≡ Some h
+    → held slots id ≡ Some (content.Handle h)
+held_handle slots id h e = by (held slots id) e where
   by : (c : Option Content) → handle_in c ≡ Some h → c ≡ Some (content.Handle h)
   by c e = grind arith
 
-held_request : (s : State) (id : Id) (r : Request) → request_in (held s.arena.slots id) ≡ Some r
-    → held s.arena.slots id ≡ Some (content.Request r)
-held_request s id r e = by (held s.arena.slots id) e where
+held_request : (slots : List (Slot Content)) (id : Id) (r : Request) → request_in (held slots id) ≡ Some r
+    → held slots id ≡ Some (content.Request r)
+held_request slots id r e = by (held slots id) e where
   by : (c : Option Content) → request_in c ≡ Some r → c ≡ Some (content.Request r)
   by c e = grind arith
 
-not_active : (s : State) (q : WatcherKind) → IsReached s → watch_flag q (held_by s) ≡ false
-    → ((watched s q).list ≡ []) × ((watched s q).yet ≡ [])
-not_active s q r off = both_empty (watched s q).list (watched s q).yet
-    (none_listed ((watched s q).list ++ (watched s q).yet) (λ id has. let k = (r.watchers q).each id has in
-    none_held (watch_flag q) (Active (kind_as q)) (active_told q) s id (content.Handle k.its) off (held_handle s id k.its k.holds)
-    (k.its, (refl, k.kind, k.active))))
+active_listed : (s : State) (q : WatcherKind) → Listed s.arena.slots (IsActive s (kind_as q)) (Active (kind_as q))
+active_listed s q = record {
+  holds = λ id k. (content.Handle k.its, (held_handle s.arena.slots id k.its k.holds, (k.its, (refl, k.kind, k.active))));
+  held = λ id c e is. record { its = is.0; holds = ap handle_in (e ∙ is.1.0); kind = is.1.1; active = is.1.2 };
+  some = λ is. cc is.1.0;
+}
 
-not_closing : (s : State) → IsReached s → (held_by s).closing ≡ false → (s.closing.list ≡ []) × (s.closing.yet ≡ [])
-not_closing s r off = both_empty s.closing.list s.closing.yet
-    (none_listed (s.closing.list ++ s.closing.yet) (λ id has. let k = r.closing.each id has in
-    none_held (λ f. f.closing) Closing closing_told s id (content.Handle k.its) off (held_handle s id k.its k.holds) (k.its, (refl, k.closing))))
+closing_listed : (s : State) → Listed s.arena.slots (IsClosing s) Closing
+closing_listed s = record {
+  holds = λ id k. (content.Handle k.its, (held_handle s.arena.slots id k.its k.holds, (k.its, (refl, k.closing))));
+  held = λ id c e is. record { its = is.0; holds = ap handle_in (e ∙ is.1.0); closing = is.1.1 };
+  some = λ is. cc is.1.0;
+}
 
-not_ended : (s : State) → IsReached s → (held_by s).ended ≡ false → (s.done.list ≡ []) × (s.done.yet ≡ [])
-not_ended s r off = both_empty s.done.list s.done.yet
-    (none_listed (s.done.list ++ s.done.yet) (λ id has. let k = r.done.each id has in
-    none_held (λ f. f.ended) (Opens false) ended_told s id (content.Request k.its) off (held_request s id k.its k.holds) (k.its, (refl, k.ended))))
+ended_listed : (s : State) → Listed s.arena.slots (IsEnded s) (Opens false)
+ended_listed s = record {
+  holds = λ id k. (content.Request k.its, (held_request s.arena.slots id k.its k.holds, (k.its, (refl, k.ended))));
+  held = λ id c e is. record { its = is.0; holds = ap request_in (e ∙ is.1.0); ended = is.1.1 };
+  some = λ is. cc is.1.0;
+}
 
 not_open : (s : State) → IsReached s → (held_by s).opened ≡ false → s.waiting ≡ []
 not_open s r off = (both_empty s.waiting (run_ids s.running)
     (none_listed (s.waiting ++ run_ids s.running) (λ id has. let k = r.opened.each id has in
-    none_held (λ f. f.opened) (Opens true) opens_told s id (content.Request k.its) off (held_request s id k.its k.holds) (k.its, (refl, k.opened))))).0
+    none_held (λ f. f.opened) (Opens true) opens_told s id (content.Request k.its) off (held_request s.arena.slots id k.its k.holds)
+    (k.its, (refl, k.opened))))).0
 
 not_resting : (s : State) → IsReached s → (held_by s).rests ≡ false → s.ready ≡ []
 not_resting s r off = none_listed s.ready (λ id has. let k = r.ready.each id has in
-    none_held (λ f. f.rests) Rests rests_told s id (content.Handle k.its) off (held_handle s id k.its k.holds) (k.its, (refl, k.kind, k.inactive)))
+    none_held (λ f. f.rests) Rests rests_told s id (content.Handle k.its) off (held_handle s.arena.slots id k.its k.holds)
+    (k.its, (refl, k.kind, k.inactive)))
 
 module _ (p : Program) (es : List Event) (h : Holds) (is : h ≡ held_by (after p es)) where
-  same : (flag : Holds → Bool) → flag h ≡ false → flag (held_by (after p es)) ≡ false
-  same flag off = sym (ap flag is) ∙ off
+  watched_few : (q : WatcherKind) → AreFew (watch_count q h) (watched (after p es) q).list (watched (after p es) q).yet
+  watched_few q = are_few (watch_count q) (Active (kind_as q)) (active_counted q) (after p es).arena.slots
+      (IsActive (after p es) (kind_as q)) (active_listed (after p es) q)
+      (watch_count q h) (ap (watch_count q) (sym is)) (watched (after p es) q).list (watched (after p es) q).yet ((reached p es).watchers q)
 
-  pub no_idle : h.idle ≡ false → ((after p es).watchers.idle.list ≡ []) × ((after p es).watchers.idle.yet ≡ [])
-  no_idle off = not_active (after p es) watcher.Idle (reached p es) (same (λ f. f.idle) off)
+  pub few_idle : AreFew h.idle (after p es).watchers.idle.list (after p es).watchers.idle.yet
+  few_idle = watched_few watcher.Idle
 
-  pub no_prepare : h.prepare ≡ false → ((after p es).watchers.prepare.list ≡ []) × ((after p es).watchers.prepare.yet ≡ [])
-  no_prepare off = not_active (after p es) watcher.Prepare (reached p es) (same (λ f. f.prepare) off)
+  pub few_prepare : AreFew h.prepare (after p es).watchers.prepare.list (after p es).watchers.prepare.yet
+  few_prepare = watched_few watcher.Prepare
 
-  pub no_check : h.check ≡ false → ((after p es).watchers.check.list ≡ []) × ((after p es).watchers.check.yet ≡ [])
-  no_check off = not_active (after p es) watcher.Check (reached p es) (same (λ f. f.check) off)
+  pub few_check : AreFew h.check (after p es).watchers.check.list (after p es).watchers.check.yet
+  few_check = watched_few watcher.Check
 
-  pub no_async : h.wakes ≡ false → ((after p es).watchers.async.list ≡ []) × ((after p es).watchers.async.yet ≡ [])
-  no_async off = not_active (after p es) watcher.Async (reached p es) (same (λ f. f.wakes) off)
+  pub few_async : AreFew h.wakes (after p es).watchers.async.list (after p es).watchers.async.yet
+  few_async = watched_few watcher.Async
+
+  pub few_closing : AreFew h.closing (after p es).closing.list (after p es).closing.yet
+  few_closing = are_few (λ f. f.closing) Closing closing_counted (after p es).arena.slots (IsClosing (after p es)) (closing_listed (after p es))
+      h.closing (ap (λ f. f.closing) (sym is)) (after p es).closing.list (after p es).closing.yet (reached p es).closing
+
+  pub few_done : AreFew h.ended (after p es).done.list (after p es).done.yet
+  few_done = are_few (λ f. f.ended) (Opens false) ended_counted (after p es).arena.slots (IsEnded (after p es)) (ended_listed (after p es))
+      h.ended (ap (λ f. f.ended) (sym is)) (after p es).done.list (after p es).done.yet (reached p es).done
 
   pub no_ready : h.rests ≡ false → (after p es).ready ≡ []
-  no_ready off = not_resting (after p es) (reached p es) (same (λ f. f.rests) off)
-
-  pub no_closing : h.closing ≡ false → ((after p es).closing.list ≡ []) × ((after p es).closing.yet ≡ [])
-  no_closing off = not_closing (after p es) (reached p es) (same (λ f. f.closing) off)
+  no_ready off = not_resting (after p es) (reached p es) (sym (ap (λ f. f.rests) is) ∙ off)
 
   pub no_waiting : h.opened ≡ false → (after p es).waiting ≡ []
-  no_waiting off = not_open (after p es) (reached p es) (same (λ f. f.opened) off)
+  no_waiting off = not_open (after p es) (reached p es) (sym (ap (λ f. f.opened) is) ∙ off)
 
-  pub no_done : h.ended ≡ false → ((after p es).done.list ≡ []) × ((after p es).done.yet ≡ [])
-  no_done off = not_ended (after p es) (reached p es) (same (λ f. f.ended) off)
+-- ---- of two lists with one member
+
+pub one_behind : (xs ys : List Id) (id : Id) → length ys ≡ 0 → xs ++ ys ≡ id ∷ [] → (xs ≡ id ∷ []) × (ys ≡ [])
+one_behind xs [] id l e = (sym (append-nil xs) ∙ e, refl)
+one_behind xs (y ∷ ys) id l e = absurd (omega (arith, l))
+
+pub none_before : (xs ys : List Id) (id : Id) → 0 < length ys → xs ++ ys ≡ id ∷ [] → xs ≡ []
+none_before [] ys id l e = refl
+none_before (x ∷ xs) [] id l e = absurd (omega (arith, l))
+none_before (x ∷ xs) (y ∷ ys) id l e = absurd (later xs (let rest : xs ++ y ∷ ys ≡ [] = cc e in rest)) where
+  later : (xs : List Id) → xs ++ y ∷ ys ≡ [] → ⊥
+  later [] e = cc e
+  later (z ∷ zs) e = cc e
+
+pub one_code : (id : Id) → ids_code (id ∷ []) ++ ids_code [] ≡ (1 ∷ []) ++ id_code id ++ (0 ∷ [])
+unfolding list_code
+one_code id = rw (number_small 1 (omega arith), number_small 0 (omega arith), append-nil (id_code id)) refl

@@ -1,30 +1,39 @@
 //! Of what stands on lists, which the slots hold.
 ghost use Rattle.std.specs.Prelude.{◌≡◌};
-ghost use Rattle.uv_state_key.specs.Holding.{with_active, with_handle, with_request, with_content, no_holds};
+ghost use Rattle.uv_state_key.specs.Holding.{one_more, with_active, with_handle, with_request, with_content, no_holds};
 
-use uv_ids::Kind;
+use uv_ids::{Id, Kind};
 use uv_records::HandleRecord;
 use uv_work::{Content, Request};
 
-/// Whether a slot holds what may stand on a list. A list is empty where none does.
+/// How many slots hold something.
+#[derive(Clone, Copy)]
+pub(crate) enum Few {
+    None,
+    /// That of this id alone.
+    One(Id),
+    Many,
+}
+
+/// Whether a slot holds what may stand on a list, or how many do. A list is empty where none does.
 #[derive(Clone, Copy)]
 pub(crate) struct Holds {
     /// An active idle handle.
-    pub idle: bool,
+    pub idle: Few,
     /// An active prepare handle.
-    pub prepare: bool,
+    pub prepare: Few,
     /// An active check handle.
-    pub check: bool,
+    pub check: Few,
     /// An active async handle.
-    pub wakes: bool,
+    pub wakes: Few,
     /// A timer that isn't active.
     pub rests: bool,
     /// A handle that closes.
-    pub closing: bool,
+    pub closing: Few,
     /// A request that waits, or that a worker runs.
     pub opened: bool,
     /// A request that is finished or cancelled.
-    pub ended: bool,
+    pub ended: Few,
 }
 
 /// None of the first slots, of which there are none, holds anything.
@@ -32,65 +41,77 @@ pub(crate) fn no_holds() -> Holds
     ensures { result ≡ no_holds }
 {
     Holds {
-        idle: false,
-        prepare: false,
-        check: false,
-        wakes: false,
+        idle: Few::None,
+        prepare: Few::None,
+        check: Few::None,
+        wakes: Few::None,
         rests: false,
-        closing: false,
+        closing: Few::None,
         opened: false,
-        ended: false,
+        ended: Few::None,
     }
+}
+
+/// One more slot holds it.
+#[inline(always)]
+fn add_one(few: &mut Few, id: Id)
+    ensures { few.new ≡ one_more few.old id }
+{
+    *few = match *few {
+        Few::None => Few::One(id),
+        Few::One(_) => Few::Many,
+        Few::Many => Few::Many,
+    };
 }
 
 /// With an active handle of this kind.
 #[inline(always)]
-fn add_active(holds: &mut Holds, kind: Kind)
-    ensures { holds.new ≡ with_active holds.old kind }
+fn add_active(holds: &mut Holds, id: Id, kind: Kind)
+    ensures { holds.new ≡ with_active holds.old id kind }
 {
     match kind {
         Kind::Timer => {}
-        Kind::Idle => holds.idle = true,
-        Kind::Prepare => holds.prepare = true,
-        Kind::Check => holds.check = true,
-        Kind::Async => holds.wakes = true,
+        Kind::Idle => add_one(&mut holds.idle, id),
+        Kind::Prepare => add_one(&mut holds.prepare, id),
+        Kind::Check => add_one(&mut holds.check, id),
+        Kind::Async => add_one(&mut holds.wakes, id),
         Kind::Io => {}
     }
 }
 
 #[inline(always)]
-fn add_handle(holds: &mut Holds, handle: HandleRecord)
-    ensures { holds.new ≡ with_handle holds.old handle }
+fn add_handle(holds: &mut Holds, id: Id, handle: HandleRecord)
+    ensures { holds.new ≡ with_handle holds.old id handle }
 {
     if handle.closing {
-        holds.closing = true;
+        add_one(&mut holds.closing, id);
     }
     if handle.active {
-        add_active(holds, handle.kind);
+        add_active(holds, id, handle.kind);
     } else if handle.is_timer() {
         holds.rests = true;
     }
 }
 
 #[inline(always)]
-fn add_request(holds: &mut Holds, request: Request)
-    ensures { holds.new ≡ with_request holds.old request }
+fn add_request(holds: &mut Holds, id: Id, request: Request)
+    ensures { holds.new ≡ with_request holds.old id request }
 {
     if request.is_open() {
         holds.opened = true;
     } else {
-        holds.ended = true;
+        add_one(&mut holds.ended, id);
     }
 }
 
-/// With a slot that holds this.
+/// With the slot of an id, which holds this.
 #[inline(always)]
-pub(crate) fn add_content(holds: &mut Holds, content: Option<Content>)
-    ensures { holds.new ≡ with_content holds.old content }
+pub(crate) fn add_content(holds: &mut Holds, id: Id, content: Option<Content>)
+    ensures { holds.new ≡ with_content holds.old id content }
 {
     match content {
         None => {}
-        Some(Content::Handle(handle)) => add_handle(holds, handle),
-        Some(Content::Request(request)) => add_request(holds, request),
+        Some(Content::Handle(handle)) => add_handle(holds, id, handle),
+        Some(Content::Request(request)) => add_request(holds, id, request),
     }
 }

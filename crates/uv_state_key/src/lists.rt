@@ -1,11 +1,14 @@
 //! The bytes of lists of slots.
-ghost use Rattle.std.specs.Prelude.{◌≡◌, ◌++◌, false, [], OnOk};
+ghost use Rattle.std.specs.Prelude.{◌≡◌, ◌++◌, ◌∷◌, false, [], OnOk};
 ghost use Rattle.uv_key.specs.Codes.{number_code, list_code};
 ghost use Rattle.uv_model.specs.After.{after};
 ghost use Rattle.uv_model.specs.Queries.{members};
+ghost use Rattle.uv_state_key.specs.Holding.{AreFew};
+ghost use Rattle.uv_state_key.specs.declared.holds.Few.TheVariants.{One};
 ghost use Rattle.uv_state_key.specs.Key.{ids_code};
 
-use crate::places::push_id;
+use crate::holds::Few;
+use crate::places::{push_id, put_id};
 use std::alloc::AllocError;
 use uv_ids::Id;
 use uv_key::push_number;
@@ -61,6 +64,75 @@ pub(crate) fn push_members_if<M: Machine>(
         push_members(out, machine, list)
     } else {
         push_none(out)
+    }
+}
+
+/// Two lists without members.
+#[inline(always)]
+fn push_neither(out: &mut Vec<u8>) -> Result<(), AllocError>
+    ensures { OnOk result (out.new.items ≡ out.old.items ++ (ids_code [] ++ ids_code [])) }
+{
+    push_none(out)?;
+    push_none(out)
+}
+
+/// A list with this member alone, and one without.
+
+fn push_single(out: &mut Vec<u8>, id: Id) -> Result<(), AllocError>
+    ensures { OnOk result (out.new.items ≡ out.old.items ++ (ids_code (id ∷ []) ++ ids_code [])) }
+{
+    out.reserve(22)?;
+    out.push_reserved(1);
+    put_id(out, id);
+    out.push_reserved(0);
+    Ok(())
+}
+
+/// Two lists, of which one has this member, and the other none.
+#[tactic(auto, using(crate::proofs::Listed::one_behind, crate::proofs::Listed::none_before))]
+fn push_one_of<M: Machine>(
+    out: &mut Vec<u8>,
+    machine: &M,
+    list: ListName,
+    yet: ListName,
+    id: Id,
+) -> Result<(), AllocError>
+    requires { AreFew (One id) (members (after (M.program machine.now) (M.standing machine.now)) list)
+        (members (after (M.program machine.now) (M.standing machine.now)) yet) }
+    ensures { OnOk result (out.new.items ≡ out.old.items ++ (ids_code (members (after (M.program machine.now) (M.standing machine.now)) list)
+        ++ ids_code (members (after (M.program machine.now) (M.standing machine.now)) yet))) }
+{
+    let Ok(ids) = machine.members(yet) else {
+        return Err(AllocError);
+    };
+    if ids.len() == 0 {
+        return push_single(out, id);
+    }
+    push_none(out)?;
+    push_ids(out, ids.as_slice())
+}
+
+/// The members of a list, and then those of it that are yet to be called, where so many stand on the two.
+#[inline(always)]
+pub(crate) fn push_walk<M: Machine>(
+    out: &mut Vec<u8>,
+    machine: &M,
+    list: ListName,
+    yet: ListName,
+    few: Few,
+) -> Result<(), AllocError>
+    requires { AreFew few (members (after (M.program machine.now) (M.standing machine.now)) list)
+        (members (after (M.program machine.now) (M.standing machine.now)) yet) }
+    ensures { OnOk result (out.new.items ≡ out.old.items ++ (ids_code (members (after (M.program machine.now) (M.standing machine.now)) list)
+        ++ ids_code (members (after (M.program machine.now) (M.standing machine.now)) yet))) }
+{
+    match few {
+        Few::None => push_neither(out),
+        Few::One(id) => push_one_of(out, machine, list, yet, id),
+        Few::Many => {
+            push_members(out, machine, list)?;
+            push_members(out, machine, yet)
+        }
     }
 }
 

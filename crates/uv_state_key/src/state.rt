@@ -3,15 +3,15 @@ ghost use Rattle.std.specs.Prelude.{◌≡◌, ◌++◌, ◌<◌, length, slice_
 ghost use Rattle.uv_key.specs.Codes.{list_code, option_code};
 ghost use Rattle.uv_model.specs.After.{after};
 ghost use Rattle.uv_key.proofs.Loops.{piece};
-ghost use Rattle.uv_state_key.specs.Holding.{content_at, held_by, with_content};
+ghost use Rattle.uv_state_key.specs.Holding.{content_at, held_by, id_at, with_content};
 ghost use Rattle.uv_state_key.specs.Key.{id_code, named_code, slot_code, arena_code, watchers_code, requests_code, state_code};
 
 use crate::contents::{push_named, push_slot};
 use crate::holds::{Holds, add_content, no_holds};
-use crate::lists::{push_free, push_members_if};
+use crate::lists::{push_free, push_members_if, push_walk};
 use crate::places::{push_id_option, push_numbers, push_place};
 use std::alloc::AllocError;
-use uv_ids::Var;
+use uv_ids::{Id, Var};
 use uv_key::push_number;
 use uv_model::Machine;
 use uv_records::ListName;
@@ -26,8 +26,13 @@ pub fn push_key<M: Machine>(out: &mut Vec<u8>, machine: &M) -> Result<(), AllocE
     let holds = push_arena(out, machine)?;
     push_members_if(out, machine, ListName::Ready, holds.rests)?;
     push_watchers(out, machine, holds)?;
-    push_members_if(out, machine, ListName::Closing, holds.closing)?;
-    push_members_if(out, machine, ListName::ClosingYet, holds.closing)?;
+    push_walk(
+        out,
+        machine,
+        ListName::Closing,
+        ListName::ClosingYet,
+        holds.closing,
+    )?;
     push_requests(out, machine, holds)?;
     push_numbers(out, machine.numbers())
 }
@@ -56,12 +61,20 @@ fn push_used<M: Machine>(
     ensures items { OnOk result (out.new.items ≡ out.old.items
         ++ piece slot_code (slice_get (after (M.program machine.now) (M.standing machine.now)).arena.slots number)) }
     ensures holds { OnOk result (holds.new
-        ≡ with_content holds.old (content_at (after (M.program machine.now) (M.standing machine.now)).arena.slots number)) }
+        ≡ with_content holds.old (id_at (after (M.program machine.now) (M.standing machine.now)).arena.slots number)
+        (content_at (after (M.program machine.now) (M.standing machine.now)).arena.slots number)) }
 {
     out.reserve(53)?;
     match machine.slot(number) {
         Some(slot) => {
-            add_content(holds, slot.content);
+            add_content(
+                holds,
+                Id {
+                    slot: number,
+                    generation: slot.generation,
+                },
+                slot.content,
+            );
             push_slot(out, slot)
         }
         None => Ok(()),
@@ -100,14 +113,28 @@ fn push_watchers<M: Machine>(out: &mut Vec<u8>, machine: &M, holds: Holds) -> Re
     requires { holds ≡ held_by (after (M.program machine.now) (M.standing machine.now)) }
     ensures { OnOk result (out.new.items ≡ out.old.items ++ watchers_code (after (M.program machine.now) (M.standing machine.now))) }
 {
-    push_members_if(out, machine, ListName::Idle, holds.idle)?;
-    push_members_if(out, machine, ListName::IdleYet, holds.idle)?;
-    push_members_if(out, machine, ListName::Prepare, holds.prepare)?;
-    push_members_if(out, machine, ListName::PrepareYet, holds.prepare)?;
-    push_members_if(out, machine, ListName::Check, holds.check)?;
-    push_members_if(out, machine, ListName::CheckYet, holds.check)?;
-    push_members_if(out, machine, ListName::Async, holds.wakes)?;
-    push_members_if(out, machine, ListName::AsyncYet, holds.wakes)
+    push_walk(out, machine, ListName::Idle, ListName::IdleYet, holds.idle)?;
+    push_walk(
+        out,
+        machine,
+        ListName::Prepare,
+        ListName::PrepareYet,
+        holds.prepare,
+    )?;
+    push_walk(
+        out,
+        machine,
+        ListName::Check,
+        ListName::CheckYet,
+        holds.check,
+    )?;
+    push_walk(
+        out,
+        machine,
+        ListName::Async,
+        ListName::AsyncYet,
+        holds.wakes,
+    )
 }
 
 /// What each worker runs.
@@ -131,6 +158,5 @@ fn push_requests<M: Machine>(out: &mut Vec<u8>, machine: &M, holds: Holds) -> Re
 {
     push_members_if(out, machine, ListName::Waiting, holds.opened)?;
     push_runs(out, machine)?;
-    push_members_if(out, machine, ListName::Done, holds.ended)?;
-    push_members_if(out, machine, ListName::DoneYet, holds.ended)
+    push_walk(out, machine, ListName::Done, ListName::DoneYet, holds.ended)
 }

@@ -1,7 +1,7 @@
 use Rattle.std.proofs.Common.{◌≡◌, ◌+◌, ◌<◌, suc, length, ap, ◌∙◌, arith}
 use Rattle.uv_model.specs.After.{after}
 use Rattle.uv_key.proofs.Loops.{piece_turn}
-use Rattle.uv_state_key.specs.Holding.{content_at, holds_in, with_content}
+use Rattle.uv_state_key.specs.Holding.{content_at, holds_in, id_at, with_content}
 use Rattle.uv_state_key.specs.Key.{slot_code}
 use Rattle.uv_state_key.proofs.state.push_slots.Goals as goal
 
@@ -14,7 +14,8 @@ loop-number-preserved g c =
     record {
       items = c.in_ok-push_used.ensures.items
           ∙ piece_turn slot_code slots number c.push_number.new.out.items c.loop-number.out.items c.loop-number.invariant.items;
-      holds = c.in_ok-push_used.ensures.holds ∙ ap (λ holds. with_content holds (content_at slots number)) c.loop-number.invariant.holds
+      holds = c.in_ok-push_used.ensures.holds
+          ∙ ap (λ holds. with_content holds (id_at slots number) (content_at slots number)) c.loop-number.invariant.holds
           ∙ ap (λ n. holds_in slots n) next;
       within = omega (arith, below);
     }
