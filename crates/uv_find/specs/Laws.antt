@@ -1,4 +1,4 @@
--- Places that have one key go on alike, and moves lead to places.
+-- What a place does, one that has the same key does as well, and moves lead to places.
 use Rattle.std.proofs.Common.{◌≡◌, ℕ, ◌<◌, Bool, true, false, List, [], ◌∷◌, ◌++◌, length, refl, sym, ap, ap₂, subst, ◌∙◌, Option, Some, None, if◌then◌else◌, append_assoc, arith}
 use Rattle.uv_ids.specs.declared.seen.Seen.{Seen}
 use Rattle.uv_key.specs.Codes.{number_code}
@@ -7,7 +7,7 @@ use Rattle.uv_model.specs.State.{State}
 use Rattle.uv_model.specs.Next.{Next, Moves, Refuses, next}
 use Rattle.uv_model.specs.After.{after, state_of}
 use Rattle.uv_model.proofs.Runs.{after-push}
-use Rattle.uv_search.specs.Ways.{SameMoves, SameStep}
+use Rattle.uv_search.specs.Ways.{CoversMoves, CoversStep}
 use Rattle.uv_state_key.specs.Key.{state_code}
 use Rattle.uv_state_key.proofs.States as states
 use Rattle.uv_find.specs.Orders.{Rules, Place, Choice, Led, led, led_by, placed, choice_at, move_count, taken, reached, is_within}
@@ -86,16 +86,16 @@ places_tell r s t is js e =
     let state : p.state ≡ q.state = is.state ∙ same.0 ∙ sym js.state in
     λ i. record { state = state i; left = lefts.0 i; kept = kept i }
 
-same_spots : (r : Rules) (s t : Spot) → s.place ≡ t.place → (o : Option Led) → SameStep spot_code (spot_of r s o) (spot_of r t o)
+same_spots : (r : Rules) (s t : Spot) → s.place ≡ t.place → (o : Option Led) → CoversStep spot_code (spot_of r s o) (spot_of r t o)
 same_spots r s t same None = tt
 same_spots r s t same (Some l) = (refl, ap (λ (p : Place). answers r p l) same)
 
 pub spots_alike : (r : Rules) (s t : Spot) → IsSpot r s → IsSpot r t → spot_code s ≡ spot_code t
-    → SameMoves (λ (a : Spot). move_count r a.place) (next_spot r) spot_code s t
+    → CoversMoves (λ (a : Spot). move_count r a.place) (next_spot r) spot_code s t
 spots_alike r s t is js e =
     let same = places_tell r s t is js e in (
       ap (move_count r) same,
-      λ i below. subst (λ (p : Place). SameStep spot_code (next_spot r s i) (spot_of r t (led r p i))) same (same_spots r s t same (led r s.place i)),
+      λ i below. subst (λ (p : Place). CoversStep spot_code (next_spot r s i) (spot_of r t (led r p i))) same (same_spots r s t same (led r s.place i)),
     )
 
 -- ---- where a move leads

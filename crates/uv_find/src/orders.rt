@@ -410,6 +410,8 @@ impl<M: Machine> Maze for Orders<M> {
 
     ghost IsPlace = { spots.IsSpot };
 
+    ghost IsReached = { spots.IsSpot };
+
     ghost IsDeep = { λ _ s. spots.IsDeep s };
 
     fn moves(&self) -> usize {
@@ -448,6 +450,8 @@ impl<M: Machine> Maze for Orders<M> {
     }
 
     ghost alike = { spots_alike };
+
+    ghost stands = { λ _ _ is. is };
 
     ghost leads = { spots_lead };
 }
