@@ -13,6 +13,8 @@ CALLS = ["call", "after", "closed"]
 MEANT = {"call": CALLS, "on": ["call"], "after": ["after"], "closed": ["closed"]}
 # The words of `takes` don't count for the callback of a close.
 TAKING = {"on": 0, "after": 1}
+# The first words of a section of timers.
+TIMERS = ["first", "timers"]
 NAMELESS = ["stoploop", "updatetime", "now", "alive", "timeout", "closeloop"]
 
 
@@ -124,7 +126,11 @@ def after(asked: Asked, place: Place, number: int, command: str, reply: Reply) -
 
 
 def due_after(asked: Asked, place: Place, state: State) -> int:
-    return state.due.get(asked.question[1], place.due) if asked.question[:1] == ("late",) else 0
+    """When the timer that is asked for is due. In a section of timers one that was collected is called, and so what was kept stays; elsewhere
+    one that isn't active is due at no time, for which the clock stands."""
+    if asked.question[:1] != ("late",):
+        return 0
+    return state.due.get(asked.question[1], place.due if state.section in TIMERS else state.clock)
 
 
 def moves_of_recorded(loop: Loop, asked: Asked, place: Place, blocked: List[bool]) -> Iterator[Move]:

@@ -17,6 +17,8 @@ use Rattle.uv_work.specs.declared.content.Content.{Content}
 use Rattle.uv_work.specs.declared.content.Content.TheVariants as content
 use Rattle.uv_model.specs.declared.place.Place as loop
 use Rattle.uv_model.specs.declared.place.Place.TheVariants.{Main, Running}
+use Rattle.uv_model.specs.declared.place.Stage.{Stage}
+use Rattle.uv_model.specs.declared.place.Stage.TheVariants.{Timers}
 use Rattle.uv_model.specs.State.{State, named}
 use Rattle.uv_asking.specs.declared.asking.Question.{Question}
 use Rattle.uv_asking.specs.declared.asking.Question.TheVariants as asks
@@ -27,7 +29,23 @@ use Rattle.uv_find.specs.declared.kept.Kept.{Kept}
 
 -- ---- when the timer that is asked about is due
 
--- when an active timer is due; what is no active timer leaves what was kept
+-- the loop is in a section of timers, also while one of their callbacks is under way
+abbrev pub is_timers_stage : Stage → Bool
+is_timers_stage (Timers part timing) = true
+is_timers_stage _ = false
+
+abbrev pub is_in_timers : loop.Place → Bool
+is_in_timers (Main line) = false
+is_in_timers (Running run) = is_timers_stage run.stage
+
+-- when a timer is due that isn't active. A section of timers calls those that it collected, and it ends only when each of them was called or
+-- stopped: so in it what was kept stays, of when the timer was active last. Elsewhere the next step can call none that isn't active, nor can
+-- any later one before the timer is started again, and then what is kept is its new due time. So what stands here then answers nothing: it is
+-- the clock, which the state has already, and from which a due time that is over would be further away after each step of the clock
+abbrev pub due_else : State → ℕ → ℕ
+due_else s due = if is_in_timers s.place then due else s.clock
+
+-- when an active timer is due; what is no active timer leaves this
 abbrev pub due_in : Option Content → ℕ → ℕ
 due_in (Some (content.Handle h)) due = if is_timer h.kind && h.active then h.due.at else due
 due_in _ due = due
@@ -37,7 +55,7 @@ due_under s None due = due
 due_under s (Some id) due = due_in (held s.arena.slots id) due
 
 abbrev pub kept_due : Question → State → ℕ → ℕ
-kept_due (asks.Late name ms) s due = due_under s (named s name).id due
+kept_due (asks.Late name ms) s due = due_under s (named s name).id (due_else s due)
 kept_due _ s due = due
 
 -- ---- how long callbacks take

@@ -1,18 +1,19 @@
 //! What a search keeps beside the loop's state.
 ghost use Rattle.std.specs.Prelude.{◌≡◌, ◌+◌, ◌<◌, ◌^◌, ◌==◌, ◌&&◌, length};
 ghost use Rattle.uv_model.specs.After.{after};
-ghost use Rattle.uv_find.specs.Kept.{none_kept, due_in, kept_due, caller, is_over, is_of_calls, said_time, or_time, time_taken, takes_time, time_at_end, owed_in, owed_by, owed_after, onward, behind, is_poll, nearer, arrived, along_after, with_spare, kept_after, owes};
+ghost use Rattle.uv_model.specs.State.{named};
+ghost use Rattle.uv_find.specs.Kept.{none_kept, is_timers_stage, is_in_timers, due_else, due_in, due_under, kept_due, caller, is_over, is_of_calls, said_time, or_time, time_taken, takes_time, time_at_end, owed_in, owed_by, owed_after, onward, behind, is_poll, nearer, arrived, along_after, with_spare, kept_after, owes};
 
 use crate::terms::Terms;
 use uv_asking::{Question, Recorded, Takes};
 use uv_ids::{Callback, Event, Seen, Site, Var};
-use uv_model::{Machine, Place};
+use uv_model::{Machine, Place, Stage};
 use uv_work::Content;
 
 /// What a search keeps of the steps that led to where it stands.
 #[derive(Clone, Copy, PartialEq, Eq)]
 pub struct Kept {
-    /// When the timer that is asked about was due, as it was last active.
+    /// When the timer that is asked about is due, or was as it was last active; the clock where nothing can ask for that.
     pub due: u64,
     /// How many ms the callback still takes that has ended.
     pub owed: u64,
@@ -155,7 +156,37 @@ pub fn none_kept(recorded: &[Recorded], differ: Option<u32>) -> Kept
     }
 }
 
-/// When an active timer is due; what is no active timer leaves what was kept.
+fn is_timers_stage(stage: Stage) -> bool
+    ensures { result ≡ is_timers_stage stage }
+{
+    match stage {
+        Stage::Timers(..) => true,
+        _ => false,
+    }
+}
+
+/// Whether the loop is in a section of timers.
+fn is_in_timers(place: Place) -> bool
+    ensures { result ≡ is_in_timers place }
+{
+    match place {
+        Place::Main(_) => false,
+        Place::Running(run) => is_timers_stage(run.stage),
+    }
+}
+
+/// When a timer is due that isn't active.
+fn due_else<M: Machine>(machine: &M, due: u64) -> u64
+    ensures { result ≡ due_else (after (M.program machine.now) (M.standing machine.now)) due }
+{
+    if is_in_timers(machine.place()) {
+        due
+    } else {
+        machine.numbers().clock
+    }
+}
+
+/// When an active timer is due; what is no active timer leaves this.
 fn due_in(content: Option<Content>, due: u64) -> u64
     ensures { result ≡ due_in content due }
 {
@@ -171,15 +202,23 @@ fn due_in(content: Option<Content>, due: u64) -> u64
     }
 }
 
+/// When the timer of a name is due; where none is active, this.
+fn due_under<M: Machine>(machine: &M, name: Var, due: u64) -> u64
+    ensures { let s = after (M.program machine.now) (M.standing machine.now)
+        in result ≡ due_under s (named s name).id due }
+{
+    match machine.named(name).id {
+        None => due,
+        Some(id) => due_in(machine.held(id), due),
+    }
+}
+
 /// What is kept of a timer's due time, as the machine stands.
 fn kept_due<M: Machine>(machine: &M, question: Question, due: u64) -> u64
     ensures { result ≡ kept_due question (after (M.program machine.now) (M.standing machine.now)) due }
 {
     match question {
-        Question::Late(name, _) => match machine.named(name).id {
-            None => due,
-            Some(id) => due_in(machine.held(id), due),
-        },
+        Question::Late(name, _) => due_under(machine, name, due_else(machine, due)),
         _ => due,
     }
 }
