@@ -1,0 +1,6 @@
+mod Cases
+mod Changed
+mod Walk
+pub mod Counted
+mod Grows
+pub mod Stales
