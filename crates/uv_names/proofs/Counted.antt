@@ -1,7 +1,8 @@
 -- What is counted no further than to a number, what is read of it, and a step.
-use Rattle.std.proofs.Common.{◌≡◌, ℕ, suc, zero, ◌+◌, ◌<◌, ◌≤◌, ◌==◌, Bool, List, [], ◌∷◌, Option, Some, None, refl, ap, ap₂, sym, subst, ◌∙◌, arith, drop, slice_get, slice_set, nat_le, if◌then◌else◌}
+use Rattle.std.proofs.Common.{◌≡◌, ℕ, suc, zero, ◌+◌, ◌<◌, ◌≤◌, ◌==◌, Bool, List, [], ◌∷◌, Option, Some, None, refl, ap, ap₂, sym, subst, ◌∙◌, arith, drop, slice_get, slice_set, nat_eq, nat_le, if◌then◌else◌}
 use Rattle.std.specs.Prelude.{map, min, option_map}
 use Rattle.std.proofs.lemmas.List.{map-set}
+use Rattle.std.specs.Option.{option_eq}
 use Rattle.uv_ids.specs.declared.event.Event.{Event}
 use Rattle.uv_ids.specs.declared.id.Var.{Var}
 use Rattle.uv_ids.specs.declared.seen.Callback.{Callback}
@@ -139,6 +140,19 @@ pub is_for_capped : (n : ℕ) (s : State) (v : Var) (kind : Callback) (call : Op
 is_for_capped n s v kind call before =
     let c = count_of kind (named s v).calls in
     ap (λ x. is_for x call) (count_named n s v kind) ∙ is_for_alike n (min c n) c call before (twice c n)
+
+said_alike : (n a b : ℕ) (call : Option ℕ) → IsBefore n call → min a n ≡ min b n → option_eq nat_eq call (Some a) ≡ option_eq nat_eq call (Some b)
+said_alike n a b None before same = refl
+said_alike n a b (Some k) before same = equal k before
+  where
+    equal : (k : ℕ) → k < n → nat_eq k a ≡ nat_eq k b
+    equal k below = grind arith
+
+pub said_capped : (n : ℕ) (s : State) (v : Var) (kind : Callback) (call : Option ℕ) → IsBefore n call →
+    option_eq nat_eq call (Some (count_of kind (named (capped n s) v).calls)) ≡ option_eq nat_eq call (Some (count_of kind (named s v).calls))
+said_capped n s v kind call before =
+    let c = count_of kind (named s v).calls in
+    ap (λ x. option_eq nat_eq call (Some x)) (count_named n s v kind) ∙ said_alike n (min c n) c call before (twice c n)
 
 pub within_capped : (n : ℕ) (s : State) (v : Var) (kind : Callback) (most : ℕ) → most < n →
     nat_le (count_of kind (named (capped n s) v).calls) most ≡ nat_le (count_of kind (named s v).calls) most

@@ -1,5 +1,6 @@
 //! What a step is where counts go no further than to a number, and where names forget earlier generations.
-ghost use Rattle.std.specs.Prelude.{◌≡◌, ◌<◌, ◌≤◌, ◌+◌, ◌==◌, ℕ, Option, Some, is_some, nat_le, slice_get};
+ghost use Rattle.std.specs.Prelude.{◌≡◌, ◌<◌, ◌≤◌, ◌+◌, ◌==◌, ℕ, Option, Some, is_some, nat_eq, nat_le, slice_get};
+ghost use Rattle.std.specs.Option.{option_eq};
 ghost use Rattle.uv_ids.specs.declared.event.Event.{Event};
 ghost use Rattle.uv_ids.specs.declared.id.Id.{Id};
 ghost use Rattle.uv_ids.specs.declared.id.Var.{Var};
@@ -33,11 +34,13 @@ pub fn counts_end()
     ensures body { (n : ℕ) (s : State) (run : Run) (body : Body) → (capped n s).place ≡ Running run → run.body ≡ Some body → body.call ≤ n }
 {}
 
-/// What is asked of a count with numbers below n is answered by it up to n: whether it is the call that is meant, whether it is at most so
-/// many, and whether it is none. What a name is bound to stays. It does nothing, and is called for its clauses.
+/// What is asked of a count with numbers below n is answered by it up to n: whether it is the call that is meant or said, whether it is at
+/// most so many, and whether it is none. What a name is bound to stays. It does nothing, and is called for its clauses.
 pub fn reads_capped()
     ensures meant { (n : ℕ) (s : State) (v : Var) (kind : Callback) (call : Option ℕ) → IsBefore n call
         → is_for (count_of kind (named (capped n s) v).calls) call ≡ is_for (count_of kind (named s v).calls) call }
+    ensures said { (n : ℕ) (s : State) (v : Var) (kind : Callback) (call : Option ℕ) → IsBefore n call
+        → option_eq nat_eq call (Some (count_of kind (named (capped n s) v).calls)) ≡ option_eq nat_eq call (Some (count_of kind (named s v).calls)) }
     ensures within { (n : ℕ) (s : State) (v : Var) (kind : Callback) (most : ℕ) → most < n
         → nat_le (count_of kind (named (capped n s) v).calls) most ≡ nat_le (count_of kind (named s v).calls) most }
     ensures never { (n : ℕ) (s : State) (v : Var) (kind : Callback) → 0 < n

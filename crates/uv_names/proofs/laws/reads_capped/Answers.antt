@@ -4,6 +4,9 @@ use Rattle.uv_names.proofs.laws.reads_capped.Goals as goal
 pub returns-clause-meant : goal.returns-clause-meant
 returns-clause-meant c = counted.is_for_capped
 
+pub returns-clause-said : goal.returns-clause-said
+returns-clause-said c = counted.said_capped
+
 pub returns-clause-within : goal.returns-clause-within
 returns-clause-within c = counted.within_capped
 
