@@ -1,5 +1,5 @@
 -- What is counted no further than to a number, what is read of it, and a step.
-use Rattle.std.proofs.Common.{◌≡◌, ℕ, suc, zero, ◌+◌, ◌<◌, ◌≤◌, ◌==◌, Bool, List, [], ◌∷◌, Option, Some, None, refl, ap, ap₂, sym, subst, ◌∙◌, arith, drop, slice_get, slice_set, nat_eq, nat_le, if◌then◌else◌}
+use Rattle.std.proofs.Common.{◌≡◌, ℕ, suc, zero, ◌+◌, ◌<◌, ◌≤◌, ◌==◌, Bool, List, [], ◌∷◌, Option, Some, None, refl, ap, ap₂, sym, subst, ◌∙◌, arith, drop, slice_get, slice_set, unwrap_or, nat_eq, nat_le, if◌then◌else◌}
 use Rattle.std.specs.Prelude.{map, min, option_map}
 use Rattle.std.proofs.lemmas.List.{map-set}
 use Rattle.std.specs.Option.{option_eq}
@@ -11,14 +11,14 @@ use Rattle.uv_records.specs.declared.named.Calls.{Calls}
 use Rattle.uv_records.specs.declared.named.Named.{Named}
 use Rattle.uv_records.specs.Names.{count_of, counted, unbound}
 use Rattle.uv_script.specs.declared.op.CallbackLine.{CallbackLine}
-use Rattle.uv_script.specs.Program.{Program, lines_in, is_for, next_line}
+use Rattle.uv_script.specs.Program.{Program, Callbacks, no_callbacks, lines_in, lines_of, is_for, next_line}
 use Rattle.uv_model.specs.declared.place.Body.{Body}
 use Rattle.uv_model.specs.declared.place.Run.{Run}
 use Rattle.uv_model.specs.declared.place.Place.{Place}
 use Rattle.uv_model.specs.declared.place.Place.TheVariants.{Main, Running}
 use Rattle.uv_model.specs.State.{State, named}
 use Rattle.uv_model.specs.Next.{Moves, next, body_at, body_from}
-use Rattle.uv_names.specs.Counts.{capped_calls, capped_name, capped_body, capped_run, capped_place, capped, capped_next, IsBefore, AreBefore}
+use Rattle.uv_names.specs.Counts.{capped_calls, capped_name, capped_body, capped_run, capped_place, capped, capped_next, IsBefore, AreBefore, call_end, lines_end, callbacks_end, all_end, script_end}
 use Rattle.uv_names.proofs.Changed.{Hides, named_changed}
 use Rattle.uv_names.proofs.Walk.{SeesAlike, step_alike}
 
@@ -229,3 +229,31 @@ pub alike_by_counts : (n : ℕ) (p : Program) (s t : State) (e : Event) → AreB
     capped_next n (next p s e) ≡ capped_next n (next p t e)
 alike_by_counts n p s t e before same =
     sym (counts_capped n p s e before) ∙ ap (λ u. capped_next n (next p u e)) same ∙ counts_capped n p t e before
+
+-- ---- a number that each line is before
+
+call_before : (n : ℕ) (call : Option ℕ) → call_end call ≤ n → IsBefore n call
+call_before n None most = tt
+call_before n (Some call) most = omega (arith, most)
+
+lines_before : (n : ℕ) (lines : List CallbackLine) → lines_end lines ≤ n → AreBeforeIn n lines
+lines_before n [] most i line is = absurd (let f : ⊥ = cc in f)
+lines_before n (l ∷ ls) most zero line is =
+    let same : l ≡ line = cc in
+    let first : call_end l.call ≤ n = omega (arith, most) in
+    subst (λ (x : CallbackLine). IsBefore n x.call) same (call_before n l.call first)
+lines_before n (l ∷ ls) most (suc i) line is = lines_before n ls (omega (arith, most)) i line is
+
+kind_before : (n : ℕ) (kind : Callback) (c : Callbacks) → callbacks_end c ≤ n → AreBeforeIn n (lines_of kind c)
+kind_before n callback.Handle c most = lines_before n c.handle (omega (arith, most))
+kind_before n callback.After c most = lines_before n c.after (omega (arith, most))
+kind_before n callback.Close c most = lines_before n c.close (omega (arith, most))
+
+name_before : (n : ℕ) (kind : Callback) (cs : List Callbacks) (v : ℕ) → all_end cs ≤ n →
+    AreBeforeIn n (lines_of kind (unwrap_or (slice_get cs v) no_callbacks))
+name_before n kind [] v most = kind_before n kind no_callbacks (omega (arith, most))
+name_before n kind (c ∷ cs) zero most = kind_before n kind c (omega (arith, most))
+name_before n kind (c ∷ cs) (suc v) most = name_before n kind cs v (omega (arith, most))
+
+pub script_before : (n : ℕ) (p : Program) → script_end p ≤ n → AreBefore n p
+script_before n p most kind v = name_before n kind p.callbacks v.0 most

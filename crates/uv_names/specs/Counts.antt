@@ -1,12 +1,12 @@
 -- A state that counts no further than to a number: how often the callbacks of each name were called, and which call the body under way
 -- belongs to. Whatever else a state has stays.
-use Rattle.std.specs.Prelude.{◌≡◌, ℕ, ◌<◌, min, map, Option, Some, None, option_map, slice_get}
+use Rattle.std.specs.Prelude.{◌≡◌, ℕ, ◌+◌, ◌<◌, min, max, map, List, [], ◌∷◌, Option, Some, None, option_map, slice_get}
 use Rattle.uv_ids.specs.declared.id.Var.{Var}
 use Rattle.uv_ids.specs.declared.seen.Callback.{Callback}
 use Rattle.uv_records.specs.declared.named.Calls.{Calls}
 use Rattle.uv_records.specs.declared.named.Named.{Named}
 use Rattle.uv_script.specs.declared.op.CallbackLine.{CallbackLine}
-use Rattle.uv_script.specs.Program.{Program, lines_in}
+use Rattle.uv_script.specs.Program.{Program, Callbacks, lines_in}
 use Rattle.uv_model.specs.declared.place.Body.{Body}
 use Rattle.uv_model.specs.declared.place.Run.{Run}
 use Rattle.uv_model.specs.declared.place.Place.{Place}
@@ -50,3 +50,24 @@ IsBefore n (Some call) = call < n
 -- so is each line of a script's callbacks
 abbrev pub AreBefore : ℕ → Program → Type 0
 AreBefore n p = (kind : Callback) (v : Var) (i : ℕ) (line : CallbackLine) → slice_get (lines_in p kind v) i ≡ Some line → IsBefore n line.call
+
+-- behind the number of the call that a line is for
+abbrev pub call_end : Option ℕ → ℕ
+call_end None = 0
+call_end (Some call) = call + 1
+
+-- behind that of each of these lines
+abbrev pub lines_end : List CallbackLine → ℕ
+lines_end [] = 0
+lines_end (line ∷ lines) = max (call_end line.call) (lines_end lines)
+
+abbrev pub callbacks_end : Callbacks → ℕ
+callbacks_end c = max (lines_end c.handle) (max (lines_end c.after) (lines_end c.close))
+
+abbrev pub all_end : List Callbacks → ℕ
+all_end [] = 0
+all_end (c ∷ cs) = max (callbacks_end c) (all_end cs)
+
+-- the least number that each line for one call of a script is before
+abbrev pub script_end : Program → ℕ
+script_end p = all_end p.callbacks

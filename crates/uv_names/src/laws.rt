@@ -14,7 +14,7 @@ ghost use Rattle.uv_model.specs.declared.place.Run.{Run};
 ghost use Rattle.uv_model.specs.declared.place.Place.TheVariants.{Running};
 ghost use Rattle.uv_model.specs.State.{State, live, named};
 ghost use Rattle.uv_model.specs.Next.{next};
-ghost use Rattle.uv_names.specs.Counts.{capped, capped_next, AreBefore, IsBefore};
+ghost use Rattle.uv_names.specs.Counts.{capped, capped_next, AreBefore, IsBefore, script_end};
 ghost use Rattle.uv_names.specs.Stale.{staled, staled_next};
 
 /// In a script whose lines are for every call, or for one before the n-th, a step goes as it does where no count goes beyond n: with the
@@ -25,6 +25,11 @@ pub fn counts_capped()
         → capped_next n (next p (capped n s) e) ≡ capped_next n (next p s e) }
     ensures alike { (n : ℕ) (p : Program) (s t : State) (e : Event) → AreBefore n p → capped n s ≡ capped n t
         → capped_next n (next p s e) ≡ capped_next n (next p t e) }
+{}
+
+/// From `script_end` of a script on, each number does for it. It does nothing, and is called for its clause.
+pub fn script_counts()
+    ensures { (n : ℕ) (p : Program) → script_end p ≤ n → AreBefore n p }
 {}
 
 /// A state that counts no further than to n has no count beyond it, neither of a name nor of the body under way. It does nothing, and is
