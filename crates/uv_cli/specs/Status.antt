@@ -1,18 +1,20 @@
 -- Exit statuses, and what was written where a run ended with one.
-use Rattle.std.specs.Prelude.{◌≡◌, ℕ, ◌==◌, List, [], ◌∷◌, ◌++◌, true, Option, Some, None}
+use Rattle.std.specs.Prelude.{◌≡◌, ℕ, ◌==◌, List, [], ◌∷◌, ◌++◌, true, Option, Some, None, Result, Ok, Err, IfErr}
 use Rattle.std.specs.List.{list_any}
 use Rattle.uv_ids.specs.declared.fault.Fault.{Fault}
 use Rattle.uv_ids.specs.declared.fault.Fault.TheVariants as fault
 use Rattle.uv_engine.specs.declared.conversation.Ended.{Ended}
 use Rattle.uv_engine.specs.declared.verdict.Verdict.{Verdict}
 use Rattle.uv_engine.specs.declared.verdict.Verdict.TheVariants.{Same, Differs, Refused, Full}
-use Rattle.uv_engine.specs.Out.{Out, Ends, BadScript, IsCut, IsWhole}
+use Rattle.uv_engine.specs.Devices.{ReaderCounts, WriterCounts}
+use Rattle.uv_engine.specs.Out as out
+use Rattle.uv_engine.specs.Out.{Out, BadScript, IsCut, IsWhole, IsConversationFault}
 use Rattle.uv_script.specs.Writes.{CutShort}
 use Rattle.uv_engine.specs.Recordings.{IsBadLine}
-use Rattle.uv_engine.specs.Verdict.{HasVerdict, verdict_text}
+use Rattle.uv_engine.specs.Verdict.{HasVerdict, IsReplayFault, verdict_text}
 use Rattle.uv_words.specs.declared.command_line.Job.{Job}
 use Rattle.uv_words.specs.declared.command_line.Job.TheVariants.{Debug, Replay, Live}
-use Rattle.uv_cli.specs.Live.{Lives}
+use Rattle.uv_cli.specs.Live.{EndsLive, Lives}
 
 -- the status of a fault
 abbrev pub status_of : Fault → ℕ
@@ -35,7 +37,7 @@ MayEnd asked status = list_any (λ s. s == status) (statuses asked) ≡ true
 
 -- a conversation. 0: all that the input asks for was written. 2: the script is bad, and nothing was written. 4: a beginning was written
 pub data Runs (input old new : List ℕ) : ℕ → Type 0 where
-  done : (end : Ended) → IsWhole input (Ends end) old new → Runs input old new 0
+  done : (end : Ended) → IsWhole input (out.Ends end) old new → Runs input old new 0
   bad_script : (line : ℕ) → Out input [] (BadScript line) → new ≡ old → Runs input old new 2
   broken : IsCut input old new → Runs input old new 4
 
@@ -53,6 +55,34 @@ pub data Reruns (input old new : List ℕ) : ℕ → Type 0 where
   bad_line : (line : ℕ) → IsBadLine input line → new ≡ old → Reruns input old new 2
   nothing : new ≡ old → Reruns input old new 4
   cut_short : (v : Verdict) → HasVerdict input v → CutShort old (verdict_text v) new → Reruns input old new 4
+
+-- ---- the causes
+
+-- a fault of a conversation or of a replay
+abbrev pub IsFaultOf : Job → Fault → Type 0
+IsFaultOf Debug f = IsConversationFault f
+IsFaultOf Replay f = IsReplayFault f
+IsFaultOf (Live workers) f = ⊥
+
+abbrev pub status_in : Result (Unit {0}) Fault → ℕ
+status_in (Ok done) = 0
+status_in (Err f) = status_of f
+
+-- a conversation or a replay ends with the status of what it came to: 0, or that of its fault. The fault is `Read` where the reader failed,
+-- and else only where the input is too long; it is `Write` where the writer failed, and only there
+pub record EndsBy (job : Job) (TooLong : Type 0) (reads reads' writes writes' status : ℕ) : Type 0 where
+  pub came_to : Result (Unit {0}) Fault
+  pub is : status ≡ status_in came_to
+  pub fault : IfErr came_to (IsFaultOf job)
+  pub reader : ReaderCounts came_to TooLong reads reads'
+  pub writer : WriterCounts came_to writes writes'
+
+-- by which cause a run of the program ends with its status, by what its words ask for. Where they ask for nothing, no device was asked
+abbrev pub Ends : Option Job → Type 0 → ℕ → ℕ → ℕ → ℕ → ℕ → Type 0
+Ends (Some Debug) TooLong reads reads' writes writes' status = EndsBy Debug TooLong reads reads' writes writes' status
+Ends (Some Replay) TooLong reads reads' writes writes' status = EndsBy Replay TooLong reads reads' writes writes' status
+Ends (Some (Live workers)) TooLong reads reads' writes writes' status = EndsLive TooLong reads reads' writes writes' status
+Ends None TooLong reads reads' writes writes' status = (reads' ≡ reads) × (writes' ≡ writes)
 
 -- what a run of the program comes to, by what its words ask for
 pub data Ran (asked : Option Job) (input old new : List ℕ) (status : ℕ) : Type 0 where

@@ -2,9 +2,9 @@
 ghost use Rattle.std.specs.Prelude.{◌≡◌, ◌^◌, IfErr, IfSome};
 ghost use Rattle.uv_ids.specs.declared.fault.Fault.TheVariants.{Write};
 ghost use Rattle.uv_script.specs.Program.{IsWorkerCount};
-ghost use Rattle.uv_engine.specs.Devices.{TakesWithin, WriterCounts};
+ghost use Rattle.uv_engine.specs.Devices.{IsTooLong, ReaderCounts, TakesWithin, WriterCounts};
 ghost use Rattle.uv_script.specs.Writes.{Writes};
-ghost use Rattle.uv_cli.specs.Live.{to_run, OnRead, RunsLive};
+ghost use Rattle.uv_cli.specs.Live.{to_run, of_reader, of_writer, IsLiveFault, OnRead, RunsLive};
 
 use std::alloc::Global;
 use std::sync::Wait;
@@ -23,7 +23,12 @@ use uv_text::recording_text;
 pub enum NoRecording {
     /// This line of the script is outside the grammar.
     BadScript(usize),
+    /// The script couldn't be read: the reader failed, the input is too long, or memory was refused.
+    Unread(Fault),
+    /// The run failed, or there was no memory for its recording.
     Failed(Fault),
+    /// The writer failed.
+    Unwritten,
 }
 
 /// A gate that holds nobody.
@@ -79,13 +84,15 @@ pub fn run_live<M: Machine, H: Threads + Wait + Sync, R: Source, W: Sink>(
     requires within { IfSome workers IsWorkerCount }
     ensures text { R.Tells → W.Tells → RunsLive workers (R.remaining reader.old) result (W.written writer.old) (W.written writer.new) }
     ensures within { OnRead result (R.Tells → TakesWithin (2 ^ 30) (R.remaining reader.old) (R.remaining reader.new)) }
-    ensures reader { OnRead result (R.failures reader.new ≡ R.failures reader.old) }
-    ensures writer { OnRead result (W.failures writer.new ≡ W.failures writer.old) }
+    ensures err { IfErr result IsLiveFault }
+    ensures reader { ReaderCounts (of_reader result) (IsTooLong R.Tells (2 ^ 30) (R.remaining reader.old) (R.given reader.old)
+        (R.given reader.new)) (R.failures reader.old) (R.failures reader.new) }
+    ensures writer { WriterCounts (of_writer result) (W.failures writer.old) (W.failures writer.new) }
 {
     let script = match read_alone(alloc, reader) {
         Ok(script) => script,
         Err(Fault::Script { line }) => return Err(NoRecording::BadScript(line)),
-        Err(fault) => return Err(NoRecording::Failed(fault)),
+        Err(fault) => return Err(NoRecording::Unread(fault)),
     };
     let script = with_workers(script, workers);
     let mut clock = JumpClock::new(0);
@@ -99,6 +106,6 @@ pub fn run_live<M: Machine, H: Threads + Wait + Sync, R: Source, W: Sink>(
     };
     match write_whole(writer, text.as_slice()) {
         Ok(()) => Ok(()),
-        Err(fault) => Err(NoRecording::Failed(fault)),
+        Err(_) => Err(NoRecording::Unwritten),
     }
 }

@@ -2,9 +2,9 @@
 ghost use Rattle.std.specs.Prelude.{◌≡◌, ◌≢◌, ◌^◌, map, IfSome, Some, None};
 ghost use Rattle.uv_script.specs.Program.{IsWorkerCount};
 ghost use Rattle.uv_words.specs.declared.command_line.Job.TheVariants.{Debug, Replay, Live};
-ghost use Rattle.uv_engine.specs.Devices.{TakesWithin};
-ghost use Rattle.uv_cli.specs.Live.{Lives};
-ghost use Rattle.uv_cli.specs.Status.{Runs, Reruns, Ran, MayEnd, status_of};
+ghost use Rattle.uv_engine.specs.Devices.{IsTooLong, TakesWithin};
+ghost use Rattle.uv_cli.specs.Live.{EndsLive, Lives};
+ghost use Rattle.uv_cli.specs.Status.{Ends, EndsBy, Runs, Reruns, Ran, MayEnd, status_of};
 ghost use Rattle.uv_words.specs.Words.{job_of};
 
 use crate::live::{NoRecording, run_live};
@@ -34,10 +34,15 @@ pub fn run<M: Machine, H: Threads + Wait + Sync, R: Source, W: Sink, E: Write>(
     // On any device, also one that doesn't tell its bytes, it ends with one of these statuses.
     ensures status { MayEnd (job_of (map (λ word. word.now) words.now)) result }
 
+    // Which fault, of the input, of a device, of memory or of the run, it is that ends it so.
+    ensures ends { Ends (job_of (map (λ word. word.now) words.now))
+        (IsTooLong R.Tells (2 ^ 30) (R.remaining reader.old) (R.given reader.old) (R.given reader.new))
+        (R.failures reader.old) (R.failures reader.new) (W.failures writer.old) (W.failures writer.new) result }
+
     // Where the words are no command line, nothing is read and nothing is written.
     ensures untouched { job_of (map (λ word. word.now) words.now) ≡ None → (reader.new ≡ reader.old) × (writer.new ≡ writer.old) }
 
-    // With any status but 4, that of want of memory and of a device that failed, it has read 2^30 bytes at the most.
+    // With any status but 4, that of a refused allocation and of a device that failed, it has read 2^30 bytes at the most.
     ensures within { result ≢ 4 → R.Tells → TakesWithin (2 ^ 30) (R.remaining reader.old) (R.remaining reader.new) }
 
     // A terminal doesn't tell its bytes. Yet with any status but 4 neither device has failed.
@@ -61,6 +66,8 @@ fn debug<M: Machine, R: Source, W: Sink, E: Write>(
 ) -> u8
     ensures text { R.Tells → W.Tells → Runs (R.remaining reader.old) (W.written writer.old) (W.written writer.new) result }
     ensures status { MayEnd (Some Debug) result }
+    ensures ends { EndsBy Debug (IsTooLong R.Tells (2 ^ 30) (R.remaining reader.old) (R.given reader.old) (R.given reader.new))
+        (R.failures reader.old) (R.failures reader.new) (W.failures writer.old) (W.failures writer.new) result }
     ensures within { result ≢ 4 → R.Tells → TakesWithin (2 ^ 30) (R.remaining reader.old) (R.remaining reader.new) }
     ensures reader { result ≢ 4 → R.failures reader.new ≡ R.failures reader.old }
     ensures writer { result ≢ 4 → W.failures writer.new ≡ W.failures writer.old }
@@ -79,6 +86,8 @@ fn rerun<M: Machine, R: Source, W: Sink, E: Write>(
 ) -> u8
     ensures text { R.Tells → W.Tells → Reruns (R.remaining reader.old) (W.written writer.old) (W.written writer.new) result }
     ensures status { MayEnd (Some Replay) result }
+    ensures ends { EndsBy Replay (IsTooLong R.Tells (2 ^ 30) (R.remaining reader.old) (R.given reader.old) (R.given reader.new))
+        (R.failures reader.old) (R.failures reader.new) (W.failures writer.old) (W.failures writer.new) result }
     ensures within { result ≢ 4 → R.Tells → TakesWithin (2 ^ 30) (R.remaining reader.old) (R.remaining reader.new) }
     ensures reader { result ≢ 4 → R.failures reader.new ≡ R.failures reader.old }
     ensures writer { result ≢ 4 → W.failures writer.new ≡ W.failures writer.old }
@@ -100,6 +109,8 @@ fn live<M: Machine, H: Threads + Wait + Sync, R: Source, W: Sink, E: Write>(
     requires within { IfSome workers IsWorkerCount }
     ensures text { R.Tells → W.Tells → Lives workers (R.remaining reader.old) (W.written writer.old) (W.written writer.new) result }
     ensures status { MayEnd (Some (Live workers)) result }
+    ensures ends { EndsLive (IsTooLong R.Tells (2 ^ 30) (R.remaining reader.old) (R.given reader.old) (R.given reader.new))
+        (R.failures reader.old) (R.failures reader.new) (W.failures writer.old) (W.failures writer.new) result }
     ensures within { result ≢ 4 → R.Tells → TakesWithin (2 ^ 30) (R.remaining reader.old) (R.remaining reader.new) }
     ensures reader { result ≢ 4 → R.failures reader.new ≡ R.failures reader.old }
     ensures writer { result ≢ 4 → W.failures writer.new ≡ W.failures writer.old }
@@ -110,8 +121,16 @@ fn live<M: Machine, H: Threads + Wait + Sync, R: Source, W: Sink, E: Write>(
             report(Fault::Script { line }, errors);
             2
         }
+        Err(NoRecording::Unread(fault)) => {
+            report(fault, errors);
+            4
+        }
         Err(NoRecording::Failed(fault)) => {
             report(fault, errors);
+            4
+        }
+        Err(NoRecording::Unwritten) => {
+            report(Fault::Write, errors);
             4
         }
     }

@@ -1,5 +1,7 @@
 //! What a session answers to one command, as text.
+#![tactic(auto, using(uv_script::proofs::Writing::writing))]
 ghost use Rattle.std.specs.Prelude.{◌≡◌, ◌<◌, ◌++◌, [], length, IfOk, OnOk, codes};
+ghost use Rattle.uv_script.specs.Writes.{Writes};
 ghost use Rattle.uv_engine.specs.Reply.{reply, reply_text, reply_after, may_follow, break_text, at_text, back_text, back_after, forward_text, forward_after, add_text, add_after, last_break, break_back_text, break_back_after};
 
 use std::alloc::AllocError;
@@ -10,7 +12,7 @@ use uv_session::{Break, Session};
 use uv_text::push_appended;
 
 pub(crate) fn push_refused(text: &mut Vec<u8>, why: &str) -> Result<(), AllocError>
-    ensures { OnOk result (text.new.items ≡ text.old.items ++ (codes "refused " ++ why.now ++ codes "\n")) }
+    ensures { Writes result text.old.items (codes "refused " ++ why.now ++ codes "\n") text.new.items }
 {
     text.extend_from_slice(b"refused ")?;
     text.extend_from_slice(why.as_bytes())?;
@@ -18,14 +20,14 @@ pub(crate) fn push_refused(text: &mut Vec<u8>, why: &str) -> Result<(), AllocErr
 }
 
 fn push_break(text: &mut Vec<u8>, length: usize) -> Result<(), AllocError>
-    ensures { OnOk result (text.new.items ≡ text.old.items ++ break_text length) }
+    ensures { Writes result text.old.items (break_text length) text.new.items }
 {
     text.extend_from_slice(b"break ")?;
     push_at(text, length)
 }
 
 fn push_at(text: &mut Vec<u8>, length: usize) -> Result<(), AllocError>
-    ensures { OnOk result (text.new.items ≡ text.old.items ++ at_text length) }
+    ensures { Writes result text.old.items (at_text length) text.new.items }
 {
     text.extend_from_slice(b"at ")?;
     push_number(text, length as u64)?;
@@ -34,7 +36,7 @@ fn push_at(text: &mut Vec<u8>, length: usize) -> Result<(), AllocError>
 
 /// One step, and what it prints. Says whether one more may follow.
 #[inline(always)]
-#[tactic(auto, using(crate::proofs::Replies::replies))]
+#[tactic(auto, using(crate::proofs::Replies::replies, uv_script::proofs::Writing::writing))]
 pub(crate) fn tell<M: Machine>(
     session: &mut Session<M>,
     text: &mut Vec<u8>,
@@ -42,7 +44,7 @@ pub(crate) fn tell<M: Machine>(
 ) -> Result<bool, AllocError>
     ensures on { IfOk result (λ on. on ≡ may_follow (reply session.old event)) }
     ensures session { OnOk result (session.new ≡ reply_after session.old (reply session.old event)) }
-    ensures text { OnOk result (text.new.items ≡ text.old.items ++ reply_text session.old.program (reply session.old event)) }
+    ensures text { Writes result text.old.items (reply_text session.old.program (reply session.old event)) text.new.items }
 {
     match session.do_event(event) {
         Ok(outcome) => {
@@ -66,13 +68,13 @@ pub(crate) fn tell<M: Machine>(
 }
 
 /// Takes steps back.
-#[tactic(auto, using(crate::proofs::Replies::backs))]
+#[tactic(auto, using(crate::proofs::Replies::backs, uv_script::proofs::Writing::writing))]
 pub(crate) fn go_back<M: Machine>(
     session: &mut Session<M>,
     text: &mut Vec<u8>,
     n: u32,
 ) -> Result<(), AllocError>
-    ensures text { OnOk result (text.new.items ≡ text.old.items ++ back_text n session.old) }
+    ensures text { Writes result text.old.items (back_text n session.old) text.new.items }
     ensures session { OnOk result (session.new ≡ back_after n session.old) }
 {
     match session.back(n as usize) {
@@ -83,13 +85,13 @@ pub(crate) fn go_back<M: Machine>(
 }
 
 /// Runs steps again that were taken back.
-#[tactic(auto, using(crate::proofs::Replies::forwards))]
+#[tactic(auto, using(crate::proofs::Replies::forwards, uv_script::proofs::Writing::writing))]
 pub(crate) fn go_forward<M: Machine>(
     session: &mut Session<M>,
     text: &mut Vec<u8>,
     n: u32,
 ) -> Result<(), AllocError>
-    ensures text { OnOk result (text.new.items ≡ text.old.items ++ forward_text n session.old) }
+    ensures text { Writes result text.old.items (forward_text n session.old) text.new.items }
     ensures session { OnOk result (session.new ≡ forward_after n session.old) }
 {
     match session.forward(n as usize) {
@@ -100,13 +102,13 @@ pub(crate) fn go_forward<M: Machine>(
 }
 
 /// Has runs stop at one break more.
-#[tactic(auto, using(crate::proofs::Replies::adds))]
+#[tactic(auto, using(crate::proofs::Replies::adds, uv_script::proofs::Writing::writing))]
 pub(crate) fn add_break<M: Machine>(
     session: &mut Session<M>,
     text: &mut Vec<u8>,
     at: Break,
 ) -> Result<(), AllocError>
-    ensures text { OnOk result (text.new.items ≡ text.old.items ++ add_text session.old) }
+    ensures text { Writes result text.old.items (add_text session.old) text.new.items }
     ensures session { OnOk result (session.new ≡ add_after at session.old) }
 {
     match session.add_break(at) {
@@ -121,7 +123,7 @@ pub(crate) fn clear_breaks<M: Machine>(
     session: &mut Session<M>,
     text: &mut Vec<u8>,
 ) -> Result<(), AllocError>
-    ensures text { OnOk result (text.new.items ≡ text.old.items ++ codes "break ok\n") }
+    ensures text { Writes result text.old.items (codes "break ok\n") text.new.items }
     ensures session { session.new ≡ record session.old { breaks = [] } }
 {
     session.clear_breaks();
@@ -129,12 +131,12 @@ pub(crate) fn clear_breaks<M: Machine>(
 }
 
 /// Goes back to the last step that matches a break, but for the present one.
-#[tactic(auto, using(crate::proofs::Replies::breaks_back))]
+#[tactic(auto, using(crate::proofs::Replies::breaks_back, uv_script::proofs::Writing::writing))]
 pub(crate) fn back_to_break<M: Machine>(
     session: &mut Session<M>,
     text: &mut Vec<u8>,
 ) -> Result<(), AllocError>
-    ensures text { OnOk result (text.new.items ≡ text.old.items ++ break_back_text (last_break session.old)) }
+    ensures text { Writes result text.old.items (break_back_text (last_break session.old)) text.new.items }
     ensures session { OnOk result (session.new ≡ break_back_after session.old (last_break session.old)) }
 {
     match session.back_to_break() {

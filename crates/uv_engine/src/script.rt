@@ -1,6 +1,7 @@
 //! The script in front of a conversation.
 ghost use Rattle.std.specs.Prelude.{◌≡◌, ◌≢◌, ◌++◌, [], ◌∷◌, IfOk, IfErr, OnOk, true, false, codes, length, ◌+◌, ◌<◌, ◌≤◌};
 ghost use Rattle.uv_script.specs.Lines.{lines_of};
+ghost use Rattle.uv_script.specs.Writes.{Writes};
 ghost use Rattle.uv_engine.specs.Recordings.{unread_in};
 ghost use Rattle.uv_engine.specs.Devices.{ReaderCounts, IsTooLong, OnAnswer};
 ghost use Rattle.uv_engine.specs.Input.{left, EndIsSeen, size, ReadsNear, StopsNear};
@@ -113,8 +114,9 @@ fn is_begin(line: &Line) -> bool
 }
 
 /// Puts a line at the end of a text, as it was read.
+#[tactic(auto, using(uv_script::proofs::Writing::writing))]
 fn push_line(text: &mut Vec<u8>, line: &Line) -> Result<(), AllocError>
-    ensures { OnOk result (text.new.items ≡ text.old.items ++ with_line line.now.text.items line.now.fed) }
+    ensures { Writes result text.old.items (with_line line.now.text.items line.now.fed) text.new.items }
 {
     text.extend_from_slice(line.text.as_slice())?;
     if line.fed {

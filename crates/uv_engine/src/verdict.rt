@@ -1,5 +1,7 @@
 //! The verdict on a recording.
-ghost use Rattle.std.specs.Prelude.{◌≡◌, ◌++◌, IfErr, OnOk, codes};
+#![tactic(auto, using(uv_script::proofs::Writing::writing))]
+ghost use Rattle.std.specs.Prelude.{◌≡◌, ◌++◌, IfErr, codes};
+ghost use Rattle.uv_script.specs.Writes.{Writes};
 ghost use Rattle.uv_engine.specs.Rerun.{IsTellingFault};
 ghost use Rattle.uv_engine.specs.Devices.{WriterCounts};
 ghost use Rattle.uv_engine.specs.Verdict.{verdict_text, refused_at, answer_of, Tells};
@@ -23,7 +25,7 @@ pub enum Verdict {
 }
 
 fn push_refused(text: &mut Vec<u8>, at: usize, why: &str) -> Result<(), AllocError>
-    ensures { OnOk result (text.new.items ≡ text.old.items ++ refused_at at why.now) }
+    ensures { Writes result text.old.items (refused_at at why.now) text.new.items }
 {
     text.extend_from_slice(b"refused at ")?;
     push_number(text, at as u64)?;
@@ -35,7 +37,7 @@ fn push_refused(text: &mut Vec<u8>, at: usize, why: &str) -> Result<(), AllocErr
 impl Verdict {
     /// Puts the verdict's line behind a text.
     fn push_text(self, text: &mut Vec<u8>) -> Result<(), AllocError>
-        ensures { OnOk result (text.new.items ≡ text.old.items ++ verdict_text self) }
+        ensures { Writes result text.old.items (verdict_text self) text.new.items }
     {
         match self {
             Verdict::Same => text.extend_from_slice(b"same\n"),

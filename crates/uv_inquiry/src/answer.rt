@@ -1,6 +1,8 @@
 //! The texts of answers.
-ghost use Rattle.std.specs.Prelude.{◌≡◌, ◌++◌, None, IfOk, IfErr, OnOk};
+#![tactic(auto, using(uv_script::proofs::Writing::writing))]
+ghost use Rattle.std.specs.Prelude.{◌≡◌, ◌++◌, None, IfOk, IfErr};
 ghost use Rattle.uv_ids.specs.declared.fault.Fault.TheVariants.{Memory};
+ghost use Rattle.uv_script.specs.Writes.{Writes};
 ghost use Rattle.uv_asking.specs.Asked.{asked_in};
 ghost use Rattle.uv_inquiry.specs.Texts.{steps_text, states_text, calls_text, found_text, bound_text, more_bound, more_bounds, within_text, bounds_text, moved_text, clock_too, never_text, unsettled_text, out_of_memory_text, too_deep_text, no_end_text};
 
@@ -28,14 +30,14 @@ pub fn found_text(
 }
 
 /// Puts the steps that answer the question behind a text.
-#[tactic(auto, unfolding(crate::specs::Texts::found_text))]
+#[tactic(auto, using(uv_script::proofs::Writing::writing), unfolding(crate::specs::Texts::found_text))]
 pub fn push_found(
     text: &mut Vec<u8>,
     script: &Script,
     steps: &[Event],
     states: u64,
 ) -> Result<(), AllocError>
-    ensures { OnOk result (text.new.items ≡ text.old.items ++ found_text script.now steps.now states) }
+    ensures { Writes result text.old.items (found_text script.now steps.now states) text.new.items }
 {
     text.extend_from_slice(b"found in ")?;
     push_steps(text, steps.len() as u64)?;
@@ -56,9 +58,9 @@ pub fn never_text(alloc: Global, inquiry: &Inquiry, states: u64) -> Result<Vec<u
 }
 
 /// Puts that no order of steps answers the question behind a text.
-#[tactic(auto, unfolding(crate::specs::Texts::never_text))]
+#[tactic(auto, using(uv_script::proofs::Writing::writing), unfolding(crate::specs::Texts::never_text))]
 pub fn push_never(text: &mut Vec<u8>, inquiry: &Inquiry, states: u64) -> Result<(), AllocError>
-    ensures { OnOk result (text.new.items ≡ text.old.items ++ never_text inquiry.now.script (asked_in inquiry.now.asking) states) }
+    ensures { Writes result text.old.items (never_text inquiry.now.script (asked_in inquiry.now.asking) states) text.new.items }
 {
     text.extend_from_slice(b"never")?;
     push_every_bound(text, inquiry.script.names(), &inquiry.asking)?;
@@ -78,9 +80,9 @@ pub fn unsettled_text(alloc: Global, states: u64) -> Result<Vec<u8>, Fault>
 }
 
 /// Puts that there are more states than were to be kept behind a text.
-#[tactic(auto, unfolding(crate::specs::Texts::unsettled_text))]
+#[tactic(auto, using(uv_script::proofs::Writing::writing), unfolding(crate::specs::Texts::unsettled_text))]
 pub fn push_unsettled(text: &mut Vec<u8>, states: u64) -> Result<(), AllocError>
-    ensures { OnOk result (text.new.items ≡ text.old.items ++ unsettled_text states) }
+    ensures { Writes result text.old.items (unsettled_text states) text.new.items }
 {
     text.extend_from_slice(b"not settled within ")?;
     push_states(text, states)?;
@@ -99,9 +101,9 @@ pub fn out_of_memory_text(alloc: Global, states: u64) -> Result<Vec<u8>, Fault>
 }
 
 /// Puts that memory was refused behind a text.
-#[tactic(auto, unfolding(crate::specs::Texts::out_of_memory_text))]
+#[tactic(auto, using(uv_script::proofs::Writing::writing), unfolding(crate::specs::Texts::out_of_memory_text))]
 pub fn push_out_of_memory(text: &mut Vec<u8>, states: u64) -> Result<(), AllocError>
-    ensures { OnOk result (text.new.items ≡ text.old.items ++ out_of_memory_text states) }
+    ensures { Writes result text.old.items (out_of_memory_text states) text.new.items }
 {
     text.extend_from_slice(b"not settled within ")?;
     push_states(text, states)?;
@@ -121,7 +123,7 @@ pub fn too_deep_text(alloc: Global) -> Result<Vec<u8>, Fault>
 
 /// Puts that an order of steps has more of them than a session holds behind a text.
 pub fn push_too_deep(text: &mut Vec<u8>) -> Result<(), AllocError>
-    ensures { OnOk result (text.new.items ≡ text.old.items ++ too_deep_text) }
+    ensures { Writes result text.old.items too_deep_text text.new.items }
 {
     text.extend_from_slice(b"not settled within 16777216 steps\n")
 }
@@ -133,9 +135,9 @@ pub fn no_end_text() -> &'static str
     "no bound is given, and the script repeats: there may be no end of states\n"
 }
 
-#[tactic(auto, unfolding(crate::specs::Texts::steps_text))]
+#[tactic(auto, using(uv_script::proofs::Writing::writing), unfolding(crate::specs::Texts::steps_text))]
 fn push_steps(text: &mut Vec<u8>, steps: u64) -> Result<(), AllocError>
-    ensures { OnOk result (text.new.items ≡ text.old.items ++ steps_text steps) }
+    ensures { Writes result text.old.items (steps_text steps) text.new.items }
 {
     push_number(text, steps)?;
     if steps == 1 {
@@ -145,9 +147,9 @@ fn push_steps(text: &mut Vec<u8>, steps: u64) -> Result<(), AllocError>
     }
 }
 
-#[tactic(auto, unfolding(crate::specs::Texts::states_text))]
+#[tactic(auto, using(uv_script::proofs::Writing::writing), unfolding(crate::specs::Texts::states_text))]
 fn push_states(text: &mut Vec<u8>, states: u64) -> Result<(), AllocError>
-    ensures { OnOk result (text.new.items ≡ text.old.items ++ states_text states) }
+    ensures { Writes result text.old.items (states_text states) text.new.items }
 {
     push_number(text, states)?;
     if states == 1 {
@@ -157,9 +159,9 @@ fn push_states(text: &mut Vec<u8>, states: u64) -> Result<(), AllocError>
     }
 }
 
-#[tactic(auto, unfolding(crate::specs::Texts::calls_text))]
+#[tactic(auto, using(uv_script::proofs::Writing::writing), unfolding(crate::specs::Texts::calls_text))]
 fn push_calls(text: &mut Vec<u8>, calls: u32) -> Result<(), AllocError>
-    ensures { OnOk result (text.new.items ≡ text.old.items ++ calls_text calls) }
+    ensures { Writes result text.old.items (calls_text calls) text.new.items }
 {
     push_number(text, calls as u64)?;
     if calls == 1 {
@@ -170,25 +172,25 @@ fn push_calls(text: &mut Vec<u8>, calls: u32) -> Result<(), AllocError>
 }
 
 /// A name's bound.
-#[tactic(auto, unfolding(crate::specs::Texts::bound_text))]
+#[tactic(auto, using(uv_script::proofs::Writing::writing), unfolding(crate::specs::Texts::bound_text))]
 fn push_bound(text: &mut Vec<u8>, names: &Names, most: Most) -> Result<(), AllocError>
-    ensures { OnOk result (text.new.items ≡ text.old.items ++ bound_text names.now most) }
+    ensures { Writes result text.old.items (bound_text names.now most) text.new.items }
 {
     push_calls(text, most.calls)?;
     names.push_name(text, most.name)
 }
 
 /// A name's bound behind another one.
-#[tactic(auto, unfolding(crate::specs::Texts::more_bound))]
+#[tactic(auto, using(uv_script::proofs::Writing::writing), unfolding(crate::specs::Texts::more_bound))]
 fn push_more(text: &mut Vec<u8>, names: &Names, most: Most) -> Result<(), AllocError>
-    ensures { OnOk result (text.new.items ≡ text.old.items ++ more_bound names.now most) }
+    ensures { Writes result text.old.items (more_bound names.now most) text.new.items }
 {
     text.extend_from_slice(b", ")?;
     push_bound(text, names, most)
 }
 
 fn push_more_bounds(text: &mut Vec<u8>, names: &Names, most: &[Most]) -> Result<(), AllocError>
-    ensures { OnOk result (text.new.items ≡ text.old.items ++ more_bounds names.now most.now) }
+    ensures { Writes result text.old.items (more_bounds names.now most.now) text.new.items }
 {
     for bound in most {
         push_more(text, names, *bound)?;
@@ -198,7 +200,7 @@ fn push_more_bounds(text: &mut Vec<u8>, names: &Names, most: &[Most]) -> Result<
 
 /// The bounds, behind the word `within`.
 fn push_every_bound(text: &mut Vec<u8>, names: &Names, asking: &Asking) -> Result<(), AllocError>
-    ensures { OnOk result (text.new.items ≡ text.old.items ++ bounds_text names.now asking.now.differ asking.now.clock asking.now.most.items) }
+    ensures { Writes result text.old.items (bounds_text names.now asking.now.differ asking.now.clock asking.now.most.items) text.new.items }
 {
     match asking.differ {
         Some(moved) => push_moved(text, names, moved, asking.clock, &asking.most),
@@ -207,7 +209,7 @@ fn push_every_bound(text: &mut Vec<u8>, names: &Names, asking: &Asking) -> Resul
 }
 
 /// How many events were moved at the most, and then the other bounds.
-#[tactic(auto, unfolding(crate::specs::Texts::moved_text))]
+#[tactic(auto, using(uv_script::proofs::Writing::writing), unfolding(crate::specs::Texts::moved_text))]
 fn push_moved(
     text: &mut Vec<u8>,
     names: &Names,
@@ -215,7 +217,7 @@ fn push_moved(
     clock: Option<u64>,
     most: &[Most],
 ) -> Result<(), AllocError>
-    ensures { OnOk result (text.new.items ≡ text.old.items ++ moved_text names.now moved clock most.now) }
+    ensures { Writes result text.old.items (moved_text names.now moved clock most.now) text.new.items }
 {
     text.extend_from_slice(b" within ")?;
     push_number(text, moved as u64)?;
@@ -226,7 +228,7 @@ fn push_moved(
 
 /// The clock's bound, behind another one.
 fn push_clock_too(text: &mut Vec<u8>, clock: Option<u64>) -> Result<(), AllocError>
-    ensures { OnOk result (text.new.items ≡ text.old.items ++ clock_too clock) }
+    ensures { Writes result text.old.items (clock_too clock) text.new.items }
 {
     match clock {
         Some(ms) => {
@@ -239,7 +241,7 @@ fn push_clock_too(text: &mut Vec<u8>, clock: Option<u64>) -> Result<(), AllocErr
 
 /// The bounds where no event was recorded, behind the word `within`.
 fn push_within(text: &mut Vec<u8>, names: &Names, asking: &Asking) -> Result<(), AllocError>
-    ensures { OnOk result (text.new.items ≡ text.old.items ++ within_text names.now asking.now.clock asking.now.most.items) }
+    ensures { Writes result text.old.items (within_text names.now asking.now.clock asking.now.most.items) text.new.items }
 {
     match asking.clock {
         Some(ms) => {
@@ -254,7 +256,7 @@ fn push_within(text: &mut Vec<u8>, names: &Names, asking: &Asking) -> Result<(),
 
 /// The bounds of names, behind the word `within`.
 fn push_names_within(text: &mut Vec<u8>, names: &Names, most: &[Most]) -> Result<(), AllocError>
-    ensures { OnOk result (text.new.items ≡ text.old.items ++ within_text names.now None most.now) }
+    ensures { Writes result text.old.items (within_text names.now None most.now) text.new.items }
 {
     match most {
         [] => Ok(()),

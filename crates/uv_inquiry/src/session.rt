@@ -1,9 +1,11 @@
 //! The session that an answer shows.
-ghost use Rattle.std.specs.Prelude.{◌≡◌, ◌++◌, ℕ, List, OnOk, map};
+#![tactic(auto, using(uv_script::proofs::Writing::writing))]
+ghost use Rattle.std.specs.Prelude.{◌≡◌, ◌++◌, ℕ, List, map};
 ghost use Rattle.uv_ids.specs.declared.event.Event.{Event};
 ghost use Rattle.uv_script.specs.Program.{Program};
 ghost use Rattle.uv_script.specs.Grammar.{IsScript};
 ghost use Rattle.uv_script.specs.Text.{lines_text};
+ghost use Rattle.uv_script.specs.Writes.{Writes};
 ghost use Rattle.uv_text.specs.Recording.{step_line};
 ghost use Rattle.uv_engine.specs.Verdict.{AllTaken};
 ghost use Rattle.uv_inquiry.specs.Session.{IsSession};
@@ -23,7 +25,7 @@ pub fn session_read_back()
 }
 
 fn push_step_lines(text: &mut Vec<u8>, names: &Names, steps: &[Event]) -> Result<(), AllocError>
-    ensures { OnOk result (text.new.items ≡ text.old.items ++ lines_text (map (step_line names.now) steps.now)) }
+    ensures { Writes result text.old.items (lines_text (map (step_line names.now) steps.now)) text.new.items }
 {
     for step in steps {
         push_step(text, names, *step)?;
@@ -33,13 +35,13 @@ fn push_step_lines(text: &mut Vec<u8>, names: &Names, steps: &[Event]) -> Result
 }
 
 /// The session of a script and its steps, as a conversation reads it.
-#[tactic(auto, unfolding(crate::specs::Texts::session_text))]
+#[tactic(auto, using(uv_script::proofs::Writing::writing), unfolding(crate::specs::Texts::session_text))]
 pub(crate) fn push_session(
     text: &mut Vec<u8>,
     script: &Script,
     steps: &[Event],
 ) -> Result<(), AllocError>
-    ensures { OnOk result (text.new.items ≡ text.old.items ++ session_text script.now steps.now) }
+    ensures { Writes result text.old.items (session_text script.now steps.now) text.new.items }
 {
     script.push_lines(text)?;
     text.extend_from_slice(b"begin\n")?;

@@ -1,4 +1,5 @@
 pub mod Commands
+mod Cuts
 mod Digits
 mod Names
 pub mod Pieces

@@ -1,5 +1,6 @@
 -- The parts of a text, one after another, are all of it.
-use Rattle.uv_text.proofs.Names.{◌≡◌, ℕ, zero, suc, ◌+◌, ◌-◌, ◌*◌, ◌<◌, ◌==◌, nat_le, nat_lt, List, [], ◌∷◌, ◌++◌, length, map, Option, Some, None, option_to_list, Result, OnOk, slice_get, refl, ap, sym, subst, ◌∙◌, arith, append_assoc, append-nil, codes, flat_map, cond-true, cond-false, le-leb, lt-leb, lt-ltb, eq-eqb, ne_eqb, Event, Seen, Program, lines_text, LaidSlot, Layout, State, numbers, length-seen_by, Shown, parts_from, names_upto, slots_upto, LAST_PARTS, name_part, slot_part, part_count, text_after, state_text, state_part, state_parts, links_from, named_ends, link_part, LAYOUT_PARTS, layout_parts, step_line, step_part, called_part, callback_lines, recording_parts}
+use Rattle.uv_text.proofs.Names.{◌≡◌, ℕ, zero, suc, ◌+◌, ◌-◌, ◌*◌, ◌<◌, ◌==◌, nat_le, nat_lt, List, [], ◌∷◌, ◌++◌, length, map, Option, Some, None, option_to_list, Result, slice_get, refl, ap, sym, subst, ◌∙◌, arith, append_assoc, append-nil, codes, flat_map, cond-true, cond-false, le-leb, lt-leb, lt-ltb, eq-eqb, ne_eqb, Event, Seen, Program, lines_text, LaidSlot, Layout, State, numbers, length-seen_by, Shown, parts_from, names_upto, slots_upto, LAST_PARTS, name_part, slot_part, part_count, text_after, state_text, state_part, state_parts, links_from, named_ends, link_part, LAYOUT_PARTS, layout_parts, step_line, step_part, called_part, callback_lines, recording_parts}
+use Rattle.uv_script.specs.Writes.{Writes}
 use Rattle.uv_model.specs.After.{seen_by, lines}
 use Rattle.uv_text.specs.Parts.{in_parts}
 use Rattle.uv_text.specs.State.{steps_line, place_line, free_line, unused_line, lists_text, last_part, part_after}
@@ -62,9 +63,9 @@ pub next_part : (f : ℕ → List ℕ) (i k : ℕ) → i < k → parts_from f i 
 next_part f i k l = grind arith
 
 -- what was put behind a text
-pub put_whole : {A E : Type 0} (r : Result A E) (old new : List ℕ) {parts all : List ℕ} → parts ≡ all → OnOk r (new ≡ old ++ parts)
-    → OnOk r (new ≡ old ++ all)
-put_whole r old new {parts} {all} e h = subst (λ (t : List ℕ). OnOk r (new ≡ old ++ t)) e h
+pub put_whole : {A E : Type 0} (r : Result A E) (old new : List ℕ) {parts all : List ℕ} → parts ≡ all → Writes r old parts new
+    → Writes r old all new
+put_whole r old new {parts} {all} e h = subst (λ (t : List ℕ). Writes r old t new) e h
 
 -- ---- a state
 

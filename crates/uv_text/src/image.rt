@@ -1,7 +1,10 @@
 //! The text of how a machine's memory lies.
-ghost use Rattle.std.specs.Prelude.{◌≡◌, ◌++◌, IfOk, IfErr, IfSome, IfNone, OnOk};
+#![tactic(auto, using(uv_script::proofs::Writing::writing))]
+
+ghost use Rattle.std.specs.Prelude.{◌≡◌, ◌++◌, IfOk, IfErr, IfSome, IfNone};
 ghost use Rattle.std.specs.List.{flat_map};
 ghost use Rattle.uv_ids.specs.declared.fault.Fault.TheVariants.{Memory};
+ghost use Rattle.uv_script.specs.Writes.{Writes};
 ghost use Rattle.uv_text.specs.Image.{or_dash, link_line, ends_line, named_ends, entry_text, heap_line, place_text, places_line, counts_line, rest_part, layout_part, layout_text, image_text, IsImageText};
 
 use crate::parts::{Parts, push_parts};
@@ -32,14 +35,14 @@ fn push_whole<M: Machine>(
     session: &Session<M>,
     layout: &Layout,
 ) -> Result<(), AllocError>
-    ensures { OnOk result (text.new.items ≡ text.old.items ++ image_text session.now layout.now) }
+    ensures { Writes result text.old.items (image_text session.now layout.now) text.new.items }
 {
     push_state(text, session)?;
     push_layout(text, layout)
 }
 
 fn push_layout(text: &mut Vec<u8>, layout: &Layout) -> Result<(), AllocError>
-    ensures { OnOk result (text.new.items ≡ text.old.items ++ layout_text layout.now) }
+    ensures { Writes result text.old.items (layout_text layout.now) text.new.items }
 {
     push_parts(text, &LayoutParts { layout })
 }
@@ -70,9 +73,9 @@ impl<'a> Parts for LayoutParts<'a> {
 }
 
 /// The line of a slot, or a part behind these.
-#[tactic(auto, unfolding(crate::specs::Image::layout_part))]
+#[tactic(auto, using(uv_script::proofs::Writing::writing), unfolding(crate::specs::Image::layout_part))]
 fn push_layout_part(text: &mut Vec<u8>, layout: &Layout, number: usize) -> Result<(), AllocError>
-    ensures { OnOk result (text.new.items ≡ text.old.items ++ layout_part layout.now number) }
+    ensures { Writes result text.old.items (layout_part layout.now number) text.new.items }
 {
     let slots = layout.slots.as_slice();
     if number < slots.len() {
@@ -83,9 +86,9 @@ fn push_layout_part(text: &mut Vec<u8>, layout: &Layout, number: usize) -> Resul
 }
 
 /// What stands behind the lines of the slots, a part of it.
-#[tactic(auto, unfolding(crate::specs::Image::rest_part))]
+#[tactic(auto, using(uv_script::proofs::Writing::writing), unfolding(crate::specs::Image::rest_part))]
 fn push_rest(text: &mut Vec<u8>, layout: &Layout, number: usize) -> Result<(), AllocError>
-    ensures { OnOk result (text.new.items ≡ text.old.items ++ rest_part layout.now number) }
+    ensures { Writes result text.old.items (rest_part layout.now number) text.new.items }
 {
     match number {
         0 => push_ends(text, "free", layout.free),
@@ -98,7 +101,7 @@ fn push_rest(text: &mut Vec<u8>, layout: &Layout, number: usize) -> Result<(), A
 
 /// A space and a number, or a space and `-`.
 fn push_or_dash(text: &mut Vec<u8>, number: Option<u32>) -> Result<(), AllocError>
-    ensures { OnOk result (text.new.items ≡ text.old.items ++ or_dash number) }
+    ensures { Writes result text.old.items (or_dash number) text.new.items }
 {
     match number {
         Some(number) => push_numbered(text, " ", u64::from(number)),
@@ -106,9 +109,9 @@ fn push_or_dash(text: &mut Vec<u8>, number: Option<u32>) -> Result<(), AllocErro
     }
 }
 
-#[tactic(auto, unfolding(crate::specs::Image::link_line))]
+#[tactic(auto, using(uv_script::proofs::Writing::writing), unfolding(crate::specs::Image::link_line))]
 fn push_link(text: &mut Vec<u8>, number: usize, slot: LaidSlot) -> Result<(), AllocError>
-    ensures { OnOk result (text.new.items ≡ text.old.items ++ link_line number slot) }
+    ensures { Writes result text.old.items (link_line number slot) text.new.items }
 {
     push_numbered(text, "link ", number as u64)?;
     push_or_dash(text, slot.prev)?;
@@ -116,9 +119,9 @@ fn push_link(text: &mut Vec<u8>, number: usize, slot: LaidSlot) -> Result<(), Al
     text.extend_from_slice(b"\n")
 }
 
-#[tactic(auto, unfolding(crate::specs::Image::ends_line))]
+#[tactic(auto, using(uv_script::proofs::Writing::writing), unfolding(crate::specs::Image::ends_line))]
 fn push_ends(text: &mut Vec<u8>, word: &str, ends: Ends) -> Result<(), AllocError>
-    ensures { OnOk result (text.new.items ≡ text.old.items ++ ends_line word.now ends) }
+    ensures { Writes result text.old.items (ends_line word.now ends) text.new.items }
 {
     text.extend_from_slice(b"list ")?;
     text.extend_from_slice(word.as_bytes())?;
@@ -127,9 +130,9 @@ fn push_ends(text: &mut Vec<u8>, word: &str, ends: Ends) -> Result<(), AllocErro
     text.extend_from_slice(b"\n")
 }
 
-#[tactic(auto, using(crate::proofs::Pieces::pieces))]
+#[tactic(auto, using(crate::proofs::Pieces::pieces, uv_script::proofs::Writing::writing))]
 fn push_lists(text: &mut Vec<u8>, lists: &[ListEnds]) -> Result<(), AllocError>
-    ensures { OnOk result (text.new.items ≡ text.old.items ++ flat_map named_ends lists.now) }
+    ensures { Writes result text.old.items (flat_map named_ends lists.now) text.new.items }
 {
     for one in lists {
         push_ends(text, list_word(one.list), one.ends)?;
@@ -137,9 +140,9 @@ fn push_lists(text: &mut Vec<u8>, lists: &[ListEnds]) -> Result<(), AllocError>
     Ok(())
 }
 
-#[tactic(auto, using(crate::proofs::Pieces::pieces))]
+#[tactic(auto, using(crate::proofs::Pieces::pieces, uv_script::proofs::Writing::writing))]
 fn push_entries(text: &mut Vec<u8>, heap: &[Entry]) -> Result<(), AllocError>
-    ensures { OnOk result (text.new.items ≡ text.old.items ++ flat_map entry_text heap.now) }
+    ensures { Writes result text.old.items (flat_map entry_text heap.now) text.new.items }
 {
     for entry in heap {
         push_numbered(text, " ", u64::from(entry.slot))?;
@@ -147,9 +150,9 @@ fn push_entries(text: &mut Vec<u8>, heap: &[Entry]) -> Result<(), AllocError>
     Ok(())
 }
 
-#[tactic(auto, unfolding(crate::specs::Image::heap_line))]
+#[tactic(auto, using(uv_script::proofs::Writing::writing), unfolding(crate::specs::Image::heap_line))]
 fn push_heap(text: &mut Vec<u8>, heap: &[Entry]) -> Result<(), AllocError>
-    ensures { OnOk result (text.new.items ≡ text.old.items ++ heap_line heap.now) }
+    ensures { Writes result text.old.items (heap_line heap.now) text.new.items }
 {
     text.extend_from_slice(b"heap")?;
     push_entries(text, heap)?;
@@ -157,9 +160,9 @@ fn push_heap(text: &mut Vec<u8>, heap: &[Entry]) -> Result<(), AllocError>
 }
 
 /// Where the heap has each slot.
-#[tactic(auto, using(crate::proofs::Pieces::pieces))]
+#[tactic(auto, using(crate::proofs::Pieces::pieces, uv_script::proofs::Writing::writing))]
 fn push_each_place(text: &mut Vec<u8>, slots: &[LaidSlot]) -> Result<(), AllocError>
-    ensures { OnOk result (text.new.items ≡ text.old.items ++ flat_map place_text slots.now) }
+    ensures { Writes result text.old.items (flat_map place_text slots.now) text.new.items }
 {
     for slot in slots {
         push_or_dash(text, slot.place)?;
@@ -167,18 +170,18 @@ fn push_each_place(text: &mut Vec<u8>, slots: &[LaidSlot]) -> Result<(), AllocEr
     Ok(())
 }
 
-#[tactic(auto, unfolding(crate::specs::Image::places_line))]
+#[tactic(auto, using(uv_script::proofs::Writing::writing), unfolding(crate::specs::Image::places_line))]
 fn push_places(text: &mut Vec<u8>, slots: &[LaidSlot]) -> Result<(), AllocError>
-    ensures { OnOk result (text.new.items ≡ text.old.items ++ places_line slots.now) }
+    ensures { Writes result text.old.items (places_line slots.now) text.new.items }
 {
     text.extend_from_slice(b"places")?;
     push_each_place(text, slots)?;
     text.extend_from_slice(b"\n")
 }
 
-#[tactic(auto, unfolding(crate::specs::Image::counts_line))]
+#[tactic(auto, using(uv_script::proofs::Writing::writing), unfolding(crate::specs::Image::counts_line))]
 fn push_counts(text: &mut Vec<u8>, active: u32, opened: u32) -> Result<(), AllocError>
-    ensures { OnOk result (text.new.items ≡ text.old.items ++ counts_line active opened) }
+    ensures { Writes result text.old.items (counts_line active opened) text.new.items }
 {
     push_numbered(text, "counts ", u64::from(active))?;
     push_numbered(text, " ", u64::from(opened))?;

@@ -1,5 +1,8 @@
 //! Texts in parts, so that a long one can be written before all of it is there.
-ghost use Rattle.std.specs.Prelude.{◌≡◌, ◌++◌, ◌<◌, ℕ, List, OnOk};
+#![tactic(auto, using(uv_script::proofs::Writing::writing))]
+
+ghost use Rattle.std.specs.Prelude.{◌≡◌, ◌++◌, ◌<◌, ℕ, List};
+ghost use Rattle.uv_script.specs.Writes.{Writes};
 ghost use Rattle.uv_text.specs.Parts.{in_parts};
 
 use std::alloc::AllocError;
@@ -19,12 +22,12 @@ pub trait Parts {
     /// Puts the part of this number, from 0 on, behind a text.
     fn push_part(&self, text: &mut Vec<u8>, number: usize) -> Result<(), AllocError>
         requires { number < parts self.now }
-        ensures { OnOk result (text.new.items ≡ text.old.items ++ part self.now number) };
+        ensures { Writes result text.old.items (part self.now number) text.new.items };
 }
 
 /// Puts all parts behind a text.
 pub(crate) fn push_parts<P: Parts>(text: &mut Vec<u8>, parts: &P) -> Result<(), AllocError>
-    ensures { OnOk result (text.new.items ≡ text.old.items ++ in_parts (P.part parts.now) (P.parts parts.now)) }
+    ensures { Writes result text.old.items (in_parts (P.part parts.now) (P.parts parts.now)) text.new.items }
 {
     for number in 0..parts.part_count() {
         parts.push_part(text, number)?;

@@ -1,6 +1,9 @@
 //! The text of a recording.
-ghost use Rattle.std.specs.Prelude.{◌≡◌, ◌<◌, ◌++◌, IfOk, IfErr, OnOk, codes};
+#![tactic(auto, using(uv_script::proofs::Writing::writing))]
+
+ghost use Rattle.std.specs.Prelude.{◌≡◌, ◌<◌, ◌++◌, IfOk, IfErr, codes};
 ghost use Rattle.uv_ids.specs.declared.fault.Fault.TheVariants.{Memory};
+ghost use Rattle.uv_script.specs.Writes.{Writes};
 ghost use Rattle.uv_text.specs.Recording.{is_callback, called_text, step_line, first_line, script_part, recording_part, recording_parts, recording_text};
 
 use crate::parts::{Parts, push_parts};
@@ -23,7 +26,7 @@ pub fn recording_text<M: Machine>(alloc: Global, session: &Session<M>) -> Result
 
 /// Puts the recording of a session behind a text.
 fn push_recording<M: Machine>(text: &mut Vec<u8>, session: &Session<M>) -> Result<(), AllocError>
-    ensures { OnOk result (text.new.items ≡ text.old.items ++ recording_text session.now.program session.now.standing) }
+    ensures { Writes result text.old.items (recording_text session.now.program session.now.standing) text.new.items }
 {
     push_parts(text, &RecordingParts { session })
 }
@@ -51,7 +54,7 @@ impl<'a, M: Machine> Parts for RecordingParts<'a, M> {
 }
 
 /// The script, the line of a step, the line `calls`, the line of a callback if its step called one, or the line `end`.
-#[tactic(auto, unfolding(crate::specs::Recording::recording_part))]
+#[tactic(auto, using(uv_script::proofs::Writing::writing), unfolding(crate::specs::Recording::recording_part))]
 fn push_recording_part<M: Machine>(
     text: &mut Vec<u8>,
     machine: &M,
@@ -60,7 +63,7 @@ fn push_recording_part<M: Machine>(
 ) -> Result<(), AllocError>
     requires steps { steps.now ≡ M.standing machine.now }
     requires number { number < recording_parts steps.now }
-    ensures { OnOk result (text.new.items ≡ text.old.items ++ recording_part (M.program machine.now) steps.now number) }
+    ensures { Writes result text.old.items (recording_part (M.program machine.now) steps.now number) text.new.items }
 {
     let script = machine.script();
     if number == 0 {
@@ -78,7 +81,7 @@ fn push_recording_part<M: Machine>(
 
 /// The first line, without its line feed: the version.
 fn push_first_line(text: &mut Vec<u8>, script: &Script) -> Result<(), AllocError>
-    ensures { OnOk result (text.new.items ≡ text.old.items ++ first_line script.now) }
+    ensures { Writes result text.old.items (first_line script.now) text.new.items }
 {
     if script.has_io() || script.timers_from_heap() {
         text.extend_from_slice(b"uvt 3")
@@ -88,9 +91,9 @@ fn push_first_line(text: &mut Vec<u8>, script: &Script) -> Result<(), AllocError
 }
 
 /// The first line, the script, and the line `begin`.
-#[tactic(auto, unfolding(crate::specs::Recording::script_part))]
+#[tactic(auto, using(uv_script::proofs::Writing::writing), unfolding(crate::specs::Recording::script_part))]
 fn push_script(text: &mut Vec<u8>, script: &Script) -> Result<(), AllocError>
-    ensures { OnOk result (text.new.items ≡ text.old.items ++ script_part script.now) }
+    ensures { Writes result text.old.items (script_part script.now) text.new.items }
 {
     push_first_line(text, script)?;
     text.extend_from_slice(b"\n")?;
@@ -99,7 +102,7 @@ fn push_script(text: &mut Vec<u8>, script: &Script) -> Result<(), AllocError>
 }
 
 fn push_step_line(text: &mut Vec<u8>, names: &Names, step: Event) -> Result<(), AllocError>
-    ensures { OnOk result (text.new.items ≡ text.old.items ++ (step_line names.now step ++ codes "\n")) }
+    ensures { Writes result text.old.items (step_line names.now step ++ codes "\n") text.new.items }
 {
     push_step(text, names, step)?;
     text.extend_from_slice(b"\n")
@@ -107,7 +110,7 @@ fn push_step_line(text: &mut Vec<u8>, names: &Names, step: Event) -> Result<(), 
 
 /// A step's line, without its line feed.
 pub fn push_step(text: &mut Vec<u8>, names: &Names, step: Event) -> Result<(), AllocError>
-    ensures { OnOk result (text.new.items ≡ text.old.items ++ step_line names.now step) }
+    ensures { Writes result text.old.items (step_line names.now step) text.new.items }
 {
     match step {
         Event::Loop => text.extend_from_slice(b"loop"),
@@ -140,7 +143,7 @@ pub fn push_step(text: &mut Vec<u8>, names: &Names, step: Event) -> Result<(), A
 
 /// The line of a callback, if a step called one.
 fn push_called(text: &mut Vec<u8>, script: &Script, seen: Option<Seen>) -> Result<(), AllocError>
-    ensures { OnOk result (text.new.items ≡ text.old.items ++ called_text script.now seen) }
+    ensures { Writes result text.old.items (called_text script.now seen) text.new.items }
 {
     match seen {
         Some(seen) if is_callback(seen) => push_seen(text, script, seen),

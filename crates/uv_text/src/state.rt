@@ -1,11 +1,14 @@
 //! The text of a state.
-ghost use Rattle.std.specs.Prelude.{◌≡◌, ◌<◌, ◌^◌, ◌++◌, length, slice_get, IfOk, IfErr, OnOk, codes};
+#![tactic(auto, using(uv_script::proofs::Writing::writing))]
+
+ghost use Rattle.std.specs.Prelude.{◌≡◌, ◌<◌, ◌^◌, ◌++◌, length, slice_get, IfOk, IfErr, codes};
 ghost use Rattle.std.specs.List.{flat_map};
 ghost use Rattle.uv_ids.specs.declared.fault.Fault.TheVariants.{Memory};
 ghost use Rattle.uv_records.specs.Slots.{held};
 ghost use Rattle.uv_model.specs.After.{after};
 ghost use Rattle.uv_model.specs.declared.place.Place.TheVariants.{Running};
 ghost use Rattle.uv_model.specs.Queries.{numbers, timer_ids};
+ghost use Rattle.uv_script.specs.Writes.{Writes};
 ghost use Rattle.uv_text.specs.State.{numbered, flagged, steps_line, timers_text, stage_text, callback_word, body_text, place_line, bound_text, counts_text, name_line, name_part, kind_text, record_text, open_text, outcome_text, request_text, content_text, slot_line, slot_part, free_line, unused_line, holder_text, member_text, list_line, list_word, held_line, bound_line, named_text, members_line, before_poll, after_poll, run_text, runs_upto, running_line, work_text, last_part, part_after, part_count, state_text};
 
 use crate::parts::{Parts, push_parts};
@@ -33,7 +36,7 @@ pub(crate) fn push_state<M: Machine>(
     text: &mut Vec<u8>,
     session: &Session<M>,
 ) -> Result<(), AllocError>
-    ensures { OnOk result (text.new.items ≡ text.old.items ++ state_text session.now) }
+    ensures { Writes result text.old.items (state_text session.now) text.new.items }
 {
     push_parts(text, &StateParts { session })
 }
@@ -71,7 +74,7 @@ fn state_part_count<M: Machine>(machine: &M) -> usize
 }
 
 /// The numbers and the place, the line of a name or of a slot, or a part behind these.
-#[tactic(auto, unfolding(crate::specs::State::part_after))]
+#[tactic(auto, using(uv_script::proofs::Writing::writing), unfolding(crate::specs::State::part_after))]
 fn push_state_part<M: Machine>(
     text: &mut Vec<u8>,
     machine: &M,
@@ -79,8 +82,8 @@ fn push_state_part<M: Machine>(
     number: usize,
 ) -> Result<(), AllocError>
     requires { number < part_count (M.program machine.now) (after (M.program machine.now) (M.standing machine.now)) }
-    ensures { OnOk result (text.new.items ≡ text.old.items ++ part_after
-        (M.program machine.now) steps (after (M.program machine.now) (M.standing machine.now)) number) }
+    ensures { Writes result text.old.items (part_after
+        (M.program machine.now) steps (after (M.program machine.now) (M.standing machine.now)) number) text.new.items }
 {
     let names = machine.script().names().len();
     let used = machine.used() as usize;
@@ -97,19 +100,19 @@ fn push_state_part<M: Machine>(
 
 /// The numbers, and the place.
 fn push_head<M: Machine>(text: &mut Vec<u8>, machine: &M, steps: usize) -> Result<(), AllocError>
-    ensures { OnOk result (text.new.items ≡ text.old.items ++ (
+    ensures { Writes result text.old.items (
         steps_line steps (numbers (after (M.program machine.now) (M.standing machine.now)))
-        ++ place_line (M.program machine.now) (after (M.program machine.now) (M.standing machine.now)).place)) }
+        ++ place_line (M.program machine.now) (after (M.program machine.now) (M.standing machine.now)).place) text.new.items }
 {
     push_steps(text, steps, machine.numbers())?;
     push_place(text, machine.script(), machine.place())
 }
 
 /// What stands behind the lines of the slots, a part of it.
-#[tactic(auto, unfolding(crate::specs::State::last_part))]
+#[tactic(auto, using(uv_script::proofs::Writing::writing), unfolding(crate::specs::State::last_part))]
 fn push_last<M: Machine>(text: &mut Vec<u8>, machine: &M, number: usize) -> Result<(), AllocError>
-    ensures { OnOk result (text.new.items ≡ text.old.items ++ last_part
-        (M.program machine.now) (after (M.program machine.now) (M.standing machine.now)) number) }
+    ensures { Writes result text.old.items (last_part
+        (M.program machine.now) (after (M.program machine.now) (M.standing machine.now)) number) text.new.items }
 {
     match number {
         0 => push_free(text, machine),
@@ -126,7 +129,7 @@ fn push_last<M: Machine>(text: &mut Vec<u8>, machine: &M, number: usize) -> Resu
 
 /// A word and a number.
 pub(crate) fn push_numbered(text: &mut Vec<u8>, word: &str, n: u64) -> Result<(), AllocError>
-    ensures { OnOk result (text.new.items ≡ text.old.items ++ numbered word.now n) }
+    ensures { Writes result text.old.items (numbered word.now n) text.new.items }
 {
     text.extend_from_slice(word.as_bytes())?;
     push_number(text, n)
@@ -134,15 +137,15 @@ pub(crate) fn push_numbered(text: &mut Vec<u8>, word: &str, n: u64) -> Result<()
 
 /// A word and 1 or 0.
 fn push_flagged(text: &mut Vec<u8>, word: &str, flag: bool) -> Result<(), AllocError>
-    ensures { OnOk result (text.new.items ≡ text.old.items ++ flagged word.now flag) }
+    ensures { Writes result text.old.items (flagged word.now flag) text.new.items }
 {
     text.extend_from_slice(word.as_bytes())?;
     text.extend_from_slice(if flag { b"1" } else { b"0" })
 }
 
-#[tactic(auto, unfolding(crate::specs::State::steps_line))]
+#[tactic(auto, using(uv_script::proofs::Writing::writing), unfolding(crate::specs::State::steps_line))]
 fn push_steps(text: &mut Vec<u8>, steps: usize, numbers: Numbers) -> Result<(), AllocError>
-    ensures { OnOk result (text.new.items ≡ text.old.items ++ steps_line steps numbers) }
+    ensures { Writes result text.old.items (steps_line steps numbers) text.new.items }
 {
     push_numbered(text, "steps ", steps as u64)?;
     push_numbered(text, " now ", numbers.time)?;
@@ -154,7 +157,7 @@ fn push_steps(text: &mut Vec<u8>, steps: usize, numbers: Numbers) -> Result<(), 
 }
 
 fn push_timers(text: &mut Vec<u8>, which: TimersOf, timing: Timing) -> Result<(), AllocError>
-    ensures { OnOk result (text.new.items ≡ text.old.items ++ timers_text which timing) }
+    ensures { Writes result text.old.items (timers_text which timing) text.new.items }
 {
     match (which, timing) {
         (TimersOf::Entry, Timing::Collecting) => text.extend_from_slice(b"first collect"),
@@ -165,7 +168,7 @@ fn push_timers(text: &mut Vec<u8>, which: TimersOf, timing: Timing) -> Result<()
 }
 
 fn push_stage(text: &mut Vec<u8>, stage: Stage) -> Result<(), AllocError>
-    ensures { OnOk result (text.new.items ≡ text.old.items ++ stage_text stage) }
+    ensures { Writes result text.old.items (stage_text stage) text.new.items }
 {
     match stage {
         Stage::Entry => text.extend_from_slice(b"entry"),
@@ -185,7 +188,7 @@ fn push_stage(text: &mut Vec<u8>, stage: Stage) -> Result<(), AllocError>
 }
 
 fn push_callback(text: &mut Vec<u8>, callback: Callback) -> Result<(), AllocError>
-    ensures { OnOk result (text.new.items ≡ text.old.items ++ callback_word callback) }
+    ensures { Writes result text.old.items (callback_word callback) text.new.items }
 {
     match callback {
         Callback::Handle => text.extend_from_slice(b"on"),
@@ -196,7 +199,7 @@ fn push_callback(text: &mut Vec<u8>, callback: Callback) -> Result<(), AllocErro
 
 /// The callback under way, if there is one.
 fn push_body(text: &mut Vec<u8>, script: &Script, body: Option<Body>) -> Result<(), AllocError>
-    ensures { OnOk result (text.new.items ≡ text.old.items ++ body_text script.now body) }
+    ensures { Writes result text.old.items (body_text script.now body) text.new.items }
 {
     let Some(body) = body else {
         return Ok(());
@@ -209,9 +212,9 @@ fn push_body(text: &mut Vec<u8>, script: &Script, body: Option<Body>) -> Result<
     push_numbered(text, " ", body.next as u64)
 }
 
-#[tactic(auto, unfolding(crate::specs::State::place_line))]
+#[tactic(auto, using(uv_script::proofs::Writing::writing), unfolding(crate::specs::State::place_line))]
 fn push_place(text: &mut Vec<u8>, script: &Script, place: Place) -> Result<(), AllocError>
-    ensures { OnOk result (text.new.items ≡ text.old.items ++ place_line script.now place) }
+    ensures { Writes result text.old.items (place_line script.now place) text.new.items }
 {
     match place {
         Place::Main(line) => {
@@ -223,9 +226,9 @@ fn push_place(text: &mut Vec<u8>, script: &Script, place: Place) -> Result<(), A
 }
 
 /// The place of a run that is under way.
-#[tactic(auto, unfolding(crate::specs::State::place_line))]
+#[tactic(auto, using(uv_script::proofs::Writing::writing), unfolding(crate::specs::State::place_line))]
 fn push_run_place(text: &mut Vec<u8>, script: &Script, run: Run) -> Result<(), AllocError>
-    ensures { OnOk result (text.new.items ≡ text.old.items ++ place_line script.now (Running run)) }
+    ensures { Writes result text.old.items (place_line script.now (Running run)) text.new.items }
 {
     text.extend_from_slice(b"place ")?;
     text.extend_from_slice(run.mode.word().as_bytes())?;
@@ -237,7 +240,7 @@ fn push_run_place(text: &mut Vec<u8>, script: &Script, run: Run) -> Result<(), A
 }
 
 fn push_bound(text: &mut Vec<u8>, id: Option<Id>) -> Result<(), AllocError>
-    ensures { OnOk result (text.new.items ≡ text.old.items ++ bound_text id) }
+    ensures { Writes result text.old.items (bound_text id) text.new.items }
 {
     match id {
         Some(id) => push_id(text, id),
@@ -246,7 +249,7 @@ fn push_bound(text: &mut Vec<u8>, id: Option<Id>) -> Result<(), AllocError>
 }
 
 fn push_counts(text: &mut Vec<u8>, counts: Calls) -> Result<(), AllocError>
-    ensures { OnOk result (text.new.items ≡ text.old.items ++ counts_text counts) }
+    ensures { Writes result text.old.items (counts_text counts) text.new.items }
 {
     push_numbered(text, " ", u64::from(counts.handle))?;
     push_numbered(text, " ", u64::from(counts.after))?;
@@ -259,7 +262,7 @@ fn push_name_line(
     name: Var,
     named: Named,
 ) -> Result<(), AllocError>
-    ensures { OnOk result (text.new.items ≡ text.old.items ++ name_line script.now name named) }
+    ensures { Writes result text.old.items (name_line script.now name named) text.new.items }
 {
     text.extend_from_slice(b"name ")?;
     script.names().push_name(text, name)?;
@@ -272,8 +275,8 @@ fn push_name_line(
 /// A name, by its number.
 fn push_name<M: Machine>(text: &mut Vec<u8>, machine: &M, number: usize) -> Result<(), AllocError>
     requires { number < 2 ^ 32 }
-    ensures { OnOk result (text.new.items ≡ text.old.items ++ name_part
-        (M.program machine.now) (after (M.program machine.now) (M.standing machine.now)) number) }
+    ensures { Writes result text.old.items (name_part
+        (M.program machine.now) (after (M.program machine.now) (M.standing machine.now)) number) text.new.items }
 {
     let name = Var(number as u32);
     push_name_line(text, machine.script(), name, machine.named(name))
@@ -286,8 +289,8 @@ fn push_held<M: Machine>(
     id: Id,
     content: Option<Content>,
 ) -> Result<(), AllocError>
-    ensures { OnOk result (text.new.items ≡ text.old.items ++ held_line
-        (M.program machine.now) (after (M.program machine.now) (M.standing machine.now)) id content) }
+    ensures { Writes result text.old.items (held_line
+        (M.program machine.now) (after (M.program machine.now) (M.standing machine.now)) id content) text.new.items }
 {
     match content {
         Some(_) => push_slot_line(
@@ -308,8 +311,8 @@ fn push_bound_line<M: Machine>(
     machine: &M,
     id: Option<Id>,
 ) -> Result<(), AllocError>
-    ensures { OnOk result (text.new.items ≡ text.old.items ++ bound_line
-        (M.program machine.now) (after (M.program machine.now) (M.standing machine.now)) id) }
+    ensures { Writes result text.old.items (bound_line
+        (M.program machine.now) (after (M.program machine.now) (M.standing machine.now)) id) text.new.items }
 {
     match id {
         Some(id) => push_held(text, machine, id, machine.held(id)),
@@ -323,7 +326,7 @@ pub fn push_named<M: Machine>(
     session: &Session<M>,
     name: Var,
 ) -> Result<(), AllocError>
-    ensures { OnOk result (text.new.items ≡ text.old.items ++ named_text session.now name) }
+    ensures { Writes result text.old.items (named_text session.now name) text.new.items }
 {
     let machine = session.machine();
     let named = machine.named(name);
@@ -333,7 +336,7 @@ pub fn push_named<M: Machine>(
 
 /// What a handle has that those of another kind have not.
 fn push_kind(text: &mut Vec<u8>, handle: HandleRecord) -> Result<(), AllocError>
-    ensures { OnOk result (text.new.items ≡ text.old.items ++ kind_text handle.kind handle) }
+    ensures { Writes result text.old.items (kind_text handle.kind handle) text.new.items }
 {
     match handle.kind {
         Kind::Timer => {
@@ -348,7 +351,7 @@ fn push_kind(text: &mut Vec<u8>, handle: HandleRecord) -> Result<(), AllocError>
 }
 
 fn push_record(text: &mut Vec<u8>, script: &Script, handle: HandleRecord) -> Result<(), AllocError>
-    ensures { OnOk result (text.new.items ≡ text.old.items ++ record_text script.now handle) }
+    ensures { Writes result text.old.items (record_text script.now handle) text.new.items }
 {
     text.extend_from_slice(handle.kind.word().as_bytes())?;
     text.extend_from_slice(b" ")?;
@@ -360,7 +363,7 @@ fn push_record(text: &mut Vec<u8>, script: &Script, handle: HandleRecord) -> Res
 }
 
 fn push_open(text: &mut Vec<u8>, worker: Option<usize>) -> Result<(), AllocError>
-    ensures { OnOk result (text.new.items ≡ text.old.items ++ open_text worker) }
+    ensures { Writes result text.old.items (open_text worker) text.new.items }
 {
     match worker {
         Some(worker) => push_numbered(text, "running ", worker as u64),
@@ -374,7 +377,7 @@ fn push_outcome(
     worker: Option<usize>,
     outcome: Outcome,
 ) -> Result<(), AllocError>
-    ensures { OnOk result (text.new.items ≡ text.old.items ++ outcome_text worker outcome) }
+    ensures { Writes result text.old.items (outcome_text worker outcome) text.new.items }
 {
     match outcome {
         Outcome::Open => push_open(text, worker),
@@ -389,7 +392,7 @@ fn push_request(
     worker: Option<usize>,
     request: Request,
 ) -> Result<(), AllocError>
-    ensures { OnOk result (text.new.items ≡ text.old.items ++ request_text script.now worker request) }
+    ensures { Writes result text.old.items (request_text script.now worker request) text.new.items }
 {
     text.extend_from_slice(b"work ")?;
     script.names().push_name(text, request.name)?;
@@ -406,7 +409,7 @@ fn push_content(
     worker: Option<usize>,
     content: Option<Content>,
 ) -> Result<(), AllocError>
-    ensures { OnOk result (text.new.items ≡ text.old.items ++ content_text script.now is_free worker content) }
+    ensures { Writes result text.old.items (content_text script.now is_free worker content) text.new.items }
 {
     match content {
         Some(Content::Handle(handle)) => push_record(text, script, handle),
@@ -424,7 +427,7 @@ fn push_slot_line(
     id: Id,
     content: Option<Content>,
 ) -> Result<(), AllocError>
-    ensures { OnOk result (text.new.items ≡ text.old.items ++ slot_line script.now is_free worker id content) }
+    ensures { Writes result text.old.items (slot_line script.now is_free worker id content) text.new.items }
 {
     text.extend_from_slice(b"slot ")?;
     push_id(text, id)?;
@@ -435,8 +438,8 @@ fn push_slot_line(
 
 /// A slot that was used.
 fn push_slot<M: Machine>(text: &mut Vec<u8>, machine: &M, number: u32) -> Result<(), AllocError>
-    ensures { OnOk result (text.new.items ≡ text.old.items ++ slot_part
-        (M.program machine.now) (after (M.program machine.now) (M.standing machine.now)) number) }
+    ensures { Writes result text.old.items (slot_part
+        (M.program machine.now) (after (M.program machine.now) (M.standing machine.now)) number) text.new.items }
 {
     let Some(slot) = machine.slot(number) else {
         return Ok(());
@@ -455,9 +458,9 @@ fn push_slot<M: Machine>(text: &mut Vec<u8>, machine: &M, number: u32) -> Result
     )
 }
 
-#[tactic(auto, using(crate::proofs::Pieces::pieces))]
+#[tactic(auto, using(crate::proofs::Pieces::pieces, uv_script::proofs::Writing::writing))]
 fn push_numbers(text: &mut Vec<u8>, numbers: &[u32]) -> Result<(), AllocError>
-    ensures { OnOk result (text.new.items ≡ text.old.items ++ flat_map (numbered (codes " ")) numbers.now) }
+    ensures { Writes result text.old.items (flat_map (numbered (codes " ")) numbers.now) text.new.items }
 {
     for number in numbers {
         push_numbered(text, " ", u64::from(*number))?;
@@ -466,9 +469,9 @@ fn push_numbers(text: &mut Vec<u8>, numbers: &[u32]) -> Result<(), AllocError>
 }
 
 /// The free slots.
-#[tactic(auto, unfolding(crate::specs::State::free_line))]
+#[tactic(auto, using(uv_script::proofs::Writing::writing), unfolding(crate::specs::State::free_line))]
 fn push_free<M: Machine>(text: &mut Vec<u8>, machine: &M) -> Result<(), AllocError>
-    ensures { OnOk result (text.new.items ≡ text.old.items ++ free_line (after (M.program machine.now) (M.standing machine.now)).arena.free) }
+    ensures { Writes result text.old.items (free_line (after (M.program machine.now) (M.standing machine.now)).arena.free) text.new.items }
 {
     let Ok(free) = machine.free() else {
         return Err(AllocError);
@@ -478,9 +481,9 @@ fn push_free<M: Machine>(text: &mut Vec<u8>, machine: &M) -> Result<(), AllocErr
     text.extend_from_slice(b"\n")
 }
 
-#[tactic(auto, unfolding(crate::specs::State::unused_line))]
+#[tactic(auto, using(uv_script::proofs::Writing::writing), unfolding(crate::specs::State::unused_line))]
 fn push_unused(text: &mut Vec<u8>, unused: u32) -> Result<(), AllocError>
-    ensures { OnOk result (text.new.items ≡ text.old.items ++ unused_line unused) }
+    ensures { Writes result text.old.items (unused_line unused) text.new.items }
 {
     push_numbered(text, "unused ", u64::from(unused))?;
     text.extend_from_slice(b"\n")
@@ -492,7 +495,7 @@ fn push_holder(
     script: &Script,
     content: Option<Content>,
 ) -> Result<(), AllocError>
-    ensures { OnOk result (text.new.items ≡ text.old.items ++ holder_text script.now content) }
+    ensures { Writes result text.old.items (holder_text script.now content) text.new.items }
 {
     match content {
         Some(Content::Handle(handle)) => script.names().push_name(text, handle.name),
@@ -502,17 +505,16 @@ fn push_holder(
 }
 
 fn push_member<M: Machine>(text: &mut Vec<u8>, machine: &M, id: Id) -> Result<(), AllocError>
-    ensures { OnOk result (text.new.items ≡ text.old.items ++ member_text
-        (M.program machine.now) (after (M.program machine.now) (M.standing machine.now)) id) }
+    ensures { Writes result text.old.items (member_text
+        (M.program machine.now) (after (M.program machine.now) (M.standing machine.now)) id) text.new.items }
 {
     text.extend_from_slice(b" ")?;
     push_holder(text, machine.script(), machine.held(id))
 }
 
-#[tactic(auto, using(crate::proofs::Pieces::pieces))]
+#[tactic(auto, using(crate::proofs::Pieces::pieces, uv_script::proofs::Writing::writing))]
 fn push_ids<M: Machine>(text: &mut Vec<u8>, machine: &M, ids: &[Id]) -> Result<(), AllocError>
-    ensures { OnOk result (text.new.items ≡ text.old.items ++
-        flat_map (member_text (M.program machine.now) (after (M.program machine.now) (M.standing machine.now))) ids.now) }
+    ensures { Writes result text.old.items (flat_map (member_text (M.program machine.now) (after (M.program machine.now) (M.standing machine.now))) ids.now) text.new.items }
 {
     for id in ids {
         push_member(text, machine, *id)?;
@@ -521,15 +523,15 @@ fn push_ids<M: Machine>(text: &mut Vec<u8>, machine: &M, ids: &[Id]) -> Result<(
 }
 
 /// A word and the names of these.
-#[tactic(auto, unfolding(crate::specs::State::list_line))]
+#[tactic(auto, using(uv_script::proofs::Writing::writing), unfolding(crate::specs::State::list_line))]
 fn push_line<M: Machine>(
     text: &mut Vec<u8>,
     machine: &M,
     word: &str,
     ids: &[Id],
 ) -> Result<(), AllocError>
-    ensures { OnOk result (text.new.items ≡ text.old.items ++ list_line
-        (M.program machine.now) (after (M.program machine.now) (M.standing machine.now)) word.now ids.now) }
+    ensures { Writes result text.old.items (list_line
+        (M.program machine.now) (after (M.program machine.now) (M.standing machine.now)) word.now ids.now) text.new.items }
 {
     text.extend_from_slice(word.as_bytes())?;
     push_ids(text, machine, ids)?;
@@ -538,9 +540,9 @@ fn push_line<M: Machine>(
 
 /// The active timers.
 fn push_timer_list<M: Machine>(text: &mut Vec<u8>, machine: &M) -> Result<(), AllocError>
-    ensures { OnOk result (text.new.items ≡ text.old.items ++ list_line
+    ensures { Writes result text.old.items (list_line
         (M.program machine.now) (after (M.program machine.now) (M.standing machine.now))
-        (codes "timers") (timer_ids (after (M.program machine.now) (M.standing machine.now)))) }
+        (codes "timers") (timer_ids (after (M.program machine.now) (M.standing machine.now)))) text.new.items }
 {
     let Ok(ids) = machine.timers() else {
         return Err(AllocError);
@@ -576,8 +578,8 @@ fn push_members<M: Machine>(
     machine: &M,
     list: ListName,
 ) -> Result<(), AllocError>
-    ensures { OnOk result (text.new.items ≡ text.old.items ++ members_line
-        (M.program machine.now) (after (M.program machine.now) (M.standing machine.now)) list) }
+    ensures { Writes result text.old.items (members_line
+        (M.program machine.now) (after (M.program machine.now) (M.standing machine.now)) list) text.new.items }
 {
     let Ok(ids) = machine.members(list) else {
         return Err(AllocError);
@@ -586,10 +588,10 @@ fn push_members<M: Machine>(
 }
 
 /// The handles whose section is before the poll.
-#[tactic(auto, unfolding(crate::specs::State::before_poll))]
+#[tactic(auto, using(uv_script::proofs::Writing::writing), unfolding(crate::specs::State::before_poll))]
 fn push_before_poll<M: Machine>(text: &mut Vec<u8>, machine: &M) -> Result<(), AllocError>
-    ensures { OnOk result (text.new.items ≡ text.old.items ++ before_poll
-        (M.program machine.now) (after (M.program machine.now) (M.standing machine.now))) }
+    ensures { Writes result text.old.items (before_poll
+        (M.program machine.now) (after (M.program machine.now) (M.standing machine.now))) text.new.items }
 {
     push_members(text, machine, ListName::Idle)?;
     push_members(text, machine, ListName::IdleYet)?;
@@ -598,10 +600,10 @@ fn push_before_poll<M: Machine>(text: &mut Vec<u8>, machine: &M) -> Result<(), A
 }
 
 /// Those whose section is behind it.
-#[tactic(auto, unfolding(crate::specs::State::after_poll))]
+#[tactic(auto, using(uv_script::proofs::Writing::writing), unfolding(crate::specs::State::after_poll))]
 fn push_after_poll<M: Machine>(text: &mut Vec<u8>, machine: &M) -> Result<(), AllocError>
-    ensures { OnOk result (text.new.items ≡ text.old.items ++ after_poll
-        (M.program machine.now) (after (M.program machine.now) (M.standing machine.now))) }
+    ensures { Writes result text.old.items (after_poll
+        (M.program machine.now) (after (M.program machine.now) (M.standing machine.now))) text.new.items }
 {
     push_members(text, machine, ListName::Check)?;
     push_members(text, machine, ListName::CheckYet)?;
@@ -616,8 +618,8 @@ fn push_run<M: Machine>(
     worker: usize,
     run: Option<Id>,
 ) -> Result<(), AllocError>
-    ensures { OnOk result (text.new.items ≡ text.old.items ++ run_text
-        (M.program machine.now) (after (M.program machine.now) (M.standing machine.now)) worker run) }
+    ensures { Writes result text.old.items (run_text
+        (M.program machine.now) (after (M.program machine.now) (M.standing machine.now)) worker run) text.new.items }
 {
     let Some(id) = run else {
         return Ok(());
@@ -628,11 +630,11 @@ fn push_run<M: Machine>(
 }
 
 /// All workers that run a request.
-#[tactic(auto, using(crate::proofs::Pieces::pieces))]
+#[tactic(auto, using(crate::proofs::Pieces::pieces, uv_script::proofs::Writing::writing))]
 fn push_runs<M: Machine>(text: &mut Vec<u8>, machine: &M) -> Result<(), AllocError>
-    ensures { OnOk result (text.new.items ≡ text.old.items ++ runs_upto
+    ensures { Writes result text.old.items (runs_upto
         (M.program machine.now) (after (M.program machine.now) (M.standing machine.now))
-        (length (after (M.program machine.now) (M.standing machine.now)).running)) }
+        (length (after (M.program machine.now) (M.standing machine.now)).running)) text.new.items }
 {
     for worker in 0..machine.workers() {
         push_run(text, machine, worker, machine.run_by(worker))?;
@@ -640,20 +642,20 @@ fn push_runs<M: Machine>(text: &mut Vec<u8>, machine: &M) -> Result<(), AllocErr
     Ok(())
 }
 
-#[tactic(auto, unfolding(crate::specs::State::running_line))]
+#[tactic(auto, using(uv_script::proofs::Writing::writing), unfolding(crate::specs::State::running_line))]
 fn push_running<M: Machine>(text: &mut Vec<u8>, machine: &M) -> Result<(), AllocError>
-    ensures { OnOk result (text.new.items ≡ text.old.items ++ running_line
-        (M.program machine.now) (after (M.program machine.now) (M.standing machine.now))) }
+    ensures { Writes result text.old.items (running_line
+        (M.program machine.now) (after (M.program machine.now) (M.standing machine.now))) text.new.items }
 {
     text.extend_from_slice(b"running")?;
     push_runs(text, machine)?;
     text.extend_from_slice(b"\n")
 }
 
-#[tactic(auto, unfolding(crate::specs::State::work_text))]
+#[tactic(auto, using(uv_script::proofs::Writing::writing), unfolding(crate::specs::State::work_text))]
 fn push_work<M: Machine>(text: &mut Vec<u8>, machine: &M) -> Result<(), AllocError>
-    ensures { OnOk result (text.new.items ≡ text.old.items ++ work_text
-        (M.program machine.now) (after (M.program machine.now) (M.standing machine.now))) }
+    ensures { Writes result text.old.items (work_text
+        (M.program machine.now) (after (M.program machine.now) (M.standing machine.now))) text.new.items }
 {
     push_members(text, machine, ListName::Waiting)?;
     push_running(text, machine)?;

@@ -1,8 +1,11 @@
 //! The text of a trace.
-ghost use Rattle.std.specs.Prelude.{◌≡◌, ◌≤◌, ◌++◌, length, IfOk, IfErr, OnOk, codes};
+#![tactic(auto, using(uv_script::proofs::Writing::writing))]
+
+ghost use Rattle.std.specs.Prelude.{◌≡◌, ◌≤◌, ◌++◌, length, IfOk, IfErr, codes};
 ghost use Rattle.uv_ids.specs.declared.fault.Fault.TheVariants.{Memory};
 ghost use Rattle.uv_ids.specs.declared.seen.Seen.TheVariants.{Op, After};
 ghost use Rattle.hex.specs.Hex.{encode_lower};
+ghost use Rattle.uv_script.specs.Writes.{Writes};
 ghost use Rattle.uv_text.specs.Trace.{id_text, handle_text, timeout_text, answer_text, end_text, worker_text, outside_text, site_text, line_text, seen_text};
 
 use crate::room::{ID, put, put_id, put_name};
@@ -23,7 +26,7 @@ pub fn seen_text(alloc: Global, script: &Script, seen: Seen) -> Result<Vec<u8>, 
 /// Puts a trace line with its line feed behind a text.
 #[inline(always)]
 pub fn push_seen(text: &mut Vec<u8>, script: &Script, seen: Seen) -> Result<(), AllocError>
-    ensures { OnOk result (text.new.items ≡ text.old.items ++ seen_text script.now seen) }
+    ensures { Writes result text.old.items (seen_text script.now seen) text.new.items }
 {
     push_line(text, script, seen)?;
     text.push(b'\n')?;
@@ -33,7 +36,7 @@ pub fn push_seen(text: &mut Vec<u8>, script: &Script, seen: Seen) -> Result<(), 
 /// Puts a trace line behind a text, without a line feed.
 #[inline(always)]
 pub fn push_line(text: &mut Vec<u8>, script: &Script, seen: Seen) -> Result<(), AllocError>
-    ensures { OnOk result (text.new.items ≡ text.old.items ++ line_text script.now seen) }
+    ensures { Writes result text.old.items (line_text script.now seen) text.new.items }
 {
     match seen {
         Seen::Call(name, id) => push_handle(text, script, b"call ", name, id),
@@ -45,7 +48,7 @@ pub fn push_line(text: &mut Vec<u8>, script: &Script, seen: Seen) -> Result<(), 
 /// The same, whatever line it is: `push_line` tells those that come most often from the others.
 #[inline(never)]
 fn push_any_line(text: &mut Vec<u8>, script: &Script, seen: Seen) -> Result<(), AllocError>
-    ensures { OnOk result (text.new.items ≡ text.old.items ++ line_text script.now seen) }
+    ensures { Writes result text.old.items (line_text script.now seen) text.new.items }
 {
     match seen {
         Seen::Op(site, answer) => push_op(text, script, site, answer),
@@ -83,7 +86,7 @@ fn push_op(
     site: Site,
     answer: Answer,
 ) -> Result<(), AllocError>
-    ensures { OnOk result (text.new.items ≡ text.old.items ++ line_text script.now (Op site answer)) }
+    ensures { Writes result text.old.items (line_text script.now (Op site answer)) text.new.items }
 {
     push_site(text, script, site)?;
     text.extend_from_slice(b" = ")?;
@@ -99,7 +102,7 @@ fn push_after(
     name: Var,
     id: Id,
 ) -> Result<(), AllocError>
-    ensures { OnOk result (text.new.items ≡ text.old.items ++ line_text script.now (After digest name id)) }
+    ensures { Writes result text.old.items (line_text script.now (After digest name id)) text.new.items }
 {
     push_handle(text, script, b"after ", name, id)?;
     text.push(b' ')?;
@@ -108,7 +111,7 @@ fn push_after(
 
 /// How a request ended.
 fn push_end(text: &mut Vec<u8>, digest: Option<[u8; 32]>) -> Result<(), AllocError>
-    ensures { OnOk result (text.new.items ≡ text.old.items ++ end_text digest) }
+    ensures { Writes result text.old.items (end_text digest) text.new.items }
 {
     match digest {
         Some(digest) => {
@@ -122,7 +125,7 @@ fn push_end(text: &mut Vec<u8>, digest: Option<[u8; 32]>) -> Result<(), AllocErr
 
 /// A digest, in hexadecimal digits.
 fn push_digest(text: &mut Vec<u8>, digest: [u8; 32]) -> Result<(), AllocError>
-    ensures { OnOk result (text.new.items ≡ text.old.items ++ encode_lower digest) }
+    ensures { Writes result text.old.items (encode_lower digest) text.new.items }
 {
     let mut digits = [0; 64];
     hex::encode_to_slice(digest, &mut digits).unwrap();
@@ -139,7 +142,7 @@ fn push_worker(
     name: Var,
     id: Id,
 ) -> Result<(), AllocError>
-    ensures { OnOk result (text.new.items ≡ text.old.items ++ codes "out " ++ word.now ++ worker_text script.now worker name id) }
+    ensures { Writes result text.old.items (codes "out " ++ word.now ++ worker_text script.now worker name id) text.new.items }
 {
     text.extend_from_slice(b"out ")?;
     text.extend_from_slice(word)?;
@@ -156,7 +159,7 @@ fn push_outside(
     name: Var,
     answer: Answer,
 ) -> Result<(), AllocError>
-    ensures { OnOk result (text.new.items ≡ text.old.items ++ codes "out " ++ word.now ++ outside_text script.now name answer) }
+    ensures { Writes result text.old.items (codes "out " ++ word.now ++ outside_text script.now name answer) text.new.items }
 {
     text.extend_from_slice(b"out ")?;
     text.extend_from_slice(word)?;
@@ -175,7 +178,7 @@ fn push_handle(
     id: Id,
 ) -> Result<(), AllocError>
     requires { length word.now ≤ 7 }
-    ensures { OnOk result (text.new.items ≡ text.old.items ++ word.now ++ handle_text script.now name id) }
+    ensures { Writes result text.old.items (word.now ++ handle_text script.now name id) text.new.items }
 {
     let name = match script.names().get(name) {
         Some(bytes) => bytes,
@@ -191,7 +194,7 @@ fn push_handle(
 
 /// The op at a place of the script.
 fn push_site(text: &mut Vec<u8>, script: &Script, site: Site) -> Result<(), AllocError>
-    ensures { OnOk result (text.new.items ≡ text.old.items ++ site_text script.now site) }
+    ensures { Writes result text.old.items (site_text script.now site) text.new.items }
 {
     match script.op_at(site) {
         Some(op) => op.push_text(text, script.names()),
@@ -200,7 +203,7 @@ fn push_site(text: &mut Vec<u8>, script: &Script, site: Site) -> Result<(), Allo
 }
 
 fn push_answer(text: &mut Vec<u8>, answer: Answer) -> Result<(), AllocError>
-    ensures { OnOk result (text.new.items ≡ text.old.items ++ answer_text answer) }
+    ensures { Writes result text.old.items (answer_text answer) text.new.items }
 {
     match answer {
         Answer::Code(code) => text.extend_from_slice(code.word().as_bytes()),
@@ -214,7 +217,7 @@ fn push_answer(text: &mut Vec<u8>, answer: Answer) -> Result<(), AllocError>
 }
 
 pub(crate) fn push_id(text: &mut Vec<u8>, id: Id) -> Result<(), AllocError>
-    ensures { OnOk result (text.new.items ≡ text.old.items ++ id_text id) }
+    ensures { Writes result text.old.items (id_text id) text.new.items }
 {
     text.reserve(ID)?;
     put_id(text, id);
@@ -222,7 +225,7 @@ pub(crate) fn push_id(text: &mut Vec<u8>, id: Id) -> Result<(), AllocError>
 }
 
 pub(crate) fn push_timeout(text: &mut Vec<u8>, timeout: Option<u64>) -> Result<(), AllocError>
-    ensures { OnOk result (text.new.items ≡ text.old.items ++ timeout_text timeout) }
+    ensures { Writes result text.old.items (timeout_text timeout) text.new.items }
 {
     match timeout {
         Some(ms) => push_number(text, ms),

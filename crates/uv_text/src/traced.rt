@@ -1,5 +1,8 @@
 //! The text of a trace, a step at a time.
-ghost use Rattle.std.specs.Prelude.{◌≡◌, ◌<◌, ◌++◌, OnOk, length};
+#![tactic(auto, using(uv_script::proofs::Writing::writing))]
+
+ghost use Rattle.std.specs.Prelude.{◌≡◌, ◌<◌, ◌++◌, length};
+ghost use Rattle.uv_script.specs.Writes.{Writes};
 ghost use Rattle.uv_text.specs.Trace.{trace_part, appended_text};
 
 use crate::parts::Parts;
@@ -34,14 +37,14 @@ impl<'a, M: Machine> Parts for TraceParts<'a, M> {
 }
 
 /// What a standing step appended, the first being 0.
-#[tactic(auto, unfolding(crate::specs::Trace::trace_part))]
+#[tactic(auto, using(uv_script::proofs::Writing::writing), unfolding(crate::specs::Trace::trace_part))]
 fn push_trace_part<M: Machine>(
     text: &mut Vec<u8>,
     machine: &M,
     number: usize,
 ) -> Result<(), AllocError>
     requires { number < length (M.standing machine.now) }
-    ensures { OnOk result (text.new.items ≡ text.old.items ++ trace_part (M.program machine.now) (M.standing machine.now) number) }
+    ensures { Writes result text.old.items (trace_part (M.program machine.now) (M.standing machine.now) number) text.new.items }
 {
     let steps = machine.len();
     prove!(number < steps);
@@ -55,7 +58,7 @@ pub fn push_appended(
     script: &Script,
     seen: Option<Seen>,
 ) -> Result<(), AllocError>
-    ensures { OnOk result (text.new.items ≡ text.old.items ++ appended_text script.now seen) }
+    ensures { Writes result text.old.items (appended_text script.now seen) text.new.items }
 {
     match seen {
         Some(seen) => push_seen(text, script, seen),

@@ -1,0 +1,20 @@
+use Rattle.std.proofs.Common.{◌≡◌, ◌++◌, rules, append_assoc, codes, arith, refl}
+use Rattle.std.proofs.lemmas.Result.{err_from_is_err_and}
+use Rattle.uv_script.proofs.Writing.{begins_itself, begins_more, last_behind}
+use Rattle.uv_text.specs.State.{numbered, flagged}
+use Rattle.uv_text.proofs.Cuts.{cut}
+use Rattle.uv_text.proofs.state.push_kind.Goals as goal
+
+pub returns-in_err-push_numbered-in-Timer-2 : goal.returns-in_err-push_numbered-in-Timer-2
+returns-in_err-push_numbered-in-Timer-2 c =
+    let exit = c.from_residual-in_err-push_numbered-in-Timer-2 in
+    let p = err_from_is_err_and exit.result exit.ensures.1 in
+    rw (p.1, c.in-Timer.is) (cut (flagged (codes " begun ") c.args.handle.begun ++ numbered (codes " due ") c.args.handle.due.at)
+    c.in_err-push_numbered-in-Timer-2.ensures (grind (arith, append_assoc)) (search (begins_itself, begins_more)))
+
+pub returns-in_ok-push_numbered-in-Timer-2 : goal.returns-in_ok-push_numbered-in-Timer-2
+returns-in_ok-push_numbered-in-Timer-2 c =
+    let front = flagged (codes " begun ") c.args.handle.begun ++ numbered (codes " due ") c.args.handle.due.at
+        ++ numbered (codes " start ") c.args.handle.due.start in
+    let before : c.push_numbered-in-Timer.new.text.items ≡ c.args.text.now.items ++ front = grind (arith, append_assoc) in
+    rw c.in-Timer.is (last_behind c.push_numbered-in-Timer-2.result _ front _ _ _ _ c.push_numbered-in-Timer-2.ensures before refl)
