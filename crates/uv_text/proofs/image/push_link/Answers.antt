@@ -1,4 +1,4 @@
-use Rattle.std.proofs.Common.{◌++◌, rules, append_assoc, codes, arith}
+use Rattle.std.proofs.Common.{◌++◌, append_assoc, codes, arith}
 use Rattle.std.proofs.lemmas.Result.{err_from_is_err_and}
 use Rattle.uv_script.proofs.Writing.{begins_itself, begins_more}
 use Rattle.uv_text.specs.Image.{or_dash, link_line}

@@ -1,9 +1,6 @@
-use Rattle.uv_text.proofs.Names.{arith, named_ends, subst}
+use Rattle.uv_text.proofs.Names.{arith, named_ends}
 use Rattle.uv_text.proofs.Pieces.{each_end}
 use Rattle.std.proofs.lemmas.Result.{err_from_is_err_and}
-use Rattle.uv_script.specs.Writes.{CutShort}
-use Rattle.uv_text.specs.Image.{ends_line}
-use Rattle.uv_text.specs.State.{list_word}
 use Rattle.uv_text.proofs.Cuts.{each_cut}
 use Rattle.uv_text.proofs.image.push_lists.Goals as goal
 

@@ -1,4 +1,4 @@
-use Rattle.std.proofs.Common.{◌≡◌, ◌++◌, rules, append_assoc, codes, arith, refl}
+use Rattle.std.proofs.Common.{◌≡◌, ◌++◌, append_assoc, codes, arith, refl}
 use Rattle.std.proofs.lemmas.Result.{err_from_is_err_and}
 use Rattle.uv_script.proofs.Writing.{begins_itself, begins_more, last_behind}
 use Rattle.uv_text.specs.State.{numbered, flagged}

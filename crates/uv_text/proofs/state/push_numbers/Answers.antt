@@ -1,6 +1,6 @@
 use Rattle.std.proofs.lemmas.Result.{err_from_is_err_and}
 use Rattle.uv_script.specs.Writes.{CutShort}
-use Rattle.uv_text.proofs.Names.{◌++◌, arith, subst, flat_map, numbered}
+use Rattle.uv_text.proofs.Names.{arith, subst, numbered}
 use Rattle.std.proofs.Common.{codes}
 use Rattle.uv_text.proofs.Cuts.{each_cut}
 use Rattle.uv_text.proofs.state.push_numbers.Goals as goal

@@ -1,4 +1,4 @@
-use Rattle.std.proofs.Common.{rules, append_assoc, ◌≡◌, ◌++◌, codes, arith, refl}
+use Rattle.std.proofs.Common.{append_assoc, ◌≡◌, ◌++◌, codes, arith, refl}
 use Rattle.uv_script.proofs.Writing.{begins_less, cut_whole, last_behind, begins_itself, begins_more}
 use Rattle.uv_text.specs.State.{flagged}
 use Rattle.uv_ids.specs.Words.{kind_word}

@@ -1,7 +1,7 @@
-use Rattle.std.proofs.Common.{◌∙◌, subst, refl, rules, append_assoc, ◌≡◌, ◌++◌, codes, arith}
+use Rattle.std.proofs.Common.{◌∙◌, subst, refl, append_assoc, ◌≡◌, ◌++◌, codes, arith}
 use Rattle.std.proofs.lemmas.Result.{err_from_is_err_and}
 use Rattle.uv_script.proofs.Writing.{begins_itself, begins_more, last_behind}
-use Rattle.uv_script.specs.Text.{name_text, task_text}
+use Rattle.uv_script.specs.Text.{name_text}
 use Rattle.uv_script.specs.Writes.{CutShort}
 use Rattle.uv_text.proofs.Cuts.{cut}
 use Rattle.uv_text.specs.State.{numbered, outcome_text}

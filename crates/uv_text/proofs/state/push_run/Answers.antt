@@ -1,4 +1,4 @@
-use Rattle.std.proofs.Common.{◌≡◌, ◌++◌, rules, append_assoc, codes, arith, refl}
+use Rattle.std.proofs.Common.{◌≡◌, ◌++◌, append_assoc, codes, arith, refl}
 use Rattle.uv_script.proofs.Writing.{last_behind}
 use Rattle.uv_text.specs.State.{numbered}
 use Rattle.uv_text.proofs.state.push_run.Goals as goal

@@ -1,4 +1,4 @@
-use Rattle.std.proofs.Common.{rules, append_assoc, ◌≡◌, ◌++◌, codes, arith}
+use Rattle.std.proofs.Common.{rules, append_assoc, ◌++◌, codes, arith}
 use Rattle.uv_text.specs.State.{place_line, numbered, stage_text}
 use Rattle.std.proofs.lemmas.Result.{err_from_is_err_and}
 use Rattle.uv_script.proofs.Writing.{begins_itself, begins_more}

@@ -1,4 +1,4 @@
-use Rattle.std.proofs.Common.{◌≡◌, ◌++◌, rules, append_assoc, codes, arith, refl}
+use Rattle.std.proofs.Common.{◌≡◌, ◌++◌, append_assoc, codes, arith, refl}
 use Rattle.uv_script.proofs.Writing.{last_behind}
 use Rattle.uv_text.specs.Trace.{handle_text}
 use Rattle.uv_text.proofs.trace.push_after.Goals as goal

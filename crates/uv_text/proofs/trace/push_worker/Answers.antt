@@ -1,4 +1,4 @@
-use Rattle.std.proofs.Common.{◌≡◌, ◌++◌, rules, append_assoc, codes, arith}
+use Rattle.std.proofs.Common.{◌≡◌, ◌++◌, append_assoc, codes, arith}
 use Rattle.uv_script.proofs.Writing.{last_behind}
 use Rattle.std.specs.Fmt.{decimal}
 use Rattle.uv_text.proofs.trace.push_worker.Goals as goal
