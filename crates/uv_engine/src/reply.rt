@@ -1,5 +1,6 @@
 //! What a session answers to one command, as text.
 #![tactic(auto, using(uv_script::proofs::Writing::writing))]
+
 ghost use Rattle.std.specs.Prelude.{◌≡◌, ◌<◌, ◌++◌, [], length, IfOk, OnOk, codes};
 ghost use Rattle.uv_script.specs.Writes.{Writes};
 ghost use Rattle.uv_engine.specs.Reply.{reply, reply_text, reply_after, may_follow, break_text, at_text, back_text, back_after, forward_text, forward_after, add_text, add_after, last_break, break_back_text, break_back_after};

@@ -1,5 +1,6 @@
 //! The verdict on a recording.
 #![tactic(auto, using(uv_script::proofs::Writing::writing))]
+
 ghost use Rattle.std.specs.Prelude.{◌≡◌, ◌++◌, IfErr, codes};
 ghost use Rattle.uv_script.specs.Writes.{Writes};
 ghost use Rattle.uv_engine.specs.Rerun.{IsTellingFault};

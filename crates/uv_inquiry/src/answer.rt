@@ -1,5 +1,6 @@
 //! The texts of answers.
 #![tactic(auto, using(uv_script::proofs::Writing::writing))]
+
 ghost use Rattle.std.specs.Prelude.{◌≡◌, ◌++◌, None, IfOk, IfErr};
 ghost use Rattle.uv_ids.specs.declared.fault.Fault.TheVariants.{Memory};
 ghost use Rattle.uv_script.specs.Writes.{Writes};

@@ -1,5 +1,6 @@
 //! The session that an answer shows.
 #![tactic(auto, using(uv_script::proofs::Writing::writing))]
+
 ghost use Rattle.std.specs.Prelude.{◌≡◌, ◌++◌, ℕ, List, map};
 ghost use Rattle.uv_ids.specs.declared.event.Event.{Event};
 ghost use Rattle.uv_script.specs.Program.{Program};

@@ -6,7 +6,6 @@ use Rattle.uv_text.proofs.Cuts.{cut}
 use Rattle.uv_text.specs.State.{numbered}
 use Rattle.uv_text.proofs.image.push_link.Goals as goal
 
-
 pub returns-in_err-push_or_dash-2 : goal.returns-in_err-push_or_dash-2
 unfolding link_line
 returns-in_err-push_or_dash-2 c =
@@ -14,5 +13,3 @@ returns-in_err-push_or_dash-2 c =
     let p = err_from_is_err_and exit.result exit.ensures.1 in
     rw (p.1) (cut (numbered (codes "link ") c.args.number ++ or_dash c.args.slot.prev) c.in_err-push_or_dash-2.ensures (grind (arith, append_assoc))
     (search (begins_itself, begins_more)))
-
-

@@ -16,6 +16,6 @@ returns-in_err-push_numbered c =
 pub returns : goal.returns
 returns c =
     let front = codes " + " ++ callback_word c.in-Some.body.callback ++ codes " " ++ name_text c.args.script.now.names c.in-Some.body.name
-        ++ numbered (codes " ") c.in-Some.body.call in
+    ++ numbered (codes " ") c.in-Some.body.call in
     let before : c.push_numbered.new.text.items ≡ c.args.text.now.items ++ front = grind (arith, append_assoc) in
     rw c.in-Some.is (last_behind c.push_numbered-2.result _ front _ _ _ _ c.push_numbered-2.ensures before refl)

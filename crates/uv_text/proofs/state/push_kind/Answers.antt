@@ -15,6 +15,6 @@ returns-in_err-push_numbered-in-Timer-2 c =
 pub returns-in_ok-push_numbered-in-Timer-2 : goal.returns-in_ok-push_numbered-in-Timer-2
 returns-in_ok-push_numbered-in-Timer-2 c =
     let front = flagged (codes " begun ") c.args.handle.begun ++ numbered (codes " due ") c.args.handle.due.at
-        ++ numbered (codes " start ") c.args.handle.due.start in
+    ++ numbered (codes " start ") c.args.handle.due.start in
     let before : c.push_numbered-in-Timer.new.text.items ≡ c.args.text.now.items ++ front = grind (arith, append_assoc) in
     rw c.in-Timer.is (last_behind c.push_numbered-in-Timer-2.result _ front _ _ _ _ c.push_numbered-in-Timer-2.ensures before refl)
