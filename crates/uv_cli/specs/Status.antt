@@ -65,7 +65,7 @@ IsFaultOf Replay f = IsReplayFault f
 IsFaultOf (Live workers) f = ⊥
 
 abbrev pub status_in : Result (Unit {0}) Fault → ℕ
-status_in (Ok done) = 0
+status_in (Ok ended) = 0
 status_in (Err f) = status_of f
 
 -- a conversation or a replay ends with the status of what it came to: 0, or that of its fault. The fault is `Read` where the reader failed,

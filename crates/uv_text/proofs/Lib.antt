@@ -1,5 +1,5 @@
 pub mod Commands
-mod Cuts
+pub mod Cuts
 mod Digits
 mod Names
 pub mod Pieces

@@ -1,7 +1,7 @@
 use Rattle.std.proofs.Common.{arith, Some, refl, ap, subst, ◌∙◌}
 use Rattle.uv_cli.specs.Status.{conversed, replayed, lived, bad_words, no_memory}
 use Rattle.uv_words.specs.Words.{IsJob}
-use Rattle.uv_cli.proofs.Ending.{no_memory_status, asks_something}
+use Rattle.uv_cli.proofs.Ending.{no_memory_ends, no_memory_status, asks_something}
 use Rattle.uv_cli.proofs.program.run.Goals as goal
 
 pub returns-in-Ok-Debug-clause-text : goal.returns-in-Ok-Debug-clause-text
@@ -61,3 +61,18 @@ returns-in-Err-BadWords-clause-within g c = λ n reads. omega arith
 
 pub returns-in-Err-Memory-clause-within : goal.returns-in-Err-Memory-clause-within
 returns-in-Err-Memory-clause-within g c = λ n reads. absurd (n c.fail.ensures)
+
+pub returns-in-Ok-Debug-clause-ends : goal.returns-in-Ok-Debug-clause-ends
+returns-in-Ok-Debug-clause-ends g c = rw (c.in-Ok-Debug.ensures.job ∙ ap Some c.in-Ok-Debug.field-0-is) c.debug.ensures.ends
+
+pub returns-in-Ok-Replay-clause-ends : goal.returns-in-Ok-Replay-clause-ends
+returns-in-Ok-Replay-clause-ends g c = rw (c.in-Ok-Replay.ensures.job ∙ ap Some c.in-Ok-Replay.field-0-is) c.rerun.ensures.ends
+
+pub returns-in-Ok-Live-clause-ends : goal.returns-in-Ok-Live-clause-ends
+returns-in-Ok-Live-clause-ends g c = rw (c.in-Ok-Live.ensures.job ∙ ap Some c.in-Ok-Live.field-0-is) c.live.ensures.ends
+
+pub returns-in-Err-BadWords-clause-ends : goal.returns-in-Err-BadWords-clause-ends
+returns-in-Err-BadWords-clause-ends g c = rw (c.in-Err-BadWords.ensures.none c.in-Err-BadWords.field-0-is) (refl, refl)
+
+pub returns-in-Err-Memory-clause-ends : goal.returns-in-Err-Memory-clause-ends
+returns-in-Err-Memory-clause-ends g c = rw c.fail.ensures (no_memory_ends _ _ _ _)
