@@ -1,19 +1,17 @@
 -- An offer that is spent, or has no event that leads on, leads nowhere.
-use Rattle.std.proofs.Common.{◌≡◌, ℕ, true, false, Bool, List, Option, Some, None, is_none, nat_lt, option_and_then, Err, slice_get, if◌then◌else◌, refl, sym, ap, ◌∙◌}
-use Rattle.uv_ids.specs.declared.event.Event.{Event}
+use Rattle.std.proofs.Common.{◌≡◌, ℕ, true, false, Bool, List, Option, Some, None, is_none, nat_lt, option_and_then, Err, slice_get, if◌then◌else◌, refl, ap, ◌∙◌}
 use Rattle.uv_ids.specs.declared.event.Event.TheVariants as event
 use Rattle.uv_ids.specs.declared.fault.Why.{Why}
 use Rattle.uv_ids.specs.declared.fault.Why.TheVariants as why
 use Rattle.uv_ids.specs.declared.id.Id.{Id}
 use Rattle.uv_asking.specs.declared.asking.Offer.{Offer}
-use Rattle.uv_asking.specs.declared.asking.Offer.TheVariants.{Step, SendDuring, Take, Wait}
+use Rattle.uv_asking.specs.declared.asking.Offer.TheVariants.{Step, Wait}
 use Rattle.uv_asking.specs.declared.asking.Offered.{Offered}
-use Rattle.uv_model.specs.Next.{Refuses, next, finish, work_of}
+use Rattle.uv_model.specs.Next.{next, finish, work_of}
 use Rattle.uv_model.specs.State.{State}
 use Rattle.uv_find.specs.declared.kept.Kept.{Kept}
 use Rattle.uv_find.specs.declared.left.Left.{Left}
-use Rattle.uv_find.specs.declared.left.Left.TheVariants as left
-use Rattle.uv_find.specs.Orders.{Rules, Place, Choice, Led, chosen, choice_at, choice_by, deadline_at, event_of, keeps_clock, led, led_by, lessened, may_take, move_count, offer_at, offered_by, placed, reached, timed, wait_until}
+use Rattle.uv_find.specs.Orders.{Rules, Place, Choice, chosen, choice_at, choice_by, deadline_at, event_of, keeps_clock, led, led_by, lessened, may_take, move_count, offered_by, placed, reached, timed, wait_until}
 use Rattle.uv_find.specs.Steps.{has_none, is_idle}
 
 runs_nothing : (s : State) (x : Option (Option Id)) → is_none (option_and_then (λ run. run) x) ≡ true → (w : Why) × (work_of s x ≡ Err w)

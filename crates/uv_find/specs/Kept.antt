@@ -31,7 +31,7 @@ use Rattle.uv_find.specs.declared.kept.Kept.{Kept}
 
 -- the loop is in a section of timers, also while one of their callbacks is under way
 abbrev pub is_timers_stage : Stage → Bool
-is_timers_stage (Timers part timing) = true
+is_timers_stage (Timers part step) = true
 is_timers_stage _ = false
 
 abbrev pub is_in_timers : loop.Place → Bool

@@ -1,5 +1,5 @@
 -- One step of a session, within bounds.
-use Rattle.std.specs.Prelude.{◌≡◌, ℕ, List, [], ◌∷◌, ◌++◌, Bool, true, false, if◌then◌else◌, Option, Some, None, is_none, option_map, Result, Ok, Err}
+use Rattle.std.specs.Prelude.{◌≡◌, ℕ, List, [], ◌∷◌, ◌++◌, Bool, true, false, if◌then◌else◌, Option, Some, None, is_none, Result, Ok, Err}
 use Rattle.uv_ids.specs.declared.event.Event.{Event}
 use Rattle.uv_ids.specs.declared.event.Event.TheVariants as event
 use Rattle.uv_ids.specs.declared.seen.Seen.{Seen}
@@ -20,7 +20,7 @@ use Rattle.uv_find.specs.declared.choices.Moved as moved
 use Rattle.uv_find.specs.declared.choices.Taken as taken
 use Rattle.uv_find.specs.declared.recorded.Passed as recorded
 use Rattle.uv_find.specs.declared.terms.Terms.{Terms}
-use Rattle.uv_find.specs.Orders.{Rules, Place, Choice, Led, led, led_by, reached, choice_at, lessened, may_take, deadline_at}
+use Rattle.uv_find.specs.Orders.{Place, Choice, Led, led, reached, choice_at, lessened, may_take, deadline_at}
 use Rattle.uv_find.specs.Spots.{Searched, rules_by, place_by}
 
 -- a session of the same script, with these steps
