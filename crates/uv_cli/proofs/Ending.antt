@@ -4,7 +4,7 @@ use Rattle.uv_ids.specs.declared.fault.Fault.{Fault}
 use Rattle.uv_ids.specs.declared.fault.Fault.TheVariants as fault
 use Rattle.uv_engine.specs.declared.verdict.Verdict.{Verdict}
 use Rattle.uv_engine.specs.declared.verdict.Verdict.TheVariants.{Same, Differs, Refused, Full}
-use Rattle.uv_engine.specs.Devices.{IfOfInput, ReaderCounts, WriterCounts}
+use Rattle.uv_engine.specs.Devices.{IfOfInput}
 use Rattle.uv_engine.specs.Out.{Converses, IsConversationFault}
 use Rattle.uv_engine.specs.Verdict as verdict
 use Rattle.uv_engine.specs.Verdict.{HasVerdict, answer_of, Tells, Replays, IsReplayFault}
@@ -12,7 +12,7 @@ use Rattle.std.proofs.lemmas.Option.{none-some}
 use Rattle.uv_words.specs.declared.command_line.Job.{Job}
 use Rattle.uv_words.specs.declared.command_line.Job.TheVariants.{Debug, Replay, Live}
 use Rattle.uv_cli.specs.declared.live.NoRecording.TheVariants.{Failed}
-use Rattle.uv_cli.specs.Status.{Ends, EndsBy, IsFaultOf, MayEnd, Runs, bad_script, broken, Reruns, judged, bad_line, nothing, cut_short, status_by, status_in, status_of}
+use Rattle.uv_cli.specs.Status.{Ends, MayEnd, Runs, bad_script, broken, Reruns, judged, bad_line, nothing, cut_short, status_by, status_in, status_of}
 
 -- ---- the statuses
 
@@ -49,38 +49,12 @@ no_memory_status None = refl
 
 -- ---- the causes
 
--- a count is told from the fault alone
-reader_counts : (A B : Type 0) (f : Fault) (TooLong : Type 0) (old new : ℕ) → ReaderCounts {A = A} (Err f) TooLong old new
-    → ReaderCounts {A = B} (Err f) TooLong old new
-reader_counts A B fault.Read TooLong old new h = h
-reader_counts A B _ TooLong old new h = h
-
-writer_counts : (A B : Type 0) (f : Fault) (old new : ℕ) → WriterCounts {A = A} (Err f) old new → WriterCounts {A = B} (Err f) old new
-writer_counts A B fault.Write old new h = h
-writer_counts A B _ old new h = h
-
--- a conversation or a replay that failed
-pub ends_by : (A : Type 0) (job : Job) (f : Fault) (TooLong : Type 0) (reads reads' writes writes' status : ℕ) → IsFaultOf job f
-    → status ≡ status_of f → ReaderCounts {A = A} (Err f) TooLong reads reads' → WriterCounts {A = A} (Err f) writes writes'
-    → EndsBy job TooLong reads reads' writes writes' status
-ends_by A job f TooLong reads reads' writes writes' status fault is reader writer = record {
-  came_to = Err f;
-  is = is;
-  fault = fault;
-  reader = reader_counts A (Unit {0}) f TooLong reads reads' reader;
-  writer = writer_counts A (Unit {0}) f writes writes' writer;
-}
-
--- one that is done
-pub ends_well : (job : Job) (TooLong : Type 0) (reads reads' writes writes' : ℕ) → reads' ≡ reads → writes' ≡ writes
-    → EndsBy job TooLong reads reads' writes writes' 0
-ends_well job TooLong reads reads' writes writes' reader writer =
-    record { came_to = Ok tt; is = refl; fault = tt; reader = reader; writer = writer }
-
 -- where there was no memory to read the words
 pub no_memory_ends : (asked : Option Job) (TooLong : Type 0) (reads writes : ℕ) → Ends asked TooLong reads reads writes writes 4
-no_memory_ends (Some Debug) TooLong reads writes = ends_by (Unit {0}) Debug fault.Memory TooLong reads reads writes writes 4 tt refl refl refl
-no_memory_ends (Some Replay) TooLong reads writes = ends_by (Unit {0}) Replay fault.Memory TooLong reads reads writes writes 4 tt refl refl refl
+no_memory_ends (Some Debug) TooLong reads writes =
+    record { came_to = Err fault.Memory; is = refl; fault = tt; reader = refl; writer = refl }
+no_memory_ends (Some Replay) TooLong reads writes =
+    record { came_to = Err fault.Memory; is = refl; fault = tt; reader = refl; writer = refl }
 no_memory_ends (Some (Live workers)) TooLong reads writes =
     record { came_to = Err (Failed fault.Memory); is = refl; fault = tt; reader = refl; writer = refl }
 no_memory_ends None TooLong reads writes = (refl, refl)

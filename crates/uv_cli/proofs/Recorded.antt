@@ -5,11 +5,11 @@ use Rattle.uv_session.specs.Shown.{Shown}
 use Rattle.uv_text.specs.Recording.{recording_text}
 use Rattle.uv_script.specs.Program.{Program}
 use Rattle.uv_engine.specs.Alone.{SaysInFront}
-use Rattle.std.proofs.Common.{Option, Ok, Some, refl, sym, subst, ap, ◌∙◌}
+use Rattle.std.proofs.Common.{Option, Ok, Some, subst, ◌∙◌}
 use Rattle.uv_ids.specs.declared.fault.Why.TheVariants.{Ended}
 use Rattle.uv_live.specs.Running.{RunSettles}
 use Rattle.uv_run.specs.Bound.{plan_of, course_of, refusal_in}
-use Rattle.uv_cli.specs.Live.{to_run, IsLived, IsRecording}
+use Rattle.uv_cli.specs.Live.{to_run, IsRecording}
 
 -- all of a text is a beginning of it
 pub all_of : (old text new : List ℕ) → new ≡ old ++ text → CutShort old text new

@@ -64,14 +64,14 @@ IsFaultOf Debug f = IsConversationFault f
 IsFaultOf Replay f = IsReplayFault f
 IsFaultOf (Live workers) f = ⊥
 
-abbrev pub status_in : Result (Unit {0}) Fault → ℕ
+abbrev pub status_in : {A : Type 0} → Result A Fault → ℕ
 status_in (Ok ended) = 0
 status_in (Err f) = status_of f
 
--- a conversation or a replay ends with the status of what it came to: 0, or that of its fault. The fault is `Read` where the reader failed,
--- and else only where the input is too long; it is `Write` where the writer failed, and only there
-pub record EndsBy (job : Job) (TooLong : Type 0) (reads reads' writes writes' status : ℕ) : Type 0 where
-  pub came_to : Result (Unit {0}) Fault
+-- a conversation or a replay ends with the status of what it came to: 0, or that of its fault. The fault is `Read` where the reader
+-- failed, and else only where the input is too long; it is `Write` where the writer failed, and only there
+pub record EndsBy (A : Type 0) (job : Job) (TooLong : Type 0) (reads reads' writes writes' status : ℕ) : Type 0 where
+  pub came_to : Result A Fault
   pub is : status ≡ status_in came_to
   pub fault : IfErr came_to (IsFaultOf job)
   pub reader : ReaderCounts came_to TooLong reads reads'
@@ -79,8 +79,8 @@ pub record EndsBy (job : Job) (TooLong : Type 0) (reads reads' writes writes' st
 
 -- by which cause a run of the program ends with its status, by what its words ask for. Where they ask for nothing, no device was asked
 abbrev pub Ends : Option Job → Type 0 → ℕ → ℕ → ℕ → ℕ → ℕ → Type 0
-Ends (Some Debug) TooLong reads reads' writes writes' status = EndsBy Debug TooLong reads reads' writes writes' status
-Ends (Some Replay) TooLong reads reads' writes writes' status = EndsBy Replay TooLong reads reads' writes writes' status
+Ends (Some Debug) TooLong reads reads' writes writes' status = EndsBy Ended Debug TooLong reads reads' writes writes' status
+Ends (Some Replay) TooLong reads reads' writes writes' status = EndsBy (Unit {0}) Replay TooLong reads reads' writes writes' status
 Ends (Some (Live workers)) TooLong reads reads' writes writes' status = EndsLive TooLong reads reads' writes writes' status
 Ends None TooLong reads reads' writes writes' status = (reads' ≡ reads) × (writes' ≡ writes)
 

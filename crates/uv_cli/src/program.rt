@@ -3,6 +3,7 @@ ghost use Rattle.std.specs.Prelude.{◌≡◌, ◌≢◌, ◌^◌, map, IfSome, 
 ghost use Rattle.uv_script.specs.Program.{IsWorkerCount};
 ghost use Rattle.uv_words.specs.declared.command_line.Job.TheVariants.{Debug, Replay, Live};
 ghost use Rattle.uv_engine.specs.Devices.{IsTooLong, TakesWithin};
+ghost use Rattle.uv_engine.specs.declared.conversation.Ended.{Ended};
 ghost use Rattle.uv_cli.specs.Live.{EndsLive, Lives};
 ghost use Rattle.uv_cli.specs.Status.{Ends, EndsBy, Runs, Reruns, Ran, MayEnd, status_of};
 ghost use Rattle.uv_words.specs.Words.{job_of};
@@ -66,7 +67,7 @@ fn debug<M: Machine, R: Source, W: Sink, E: Write>(
 ) -> u8
     ensures text { R.Tells → W.Tells → Runs (R.remaining reader.old) (W.written writer.old) (W.written writer.new) result }
     ensures status { MayEnd (Some Debug) result }
-    ensures ends { EndsBy Debug (IsTooLong R.Tells (2 ^ 30) (R.remaining reader.old) (R.given reader.old) (R.given reader.new))
+    ensures ends { EndsBy Ended Debug (IsTooLong R.Tells (2 ^ 30) (R.remaining reader.old) (R.given reader.old) (R.given reader.new))
         (R.failures reader.old) (R.failures reader.new) (W.failures writer.old) (W.failures writer.new) result }
     ensures within { result ≢ 4 → R.Tells → TakesWithin (2 ^ 30) (R.remaining reader.old) (R.remaining reader.new) }
     ensures reader { result ≢ 4 → R.failures reader.new ≡ R.failures reader.old }
@@ -86,7 +87,7 @@ fn rerun<M: Machine, R: Source, W: Sink, E: Write>(
 ) -> u8
     ensures text { R.Tells → W.Tells → Reruns (R.remaining reader.old) (W.written writer.old) (W.written writer.new) result }
     ensures status { MayEnd (Some Replay) result }
-    ensures ends { EndsBy Replay (IsTooLong R.Tells (2 ^ 30) (R.remaining reader.old) (R.given reader.old) (R.given reader.new))
+    ensures ends { EndsBy (Unit {0}) Replay (IsTooLong R.Tells (2 ^ 30) (R.remaining reader.old) (R.given reader.old) (R.given reader.new))
         (R.failures reader.old) (R.failures reader.new) (W.failures writer.old) (W.failures writer.new) result }
     ensures within { result ≢ 4 → R.Tells → TakesWithin (2 ^ 30) (R.remaining reader.old) (R.remaining reader.new) }
     ensures reader { result ≢ 4 → R.failures reader.new ≡ R.failures reader.old }

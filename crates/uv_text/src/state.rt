@@ -514,7 +514,8 @@ fn push_member<M: Machine>(text: &mut Vec<u8>, machine: &M, id: Id) -> Result<()
 
 #[tactic(auto, using(crate::proofs::Pieces::pieces, uv_script::proofs::Writing::writing))]
 fn push_ids<M: Machine>(text: &mut Vec<u8>, machine: &M, ids: &[Id]) -> Result<(), AllocError>
-    ensures { Writes result text.old.items (flat_map (member_text (M.program machine.now) (after (M.program machine.now) (M.standing machine.now))) ids.now) text.new.items }
+    ensures { Writes result text.old.items (flat_map (member_text
+        (M.program machine.now) (after (M.program machine.now) (M.standing machine.now))) ids.now) text.new.items }
 {
     for id in ids {
         push_member(text, machine, *id)?;

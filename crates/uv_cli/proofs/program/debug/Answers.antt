@@ -1,8 +1,6 @@
-use Rattle.uv_engine.specs.declared.conversation.Ended.{Ended}
-use Rattle.uv_words.specs.declared.command_line.Job.TheVariants.{Debug}
-use Rattle.std.proofs.Common.{◌∙◌}
+use Rattle.std.proofs.Common.{Ok, Err, refl, ◌∙◌}
 use Rattle.uv_cli.specs.Status.{done}
-use Rattle.uv_cli.proofs.Ending.{of_status, by_fault, conversed_status, ends_by, ends_well}
+use Rattle.uv_cli.proofs.Ending.{of_status, by_fault, conversed_status}
 use Rattle.uv_cli.proofs.program.debug.Goals as goal
 
 pub returns-in-Ok-clause-text : goal.returns-in-Ok-clause-text
@@ -18,8 +16,15 @@ pub returns-in-Err-clause-within : goal.returns-in-Err-clause-within
 returns-in-Err-clause-within g c = λ n. of_status c.in-Err.fault _ (λ e. n (c.fail.ensures ∙ e)) c.in-Err.ensures.within
 
 pub returns-in-Ok-clause-ends : goal.returns-in-Ok-clause-ends
-returns-in-Ok-clause-ends g c = ends_well Debug _ _ _ _ _ c.in-Ok.ensures.reader c.in-Ok.ensures.writer
+returns-in-Ok-clause-ends g c =
+    record { came_to = Ok c.in-Ok.field-0; is = refl; fault = tt; reader = c.in-Ok.ensures.reader; writer = c.in-Ok.ensures.writer }
 
 pub returns-in-Err-clause-ends : goal.returns-in-Err-clause-ends
 returns-in-Err-clause-ends g c =
-    ends_by Ended Debug c.in-Err.fault _ _ _ _ _ _ c.in-Err.ensures.err c.fail.ensures c.in-Err.ensures.reader c.in-Err.ensures.writer
+    record {
+      came_to = Err c.in-Err.fault;
+      is = c.fail.ensures;
+      fault = c.in-Err.ensures.err;
+      reader = c.in-Err.ensures.reader;
+      writer = c.in-Err.ensures.writer;
+    }

@@ -1,6 +1,5 @@
-use Rattle.uv_words.specs.declared.command_line.Job.TheVariants.{Replay}
-use Rattle.std.proofs.Common.{◌∙◌}
-use Rattle.uv_cli.proofs.Ending.{ends_by, ends_well, of_status, replayed_well, replayed_fault, replayed_status}
+use Rattle.std.proofs.Common.{Ok, Err, refl, ◌∙◌}
+use Rattle.uv_cli.proofs.Ending.{of_status, replayed_well, replayed_fault, replayed_status}
 use Rattle.uv_cli.proofs.program.rerun.Goals as goal
 
 pub returns-in-Ok-clause-text : goal.returns-in-Ok-clause-text
@@ -16,8 +15,15 @@ pub returns-in-Err-clause-within : goal.returns-in-Err-clause-within
 returns-in-Err-clause-within g c = λ n. of_status c.in-Err.fault _ (λ e. n (c.fail.ensures ∙ e)) c.in-Err.ensures.within
 
 pub returns-in-Ok-clause-ends : goal.returns-in-Ok-clause-ends
-returns-in-Ok-clause-ends g c = ends_well Replay _ _ _ _ _ c.in-Ok.ensures.reader c.in-Ok.ensures.writer
+returns-in-Ok-clause-ends g c =
+    record { came_to = Ok tt; is = refl; fault = tt; reader = c.in-Ok.ensures.reader; writer = c.in-Ok.ensures.writer }
 
 pub returns-in-Err-clause-ends : goal.returns-in-Err-clause-ends
 returns-in-Err-clause-ends g c =
-    ends_by (Unit {0}) Replay c.in-Err.fault _ _ _ _ _ _ c.in-Err.ensures.err c.fail.ensures c.in-Err.ensures.reader c.in-Err.ensures.writer
+    record {
+      came_to = Err c.in-Err.fault;
+      is = c.fail.ensures;
+      fault = c.in-Err.ensures.err;
+      reader = c.in-Err.ensures.reader;
+      writer = c.in-Err.ensures.writer;
+    }

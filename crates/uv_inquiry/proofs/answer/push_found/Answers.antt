@@ -1,8 +1,7 @@
-use Rattle.std.proofs.Common.{◌≡◌, ◌++◌, rules, append_assoc, codes, arith, length, refl}
+use Rattle.std.proofs.Common.{◌≡◌, ◌++◌, rules, append_assoc, codes, arith, length}
 use Rattle.std.proofs.lemmas.Result.{err_from_is_err_and}
-use Rattle.uv_script.proofs.Writing.{begins_itself, begins_more, last_behind}
-use Rattle.uv_inquiry.specs.Texts.{steps_text, states_text, found_text, session_text}
-use Rattle.std.specs.Fmt.{decimal}
+use Rattle.uv_script.proofs.Writing.{begins_itself, begins_more, writing}
+use Rattle.uv_inquiry.specs.Texts.{steps_text, states_text, found_text}
 use Rattle.uv_text.proofs.Cuts.{cut}
 use Rattle.uv_inquiry.proofs.answer.push_found.Goals as goal
 
@@ -11,11 +10,12 @@ unfolding found_text
 returns-in_err-push_states c =
     let exit = c.from_residual-in_err-push_states in
     let p = err_from_is_err_and exit.result exit.ensures.1 in
-    rw (p.1) (cut (codes "found in " ++ steps_text (length c.args.steps.now) ++ codes ", ") c.in_err-push_states.ensures (grind (arith, append_assoc)) (search (begins_itself, begins_more)))
+    rw (p.1) (cut (codes "found in " ++ steps_text (length c.args.steps.now) ++ codes ", ")
+    c.in_err-push_states.ensures (grind (arith, append_assoc)) (search (begins_itself, begins_more)))
 
 pub returns : goal.returns
 unfolding found_text
 returns c =
     let front = codes "found in " ++ steps_text (length c.args.steps.now) ++ codes ", " ++ states_text c.args.states ++ codes "\n" in
     let before : c.extend_from_slice-3.new.self.items ≡ c.args.text.now.items ++ front = grind (arith, append_assoc) in
-    last_behind c.push_session.result _ front _ _ _ _ c.push_session.ensures before refl
+    search (rules, writing, before)

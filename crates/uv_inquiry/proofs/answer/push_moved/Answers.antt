@@ -1,6 +1,6 @@
-use Rattle.std.proofs.Common.{◌≡◌, ◌++◌, rules, append_assoc, codes, arith, refl}
+use Rattle.std.proofs.Common.{◌≡◌, ◌++◌, rules, append_assoc, codes, arith}
 use Rattle.std.proofs.lemmas.Result.{err_from_is_err_and}
-use Rattle.uv_script.proofs.Writing.{begins_itself, begins_more, last_behind}
+use Rattle.uv_script.proofs.Writing.{begins_itself, begins_more, writing}
 use Rattle.uv_inquiry.specs.Texts.{clock_too, moved_text}
 use Rattle.std.specs.Fmt.{decimal}
 use Rattle.uv_text.proofs.Cuts.{cut}
@@ -11,11 +11,12 @@ unfolding moved_text
 returns-in_err-push_clock_too c =
     let exit = c.from_residual-in_err-push_clock_too in
     let p = err_from_is_err_and exit.result exit.ensures.1 in
-    rw (p.1) (cut (codes " within " ++ decimal c.args.moved ++ codes " moved") c.in_err-push_clock_too.ensures (grind (arith, append_assoc)) (search (begins_itself, begins_more)))
+    rw (p.1) (cut (codes " within " ++ decimal c.args.moved ++ codes " moved")
+    c.in_err-push_clock_too.ensures (grind (arith, append_assoc)) (search (begins_itself, begins_more)))
 
 pub returns : goal.returns
 unfolding moved_text
 returns c =
     let front = codes " within " ++ decimal c.args.moved ++ codes " moved" ++ clock_too c.args.clock in
     let before : c.push_clock_too.new.text.items ≡ c.args.text.now.items ++ front = grind (arith, append_assoc) in
-    last_behind c.push_more_bounds.result _ front _ _ _ _ c.push_more_bounds.ensures before refl
+    search (rules, writing, before)

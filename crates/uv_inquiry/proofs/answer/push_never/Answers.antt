@@ -1,8 +1,7 @@
-use Rattle.std.proofs.Common.{◌≡◌, ◌++◌, rules, append_assoc, codes, arith}
+use Rattle.std.proofs.Common.{◌++◌, append_assoc, codes, arith}
 use Rattle.std.proofs.lemmas.Result.{err_from_is_err_and}
 use Rattle.uv_script.proofs.Writing.{begins_itself, begins_more}
-use Rattle.uv_inquiry.specs.Texts.{bounds_text, states_text, never_text}
-use Rattle.std.specs.Fmt.{decimal}
+use Rattle.uv_inquiry.specs.Texts.{bounds_text, never_text}
 use Rattle.uv_text.proofs.Cuts.{cut}
 use Rattle.uv_inquiry.proofs.answer.push_never.Goals as goal
 
@@ -12,4 +11,5 @@ returns-in_err-push_states c =
     let exit = c.from_residual-in_err-push_states in
     let p = err_from_is_err_and exit.result exit.ensures.1 in
     rw (p.1) (cut (codes "never" ++ bounds_text c.args.inquiry.now.script.names c.args.inquiry.now.asking.differ c.args.inquiry.now.asking.clock
-    c.args.inquiry.now.asking.most.items ++ codes ": ") c.in_err-push_states.ensures (grind (arith, append_assoc)) (search (begins_itself, begins_more)))
+    c.args.inquiry.now.asking.most.items ++ codes ": ") c.in_err-push_states.ensures (grind (arith, append_assoc)) (search
+    (begins_itself, begins_more)))

@@ -1,10 +1,9 @@
 use Rattle.std.specs.Prelude.{codes}
 use Rattle.uv_inquiry.specs.Texts.{states_text, out_of_memory_text}
 use Rattle.uv_inquiry.proofs.Pieces.{three_pieces}
-use Rattle.std.proofs.Common.{◌∙◌, ◌≡◌, ◌++◌, rules, append_assoc, codes, arith}
+use Rattle.std.proofs.Common.{◌∙◌, ◌≡◌, ◌++◌, codes}
 use Rattle.std.proofs.lemmas.Result.{err_from_is_err_and}
 use Rattle.uv_script.proofs.Writing.{whole_behind, begins_itself, begins_more, cut_whole}
-use Rattle.std.specs.Fmt.{decimal}
 use Rattle.uv_text.proofs.Cuts.{cut}
 use Rattle.uv_inquiry.proofs.answer.push_out_of_memory.Goals as goal
 
@@ -19,7 +18,8 @@ unfolding out_of_memory_text
 returns-in_err-push_states c =
     let exit = c.from_residual-in_err-push_states in
     let p = err_from_is_err_and exit.result exit.ensures.1 in
-    rw (p.1) (cut (codes "not settled within ") c.in_err-push_states.ensures c.in_ok-extend_from_slice.ensures.items (search (begins_itself, begins_more)))
+    rw (p.1) (cut (codes "not settled within ") c.in_err-push_states.ensures c.in_ok-extend_from_slice.ensures.items
+    (search (begins_itself, begins_more)))
 
 pub returns-in_err-extend_from_slice-2 : goal.returns-in_err-extend_from_slice-2
 unfolding out_of_memory_text

@@ -1,7 +1,7 @@
 use Rattle.std.specs.Prelude.{codes, decimal}
-use Rattle.uv_inquiry.specs.Texts.{more_bounds, within_text}
+use Rattle.uv_inquiry.specs.Texts.{more_bounds}
 use Rattle.uv_inquiry.proofs.Pieces.{three_pieces}
-use Rattle.std.proofs.Common.{◌∙◌, ◌≡◌, ◌++◌, rules, append_assoc, codes, arith}
+use Rattle.std.proofs.Common.{◌∙◌, ◌≡◌, ◌++◌, codes}
 use Rattle.std.proofs.lemmas.Result.{err_from_is_err_and}
 use Rattle.uv_script.proofs.Writing.{whole_behind, begins_itself, begins_more, cut_whole}
 use Rattle.std.specs.Fmt.{decimal}

@@ -1,5 +1,5 @@
-use Rattle.std.proofs.Common.{◌≡◌, ◌++◌, rules, append_assoc, codes, arith, refl}
-use Rattle.uv_script.proofs.Writing.{last_behind}
+use Rattle.std.proofs.Common.{◌≡◌, ◌++◌, rules, append_assoc, codes, arith}
+use Rattle.uv_script.proofs.Writing.{writing}
 use Rattle.uv_script.specs.Text.{script_text}
 use Rattle.uv_inquiry.specs.Texts.{session_text}
 use Rattle.uv_inquiry.proofs.session.push_session.Goals as goal
@@ -9,4 +9,4 @@ unfolding session_text
 returns c =
     let front = script_text c.args.script.now ++ codes "begin\n" in
     let before : c.extend_from_slice.new.self.items ≡ c.args.text.now.items ++ front = grind (arith, append_assoc) in
-    last_behind c.push_step_lines.result _ front _ _ _ _ c.push_step_lines.ensures before (rw c.names.ensures.names refl)
+    search (rules, writing, before, c.names.ensures.names)

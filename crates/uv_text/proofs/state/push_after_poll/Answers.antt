@@ -1,6 +1,6 @@
-use Rattle.std.proofs.Common.{◌≡◌, ◌++◌, append_assoc, arith, refl}
+use Rattle.std.proofs.Common.{rules, ◌≡◌, ◌++◌, append_assoc, arith}
 use Rattle.std.proofs.lemmas.Result.{err_from_is_err_and}
-use Rattle.uv_script.proofs.Writing.{begins_itself, begins_more, last_behind}
+use Rattle.uv_script.proofs.Writing.{begins_itself, begins_more, writing}
 use Rattle.uv_text.specs.State.{members_line, after_poll}
 use Rattle.uv_model.specs.After.{after}
 use Rattle.uv_records.specs.declared.lists.ListName.TheVariants as list
@@ -24,4 +24,4 @@ returns g c =
     let s = after p (g.M.Machine.standing c.args.machine.now) in
     let front = members_line p s list.Check ++ members_line p s list.CheckYet ++ members_line p s list.Async in
     let before : c.push_members-3.new.text.items ≡ c.args.text.now.items ++ front = grind (arith, append_assoc) in
-    last_behind c.push_members-4.result _ front _ _ _ _ c.push_members-4.ensures before refl
+    search (rules, writing, before)

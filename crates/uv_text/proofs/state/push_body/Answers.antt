@@ -1,6 +1,6 @@
-use Rattle.std.proofs.Common.{◌≡◌, ◌++◌, append_assoc, codes, arith, refl}
+use Rattle.std.proofs.Common.{rules, ◌≡◌, ◌++◌, append_assoc, codes, arith}
 use Rattle.std.proofs.lemmas.Result.{err_from_is_err_and}
-use Rattle.uv_script.proofs.Writing.{begins_itself, begins_more, last_behind}
+use Rattle.uv_script.proofs.Writing.{begins_itself, begins_more, writing}
 use Rattle.uv_script.specs.Text.{name_text}
 use Rattle.uv_text.specs.State.{numbered, callback_word}
 use Rattle.uv_text.proofs.Cuts.{cut}
@@ -10,7 +10,8 @@ pub returns-in_err-push_numbered : goal.returns-in_err-push_numbered
 returns-in_err-push_numbered c =
     let exit = c.from_residual-in_err-push_numbered in
     let p = err_from_is_err_and exit.result exit.ensures.1 in
-    rw (p.1, c.in-Some.is) (cut (codes " + " ++ callback_word c.in-Some.body.callback ++ codes " " ++ name_text c.args.script.now.names c.in-Some.body.name)
+    rw (p.1, c.in-Some.is) (cut (codes " + " ++ callback_word c.in-Some.body.callback ++ codes " "
+    ++ name_text c.args.script.now.names c.in-Some.body.name)
     (rw c.from.ensures at c.in_err-push_numbered.ensures) (grind (arith, append_assoc)) (search (begins_itself, begins_more)))
 
 pub returns : goal.returns
@@ -18,4 +19,4 @@ returns c =
     let front = codes " + " ++ callback_word c.in-Some.body.callback ++ codes " " ++ name_text c.args.script.now.names c.in-Some.body.name
     ++ numbered (codes " ") c.in-Some.body.call in
     let before : c.push_numbered.new.text.items ≡ c.args.text.now.items ++ front = grind (arith, append_assoc) in
-    rw c.in-Some.is (last_behind c.push_numbered-2.result _ front _ _ _ _ c.push_numbered-2.ensures before refl)
+    rw c.in-Some.is (search (rules, writing, before))

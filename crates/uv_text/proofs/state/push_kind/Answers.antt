@@ -1,6 +1,6 @@
-use Rattle.std.proofs.Common.{◌≡◌, ◌++◌, append_assoc, codes, arith, refl}
+use Rattle.std.proofs.Common.{rules, ◌≡◌, ◌++◌, append_assoc, codes, arith}
 use Rattle.std.proofs.lemmas.Result.{err_from_is_err_and}
-use Rattle.uv_script.proofs.Writing.{begins_itself, begins_more, last_behind}
+use Rattle.uv_script.proofs.Writing.{begins_itself, begins_more, writing}
 use Rattle.uv_text.specs.State.{numbered, flagged}
 use Rattle.uv_text.proofs.Cuts.{cut}
 use Rattle.uv_text.proofs.state.push_kind.Goals as goal
@@ -17,4 +17,4 @@ returns-in_ok-push_numbered-in-Timer-2 c =
     let front = flagged (codes " begun ") c.args.handle.begun ++ numbered (codes " due ") c.args.handle.due.at
     ++ numbered (codes " start ") c.args.handle.due.start in
     let before : c.push_numbered-in-Timer.new.text.items ≡ c.args.text.now.items ++ front = grind (arith, append_assoc) in
-    rw c.in-Timer.is (last_behind c.push_numbered-in-Timer-2.result _ front _ _ _ _ c.push_numbered-in-Timer-2.ensures before refl)
+    rw c.in-Timer.is (search (rules, writing, before))

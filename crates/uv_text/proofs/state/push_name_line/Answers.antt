@@ -13,12 +13,12 @@ pub returns-in_err-push_bound : goal.returns-in_err-push_bound
 returns-in_err-push_bound c =
     let exit = c.from_residual-in_err-push_bound in
     let p = err_from_is_err_and exit.result exit.ensures.1 in
-    rw (p.1) (cut (codes "name " ++ name_text c.args.script.now.names c.args.name ++ codes " ") c.in_err-push_bound.ensures (grind (arith, append_assoc))
-    (search (begins_itself, begins_more)))
+    rw (p.1) (cut (codes "name " ++ name_text c.args.script.now.names c.args.name ++ codes " ")
+    c.in_err-push_bound.ensures (grind (arith, append_assoc)) (search (begins_itself, begins_more)))
 
 pub returns-in_err-push_counts : goal.returns-in_err-push_counts
 returns-in_err-push_counts c =
     let exit = c.from_residual-in_err-push_counts in
     let p = err_from_is_err_and exit.result exit.ensures.1 in
-    rw (p.1) (cut (codes "name " ++ name_text c.args.script.now.names c.args.name ++ codes " " ++ bound_text c.args.named.id) c.in_err-push_counts.ensures (grind (arith, append_assoc))
-    (search (begins_itself, begins_more)))
+    rw (p.1) (cut (codes "name " ++ name_text c.args.script.now.names c.args.name ++ codes " " ++ bound_text c.args.named.id)
+    c.in_err-push_counts.ensures (grind (arith, append_assoc)) (search (begins_itself, begins_more)))

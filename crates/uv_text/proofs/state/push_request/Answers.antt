@@ -1,6 +1,6 @@
-use Rattle.std.proofs.Common.{◌∙◌, subst, refl, append_assoc, ◌≡◌, ◌++◌, codes, arith}
+use Rattle.std.proofs.Common.{rules, ◌∙◌, subst, append_assoc, ◌≡◌, ◌++◌, codes, arith}
 use Rattle.std.proofs.lemmas.Result.{err_from_is_err_and}
-use Rattle.uv_script.proofs.Writing.{begins_itself, begins_more, last_behind}
+use Rattle.uv_script.proofs.Writing.{begins_itself, begins_more, writing}
 use Rattle.uv_script.specs.Text.{name_text}
 use Rattle.uv_script.specs.Writes.{CutShort}
 use Rattle.uv_text.proofs.Cuts.{cut}
@@ -11,21 +11,22 @@ pub returns-in_err-push_outcome : goal.returns-in_err-push_outcome
 returns-in_err-push_outcome c =
     let exit = c.from_residual-in_err-push_outcome in
     let p = err_from_is_err_and exit.result exit.ensures.1 in
-    rw (p.1) (cut (codes "work " ++ name_text c.args.script.now.names c.args.request.name ++ codes " ") c.in_err-push_outcome.ensures (grind (arith, append_assoc))
-    (search (begins_itself, begins_more)))
+    rw (p.1) (cut (codes "work " ++ name_text c.args.script.now.names c.args.request.name ++ codes " ")
+    c.in_err-push_outcome.ensures (grind (arith, append_assoc)) (search (begins_itself, begins_more)))
 
 pub returns : goal.returns
 returns c =
-    let front = codes "work " ++ name_text c.args.script.now.names c.args.request.name ++ codes " " ++ outcome_text c.args.worker c.args.request.outcome
+    let front = codes "work " ++ name_text c.args.script.now.names c.args.request.name ++ codes " "
+    ++ outcome_text c.args.worker c.args.request.outcome
     ++ numbered (codes " ") c.args.request.task.rounds in
     let before : c.push_numbered.new.text.items ≡ c.args.text.now.items ++ front = grind (arith, append_assoc) in
-    last_behind c.push_task_text.result _ front _ _ _ _ c.push_task_text.ensures before
-    (rw c.text.ensures.value refl)
+    search (rules, writing, before, c.text.ensures.value)
 
 pub returns-in_err-push_numbered : goal.returns-in_err-push_numbered
 returns-in_err-push_numbered c =
     let exit = c.from_residual-in_err-push_numbered in
     let p = err_from_is_err_and exit.result exit.ensures.1 in
-    rw (p.1) (cut (codes "work " ++ name_text c.args.script.now.names c.args.request.name ++ codes " " ++ outcome_text c.args.worker c.args.request.outcome)
+    rw (p.1) (cut (codes "work " ++ name_text c.args.script.now.names c.args.request.name ++ codes " "
+    ++ outcome_text c.args.worker c.args.request.outcome)
     (subst (λ n. CutShort c.push_outcome.new.text.items (numbered (codes " ") n) c.push_numbered.new.text.items)
     (c.from.ensures ∙ c.rounds.ensures.value) c.in_err-push_numbered.ensures) (grind (arith, append_assoc)) (search (begins_itself, begins_more)))

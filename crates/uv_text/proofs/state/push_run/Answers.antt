@@ -1,5 +1,5 @@
-use Rattle.std.proofs.Common.{◌≡◌, ◌++◌, append_assoc, codes, arith, refl}
-use Rattle.uv_script.proofs.Writing.{last_behind}
+use Rattle.std.proofs.Common.{rules, ◌≡◌, ◌++◌, append_assoc, codes, arith}
+use Rattle.uv_script.proofs.Writing.{writing}
 use Rattle.uv_text.specs.State.{numbered}
 use Rattle.uv_text.proofs.state.push_run.Goals as goal
 
@@ -7,4 +7,4 @@ pub returns : goal.returns
 returns g c =
     let front = numbered (codes " ") c.args.worker ++ codes ":" in
     let before : c.extend_from_slice.new.self.items ≡ c.args.text.now.items ++ front = grind (arith, append_assoc) in
-    last_behind c.push_holder.result _ front _ _ _ _ c.push_holder.ensures before (rw (c.script.ensures, c.held.ensures, c.in-Some.is) refl)
+    search (rules, writing, before, c.script.ensures, c.held.ensures, c.in-Some.is)

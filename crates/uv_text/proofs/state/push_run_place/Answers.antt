@@ -23,13 +23,13 @@ unfolding place_line
 returns-in_err-push_stage c =
     let exit = c.from_residual-in_err-push_stage in
     let p = err_from_is_err_and exit.result exit.ensures.1 in
-    rw (p.1) (cut (codes "place " ++ mode_word c.args.run.mode ++ numbered (codes " ") c.args.run.line ++ codes " ") c.in_err-push_stage.ensures (grind (arith, append_assoc))
-    (search (begins_itself, begins_more)))
+    rw (p.1) (cut (codes "place " ++ mode_word c.args.run.mode ++ numbered (codes " ") c.args.run.line ++ codes " ")
+    c.in_err-push_stage.ensures (grind (arith, append_assoc)) (search (begins_itself, begins_more)))
 
 pub returns-in_err-push_body : goal.returns-in_err-push_body
 unfolding place_line
 returns-in_err-push_body c =
     let exit = c.from_residual-in_err-push_body in
     let p = err_from_is_err_and exit.result exit.ensures.1 in
-    rw (p.1) (cut (codes "place " ++ mode_word c.args.run.mode ++ numbered (codes " ") c.args.run.line ++ codes " " ++ stage_text c.args.run.stage) c.in_err-push_body.ensures (grind (arith, append_assoc))
-    (search (begins_itself, begins_more)))
+    rw (p.1) (cut (codes "place " ++ mode_word c.args.run.mode ++ numbered (codes " ") c.args.run.line ++ codes " " ++ stage_text c.args.run.stage)
+    c.in_err-push_body.ensures (grind (arith, append_assoc)) (search (begins_itself, begins_more)))

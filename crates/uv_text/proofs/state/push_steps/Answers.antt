@@ -32,7 +32,8 @@ unfolding steps_line
 returns-in_err-push_numbered-4 c =
     let exit = c.from_residual-in_err-push_numbered-4 in
     let p = err_from_is_err_and exit.result exit.ensures.1 in
-    rw (p.1) (cut (numbered (codes "steps ") c.args.steps ++ numbered (codes " now ") c.args.numbers.time ++ numbered (codes " clock ") c.args.numbers.clock
+    rw (p.1) (cut (numbered (codes "steps ") c.args.steps ++ numbered (codes " now ") c.args.numbers.time
+    ++ numbered (codes " clock ") c.args.numbers.clock
     ++ flagged (codes " stop ") c.args.numbers.stop_flag) c.in_err-push_numbered-4.ensures (grind (arith, append_assoc))
     (search (begins_itself, begins_more)))
 
@@ -41,6 +42,7 @@ unfolding steps_line
 returns-in_err-push_flagged-2 c =
     let exit = c.from_residual-in_err-push_flagged-2 in
     let p = err_from_is_err_and exit.result exit.ensures.1 in
-    rw (p.1) (cut (numbered (codes "steps ") c.args.steps ++ numbered (codes " now ") c.args.numbers.time ++ numbered (codes " clock ") c.args.numbers.clock
-    ++ flagged (codes " stop ") c.args.numbers.stop_flag ++ numbered (codes " next ") c.args.numbers.next_start) c.in_err-push_flagged-2.ensures (grind (arith, append_assoc))
-    (search (begins_itself, begins_more)))
+    rw (p.1) (cut (numbered (codes "steps ") c.args.steps ++ numbered (codes " now ") c.args.numbers.time
+    ++ numbered (codes " clock ") c.args.numbers.clock
+    ++ flagged (codes " stop ") c.args.numbers.stop_flag ++ numbered (codes " next ") c.args.numbers.next_start)
+    c.in_err-push_flagged-2.ensures (grind (arith, append_assoc)) (search (begins_itself, begins_more)))

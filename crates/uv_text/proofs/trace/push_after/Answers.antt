@@ -1,5 +1,5 @@
-use Rattle.std.proofs.Common.{◌≡◌, ◌++◌, append_assoc, codes, arith, refl}
-use Rattle.uv_script.proofs.Writing.{last_behind}
+use Rattle.std.proofs.Common.{rules, ◌≡◌, ◌++◌, append_assoc, codes, arith}
+use Rattle.uv_script.proofs.Writing.{writing}
 use Rattle.uv_text.specs.Trace.{handle_text}
 use Rattle.uv_text.proofs.trace.push_after.Goals as goal
 
@@ -7,4 +7,4 @@ pub returns : goal.returns
 returns c =
     let front = codes "after " ++ handle_text c.args.script.now c.args.name c.args.id ++ codes " " in
     let before : c.push.new.self.items ≡ c.args.text.now.items ++ front = grind (arith, append_assoc) in
-    last_behind c.push_end.result _ front _ _ _ _ c.push_end.ensures before refl
+    search (rules, writing, before)

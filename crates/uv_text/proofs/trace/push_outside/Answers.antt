@@ -1,6 +1,6 @@
-use Rattle.std.proofs.Common.{◌≡◌, ◌++◌, append_assoc, codes, arith, subst}
+use Rattle.std.proofs.Common.{rules, ◌≡◌, ◌++◌, append_assoc, codes, arith, subst}
 use Rattle.std.proofs.lemmas.Result.{err_from_is_err_and}
-use Rattle.uv_script.proofs.Writing.{Begins, begins_itself, begins_more, cut_whole, last_behind}
+use Rattle.uv_script.proofs.Writing.{Begins, begins_itself, begins_more, cut_whole, writing}
 use Rattle.uv_text.specs.Trace.{answer_text, outside_text}
 use Rattle.uv_script.specs.Text.{name_text}
 use Rattle.uv_text.proofs.trace.push_outside.Goals as goal
@@ -9,7 +9,7 @@ pub returns : goal.returns
 returns c =
     let front = codes "out " ++ c.args.word.now ++ name_text c.args.script.now.names c.args.name ++ codes " = " in
     let before : c.extend_from_slice-3.new.self.items ≡ c.args.text.now.items ++ front = grind (arith, append_assoc) in
-    last_behind c.push_answer.result _ front _ _ _ _ c.push_answer.ensures before (simp append_assoc)
+    search (rules, writing, before, append_assoc)
 
 pub returns-in_err-extend_from_slice-3 : goal.returns-in_err-extend_from_slice-3
 returns-in_err-extend_from_slice-3 c =
@@ -17,6 +17,6 @@ returns-in_err-extend_from_slice-3 c =
     let before : c.extend_from_slice-3.new.self.items ≡ c.args.text.now.items ++ front = grind (arith, append_assoc) in
     let exit = c.from_residual-in_err-extend_from_slice-3 in
     let p = err_from_is_err_and exit.result exit.ensures.1 in
-    rw (p.1) (cut_whole c.args.text.now.items front _ _ before
-    (subst (Begins front) {x = front ++ (codes " = " ++ answer_text c.args.answer)} {y = codes "out " ++ c.args.word.now ++ outside_text c.args.script.now c.args.name c.args.answer} (grind (arith, append_assoc))
-    (begins_more front front (codes " = " ++ answer_text c.args.answer) (begins_itself front))))
+    let there : front ++ (codes " = " ++ answer_text c.args.answer)
+    ≡ codes "out " ++ c.args.word.now ++ outside_text c.args.script.now c.args.name c.args.answer = grind (arith, append_assoc) in
+    rw (p.1) (cut_whole c.args.text.now.items front _ _ before (subst (Begins front) there (search (begins_itself, begins_more))))
