@@ -3,7 +3,6 @@ ghost use Rattle.std.specs.Prelude.{◌≡◌, false};
 ghost use Rattle.uv_arena.specs.Image.{on_list};
 
 use std::alloc::{AllocError, Global};
-use std::process::Abort;
 use std::test::Fail;
 use uv_arena::Slots;
 use uv_ids::Id;
@@ -130,29 +129,37 @@ const AGAIN: Id = Id {
     generation: 1,
 };
 
-/// Two slots are taken, and no third one is left.
-fn fill<R: Abort>(rt: &R, slots: &mut Slots<Number>) {
-    assert!(rt; slots.insert(Number(70)).ok().map(|made| made.0) == Some(FIRST));
-    assert!(rt; slots.insert(Number(71)).ok().map(|made| made.0) == Some(live(1)));
-    assert!(rt; slots.insert(Number(72)).is_err());
+/// The id of the slot that is taken for a number, if one is left.
+fn taken(slots: &mut Slots<Number>, content: u64) -> Option<Id> {
+    slots.insert(Number(content)).ok().map(|made| made.0)
 }
 
-/// The first slot is freed and taken again, and both are taken back.
-fn reuse<R: Abort>(rt: &R, slots: &mut Slots<Number>) {
-    assert!(rt;
-        !slots.on_list(FIRST) && slots.next(FIRST).is_none() && slots.prev(FIRST).is_none()
-    );
-    assert!(rt; there_and_back(slots, FIRST, 73) == Some((70, AGAIN)));
-    assert!(rt; slots.get(FIRST) == Some(Number(70)) && slots.get(AGAIN).is_none());
-    assert!(rt; slots.first_free().is_none() && slots.last_free().is_none());
-    assert!(rt; slots.used() == slots.capacity());
+/// Whether two slots are taken, and no third one is left.
+fn fills(slots: &mut Slots<Number>) -> bool {
+    taken(slots, 70) == Some(FIRST)
+        && taken(slots, 71) == Some(live(1))
+        && taken(slots, 72).is_none()
+}
+
+/// Whether the first slot is freed and taken again, and both are taken back.
+fn reuses(slots: &mut Slots<Number>) -> bool {
+    if slots.on_list(FIRST) {
+        return false;
+    }
+    slots.next(FIRST).is_none()
+        && slots.prev(FIRST).is_none()
+        && there_and_back(slots, FIRST, 73) == Some((70, AGAIN))
+        && slots.get(FIRST) == Some(Number(70))
+        && slots.get(AGAIN).is_none()
+        && slots.first_free().is_none()
+        && slots.last_free().is_none()
+        && slots.used() == slots.capacity()
 }
 
 #[test]
 fn takes_a_reused_slot_back(rt: HostRuntime) -> Result<(), Fail> {
     let mut slots = Slots::new(rt.alloc(), 2, 1)?;
-    fill(&rt, &mut slots);
-    reuse(&rt, &mut slots);
+    assert!(&rt; fills(&mut slots) && reuses(&mut slots));
     Ok(())
 }
 
@@ -161,47 +168,47 @@ fn holds(slots: &Slots<Number>) -> (bool, bool) {
     (slots.holds_any(), slots.holds_pending())
 }
 
-/// One slot is taken, and what it holds pends, and no longer.
-fn count<R: Abort>(rt: &R, slots: &mut Slots<Number>) {
-    assert!(rt; holds(slots) == (false, false));
-    assert!(rt; slots.insert(Number(70)).is_ok());
-    assert!(rt; holds(slots) == (true, false));
-    assert!(rt; slots.set(FIRST, Number(71)) == Some(Number(70)));
-    assert!(rt; holds(slots) == (true, true));
-    assert!(rt; slots.set(FIRST, Number(72)) == Some(Number(71)));
-    assert!(rt; holds(slots) == (true, false));
+/// Whether one slot is taken, and what it holds pends, and no longer.
+fn counts(slots: &mut Slots<Number>) -> bool {
+    holds(slots) == (false, false)
+        && taken(slots, 70) == Some(FIRST)
+        && holds(slots) == (true, false)
+        && slots.set(FIRST, Number(71)) == Some(Number(70))
+        && holds(slots) == (true, true)
+        && slots.set(FIRST, Number(72)) == Some(Number(71))
+        && holds(slots) == (true, false)
 }
 
 #[test]
 fn counts_what_slots_hold(rt: HostRuntime) -> Result<(), Fail> {
     let mut slots = Slots::new(rt.alloc(), 2, 1)?;
-    count(&rt, &mut slots);
+    assert!(&rt; counts(&mut slots));
     Ok(())
 }
 
-/// A list of four, there and back.
-fn read<R: Abort>(rt: &R, slots: &mut Slots<Number>) {
-    assert!(rt; has_members(slots, ListName::Idle, &[2, 0, 1, 3]));
-    assert!(rt; has_turned(slots, ListName::Idle, &[3, 1, 0, 2]));
-    assert!(rt; slots.next(AGAIN).is_none() && slots.prev(AGAIN).is_none());
-    unlink_and_back(slots, live(0));
-    assert!(rt; has_members(slots, ListName::Idle, &[2, 0, 1, 3]));
+/// Whether a list of four is read there and back.
+fn reads(slots: &Slots<Number>) -> bool {
+    has_members(slots, ListName::Idle, &[2, 0, 1, 3])
+        && has_turned(slots, ListName::Idle, &[3, 1, 0, 2])
+        && slots.next(AGAIN).is_none()
+        && slots.prev(AGAIN).is_none()
 }
 
-/// All of it goes to another list, off which nothing is pushed.
-fn move_all<R: Abort>(rt: &R, slots: &mut Slots<Number>) {
-    splice(slots, ListName::Idle, ListName::IdleYet);
-    assert!(rt; has_members(slots, ListName::IdleYet, &[2, 0, 1, 3]));
-    assert!(rt; has_members(slots, ListName::Idle, &[]));
-    push(slots, ListName::Idle, live(1), true);
-    assert!(rt; has_members(slots, ListName::Idle, &[]));
+/// Whether all of it is on another list.
+fn is_moved(slots: &Slots<Number>) -> bool {
+    has_members(slots, ListName::IdleYet, &[2, 0, 1, 3]) && has_members(slots, ListName::Idle, &[])
 }
 
 #[test]
 fn lists_read_both_ways(rt: HostRuntime) -> Result<(), Fail> {
     let mut slots = listed(rt.alloc())?;
-    read(&rt, &mut slots);
-    move_all(&rt, &mut slots);
+    assert!(&rt; reads(&slots));
+    unlink_and_back(&mut slots, live(0));
+    assert!(&rt; reads(&slots));
+    splice(&mut slots, ListName::Idle, ListName::IdleYet);
+    assert!(&rt; is_moved(&slots));
+    push(&mut slots, ListName::Idle, live(1), true);
+    assert!(&rt; is_moved(&slots));
     Ok(())
 }
 
@@ -218,33 +225,33 @@ fn insert_and_back(slots: &mut Slots<Number>, content: u64) -> Option<Id>
     }
 }
 
-/// The last slot of the first piece, and then the first one of the second, which is taken back and taken again.
-fn cross<R: Abort>(rt: &R, slots: &mut Slots<Number>) {
-    assert!(rt; insert_and_back(slots, 70) == Some(live(1023)));
-    assert!(rt; slots.insert(Number(71)).ok().map(|made| made.0) == Some(live(1023)));
-    assert!(rt; insert_and_back(slots, 72) == Some(live(1024)));
-    assert!(rt; slots.used() == 1024 && slots.next_free() == Some(live(1024)));
-    assert!(rt; slots.insert(Number(73)).ok().map(|made| made.0) == Some(live(1024)));
-    assert!(rt;
-        slots.get(live(1023)) == Some(Number(71)) && slots.get(live(1024)) == Some(Number(73))
-    );
-    assert!(rt; slots.get(FIRST) == Some(Number(0)));
+/// Whether the last slot of the first piece is taken, and then the first one of the second, which is taken back and taken again.
+fn crosses(slots: &mut Slots<Number>) -> bool {
+    insert_and_back(slots, 70) == Some(live(1023))
+        && taken(slots, 71) == Some(live(1023))
+        && insert_and_back(slots, 72) == Some(live(1024))
+        && slots.used() == 1024
+        && slots.next_free() == Some(live(1024))
+        && taken(slots, 73) == Some(live(1024))
+        && slots.get(live(1023)) == Some(Number(71))
+        && slots.get(live(1024)) == Some(Number(73))
+        && slots.get(FIRST) == Some(Number(0))
 }
 
 #[test]
 fn goes_on_in_the_second_piece(rt: HostRuntime) -> Result<(), Fail> {
     let mut slots = Slots::new(rt.alloc(), 2000, 9)?;
     for content in 0u64..1023 {
-        assert!(rt; slots.insert(Number(content)).is_ok());
+        assert!(&rt; slots.insert(Number(content)).is_ok());
     }
-    cross(&rt, &mut slots);
+    assert!(&rt; crosses(&mut slots));
     Ok(())
 }
 
 #[test]
 fn sixteen_million_slots_begin_without_a_piece(rt: HostRuntime) -> Result<(), Fail> {
     let mut slots = Slots::new(rt.alloc(), 16_777_215, 9)?;
-    assert!(rt; slots.used() == 0 && slots.capacity() == 16_777_215);
-    assert!(rt; insert_and_back(&mut slots, 70) == Some(FIRST));
+    assert!(&rt; slots.used() == 0 && slots.capacity() == 16_777_215);
+    assert!(&rt; insert_and_back(&mut slots, 70) == Some(FIRST));
     Ok(())
 }

@@ -27,45 +27,53 @@ fn put(rt: &impl Abort, heap: &mut TimerHeap, entry: Entry) -> HeapPushUndo
     heap.push(entry)
 }
 
-fn assert_dues(rt: &impl Abort, heap: &TimerHeap, dues: &[u64]) {
-    assert!(rt; heap.len() == dues.len());
+/// Whether the timers lie so, by their dues.
+fn has_dues(heap: &TimerHeap, dues: &[u64]) -> bool {
     for (entry, due) in heap.entries().iter().zip(dues) {
-        assert!(rt; entry.due.at == *due);
+        if entry.due.at != *due {
+            return false;
+        }
     }
+    heap.len() == dues.len()
+}
+
+/// Whether the seven timers lie as they were put in.
+fn has_seven(heap: &TimerHeap) -> bool {
+    has_dues(heap, &[1, 10, 2, 11, 12, 3, 4])
 }
 
 /// Seven timers are put in.
 fn fill<R: Abort>(rt: &R, heap: &mut TimerHeap) {
     assert!(rt; heap.is_empty() && heap.least().is_none());
-    for at in [1, 10, 2, 11, 12, 3, 4] {
-        put(rt, heap, timer(at));
+    for at in &[1, 10, 2, 11, 12, 3, 4] {
+        put(rt, heap, timer(*at));
     }
-    assert_dues(rt, heap, &[1, 10, 2, 11, 12, 3, 4]);
-    assert!(rt; heap.least() == Some(timer(1)) && heap.place_of(12) == Some(4));
+    assert!(rt; has_seven(heap) && heap.least() == Some(timer(1)) && heap.place_of(12) == Some(4));
 }
 
 /// One in the middle is removed, and put back.
 fn remove_and_back<R: Abort>(rt: &R, heap: &mut TimerHeap) {
     assert!(rt; 3 < heap.len());
     let undo = heap.remove_at(3);
-    assert_dues(rt, heap, &[1, 4, 2, 10, 12, 3]);
     let removed = HeapRemoveUndo {
         place: 3,
         rest: 1,
         entry: timer(11),
     };
-    assert!(rt; undo == removed && heap.place_of(11).is_none());
+    let is_removed = has_dues(heap, &[1, 4, 2, 10, 12, 3])
+        && undo == removed
+        && heap.place_of(11).is_none();
     heap.undo_remove(undo);
-    assert_dues(rt, heap, &[1, 10, 2, 11, 12, 3, 4]);
+    assert!(rt; is_removed && has_seven(heap));
 }
 
 /// One that goes to the top is put in, and taken out again.
 fn push_and_back<R: Abort>(rt: &R, heap: &mut TimerHeap) {
     let undo = put(rt, heap, timer(0));
-    assert_dues(rt, heap, &[0, 1, 2, 10, 12, 3, 4, 11]);
-    assert!(rt; undo == HeapPushUndo { place: 0 });
+    let is_at_top = has_dues(heap, &[0, 1, 2, 10, 12, 3, 4, 11])
+        && undo == HeapPushUndo { place: 0 };
     heap.undo_push(undo);
-    assert_dues(rt, heap, &[1, 10, 2, 11, 12, 3, 4]);
+    assert!(rt; is_at_top && has_seven(heap));
 }
 
 #[test]

@@ -1,7 +1,6 @@
 //! Each call once, at a number and at a record with an enum inside.
 ghost use Rattle.std.specs.Prelude.{◌≡◌};
 
-use std::process::Abort;
 use std::test::Fail;
 use uv_raw::{Pieces, RawRow};
 
@@ -114,14 +113,20 @@ fn take(pieces: &mut Pieces<u64>) -> Option<u64> {
     }
 }
 
-/// A row of 1,025 items, of which the last one is taken off and put on again.
-fn cross<R: Abort>(rt: &R, pieces: &mut Pieces<u64>) {
-    assert!(rt; !pieces.has_room() && add(pieces, 1024) && !add(pieces, 1025));
-    assert!(rt; at(pieces, 0) == Some(0) && at(pieces, 1023) == Some(1023));
-    assert!(rt; put(pieces, 1024, 7) == Some(1024) && at(pieces, 1024) == Some(7));
-    assert!(rt; at(pieces, 0) == Some(0));
-    assert!(rt; take(pieces) == Some(7) && pieces.has_room() && add(pieces, 8));
-    assert!(rt; at(pieces, 1024) == Some(8));
+/// Whether a row gets its 1,025th item and no further one, and that is taken off and put on again.
+fn crosses(pieces: &mut Pieces<u64>) -> bool {
+    !pieces.has_room()
+        && add(pieces, 1024)
+        && !add(pieces, 1025)
+        && at(pieces, 0) == Some(0)
+        && at(pieces, 1023) == Some(1023)
+        && put(pieces, 1024, 7) == Some(1024)
+        && at(pieces, 1024) == Some(7)
+        && at(pieces, 0) == Some(0)
+        && take(pieces) == Some(7)
+        && pieces.has_room()
+        && add(pieces, 8)
+        && at(pieces, 1024) == Some(8)
 }
 
 #[test]
@@ -131,6 +136,6 @@ fn goes_on_in_the_next_piece(rt: HostRuntime) -> Result<(), Fail> {
     for item in 0u64..1024 {
         assert!(rt; add(&mut pieces, item));
     }
-    cross(&rt, &mut pieces);
+    assert!(rt; crosses(&mut pieces));
     Ok(())
 }

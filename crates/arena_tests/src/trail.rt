@@ -71,6 +71,11 @@ fn pops(trail: &mut Trail<u64>, last: &mut LastStep<u64>, place: u64) -> bool {
     trail.pop_at(last) == Some(place) && matches!(last.naming(), Naming::Unbound(Var(2)))
 }
 
+/// Whether the last four records are those of these places.
+fn pops_four(trail: &mut Trail<u64>, last: &mut LastStep<u64>) -> bool {
+    pops(trail, last, 4) && pops(trail, last, 3) && pops(trail, last, 2) && pops(trail, last, 1)
+}
+
 /// A timer that wasn't set got another record.
 fn reset(last: &mut LastStep<u64>, place: u64) {
     last.note_timer(
@@ -112,8 +117,5 @@ fn records_lie_in_rows(rt: HostRuntime) {
     push(&rt, &mut trail, &mut last);
     called(&mut last, 4);
     push(&rt, &mut trail, &mut last);
-    assert!(rt; trail.len() == 4);
-    assert!(rt; pops(&mut trail, &mut last, 4) && pops(&mut trail, &mut last, 3));
-    assert!(rt; pops(&mut trail, &mut last, 2) && pops(&mut trail, &mut last, 1));
-    assert!(rt; trail.len() == 0);
+    assert!(rt; trail.len() == 4 && pops_four(&mut trail, &mut last) && trail.len() == 0);
 }

@@ -3,7 +3,6 @@
 use crate::given::opened;
 use crate::scripts::{MIXED, SCRIPTS, drawn_after, event_of, mark_of, marks_of, text_of};
 use std::alloc::Global;
-use std::process::Abort;
 use uv_ids::{Fault, Id};
 use uv_loop::ArenaLoop;
 use uv_model::Machine;
@@ -117,38 +116,33 @@ fn goes_again<M: Machine>(session: &mut Session<M>, alloc: Global, images: &[Vec
     session.taken_back().is_empty()
 }
 
-/// Both machines take a script to its end, and the first one goes back and on again.
-fn walks<A: Machine, B: Machine, R: Abort>(
-    rt: &R,
+/// Whether both machines take a script to its end, of 20 steps and more, and the first one goes back and on again.
+fn walk_alike<A: Machine, B: Machine>(
+    session: &mut Session<A>,
+    plain: &mut Session<B>,
     alloc: Global,
-    script: usize,
-) -> Result<(), Fault> {
+    marks: &[u8],
+) -> bool {
+    let mut images = Vec::new(alloc);
+    go_alike(session, plain, alloc, marks, &mut images)
+        && images.len() >= 20
+        && goes_back(session, alloc, images.as_slice())
+        && goes_again(session, alloc, images.as_slice())
+}
+
+fn walks<A: Machine, B: Machine>(alloc: Global, script: usize) -> Result<bool, Fault> {
     let mut session = opened::<A>(alloc, text_of(script), 200)?;
     let mut plain = opened::<B>(alloc, text_of(script), 200)?;
-    let mut images = Vec::new(alloc);
-    let alike = go_alike(
-        &mut session,
-        &mut plain,
-        alloc,
-        marks_of(script),
-        &mut images,
-    );
-    assert!(rt; alike && images.len() >= 20, "script {script}");
-    assert!(rt;
-        goes_back(&mut session, alloc, images.as_slice()),
-        "script {script}, back"
-    );
-    assert!(rt;
-        goes_again(&mut session, alloc, images.as_slice()),
-        "script {script}, again"
-    );
-    Ok(())
+    Ok(walk_alike(&mut session, &mut plain, alloc, marks_of(script)))
 }
 
 #[test]
 fn each_script_is_walked_alike_and_back(rt: HostRuntime) -> Result<(), Fault> {
     for script in 0..SCRIPTS {
-        walks::<ArenaLoop, PlainLoop, _>(&rt, rt.alloc(), script)?;
+        assert!(&rt;
+            walks::<ArenaLoop, PlainLoop>(rt.alloc(), script)?,
+            "script {script}"
+        );
     }
     Ok(())
 }
@@ -176,24 +170,34 @@ fn goes_home<M: Machine>(session: &mut Session<M>, alloc: Global, first: &[u8]) 
         && session.back(1).is_err()
 }
 
-/// Both machines take steps that are drawn, on and back, and then the first one goes back to its beginning.
-fn strays<A: Machine, B: Machine, R: Abort>(rt: &R, alloc: Global, seed: u32) -> Result<(), Fault> {
+/// Whether both machines take steps that are drawn, on and back, and then the first one goes back to its beginning.
+fn stray_and_go_home<A: Machine, B: Machine>(
+    session: &mut Session<A>,
+    plain: &mut Session<B>,
+    alloc: Global,
+    seed: u32,
+) -> bool {
+    match image_text(alloc, session) {
+        Ok(Some(first)) => {
+            stray_alike(session, plain, seed) && goes_home(session, alloc, first.as_slice())
+        }
+        _ => false,
+    }
+}
+
+fn strays<A: Machine, B: Machine>(alloc: Global, seed: u32) -> Result<bool, Fault> {
     let mut session = opened::<A>(alloc, MIXED, 300)?;
     let mut plain = opened::<B>(alloc, MIXED, 300)?;
-    let first = image_text(alloc, &session)?;
-    assert!(rt; stray_alike(&mut session, &mut plain, seed), "seed {seed}");
-    let home = match first {
-        Some(image) => goes_home(&mut session, alloc, image.as_slice()),
-        None => false,
-    };
-    assert!(rt; home, "seed {seed}, back");
-    Ok(())
+    Ok(stray_and_go_home(&mut session, &mut plain, alloc, seed))
 }
 
 #[test]
 fn sessions_that_are_drawn_are_taken_alike(rt: HostRuntime) -> Result<(), Fault> {
     for seed in 0..8 {
-        strays::<ArenaLoop, PlainLoop, _>(&rt, rt.alloc(), seed)?;
+        assert!(&rt;
+            strays::<ArenaLoop, PlainLoop>(rt.alloc(), seed)?,
+            "seed {seed}"
+        );
     }
     Ok(())
 }
