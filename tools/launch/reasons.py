@@ -48,7 +48,7 @@ REASONS = {
 # The same of the lines that ask a search.
 ASKED_REASONS = {
     "listed": "`{0}` is none of {1}",
-    "asked": "no line behind `begin` begins with `{0}` here: it is may, recorded, takes, most or find",
+    "asked": "no line behind `begin` begins with `{0}` here: it is may, recorded, takes, most, full or find",
     "form": "no line says `{0}`: it has the form {1}",
     "again": "`{0}` stands in line {1} already, and a search has it once at most",
     "question": "a second question: line {0} has the first, and one is asked at a time",
@@ -317,12 +317,13 @@ def of_recording(lines: List[bytes], number: int) -> None:
         of_words(words[1:], STEPS[words[0]], words[0], context(script, len(script) + 1))
 
 
-# What stands behind `may`, `recorded`, `takes`, `most` and `find`, and the word behind them; of two forms the longer one last.
+# What stands behind `may`, `recorded`, `takes`, `most`, `full` and `find`, and the word behind them; of two forms the longer one last.
 ASKED = {
     "may": {"send": ["NAME N", "NAME N during NAME"], "cancel": ["NAME N"], "io": ["NAME N"], "tick": ["MS N"], "wait": [""], "differ": ["K"]},
     "recorded": {"P": ["S send NAME", "S cancel NAME", "S io NAME", "S tick MS", "S take W", "S finish W"]},
     "takes": {"NAME": ["MS", "@K MS"]},
     "most": {"clock": ["MS"], "states": ["N"], "NAME": ["CALLS"]},
+    "full": {"": [""]},
     "find": {
         "call": ["NAME", "NAME N"],
         "on": ["NAME", "NAME N"],
@@ -385,7 +386,7 @@ def of_asked_line(line: bytes, found: Context) -> None:
         if len(fields) == len(words) and all(matches(word, what) for word, what in zip(words, fields)):
             for word, what in zip(words, fields):
                 of_field(word, what, head, found)
-            if fields[-2] in ("before", "after", "during") and words[-1] == words[1 if head == "find" else 2]:
+            if fields[-2:-1] and fields[-2] in ("before", "after", "during") and words[-1] == words[1 if head == "find" else 2]:
                 raise Why("two", words[-1], words[-2])
             return
     raise Why("form", line.decode("ascii"), " or ".join("`%s`" % it for it in shapes))
@@ -395,7 +396,7 @@ def said(words: List[bytes]) -> bytes:
     """What a line that asks says once at most: its first fields, up to a number that may differ."""
     if words[0] == b"takes":
         return b" ".join(words[:-1])
-    return b" ".join(words[:2] if words[0] == b"most" or words[1] in (b"wait", b"differ") else words[:3] + words[4:])
+    return b" ".join(words[:2] if words[0] in (b"most", b"full") or words[1] in (b"wait", b"differ") else words[:3] + words[4:])
 
 
 def of_inquiry(lines: List[bytes], number: int) -> None:

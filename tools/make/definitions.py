@@ -104,11 +104,19 @@ CLAIMS = (
         ("uv_session", "Session"),
     ),
     Claim(
-        "Where a search of all orders answers `never`, no list of events that may come, however long, has a step that answers the question; and "
-        "there are as many states as it says.",
+        "Where a search of all orders answers `never`, no list of events that may come has a step that answers the question, however long it is, or "
+        "where states are forgotten of fewer than 4,294,967,294 events; and as many states are told apart as it says.",
         (Clause("uv_find", "finding", "find", "found"),),
     ),
-    Claim("A search takes two states for one only where they are equal.", (Clause("uv_state_key", "laws", "keys_tell", ""),)),
+    Claim(
+        "A search takes two states for one only where they are equal, or, where it may forget, have the same normal form; and such states go on "
+        "alike.",
+        (
+            Clause("uv_state_key", "laws", "keys_tell", ""),
+            Clause("uv_state_key", "laws", "forms_tell", ""),
+            Clause("uv_normal", "laws", "steps_alike", ""),
+        ),
+    ),
     Claim("What the search's program writes is the answer to what its input asks.", (Clause("uvt_find", "running", "run", "text"),)),
 )
 

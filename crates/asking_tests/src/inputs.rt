@@ -28,7 +28,7 @@ fn outcome(answer: Result<Inquiry, Fault>) -> Result<Became, Fault> {
     }
 }
 
-const INPUTS: [(&[u8], Became); 18] = [
+const INPUTS: [(&[u8], Became); 20] = [
     (b"var a\nbegin\nfind never a\n", Became::Read),
     (b"order 1.44\nbegin\n# nothing\n\nfind stuck", Became::Read),
     (b"", Became::Bad(1)),
@@ -44,6 +44,8 @@ const INPUTS: [(&[u8], Became); 18] = [
         b"begin\nmost clock 5\nmost clock 6\nfind stuck\n",
         Became::Bad(3),
     ),
+    (b"var a\nbegin\nfull\nfind never a\n", Became::Read),
+    (b"begin\nfull\nfind stuck\nfull\n", Became::Bad(4)),
     (
         b"var a\nbegin\nmay send a 1\nmay cancel a 1\nmay send a 2\nfind stuck\n",
         Became::Bad(5),

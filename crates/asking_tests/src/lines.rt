@@ -17,13 +17,15 @@ enum Says {
     Clock(u64),
     States(u32),
     Calls(u32, u32),
+    Full,
     Bad,
 }
 
-/// The names `call`, `before`, `clock`, `states`, `of`, `stuck` and `x`, from 0.
-const NAMES: &[u8] = b"var call\nvar before\nvar clock\nvar states\nvar of\nvar stuck\nvar x\n";
+/// The names `call`, `before`, `clock`, `states`, `of`, `stuck`, `x` and `full`, from 0.
+const NAMES: &[u8] =
+    b"var call\nvar before\nvar clock\nvar states\nvar of\nvar stuck\nvar x\nvar full\n";
 
-const LINES: [(&[u8], Says); 47] = [
+const LINES: [(&[u8], Says); 50] = [
     (
         b"find call x",
         Says::Asks(Question::Call(Which::Any, Var(6), None)),
@@ -68,6 +70,9 @@ const LINES: [(&[u8], Says); 47] = [
     (b"most states 5", Says::States(5)),
     (b"most states 0", Says::Bad),
     (b"most call 0", Says::Calls(0, 0)),
+    (b"full", Says::Full),
+    (b"full full", Says::Bad),
+    (b"most full 2", Says::Calls(7, 2)),
     (b"may wait 1", Says::Bad),
     (b"may io x 2", Says::Offers(Event::Io(Var(6)), 2)),
     (b"may io x", Says::Bad),
@@ -146,6 +151,7 @@ fn is_said(names: &Names, line: &[u8], says: Says) -> bool {
         (Said::One(Part::Calls(found)), Says::Calls(name, calls)) => {
             found.name.0 == name && found.calls == calls
         }
+        (Said::One(Part::Full), Says::Full) => true,
         (Said::Bad, Says::Bad) => true,
         _ => false,
     }

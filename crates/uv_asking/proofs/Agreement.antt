@@ -25,13 +25,13 @@ use Rattle.uv_asking.specs.declared.asking.Which.{Which}
 use Rattle.uv_asking.specs.declared.asking.Question.{Question}
 use Rattle.uv_asking.specs.declared.asking.Question.TheVariants as question
 use Rattle.uv_asking.specs.declared.part.Part.{Part}
-use Rattle.uv_asking.specs.declared.part.Part.TheVariants.{Offers, Differ, Recorded, Takes, Clock, Calls, States, Finds}
+use Rattle.uv_asking.specs.declared.part.Part.TheVariants.{Offers, Differ, Recorded, Takes, Clock, Calls, States, Full, Finds}
 use Rattle.uv_asking.specs.declared.part.Said.{Said}
 use Rattle.uv_asking.specs.declared.part.Said.TheVariants.{Nothing, Bad}
 use Rattle.uv_asking.specs.Limits.{MOST_COUNT, MOST_MS, MOST_WORKER}
 use Rattle.uv_asking.specs.Grammar as is
 use Rattle.uv_asking.specs.Grammar.{which_word, IsNoOrder, IsWithin, IsOffer, IsCame, IsQuestion, IsPart, IsNoPart, Says, nothing, one, bad}
-use Rattle.uv_asking.specs.Tests.{number_in, call_in, which_named, offer_of, times_of, send_during, during_of, waits, differ_of, may_of, came_by, came_of, recorded_by, recorded_of, takes_by, takes_of, calls_of, bound_of, most_of, stuck_of, section_of, named_of, plain_by, plain_of, nth_call_of, late_of, numbered_by, numbered_of, before_of, behind_of, three_of, code_name_of, four_of, question_of, part_by, part_of, said_by, said_of}
+use Rattle.uv_asking.specs.Tests.{number_in, call_in, which_named, offer_of, times_of, send_during, during_of, waits, differ_of, may_of, came_by, came_of, recorded_by, recorded_of, takes_by, takes_of, calls_of, bound_of, most_of, full_of, stuck_of, section_of, named_of, plain_by, plain_of, nth_call_of, late_of, numbered_by, numbered_of, before_of, behind_of, three_of, code_name_of, four_of, question_of, part_by, part_of, said_by, said_of}
 use Rattle.uv_asking.proofs.Found.{Has, mapped, bound, Found, sure, found_is, found_map, found_both, found_three}
 use Rattle.uv_asking.proofs.FieldWords.{number_right, number_found, place_right, place_found, IsNth, nth_right, which_right, which_found}
 
@@ -324,6 +324,10 @@ question_right names (first ∷ second ∷ third ∷ []) = three_right names fir
 question_right names (what ∷ word ∷ of ∷ name ∷ []) = four_right names what word of name
 question_right names (what ∷ word ∷ of ∷ name ∷ more ∷ rest) = tt
 
+full_right : (names : List (List ℕ)) (word : List ℕ) (rest : List (List ℕ)) → word ≡ codes "full" → Has (IsPart names (word ∷ rest)) (full_of rest)
+full_right names word [] w = is.full (alone w)
+full_right names word (more ∷ rest) w = tt
+
 part_right : (names fields : List (List ℕ)) → Has (IsPart names fields) (part_of names fields)
 unfolding part_by
 part_right names [] = tt
@@ -333,9 +337,10 @@ part_right names (word ∷ rest) =
     (λ _. cond_both (bytes_eq word (codes "recorded")) _ _ (Has P) (λ a. recorded_right names word rest (same _ _ a))
     (λ _. cond_both (bytes_eq word (codes "takes")) _ _ (Has P) (λ a. takes_right names word rest (same _ _ a))
     (λ _. cond_both (bytes_eq word (codes "most")) _ _ (Has P) (λ a. most_right names word rest (same _ _ a))
+    (λ _. cond_both (bytes_eq word (codes "full")) _ _ (Has P) (λ a. full_right names word rest (same _ _ a))
     (λ _. cond_both (bytes_eq word (codes "find")) _ _ (Has P)
     (λ a. mapped (IsQuestion names rest) P _ (question_of names rest) (question_right names rest) (λ q h. is.finds rest q (front _ (same _ _ a)) h))
-    (λ _. tt)))))
+    (λ _. tt))))))
 
 -- ---- what is so is found
 
@@ -454,6 +459,7 @@ part_found names fields p (is.most_states number n e h) =
 part_found names fields p (is.most_calls name v number n e c s h k) =
     found_is (ap (part_of names) e ∙ choice_other name (codes "clock") _ _ c ∙ choice_other name (codes "states") _ _ s)
     (found_both (λ (u : Var) (m : ℕ). Calls (record { name = u; calls = m })) (place_found names name v h) (number_found 0 MOST_COUNT number n k))
+part_found names fields p (is.full e) = sure (ap (part_of names) e)
 part_found names fields p (is.finds rest q e h) = found_is (ap (part_of names) e) (found_map Finds (question_found names rest q h))
 
 -- where nothing is found nothing is said
@@ -483,6 +489,7 @@ says_something names line p (is.takes_once name v call k ms n e h c l) = line_be
 says_something names line p (is.most_clock number ms e h) = line_begins line _ _ _ e
 says_something names line p (is.most_states number n e h) = line_begins line _ _ _ e
 says_something names line p (is.most_calls name v number n e c s h k) = line_begins line _ _ _ e
+says_something names line p (is.full e) = line_begins line _ _ _ e
 says_something names line p (is.finds rest q e h) = line_begins line _ _ _ e
 
 told : (names : List (List ℕ)) (line : List ℕ) → is_line line ≡ true → is_skipped line ≡ false → (r : Option Part) →

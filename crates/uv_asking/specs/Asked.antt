@@ -1,5 +1,5 @@
 -- What is asked, as its parts.
-use Rattle.std.specs.Prelude.{ℕ, List, Option}
+use Rattle.std.specs.Prelude.{ℕ, Bool, List, Option}
 use Rattle.uv_asking.specs.declared.asking.Offered.{Offered}
 use Rattle.uv_asking.specs.declared.asking.Recorded.{Recorded}
 use Rattle.uv_asking.specs.declared.asking.Takes.{Takes}
@@ -22,6 +22,8 @@ pub record Asked : Type 0 where
   pub most : List Most
   -- how many states are kept at the most
   pub states : ℕ
+  -- states are told apart whole, by times, counts and generations too
+  pub full : Bool
   pub question : Question
 
 abbrev pub asked_in : Asking → Asked
@@ -33,5 +35,6 @@ asked_in a = record {
   clock = a.clock;
   most = a.most.items;
   states = a.states;
+  full = a.full;
   question = a.question;
 }

@@ -16,7 +16,7 @@ use Rattle.uv_asking.specs.declared.asking.Which.TheVariants as which
 use Rattle.uv_asking.specs.declared.asking.Question.{Question}
 use Rattle.uv_asking.specs.declared.asking.Question.TheVariants as question
 use Rattle.uv_asking.specs.declared.part.Part.{Part}
-use Rattle.uv_asking.specs.declared.part.Part.TheVariants.{Offers, Differ, Recorded, Takes, Clock, Calls, States, Finds}
+use Rattle.uv_asking.specs.declared.part.Part.TheVariants.{Offers, Differ, Recorded, Takes, Clock, Calls, States, Full, Finds}
 use Rattle.uv_asking.specs.declared.part.Said.{Said}
 use Rattle.uv_asking.specs.declared.part.Said.TheVariants.{Nothing, One, Bad}
 use Rattle.uv_asking.specs.Limits.{MOST_COUNT, MOST_MS, MOST_WORKER}
@@ -143,6 +143,11 @@ most_of names (what ∷ []) = None
 most_of names (what ∷ number ∷ []) = bound_of names what number
 most_of names (what ∷ number ∷ more ∷ rest) = None
 
+-- no field stands behind `full`
+abbrev pub full_of : List (List ℕ) → Option Part
+full_of [] = Some Full
+full_of (more ∷ rest) = None
+
 -- the one field behind `find`
 unfoldable pub stuck_of : List ℕ → Option Question
 stuck_of what = if bytes_eq what (codes "stuck") then Some question.Stuck else None
@@ -246,6 +251,7 @@ part_by names word rest =
     else if bytes_eq word (codes "recorded") then recorded_of names rest
     else if bytes_eq word (codes "takes") then takes_of names rest
     else if bytes_eq word (codes "most") then most_of names rest
+    else if bytes_eq word (codes "full") then full_of rest
     else if bytes_eq word (codes "find") then option_map Finds (question_of names rest)
     else None
 

@@ -102,5 +102,7 @@ pub struct Asking {
     pub most: Vec<Most>,
     /// `most states N`: so many states are kept.
     pub states: u32,
+    /// `full`: each state is kept whole, with its times, counts and generations.
+    pub full: bool,
     pub question: Question,
 }

@@ -3,7 +3,7 @@ ghost use Rattle.std.specs.Prelude.{◌≡◌, ◌≢◌, ℕ, List, AllPairs, N
 ghost use Rattle.uv_script.specs.Lines.{fields_of};
 ghost use Rattle.uv_asking.specs.declared.part.Said.{Said};
 ghost use Rattle.uv_asking.specs.Grammar.{Says};
-ghost use Rattle.uv_asking.specs.Tests.{said_of, part_of, may_of, waits, differ_of, times_of, came_by, came_of, recorded_by, recorded_of, offer_of, during_of, send_during, takes_of, takes_by, call_in, most_of, bound_of, calls_of};
+ghost use Rattle.uv_asking.specs.Tests.{said_of, part_of, may_of, waits, differ_of, times_of, came_by, came_of, recorded_by, recorded_of, offer_of, during_of, send_during, takes_of, takes_by, call_in, most_of, bound_of, calls_of, full_of};
 
 use crate::asking::{Most, Offer, Offered, Recorded, Takes};
 use crate::part::{Part, Said};
@@ -49,6 +49,8 @@ fn part_in(names: &Names, mut fields: Fields<'_>) -> Option<Part>
         takes(names, fields)
     } else if is(word, b"most") {
         most(names, fields)
+    } else if is(word, b"full") {
+        full(fields)
     } else if is(word, b"find") {
         let question = question(names, fields)?;
         Some(Part::Finds(question))
@@ -310,6 +312,16 @@ fn calls(names: &Names, name: &[u8], number: &[u8]) -> Option<Part>
     let name = names.number(name)?;
     let calls = count_from(0, number)?;
     Some(Part::Calls(Most { name, calls }))
+}
+
+/// Nothing stands behind `full`.
+fn full(mut fields: Fields<'_>) -> Option<Part>
+    ensures { result ≡ full_of fields.entry }
+{
+    match fields.next() {
+        None => Some(Part::Full),
+        Some(_) => None,
+    }
 }
 
 /// Every line is read in some way, and in one alone where no name is declared twice.

@@ -20,6 +20,8 @@ pub enum Part {
     Calls(Most),
     /// `most states N`, from 1 to 2^32 - 1 (own). It is the states also where a name is called `states`.
     States(u32),
+    /// `full`.
+    Full,
     /// `find ..`. Where `before` or `after` is the second of three fields it is that form, also where a name is called so.
     Finds(Question),
 }

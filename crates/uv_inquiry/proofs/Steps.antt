@@ -14,7 +14,7 @@ use Rattle.uv_asking.specs.declared.asking.Offered.{Offered}
 use Rattle.uv_asking.specs.declared.asking.Takes as asking
 use Rattle.uv_asking.specs.declared.asking.Most.{Most}
 use Rattle.uv_asking.specs.declared.part.Part.{Part}
-use Rattle.uv_asking.specs.declared.part.Part.TheVariants.{Offers, Differ, Recorded, Takes, Clock, Calls, States, Finds}
+use Rattle.uv_asking.specs.declared.part.Part.TheVariants.{Offers, Differ, Recorded, Takes, Clock, Calls, States, Full, Finds}
 use Rattle.uv_asking.specs.Limits.{MOST_OFFERS}
 use Rattle.uv_inquiry.specs.Drafts.{Draft, IsNew}
 use Rattle.uv_inquiry.specs.Tests.{same_step, same_offer, has_offer, same_calls, has_time, has_bound, is_new}
@@ -163,6 +163,7 @@ new_sound d (Calls m) e =
     none_so (λ (n : Most). n.name.0 == m.name.0) (λ (n : Most). n.name ≡ m.name) (is_bound m.name) d.most
     (not_true (has_bound m.name.0 d.most) e)
 new_sound d (States n) e = none_is d.states e
+new_sound d Full e = not_true d.full e
 new_sound d (Finds q) e = none_is d.question e
 
 pub new_complete : (d : Draft) (part : Part) → IsNew d part → is_new d part ≡ true
@@ -182,4 +183,5 @@ new_complete d (Clock ms) h = ap is_none h
 new_complete d (Calls m) h =
     ap not (none_found (λ (n : Most). n.name.0 == m.name.0) (λ (n : Most). n.name ≡ m.name) (λ n e. var_is n.name m.name e) d.most h)
 new_complete d (States n) h = ap is_none h
+new_complete d Full h = ap not h
 new_complete d (Finds q) h = ap is_none h

@@ -1,5 +1,5 @@
 -- What the lines behind `begin` have said so far.
-use Rattle.std.specs.Prelude.{◌≡◌, ◌≢◌, ℕ, ◌<◌, List, [], ◌∷◌, ◌++◌, length, Option, Some, None, option_map, unwrap_or}
+use Rattle.std.specs.Prelude.{◌≡◌, ◌≢◌, ℕ, ◌<◌, Bool, true, false, List, [], ◌∷◌, ◌++◌, length, Option, Some, None, option_map, unwrap_or}
 use Rattle.std.specs.List.{AllByRecursion}
 use Rattle.uv_asking.specs.declared.asking.Offered.{Offered}
 use Rattle.uv_asking.specs.declared.asking.Recorded as came
@@ -7,7 +7,7 @@ use Rattle.uv_asking.specs.declared.asking.Takes as asking
 use Rattle.uv_asking.specs.declared.asking.Most.{Most}
 use Rattle.uv_asking.specs.declared.asking.Question.{Question}
 use Rattle.uv_asking.specs.declared.part.Part.{Part}
-use Rattle.uv_asking.specs.declared.part.Part.TheVariants.{Offers, Differ, Recorded, Takes, Clock, Calls, States, Finds}
+use Rattle.uv_asking.specs.declared.part.Part.TheVariants.{Offers, Differ, Recorded, Takes, Clock, Calls, States, Full, Finds}
 use Rattle.uv_asking.specs.Asked.{Asked}
 use Rattle.uv_asking.specs.Limits.{MOST_OFFERS, DEFAULT_STATES}
 
@@ -19,11 +19,12 @@ pub record Draft : Type 0 where
   pub clock : Option ℕ
   pub most : List Most
   pub states : Option ℕ
+  pub full : Bool
   pub question : Option Question
 
 -- before the first line
 abbrev pub unsaid : Draft
-unsaid = record { offers = []; differ = None; recorded = []; takes = []; clock = None; most = []; states = None; question = None }
+unsaid = record { offers = []; differ = None; recorded = []; takes = []; clock = None; most = []; states = None; full = false; question = None }
 
 -- nothing is said twice: no offer, no time of a callback, no bound, and no second question. And there is room for one more offer. What came in a
 -- recording is said behind `may differ`, and beside that neither what else may come nor how long callbacks take
@@ -35,6 +36,7 @@ IsNew d (Takes t) = AllByRecursion (λ (u : asking.Takes). (u.name ≡ t.name) �
 IsNew d (Clock ms) = d.clock ≡ None
 IsNew d (Calls m) = AllByRecursion (λ (n : Most). n.name ≢ m.name) d.most
 IsNew d (States n) = d.states ≡ None
+IsNew d Full = d.full ≡ false
 IsNew d (Finds q) = d.question ≡ None
 
 -- with what one more line says
@@ -46,6 +48,7 @@ with_part d (Takes t) = record d { takes = d.takes ++ t ∷ [] }
 with_part d (Clock ms) = record d { clock = Some ms }
 with_part d (Calls m) = record d { most = d.most ++ m ∷ [] }
 with_part d (States n) = record d { states = Some n }
+with_part d Full = record d { full = true }
 with_part d (Finds q) = record d { question = Some q }
 
 -- what is asked by that, with its question
@@ -58,6 +61,7 @@ asked_by d q = record {
   clock = d.clock;
   most = d.most;
   states = unwrap_or d.states DEFAULT_STATES;
+  full = d.full;
   question = q;
 }
 

@@ -28,6 +28,7 @@ pub(crate) struct Draft {
     clock: Option<u64>,
     most: Vec<Most>,
     states: Option<u32>,
+    full: bool,
     question: Option<Question>,
 }
 
@@ -44,6 +45,7 @@ impl Model for Draft {
       clock = d.clock;
       most = d.most.items;
       states = d.states;
+      full = d.full;
       question = d.question;
     } };
 }
@@ -109,6 +111,7 @@ impl Draft {
             clock: None,
             most: Vec::new(alloc),
             states: None,
+            full: false,
             question: None,
         }
     }
@@ -131,6 +134,7 @@ impl Draft {
             Part::Clock(_) => self.clock.is_none(),
             Part::Calls(most) => !has_bound(&self.most, most.name),
             Part::States(_) => self.states.is_none(),
+            Part::Full => !self.full,
             Part::Finds(_) => self.question.is_none(),
         }
     }
@@ -147,6 +151,7 @@ impl Draft {
             Part::Clock(ms) => self.clock = Some(ms),
             Part::Calls(most) => self.most.push(most)?,
             Part::States(states) => self.states = Some(states),
+            Part::Full => self.full = true,
             Part::Finds(question) => self.question = Some(question),
         }
         Ok(())
@@ -181,6 +186,7 @@ impl Draft {
             clock: self.clock,
             most: self.most,
             states: self.states.unwrap_or(DEFAULT_STATES),
+            full: self.full,
             question,
         })
     }

@@ -3,6 +3,7 @@
   ./uvt find FILE            a script, the line `begin`, what may come from outside, and one question
   ./uvt find FILE LINE..     the script or the recording in FILE, without the steps behind it, and these lines
   ./uvt find A.rec B.rec LINE..   several recordings of one program: each call of a callback does what the first of them has that has it
+  ./uvt find FILE LINE.. --full   the same as with a line `full`
   ./uvt find FILE -o SESSION the session that is found goes to the file SESSION, and not to the output
   ./uvt find FILE LINE.. 'find ..' 'find ..' -j N   several questions, N of them at a time, each by itself: a line for each with its answer. With
                              -o the session of the K-th goes to SESSION.K
@@ -15,6 +16,7 @@ The lines behind `begin` (docs/FIND.md has each):
   may differ K                                                    what came in the recording, at most K of it at another place
   takes NAME [@K] MS                                              how long a callback takes
   most clock MS, most NAME CALLS, most states N                   how far it is searched
+  full                                                            each state is kept whole, with its times, counts and generations
   find call NAME [N], find on NAME [N], find after NAME [N], find closed NAME [N], find code CODE [of NAME], find section WORD, find never NAME,
   find stuck, find late NAME MS, find NAME before NAME, find NAME after NAME
 
@@ -45,17 +47,19 @@ from uvt.offered import never_called, offered, recorded_lines
 from uvt.searching import BAD_LINE, UNSETTLED, Search
 
 FOUND, NEVER, OWN_FAULT = 0, 1, 70
+# The line that is one word.
+FULL = "full"
 # So many names are listed at the most.
 SHOWN = 8
 
 
 def inquiry(paths: list[Path], lines: list[str]) -> tuple[bytes, list[str]]:
     """What is asked: the file as it stands, or its script with these lines behind it; and what is to be said of that, a sentence each."""
-    if not lines:
+    if lines in ([], [FULL]):
         if len(paths) > 1:
             raise Fault("no line asks anything of these recordings: 'find call NAME' does")
         try:
-            return paths[0].read_bytes(), []
+            return with_full(paths[0].read_bytes()) if lines else paths[0].read_bytes(), []
         except OSError as fault:
             raise Fault(f"{paths[0]}: {fault.strerror}") from None
     read = [read_input(path) for path in paths]
@@ -75,6 +79,19 @@ def inquiry(paths: list[Path], lines: list[str]) -> tuple[bytes, list[str]]:
             "of the clock in their order; each other one comes at its place, or as soon after it as the loop accepts it"
         )
     return text_of(whole.script.lines, brought + differed(*read[0], lines, differing)), said
+
+
+def with_full(asked: bytes) -> bytes:
+    """What a file asks, with the line `full`, if it isn't there."""
+    lines = asked.split(b"\n")
+    if b"begin" not in lines or FULL.encode() in lines[lines.index(b"begin") :]:
+        return asked
+    return asked.removesuffix(b"\n") + b"\n%s\n" % FULL.encode()
+
+
+def is_line(word: str) -> bool:
+    """Whether a word of the command is a line that asks, and no file: each has several words, except for `full`."""
+    return " " in word or word == FULL
 
 
 def differed(script: Script, steps: list[str], lines: list[str], differing: str | None) -> list[str]:
@@ -229,12 +246,14 @@ def main() -> int:
     reader = argparse.ArgumentParser(description=__doc__, formatter_class=argparse.RawDescriptionHelpFormatter)
     reader.add_argument("file", metavar="FILE", type=Path, help="a script or a recording")
     reader.add_argument("lines", metavar="LINE", nargs="*", help="a line that may stand behind `begin`, in quotes: 'may wait' 'find late beat 30'")
+    reader.add_argument("--full", action="store_true", help="each state is kept whole, as with a line `full`")
     reader.add_argument("-j", dest="jobs", metavar="N", type=int, default=1, help="so many questions at a time, where several are asked")
     reader.add_argument("-o", dest="session", metavar="SESSION", type=Path, help="where the session that is found goes")
     asked = reader.parse_args()
-    # (each line that asks has two words and more)
-    paths = [asked.file, *(Path(it) for it in asked.lines if " " not in it)]
-    lines = [it for it in asked.lines if " " in it]
+    paths = [asked.file, *(Path(it) for it in asked.lines if not is_line(it))]
+    lines = [it for it in asked.lines if is_line(it)]
+    if asked.full and FULL not in lines:
+        lines.append(FULL)
     questions = [it for it in lines if it.startswith("find ")]
     if asked.jobs < 1:
         reader.error("-j takes a number from 1 on")
