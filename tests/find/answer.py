@@ -75,7 +75,7 @@ def wrong(program: str, asked: Asked, settled: Settled, answer: Answer) -> Optio
         if is_over:
             return "never, and there are more places than may be kept"
         if answer.number != settled.places:
-            return "never with %d states, and there are %s" % (answer.number, settled.places)
+            return "never with %d states, and there are %s" % (answer.number, settled.places or "more than are looked at")
         said = [re.sub(r"\b1 calls\b", "1 call", bound) for bound in answer.within]
         return None if sorted(said) == sorted(bounds_of(asked)) else "it names other bounds: " + ", ".join(answer.within)
     if answer.number != asked.states:

@@ -33,6 +33,8 @@ class Asked(NamedTuple):
     clock: Optional[int]
     most: Dict[str, int]
     states: Optional[int]
+    # each state is kept whole
+    full: bool
     # the words behind `find`
     question: Tuple[str, ...]
 
@@ -55,6 +57,7 @@ def read(text: str) -> Asked:
         None,
         {},
         None,
+        False,
         (),
     )
     for line in script:
@@ -91,6 +94,8 @@ def read_line(asked: Asked, line: str) -> Asked:
     words = line.split()
     if not words or line.startswith("#"):
         return asked
+    if words == ["full"]:
+        return asked._replace(full=True)
     if words == ["may", "wait"]:
         return asked._replace(offers=asked.offers + [Offer("wait", "", None)])
     if words[:2] == ["may", "differ"] and len(words) == 3:

@@ -2,7 +2,8 @@
 
 Searches each script of measured/, and scripts of a timer and requests that grow by workers, requests and sends. A line says how many states
 there are; for those of measured/, also how many were searched in a second of the processor, how many bytes the whole program held for each,
-and with --instructions how many instructions each of the first 100,000 took (valgrind counts them). Nothing is held to a figure. For the hand."""
+and with --instructions how many instructions each of the first 100,000 took (valgrind counts them). Those that may forget are searched with
+the line `full`, too. Nothing is held to a figure. For the hand."""
 from __future__ import annotations
 
 import argparse
@@ -13,6 +14,9 @@ import sys
 import tempfile
 from pathlib import Path
 from typing import Iterator
+
+from tests.find import normal
+from tests.find.asked import read
 
 HERE = Path(__file__).resolve().parent
 COUNTED = 100_000
@@ -29,11 +33,22 @@ def growing(workers: int, requests: int, sends: int) -> str:
     return "\n".join([*lines, "find call t 2", ""])
 
 
+def whole(script: str) -> str:
+    """The same with the line `full`: each state is kept whole."""
+    return script.replace("\nbegin\n", "\nbegin\nfull\n")
+
+
+def beside_whole(name: str, script: str, is_counted: bool) -> Iterator[tuple[str, str, bool]]:
+    yield name, script, is_counted
+    if normal.may_forget(read(script)):
+        yield f"{name}, full", whole(script), is_counted
+
+
 def scripts() -> Iterator[tuple[str, str, bool]]:
     for file in sorted((HERE / "measured").glob("*.find")):
-        yield file.stem, file.read_text(), True
+        yield from beside_whole(file.stem, file.read_text(), True)
     for workers, requests, sends in GROWTH:
-        yield f"workers {workers}, requests {requests}, sends {sends}", growing(workers, requests, sends), False
+        yield from beside_whole(f"workers {workers}, requests {requests}, sends {sends}", growing(workers, requests, sends), False)
 
 
 def searched(program: str, script: str) -> tuple[str, float, int]:

@@ -4,6 +4,8 @@ import subprocess
 from typing import Dict, List, NamedTuple, Optional, Tuple
 
 LAST = "done-yet"
+# The first words of a section of timers.
+TIMERS = ["first", "timers"]
 
 
 class State(NamedTuple):
@@ -70,6 +72,8 @@ def read_state(lines: List[str]) -> State:
             run.append(words[1])
         if words[0] == "slot" and words[8:10] == ["closing", "1"]:
             closing.append(words[1])
+        if words[0] == "ready" and len(words) > 1 and section not in TIMERS:
+            raise ValueError("a timer is ready outside a section of timers: " + line)
         if words[0] == "running":
             state.busy.extend(int(word.split(":")[0]) for word in words[1:])
     state.jobs.extend(name for name, slot in bound.items() if slot in run)

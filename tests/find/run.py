@@ -3,9 +3,9 @@
 Random scripts with one to four names (scripts.py; their numbers are the seeds) are searched twice: by the program, and breadth first by a
 search in Python (slow.py) that has no loop of its own and asks `uvt debug` for each step and each state. The kinds of answer must agree;
 of `never` the number of states and the bounds, too; and the session of a `found` must run in `uvt debug`: each step is offered there, is
-accepted and keeps the bounds, and the last one answers. Scripts with more places than --places are passed over. Where something is
-wrong, the input and the answer are left in out/find/. Status 1 if anything was, or if with 1,000 scripts and more some kind of question
-was never answered by `found`, or by `never`.
+accepted and keeps the bounds, and the last one answers. Where the search may forget (normal.py), the slow one counts normal forms, else
+whole states. Scripts with more places than --places are passed over, if the search doesn't answer `never` within as many. Where something is wrong, the input and the answer are left in
+out/find/. Status 1 if anything was, or if with 1,000 scripts and more some kind of question was never answered by `found`, or by `never`.
 
 With --slow FILE the slow search alone answers an input."""
 import argparse
@@ -19,6 +19,7 @@ from typing import Counter as Count, List, NamedTuple, Optional, Sequence, Tuple
 
 from tests.find import answer
 from tests.find import asked
+from tests.find import normal
 from tests.find import recording
 from tests.find import scripts
 from tests.find import slow
@@ -42,6 +43,8 @@ class Tried(NamedTuple):
     # its kind of question and of answer; none where the script was passed over
     kinds: Optional[Tuple[str, str]]
     wrong: Optional[str]
+    # it is answered of normal forms
+    forgets: bool = False
 
 
 def save(seed: int, text: str, output: str) -> None:
@@ -67,12 +70,18 @@ def script_of(plan: Plan, seed: int) -> str:
     return scripts.of_recording(draw, text, came)
 
 
+def within(text: str, states: int) -> str:
+    """The same, but so many states are kept at the most."""
+    lines = [line for line in text.split("\n") if not line.startswith("most states ")]
+    return "\n".join(lines[:-2] + ["most states %d" % states] + lines[-2:])
+
+
 def try_script(plan: Plan, seed: int) -> Tried:
     text = script_of(plan, seed)
     what = asked.read(text)
     settled = slow.search(plan.uvt, what, plan.places)
-    if settled.places is None and (what.states is None or what.states > plan.places):
-        return Tried(seed, None, None)
+    is_passed = settled.places is None and (what.states is None or what.states > plan.places)
+    text = within(text, plan.places) if is_passed else text
     question = scripts.question_kind(" ".join(what.question))
     try:
         ended = subprocess.run([plan.find], input=text, stdout=subprocess.PIPE, stderr=subprocess.PIPE, text=True, timeout=SECONDS)
@@ -80,18 +89,21 @@ def try_script(plan: Plan, seed: int) -> Tried:
         save(seed, text, "")
         return Tried(seed, (question, "nothing"), "no answer within %d seconds" % SECONDS)
     got = answer.read(ended.stdout)
+    if is_passed and got and got.kind != "never":
+        return Tried(seed, None, None)
     if got is None:
         save(seed, text, ended.stdout + ended.stderr)
         return Tried(seed, (question, "nothing"), "status %d, and no answer: %s" % (ended.returncode, (ended.stderr or ended.stdout).strip()[:200]))
     why = answer.wrong(plan.uvt, what, settled, got)
     if why:
         save(seed, text, ended.stdout)
-    return Tried(seed, (question, got.kind), why)
+    return Tried(seed, (question, got.kind), why, normal.may_forget(what))
 
 
-def try_all(plan: Plan, first: int, count: int, jobs: int) -> Tuple[int, Count[Tuple[str, str]]]:
-    """How many are wrong, and how often each kind of question had each kind of answer."""
+def try_all(plan: Plan, first: int, count: int, jobs: int) -> Tuple[int, Count[Tuple[str, str]], Count[str]]:
+    """How many are wrong; how often each kind of question had each kind of answer; and how often each came of normal forms."""
     kinds: Count[Tuple[str, str]] = Counter()
+    forgotten: Count[str] = Counter()
     wrong = tried = passed = 0
     with ProcessPoolExecutor(jobs) as pool:
         seed = first
@@ -103,11 +115,12 @@ def try_all(plan: Plan, first: int, count: int, jobs: int) -> Tuple[int, Count[T
                 if one.kinds:
                     tried += 1
                     kinds[one.kinds] += 1
+                    forgotten[one.kinds[1]] += one.forgets
                 if one.wrong:
                     wrong += 1
                     print("find: script %d: %s" % (one.seed, one.wrong), flush=True)
             print("find: %d scripts so far, %d wrong, %d passed over" % (tried, wrong, passed), file=sys.stderr, flush=True)
-    return wrong, kinds
+    return wrong, kinds, forgotten
 
 
 def tell(kinds: Count[Tuple[str, str]]) -> List[str]:
@@ -169,7 +182,7 @@ def main() -> int:
         plan = plan_of(asked_for)
         if asked_for.slow:
             return answer_slowly(plan, asked_for.slow)
-        wrong, kinds = try_all(plan, asked_for.seed, asked_for.scripts, asked_for.jobs)
+        wrong, kinds, forgotten = try_all(plan, asked_for.seed, asked_for.scripts, asked_for.jobs)
     except (OSError, ValueError) as fault:
         print("find: %s" % fault, file=sys.stderr)
         return 2
@@ -177,6 +190,7 @@ def main() -> int:
         print("find: stopped", file=sys.stderr)
         return 130
     missed = tell(kinds)
+    print("%-10s %6d found %6d never %6d not settled" % ("forgetting", forgotten["found"], forgotten["never"], forgotten["not settled"]))
     for what in missed:
         tries.say("never came: " + what)
     if asked_for.scripts >= MANY:

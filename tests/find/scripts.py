@@ -65,6 +65,16 @@ def bodies_of(draw: Random, kinds: Dict[str, str]) -> List[str]:
     return lines
 
 
+def again(draw: Random, name: str, kinds: Dict[str, str]) -> List[str]:
+    """What a name does ends, and something begins again, perhaps under another name in its slot: so a script may go on for ever."""
+    kind, other = kinds[name], draw.choice(list(kinds))
+    if kind == "timer" and draw.random() < 0.3:
+        return ["on %s start %s %d 0" % (name, name, draw.choice([3, 5, 10]))]
+    end = "after" if kind == "request" else "closed"
+    lines = ["%s %s %s" % (end, name, init(other, kinds[other]))] + ["on %s close %s" % (name, name)] * (kind != "request")
+    return lines + ["%s %s %s" % (end, name, start(draw, other, kinds[other]))] * (kinds[other] != "request")
+
+
 def offers_of(draw: Random, kinds: Dict[str, str], question: str) -> List[str]:
     lines = []
     for name, kind in kinds.items():
@@ -91,9 +101,9 @@ def takes_of(draw: Random, kinds: Dict[str, str], question: str) -> List[str]:
 
 
 def bounds_of(draw: Random, kinds: Dict[str, str]) -> List[str]:
-    lines = ["most clock %d" % draw.choice([7, 10, 20])] * (draw.random() < 0.7)
+    lines = ["most clock %d" % draw.choice([7, 10, 20])] * (draw.random() < 0.4)
     lines += ["most %s %d" % (name, draw.choice([1, 2, 2])) for name, kind in kinds.items() if kind == "idle" or draw.random() < 0.6]
-    return lines + ["most states %d" % draw.choice([5, 50, 300])] * (draw.random() < 0.15)
+    return lines + ["most states %d" % draw.choice([5, 50, 300])] * (draw.random() < 0.15) + ["full"] * (draw.random() < 0.3)
 
 
 def question_of(draw: Random, kinds: Dict[str, str]) -> str:
@@ -132,10 +142,12 @@ def script(draw: Random) -> str:
     kinds = {name: draw.choice(KINDS) for name in names}
     lines = ["workers %d" % draw.choice([1, 1, 2])] + ["order 1.44"] * (draw.random() < 0.15) + ["slots %d" % len(names)] * (draw.random() < 0.1)
     lines += ["io"] * ("io" in kinds.values())
-    lines += ["var " + name for name in names] + ["main " + line for line in main_of(draw, kinds)] + bodies_of(draw, kinds) + ["begin"]
+    lines += ["var " + name for name in names] + ["main " + line for line in main_of(draw, kinds)]
+    is_endless = draw.random() < 0.25
+    lines += [line for name in kinds for line in again(draw, name, kinds)] if is_endless else bodies_of(draw, kinds)
     question = question_of(draw, kinds)
-    asked = offers_of(draw, kinds, question) + bounds_of(draw, kinds) + ["find " + question]
-    return "\n".join(lines + asked) + "\n"
+    asked = offers_of(draw, kinds, question) + ([] if is_endless else bounds_of(draw, kinds)) + ["find " + question]
+    return "\n".join(lines + ["begin"] + asked) + "\n"
 
 
 def steps_of(draw: Random, asked: Asked) -> List[str]:

@@ -3,9 +3,10 @@ bounds, and what a question asks of a step."""
 from collections import deque
 from typing import Deque, Iterator, List, NamedTuple, Optional, Set, Tuple
 
+from tests.find import normal
 from tests.find import recording
 from tests.find.asked import Asked, Offer
-from tests.find.loop import Loop, Reply, State
+from tests.find.loop import TIMERS, Loop, Reply, State
 from tests.find.recording import Along
 
 CALLS = ["call", "after", "closed"]
@@ -13,23 +14,26 @@ CALLS = ["call", "after", "closed"]
 MEANT = {"call": CALLS, "on": ["call"], "after": ["after"], "closed": ["closed"]}
 # The words of `takes` don't count for the callback of a close.
 TAKING = {"on": 0, "after": 1}
-# The first words of a section of timers.
-TIMERS = ["first", "timers"]
 NAMELESS = ["stoploop", "updatetime", "now", "alive", "timeout", "closeloop"]
 
 
 class Place(NamedTuple):
-    """Where the search stands: the loop's state, how often each offer may still be taken, when the timer was due that is asked for, and how
-    many ms the callback still takes that has ended; and of orders that differ from a recording, how far they are."""
+    """Where the search stands: the loop's state, how often each offer may still be taken, when the timer was due that is asked for, if one is,
+    and how many ms the callback still takes that has ended; and of orders that differ from a recording, how far they are."""
 
     state: State
     left: Tuple[Optional[int], ...]
-    due: int
+    due: Optional[int]
     owed: int
     along: Optional[Along] = None
 
-    def key(self) -> Tuple[object, ...]:
-        return self.state.text, self.left, self.due, self.owed, self.along
+    def key(self, calls: Optional[int]) -> Tuple[object, ...]:
+        """What tells it from others: all, or, where calls are counted up to a number only, what decides what comes after."""
+        if calls is None:
+            return self.state.text, self.left, self.due, self.owed, self.along
+        # (a due time counts from the clock; where no timer is asked for, none is kept)
+        due = self.due - self.state.clock if self.due is not None else None
+        return normal.normal(self.state.text, calls), self.left, due, self.owed, self.along
 
 
 class Move(NamedTuple):
@@ -55,9 +59,10 @@ def every_offer(asked: Asked) -> List[Offer]:
 
 
 def beginning(asked: Asked, state: State) -> Place:
+    due = 0 if asked.question[:1] == ("late",) else None
     if asked.differ is not None:
-        return Place(state, (), 0, 0, recording.beginning(asked.recorded, asked.differ))
-    return Place(state, tuple(offer.times for offer in every_offer(asked)), 0, 0)
+        return Place(state, (), due, 0, recording.beginning(asked.recorded, asked.differ))
+    return Place(state, tuple(offer.times for offer in every_offer(asked)), due, 0)
 
 
 def may_come(offer: Offer, place: Place) -> bool:
@@ -125,11 +130,11 @@ def after(asked: Asked, place: Place, number: int, command: str, reply: Reply) -
     return Place(reply.state, left, due_after(asked, place, reply.state), owed_after(asked, place, command, reply.line, reply.state))
 
 
-def due_after(asked: Asked, place: Place, state: State) -> int:
+def due_after(asked: Asked, place: Place, state: State) -> Optional[int]:
     """When the timer that is asked for is due. In a section of timers one that was collected is called, and so what was kept stays; elsewhere
     one that isn't active is due at no time, for which the clock stands."""
     if asked.question[:1] != ("late",):
-        return 0
+        return None
     return state.due.get(asked.question[1], place.due if state.section in TIMERS else state.clock)
 
 
@@ -238,8 +243,8 @@ def answers_here(asked: Asked, place: Place, blocked: List[bool], leads: bool) -
 
 
 def search_from(loop: Loop, asked: Asked, cap: int) -> Settled:
-    first = beginning(asked, loop.state)
-    seen: Set[object] = {first.key()}
+    first, calls = beginning(asked, loop.state), normal.calls_told(asked)
+    seen: Set[object] = {first.key(calls)}
     waiting: Deque[Tuple[Tuple[str, ...], Place]] = deque([((), first)])
     found: Optional[int] = None
     while waiting:
@@ -251,7 +256,7 @@ def search_from(loop: Loop, asked: Asked, cap: int) -> Settled:
             leads = True
             if found is None and answers(asked, place, move):
                 found = len(steps) + 1
-            key = move.place.key()
+            key = move.place.key(calls)
             if key not in seen:
                 if len(seen) == cap:
                     return Settled(found, None)
@@ -281,7 +286,7 @@ def walk(loop: Loop, asked: Asked, steps: List[str]) -> Optional[str]:
             return "step %d, `%s`, is not offered there, or not accepted within the bounds" % (number, command)
         answered = any(answers(asked, place, move) for place, move in there)
         loop.go_to(tuple(steps[:number]))
-        places = list({move.place.key(): move.place for _, move in there}.values())
+        places = list({move.place.key(None): move.place for _, move in there}.values())
     for place in places:
         blocked: List[bool] = []
         leads = list(moves(loop, asked, place, blocked))

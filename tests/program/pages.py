@@ -58,6 +58,7 @@ ENDS = {
     "replay examples/changed-program.rec": 3,
     "find examples/late-timer.uvt 'may tick 40 1' 'may wait' 'find late beat 41'": 1,
     "find examples/debounce.find": 1,
+    "find examples/server.find": 1,
     # (what is hunted ends badly)
     "hunt ./upload": 3,
     "force upload.hunt.uvt ./upload 2>&1": 3,

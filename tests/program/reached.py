@@ -11,7 +11,7 @@ from typing import Dict, Iterator, List, NamedTuple, Optional, Set
 
 ROOT = Path(__file__).resolve().parent.parent.parent
 PROGRAMS = ("uvt", "uvt_find")
-TESTS = ("arena_tests", "asking_tests", "bench", "examples", "live_tests", "loop_tests", "program_tests", "search_tests", "tries_again")
+TESTS = ("arena_tests", "asking_tests", "bench", "examples", "live_tests", "loop_tests", "search_tests", "tries_again")
 # What no program calls, and who does.
 KEPT = {
     "uv_arena: Slots::next_free": "arena_tests and tries_again: the slot that the next insert takes, behind a piece",

@@ -46,6 +46,7 @@ ANSWERS = {
     "lost-retry": Due("found in ", FOUND, "start retry 10 0 = ESTALE"),
     "closing-server": Due("found in ", FOUND, "send log = ESTALE"),
     "debounce": Due("never within clock 200: ", NEVER, ""),
+    "server": Due("never: ", NEVER, ""),
 }
 # What recorded programs did, and what none of their orders does, by the recording's name: an echo server whose writes took 35 ms and made a
 # heartbeat late, two signals of three that a timer raised, and a frame that was 39 ms late behind a callback of 50.
@@ -99,7 +100,7 @@ BAD_LINES = [
     ("var a\nbegin\nmay wait\nmay wait\nfind stuck\n", 4, "`may wait` stands in line 3 already, and a search has it once at most"),
     ("var a\nbegin\nfind stuck\nfind never a\n", 4, "a second question: line 3 has the first, and one is asked at a time"),
     ("var a\nbegin\nfind code EBUZY\n", 3, "`EBUZY` is none of ok, EINVAL"),
-    ("var a\nbegin\nloop\nfind stuck\n", 3, "no line behind `begin` begins with `loop` here: it is may, recorded, takes, most or find"),
+    ("var a\nbegin\nloop\nfind stuck\n", 3, "no line behind `begin` begins with `loop` here: it is may, recorded, takes, most, full or find"),
     ("var a\nbegin\nrecorded 0 0 send a\nfind stuck\n", 3, "what came in a recording stands behind a line `may differ K`"),
     ("var a\nbegin\nmay differ 1\nrecorded 0 send a\nfind stuck\n", 4, "no line says `recorded 0 send a`: it has the form `recorded P S send NAME`"),
     ("var a\nbegin\nmay differ 1\nrecorded 0 0 take 65536\nfind stuck\n", 4, "`65536` is out of range: W is 0 to 65535"),
@@ -114,6 +115,8 @@ BAD_LINES = [
         "`takes a 5` stands beside `may differ`: there what came in the recording may come, and nothing else",
     ),
     ("var a\nbegin\nmay differ 1\nmay differ 2\nfind stuck\n", 4, "`may differ` stands in line 3 already, and a search has it once at most"),
+    ("var a\nbegin\nfull\nfull\nfind stuck\n", 4, "`full` stands in line 3 already, and a search has it once at most"),
+    ("var a\nbegin\nfull 1\nfind stuck\n", 3, "no line says `full 1`: it has the form `full`"),
     ("var a\nmain fly a\nbegin\nfind stuck\n", 2, "`fly` is no op"),
     ("begin\n" + "".join(f"may tick {ms} 1\n" for ms in range(1, 258)) + "find stuck\n", 258, "at most 256 lines begin with `may`"),
 ]
@@ -152,6 +155,17 @@ def try_lines(check: Check, folder: str) -> None:
     check("find, lines that are typed", ran.returncode == FOUND and debugged(ran.stdout.partition("\n")[2])[-1:] == ["call beat 2.0"], ran)
     ran = run([str(EXAMPLES / "late-timer.uvt"), *asked[:2], "find late beat 41"])
     check("find, no order is later than its delay", ran.returncode == NEVER and ran.stdout.startswith("never: "), ran)
+    for word in ("full", "--full"):
+        ran = run([str(EXAMPLES / "late-timer.uvt"), *asked[:2], "find late beat 41", word])
+        check(f"find, {word}", (ran.returncode, ran.stdout) == (NEVER, "never: 162 states, every order\n"), ran)
+        ran = run([str(EXAMPLES / "debounce.find"), word])
+        check(
+            f"find, a file that asks, with {word}", (ran.returncode, ran.stdout) == (NEVER, "never within clock 200: 2270 states, every order\n"), ran
+        )
+    ran = run([str(EXAMPLES / "late-timer.uvt"), *asked[:2], "find late beat 41"])
+    check("find, without full", ran.stdout == "never: 159 states, every order\n", ran)
+    ran = run([str(EXAMPLES / "server.find")])
+    check("find, a server without an end, and no warning", "may be no end of states" not in ran.stderr, ran)
     questions = ["find late beat 40", "find late beat 41", "find call ping"]
     kept = os.path.join(folder, "several")
     ran = run([str(EXAMPLES / "late-timer.uvt"), *asked[:2], *questions, "-j", "2", "-o", kept])

@@ -5,3 +5,5 @@ pub mod Leading
 pub mod Moving
 pub mod Results
 pub mod Refusing
+mod Scans
+pub mod Forgets

@@ -1,5 +1,5 @@
 -- Moves of a search are events of a loop, and events are moves.
-use Rattle.std.proofs.Common.{◌≡◌, ℕ, ◌<◌, nat_lt, if◌then◌else◌, Bool, true, false, List, [], ◌∷◌, ◌++◌, refl, sym, ap, subst, ◌∙◌, Option, Some, None, append_assoc, arith}
+use Rattle.std.proofs.Common.{◌≡◌, ℕ, suc, ◌+◌, ◌<◌, ◌≤◌, length, length-append, nat_lt, if◌then◌else◌, Bool, true, false, List, [], ◌∷◌, ◌++◌, refl, sym, ap, subst, ◌∙◌, Option, Some, None, append_assoc, arith}
 use Rattle.std.proofs.lemmas.Bool.{ltb-true}
 use Rattle.std.proofs.lemmas.Grind.{common_steps}
 use Rattle.uv_ids.specs.declared.event.Event.{Event}
@@ -9,8 +9,8 @@ use Rattle.uv_find.specs.Orders.{Rules, Place, Choice, Led, led, led_by, placed,
 use Rattle.uv_find.specs.Questions.{answers}
 use Rattle.uv_find.specs.Courses as courses
 use Rattle.uv_find.specs.Courses.{Course, LeadsOn}
-use Rattle.uv_find.specs.Spots.{Spot, spot_of, next_spot}
-use Rattle.uv_find.specs.Laws.{led_leads}
+use Rattle.uv_find.specs.Spots.{Spot, spot_of, next_spot, is_few}
+use Rattle.uv_find.specs.Led.{led_leads, spot_led}
 
 -- the spot after an event
 abbrev pub after_event : Spot → Led → Spot
@@ -30,8 +30,8 @@ module _ (r : Rules) where
           → (l : Led) × ((led r s.place i ≡ Some l) × (t ≡ after_event s l) × (b ≡ answers r s.place l))
       by None e h = absurd (let f : ⊥ = cc in f)
       by (Some l) e h =
-          let pair : ◌≡◌ {A = Spot × Bool} (after_event s l, answers r s.place l) (t, b) = cc in
-          (l, (e, sym (ap (λ x. x.0) pair), sym (ap (λ x. x.1) pair)))
+          let k = spot_led r s l t b h in
+          (l, (e, k.0, k.1))
 
   -- moves are a course
   pub moves_course : (s : Spot) (is : List ℕ) (t : Spot) → LeadsTo s is t
@@ -68,15 +68,29 @@ module _ (r : Rules) where
       ap (led_by r p) on.offered ∙ ap (placed r on.choice) within
       ∙ (λ i. Some (record { event = sym on.event i; place = sym on.taken i; line = l.line }))
 
+  -- fewer steps are few, too
+  pub fewer : (o : Option ℕ) (m n : ℕ) → m ≤ n → is_few o n ≡ true → is_few o m ≡ true
+  fewer None m n less few = refl
+  fewer (Some k) m n less few = grind arith
+
+  one_longer : (xs : List Event) (e : Event) (n : ℕ) → length (xs ++ e ∷ []) + n ≡ length xs + suc n
+  one_longer xs e n = omega (arith, length-append {A = Event})
+
+  -- it is a move, where its steps are few
+  goes_on : (s : Spot) (l : Led) → is_few r.forget (length s.steps + 1) ≡ true → spot_of r s (Some l) ≡ Some (after_event s l, answers r s.place l)
+  goes_on s l few = ap (λ c. if◌then◌else◌ {A = Option (Spot × Bool)} c (Some (after_event s l, answers r s.place l)) None) few
+
   -- a course is moves
-  pub course_moves : (s : Spot) (es : List Event) (q : Place) → Course r s.place es q
+  pub course_moves : (s : Spot) (es : List Event) (q : Place) → is_few r.forget (length s.steps + length es) ≡ true → Course r s.place es q
       → (is : List ℕ) × LeadsTo s is (record { place = q; steps = s.steps ++ es })
-  course_moves s [] q e =
+  course_moves s [] q few e =
       let none : s.steps ++ [] ≡ s.steps = grind (arith, common_steps) in
       ([], λ i. record { place = e i; steps = none i })
-  course_moves s (e ∷ es) q (l, is_event, on, rest) =
-      let more = course_moves (after_event s l) es q rest in
-      let goes : next_spot r s on.number ≡ Some (after_event s l, answers r s.place l) = ap (spot_of r s) (leads_led s.place l on) in
+  course_moves s (e ∷ es) q few (l, is_event, on, rest) =
+      let more = course_moves (after_event s l) es q (ap (is_few r.forget) (one_longer s.steps l.event (length es)) ∙ few) rest in
+      let first = fewer r.forget (length s.steps + 1) (length s.steps + suc (length es)) (omega arith) few in
+      let goes : next_spot r s on.number ≡ Some (after_event s l, answers r s.place l) = ap (spot_of r s) (leads_led s.place l on)
+      ∙ goes_on s l first in
       let below = choice_below s.place on.number on.choice on.offered in
       let steps : (s.steps ++ l.event ∷ []) ++ es ≡ s.steps ++ e ∷ es =
       append_assoc s.steps (l.event ∷ []) es ∙ ap (λ x. s.steps ++ x ∷ es) is_event in (
@@ -111,13 +125,17 @@ module _ (r : Rules) where
         ),
       )
 
-  pub course_answers : (s : Spot) (es : List Event) (l : Led) → courses.Answers r s.place es l
+  long_behind : (xs ys : List Event) → length (xs ++ ys) + 1 ≡ length xs + length ys + 1
+  long_behind xs ys = omega (arith, length-append {A = Event})
+
+  pub course_answers : (s : Spot) (es : List Event) (l : Led) → is_few r.forget (length s.steps + length es + 1) ≡ true →
+      courses.Answers r s.place es l
       → (is : List ℕ) × (i : ℕ) × (t : Spot) × WayAnswers s is i t
-  course_answers s es l a =
-      let way = course_moves s es a.place a.course in
+  course_answers s es l few a =
+      let way = course_moves s es a.place (fewer r.forget (length s.steps + length es) (length s.steps + length es + 1) (omega arith) few) a.course in
       let here : Spot = record { place = a.place; steps = s.steps ++ es } in
       let goes : next_spot r here a.leads.number ≡ Some (after_event here l, answers r a.place l) = ap (spot_of r here)
-      (leads_led a.place l a.leads) in (
+      (leads_led a.place l a.leads) ∙ goes_on here l (ap (is_few r.forget) (long_behind s.steps es) ∙ few) in (
         way.0,
         a.leads.number,
         after_event here l,

@@ -1,5 +1,6 @@
 -- An offer that is spent, or has no event that leads on, leads nowhere.
 use Rattle.std.proofs.Common.{◌≡◌, ℕ, true, false, Bool, List, Option, Some, None, is_none, nat_lt, option_and_then, Err, slice_get, if◌then◌else◌, refl, ap, ◌∙◌}
+use Rattle.uv_ids.specs.declared.event.Event.{Event}
 use Rattle.uv_ids.specs.declared.event.Event.TheVariants as event
 use Rattle.uv_ids.specs.declared.fault.Why.{Why}
 use Rattle.uv_ids.specs.declared.fault.Why.TheVariants as why
@@ -11,7 +12,7 @@ use Rattle.uv_model.specs.Next.{next, finish, work_of}
 use Rattle.uv_model.specs.State.{State}
 use Rattle.uv_find.specs.declared.kept.Kept.{Kept}
 use Rattle.uv_find.specs.declared.left.Left.{Left}
-use Rattle.uv_find.specs.Orders.{Rules, Place, Choice, chosen, choice_at, choice_by, deadline_at, event_of, keeps_clock, led, led_by, lessened, may_take, move_count, offered_by, placed, reached, timed, wait_until}
+use Rattle.uv_find.specs.Orders.{Rules, Place, Choice, chosen, choice_at, choice_by, deadline_at, event_of, keeps_clock, led, led_by, lessened, may_take, move_count, offered_by, placed, reached, timed, wait_until, is_brief, brief}
 use Rattle.uv_find.specs.Steps.{has_none, is_idle}
 
 runs_nothing : (s : State) (x : Option (Option Id)) → is_none (option_and_then (λ run. run) x) ≡ true → (w : Why) × (work_of s x ≡ Err w)
@@ -45,13 +46,24 @@ has_none_led r p xs Wait e =
     ap (λ o. led_by r p (chosen xs p.kept (timed r.clock p.state.clock o))) (none_waits r p (deadline_at p.state.place) e)
 has_none_led r p xs offer e = absurd (let f : ⊥ = cc e in f)
 
+-- so does no part of it
+brief_none : (r : Rules) (p : Place) (xs : List Left) (o : Option Event) → led_by r p (chosen xs p.kept o) ≡ None
+    → led_by r p (chosen xs p.kept (brief r.forget o)) ≡ None
+brief_none r p xs None h = refl
+brief_none r p xs (Some e) h = by (is_brief r.forget e) where
+  by : (b : Bool) → led_by r p (chosen xs p.kept (if b then Some e else None)) ≡ None
+  by true = h
+  by false = refl
+
 idle_by : (r : Rules) (p : Place) (xs : List Left) (offered : Option Offered) (x : Option Left) → is_idle p.state offered x ≡ true
     → led_by r p (chosen xs p.kept (offered_by r p offered x)) ≡ None
 idle_by r p xs None x e = refl
 idle_by r p xs (Some offered) None e = refl
 idle_by r p xs (Some offered) (Some x) e = by (may_take x) refl where
   by : (b : Bool) → may_take x ≡ b → led_by r p (chosen xs p.kept (offered_by r p (Some offered) (Some x))) ≡ None
-  by true may = rw may (has_none_led r p xs offered.offer (rw may at e))
+  by true may =
+      rw may (brief_none r p xs (timed r.clock p.state.clock (event_of r.program p.state p.kept offered.offer))
+      (has_none_led r p xs offered.offer (rw may at e)))
   by false may = rw may refl
 
 -- a spent offer, and one without an event that leads on, leads nowhere

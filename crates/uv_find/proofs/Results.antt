@@ -1,5 +1,5 @@
 -- What a search of spots says of orders.
-use Rattle.std.proofs.Common.{◌≡◌, ℕ, ◌≤◌, true, false, inl, inr, List, [], ◌∷◌, ◌++◌, refl, sym, subst, ◌∙◌, arith, append-nil}
+use Rattle.std.proofs.Common.{◌≡◌, ℕ, suc, ◌+◌, ◌≤◌, length, length-append, Option, Some, None, ap, true, false, inl, inr, List, [], ◌∷◌, ◌++◌, refl, sym, subst, ◌∙◌, arith, append-nil}
 use Rattle.std.specs.List.{IsDistinct}
 use Rattle.uv_ids.specs.declared.event.Event.{Event}
 use Rattle.uv_model.proofs.Runs.{after-nil}
@@ -8,14 +8,15 @@ use Rattle.uv_find.specs.declared.finding.Answer.TheVariants as answer
 use Rattle.uv_find.specs.Orders.{Rules, Place, move_count}
 use Rattle.uv_find.specs.Courses.{Course}
 use Rattle.uv_find.specs.Questions.{place_answers}
-use Rattle.uv_find.specs.Spots.{Spot, next_spot, spot_code, first_spot, IsSpot, IsDeep}
+use Rattle.uv_find.specs.Spots.{Spot, next_spot, spot_code, first_spot, is_few, MayForget, IsSpot, IsDeep}
 use Rattle.uv_find.specs.Found.{AreReached, Finds, KeysTell}
-use Rattle.uv_find.specs.Laws.{places_tell, leads_spot}
-use Rattle.uv_find.proofs.Moving.{after_event, moves_course, course_moves, moves_answer, course_answers}
+use Rattle.uv_find.specs.Led.{leads_spot}
+use Rattle.uv_find.specs.Telling.{places_tell}
+use Rattle.uv_find.proofs.Moving.{fewer, after_event, moves_course, course_moves, moves_answer, course_answers}
 
 module _ (r : Rules) (s : Spot) where
   abbrev AreKeys : ℕ → List (List ℕ) → Type 0
-  AreKeys number keys = settled.AreKeys (λ (a : Spot). move_count r a.place) (next_spot r) spot_code IsDeep s number keys
+  AreKeys number keys = settled.AreKeys (λ (a : Spot). move_count r a.place) (next_spot r) (spot_code r) IsDeep s number keys
 
   reached : (number : ℕ) (keys : List (List ℕ)) → AreKeys number keys → AreReached r s.place number keys
   reached number keys k = record {
@@ -29,7 +30,7 @@ module _ (r : Rules) (s : Spot) where
   }
 
   pub found_way : (limit : ℕ) (way : List ℕ) (number : ℕ) (t : Spot) → number ≤ limit
-      → settled.IsWay (λ (a : Spot). move_count r a.place) (next_spot r) spot_code IsDeep s way t → (keys : List (List ℕ)) × AreKeys number keys
+      → settled.IsWay (λ (a : Spot). move_count r a.place) (next_spot r) (spot_code r) IsDeep s way t → (keys : List (List ℕ)) × AreKeys number keys
       → Finds r s limit (answer.Found number) t
   found_way limit way number t few (is, i, whole, answers) keys =
       let a = moves_answer r s is i t answers in
@@ -49,21 +50,21 @@ module _ (r : Rules) (s : Spot) where
   )
 
   pub found_never : (limit number : ℕ) (t : Spot) → number ≤ limit → place_answers r s.place r.question ≡ false
-      → settled.Never (λ (a : Spot). move_count r a.place) (next_spot r) spot_code IsDeep s number → Finds r s limit (answer.Never number) t
+      → settled.Never (λ (a : Spot). move_count r a.place) (next_spot r) (spot_code r) IsDeep s number → Finds r s limit (answer.Never number) t
   found_never limit number t few here n = (
     few,
     record {
-      never = (here, λ es l a. (let w = course_answers r s es l a in n.none w.0 w.1 w.2 w.3));
+      never = (here, λ es l few_steps a. (let w = course_answers r s es l few_steps a in n.none w.0 w.1 w.2 w.3));
       keys = n.keys;
       are = reached number n.keys n.are;
-      all = λ es q course. (
-          let w = course_moves r s es q course in
+      all = λ es q few_steps course. (
+          let w = course_moves r s es q few_steps course in
           n.all w.0 (record { place = q; steps = s.steps ++ es }) w.1
           );
     },
   )
 
-  pub found_more : (limit : ℕ) (t : Spot) → settled.HasMore (λ (a : Spot). move_count r a.place) (next_spot r) spot_code IsDeep s limit
+  pub found_more : (limit : ℕ) (t : Spot) → settled.HasMore (λ (a : Spot). move_count r a.place) (next_spot r) (spot_code r) IsDeep s limit
       → Finds r s limit answer.Unsettled t
   found_more limit t m =
       let w = m.more in
@@ -83,7 +84,7 @@ module _ (r : Rules) (s : Spot) where
   unfolding IsDistinct
   found_none limit t = (omega arith, ([], record { count = refl; distinct = tt; each = λ k has. absurd cc }))
 
-  pub found_deep : (limit : ℕ) (t u : Spot) → settled.IsTooDeep (λ (a : Spot). move_count r a.place) (next_spot r) spot_code IsDeep s u
+  pub found_deep : (limit : ℕ) (t u : Spot) → settled.IsTooDeep (λ (a : Spot). move_count r a.place) (next_spot r) (spot_code r) IsDeep s u
       → Finds r s limit answer.TooDeep t
   found_deep limit t u d =
       let way = moves_course r s d.0 u d.1 in
@@ -101,16 +102,23 @@ same_back p u ps us xs e f =
 
 -- ---- keys
 
-course_spot : (r : Rules) (s : Spot) (es : List Event) (q : Place) → IsSpot r s → Course r s.place es q
-    → (steps : List Event) × IsSpot r (record { place = q; steps = steps })
-course_spot r s [] q is e = (s.steps, subst (λ p. IsSpot r (record { place = p; steps = s.steps })) (sym e) is)
-course_spot r s (e ∷ es) q is (l, is_event, on, rest) = course_spot r (after_event s l) es q (leads_spot r s l is on) rest
+course_spot : (r : Rules) (s : Spot) (es : List Event) (q : Place) → IsSpot r s → is_few r.forget (length s.steps + length es) ≡ true →
+    Course r s.place es q → (steps : List Event) × IsSpot r (record { place = q; steps = steps })
+course_spot r s [] q is few e = (s.steps, subst (λ p. IsSpot r (record { place = p; steps = s.steps })) (sym e) is)
+course_spot r s (e ∷ es) q is few (l, is_event, on, rest) =
+    let first = fewer r r.forget (length s.steps + 1) (length s.steps + suc (length es)) (omega arith) few in
+    let long : length (s.steps ++ l.event ∷ []) + length es ≡ length s.steps + suc (length es) = omega (arith, length-append {A = Event}) in
+    course_spot r (after_event s l) es q (leads_spot r s l is on first) (ap (is_few r.forget) long ∙ few) rest
 
-first_is : (r : Rules) → IsSpot r (first_spot r)
-first_is r = record { state = sym (after-nil r.program) }
+first_is : (r : Rules) → MayForget r → IsSpot r (first_spot r)
+first_is r may = record { state = sym (after-nil r.program); forgets = may; brief = tt; few = by r.forget } where
+  by : (o : Option ℕ) → is_few o 0 ≡ true
+  by None = refl
+  by (Some n) = refl
 
 pub keys_tell : KeysTell
-keys_tell r es fs p q c d same =
-    let a = course_spot r (first_spot r) es p (first_is r) c in
-    let b = course_spot r (first_spot r) fs q (first_is r) d in
+keys_tell r es fs p q may few more c d same =
+    let none : (n : ℕ) → 0 + n ≡ n = λ n. omega arith in
+    let a = course_spot r (first_spot r) es p (first_is r may) (ap (is_few r.forget) (none (length es)) ∙ few) c in
+    let b = course_spot r (first_spot r) fs q (first_is r may) (ap (is_few r.forget) (none (length fs)) ∙ more) d in
     places_tell r (record { place = p; steps = a.0 }) (record { place = q; steps = b.0 }) a.1 b.1 same

@@ -1,11 +1,11 @@
 -- A move that is made, and taken back.
-use Rattle.std.proofs.Common.{◌≡◌, ℕ, ◌+◌, ◌-◌, List, [], ◌∷◌, ◌++◌, length, take, reverse, refl, ap, ◌∙◌, Option, Some, None, Ok, arith, length-append, length-take}
+use Rattle.std.proofs.Common.{◌≡◌, ℕ, zero, suc, ◌+◌, ◌-◌, ◌<◌, subst, sym, List, [], ◌∷◌, ◌++◌, length, take, reverse, refl, ap, ◌∙◌, Option, Some, None, Ok, arith, length-append, length-take}
 use Rattle.std.proofs.lemmas.Grind.{common_steps}
 use Rattle.std.proofs.lemmas.List.{reverse-append}
 use Rattle.uv_ids.specs.declared.event.Event.{Event}
 use Rattle.uv_ids.specs.declared.seen.Seen.{Seen}
 use Rattle.uv_model.specs.declared.machine.Outcome.{Outcome}
-use Rattle.uv_model.specs.After.{after}
+use Rattle.uv_model.specs.After.{after, STEPS}
 use Rattle.uv_script.specs.Program.{Program}
 use Rattle.uv_session.specs.Shown.{Shown}
 use Rattle.uv_find.specs.declared.orders.Made.{Made}
@@ -14,7 +14,8 @@ use Rattle.uv_find.specs.declared.left.Left.{Left}
 use Rattle.uv_find.specs.declared.terms.Terms.{Terms}
 use Rattle.uv_find.specs.Kept.{kept_after}
 use Rattle.uv_find.specs.Orders.{Rules, Choice, led_by, placed, taken}
-use Rattle.uv_find.specs.Spots.{IsSearched, searched, spots_before, left_before, rules_by, place_by}
+use Rattle.uv_find.specs.Led.{brief_more, choice_brief}
+use Rattle.uv_find.specs.Spots.{AreBrief, MayForget, IsSearched, searched, spots_before, left_before, rules_by, place_by}
 use Rattle.uv_find.specs.Steps.{Stands, Takes, Makes, MakesNone, state_in}
 
 last_taken : (es : List Event) (e : Event) → take (length (es ++ e ∷ []) - 1) (es ++ e ∷ []) ≡ es
@@ -68,24 +69,38 @@ takes_none E s t terms left kept made number (k, goes) = (goes, same_searched s 
 -- ---- what always holds
 
 pub taken_searched : (B : Type 0) (s t : Shown) (terms : Terms) (left : List Left) (kept : Kept) (made : List Made) (number : ℕ)
-    (c : Choice) (line : Option Seen) (m : Made) → IsSearched B s made → Makes terms s left kept number c line t
-    → IsSearched B t (made ++ m ∷ [])
-taken_searched B s t terms left kept made number c line m i (k, chosen, goes) =
+    (c : Choice) (line : Option Seen) (m : Made) → IsSearched B s terms made → length s.standing < STEPS → Makes terms s left kept number c line t
+    → IsSearched B t terms (made ++ m ∷ [])
+taken_searched B s t terms left kept made number c line m i few (k, chosen, goes) =
+    let r : Rules = rules_by s.program terms in
     let long : length t.standing ≡ length s.standing + 1 = rw k.standing (omega (arith, length-append {A = Event})) in
+    let brief = brief_more terms.forget s.standing c.event i.brief (choice_brief r (place_by s left kept) number c i.forgets chosen) in
     record {
       limit = k.limit ∙ i.limit;
       taken = rw long (omega (arith, i.taken, length-append {A = Made}));
       back = i.back;
+      forgets = subst (λ p. MayForget (rules_by p terms)) (sym k.program) i.forgets;
+      brief = subst (AreBrief terms.forget) (sym k.standing) brief;
+      room = omega (arith, long, few);
     }
 
-pub back_searched : (B : Type 0) (s t : Shown) (made rest : List Made) (m : Made)
-    → IsSearched B s made → made ≡ rest ++ m ∷ [] → Stands s (take (length s.standing - 1) s.standing) t
-    → IsSearched B t rest
-back_searched B s t made rest m i split k =
+brief_front : (forget : Option ℕ) (n : ℕ) (es : List Event) → AreBrief forget es → AreBrief forget (take n es)
+brief_front forget zero [] h = tt
+brief_front forget zero (e ∷ es) h = tt
+brief_front forget (suc n) [] h = tt
+brief_front forget (suc n) (e ∷ es) h = (h.0, brief_front forget n es h.1)
+
+pub back_searched : (B : Type 0) (s t : Shown) (terms : Terms) (made rest : List Made) (m : Made)
+    → IsSearched B s terms made → made ≡ rest ++ m ∷ [] → Stands s (take (length s.standing - 1) s.standing) t
+    → IsSearched B t terms rest
+back_searched B s t terms made rest m i split k =
     let long : length t.standing ≡ length s.standing - 1 = rw k.standing (omega (arith, length-take {A = Event})) in
     let count : length made ≡ length rest + 1 = rw split (omega (arith, length-append {A = Made})) in
     record {
       limit = k.limit ∙ i.limit;
       taken = rw long (omega (arith, i.taken, count));
       back = i.back;
+      forgets = subst (λ p. MayForget (rules_by p terms)) (sym k.program) i.forgets;
+      brief = subst (AreBrief terms.forget) (sym k.standing) (brief_front terms.forget (length s.standing - 1) s.standing i.brief);
+      room = omega (arith, long, i.room);
     }

@@ -1,9 +1,10 @@
 -- Lists of events that may come in this order.
-use Rattle.std.specs.Prelude.{◌≡◌, ℕ, true, false, ◌⊎◌, List, [], ◌∷◌, ◌++◌, Some}
+use Rattle.std.specs.Prelude.{◌≡◌, ◌+◌, ℕ, length, true, false, ◌⊎◌, List, [], ◌∷◌, ◌++◌, Some}
 use Rattle.uv_ids.specs.declared.event.Event.{Event}
 use Rattle.uv_model.specs.Next.{Moves, next}
 use Rattle.uv_find.specs.Orders.{Rules, Place, Choice, Led, choice_at, taken, is_within}
 use Rattle.uv_find.specs.Questions.{answers, place_answers}
+use Rattle.uv_find.specs.Spots.{Spot, is_few}
 
 -- from a place an event leads on: it is offered there, the loop accepts it, and the bounds hold then
 pub record LeadsOn (r : Rules) (p : Place) (l : Led) : Type 0 where
@@ -27,9 +28,12 @@ pub record Answers (r : Rules) (p : Place) (es : List Event) (l : Led) : Type 0 
   pub leads : LeadsOn r place l
   pub answers : answers r place l ≡ true
 
--- the place doesn't answer the question, and behind no events, however many, is one that does
-abbrev pub NeverAnswered : Rules → Place → Type 0
-NeverAnswered r p = (place_answers r p r.question ≡ false) × ((es : List Event) (l : Led) → Answers r p es l → ⊥)
+-- the place doesn't answer the question, and behind no events is one that does: however many they are, or where a search forgets, with those
+-- before them fewer than a slot has generations
+abbrev pub NeverAnswered : Rules → Spot → Type 0
+NeverAnswered r s =
+    (place_answers r s.place r.question ≡ false)
+    × ((es : List Event) (l : Led) → is_few r.forget (length s.steps + length es + 1) ≡ true → Answers r s.place es l → ⊥)
 
 -- the last of these events answers the question, and leads here
 abbrev pub LastAnswers : Rules → Place → List Event → Place → Type 0

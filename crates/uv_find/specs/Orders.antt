@@ -30,9 +30,11 @@ use Rattle.uv_find.specs.declared.kept.Kept.{Kept}
 use Rattle.uv_find.specs.declared.kept.Along.{Along}
 use Rattle.uv_find.specs.declared.left.Left.{Left}
 use Rattle.uv_find.specs.declared.left.Left.TheVariants as left
+use Rattle.uv_find.specs.Forgetting.{LONG}
 use Rattle.uv_find.specs.Kept.{none_kept, kept_after, behind, with_spare, owes}
 
--- what stays the same: the script, what is offered, how long callbacks take, how far the clock goes, how often names are called, and what is asked
+-- what stays the same: the script, what is offered, how long callbacks take, how far the clock goes, how often names are called, what is asked,
+-- and what of a place needn't be known
 pub record Rules : Type 0 where
   pub program : Program
   pub offers : List Offered
@@ -43,6 +45,8 @@ pub record Rules : Type 0 where
   pub clock : Option ℕ
   pub most : List Most
   pub question : Question
+  -- where places are told apart only by what decides what comes after them: how far calls are counted
+  pub forget : Option ℕ
 
 -- where a search stands
 pub record Place : Type 0 where
@@ -239,6 +243,15 @@ abbrev pub timed : Option ℕ → ℕ → Option Event → Option Event
 timed most clock None = None
 timed most clock (Some e) = if keeps_clock most clock e then Some e else None
 
+-- where a search forgets, no long time goes by at once
+abbrev pub is_brief : Option ℕ → Event → Bool
+is_brief (Some n) (event.Tick ms) = nat_lt ms LONG
+is_brief forget e = true
+
+abbrev pub brief : Option ℕ → Option Event → Option Event
+brief forget None = None
+brief forget (Some e) = if is_brief forget e then Some e else None
+
 abbrev pub may_take : Left → Bool
 may_take left.AtWill = true
 may_take (left.Times n) = nat_lt 0 n
@@ -248,7 +261,7 @@ abbrev pub offered_here : Program → Option ℕ → State → Kept → Offer �
 offered_here p most s k offer x = if may_take x then timed most s.clock (event_of p s k offer) else None
 
 abbrev pub offered_by : Rules → Place → Option Offered → Option Left → Option Event
-offered_by r p (Some offered) (Some x) = offered_here r.program r.clock p.state p.kept offered.offer x
+offered_by r p (Some offered) (Some x) = brief r.forget (offered_here r.program r.clock p.state p.kept offered.offer x)
 offered_by r p _ _ = None
 
 -- ---- what may come at a place

@@ -1,10 +1,15 @@
--- What a search goes through: places, each with the steps that led there, and its key.
-use Rattle.std.specs.Prelude.{◌≡◌, ℕ, ◌+◌, ◌-◌, ◌≤◌, take, Bool, List, [], ◌∷◌, ◌++◌, length, reverse, slice_set, Option, Some, None}
+-- What a search goes through: places, each with the steps that led there, what is told of it, and its key.
+use Rattle.std.specs.Prelude.{◌≡◌, ℕ, ◌+◌, ◌-◌, ◌≤◌, ◌<◌, nat_lt, if◌then◌else◌, take, Bool, true, List, [], ◌∷◌, ◌++◌, length, reverse, slice_set, Option, Some, None}
 use Rattle.uv_ids.specs.declared.event.Event.{Event}
 use Rattle.uv_key.specs.Codes.{number_code}
 use Rattle.uv_model.specs.After.{after, STEPS}
+use Rattle.uv_model.specs.State.{State}
+use Rattle.uv_shift.specs.Shift.{IsShort}
+use Rattle.uv_names.specs.Counts.{AreBefore}
 use Rattle.uv_state_key.specs.Key.{state_code}
-use Rattle.uv_find.specs.Orders.{Rules, Place, Led, led, every_offer, beginning}
+use Rattle.uv_state_key.specs.Formed.{formed}
+use Rattle.uv_find.specs.Forgetting.{LONG, LONGEST, none_during, most_end, takes_end, question_end, forget_of}
+use Rattle.uv_find.specs.Orders.{Rules, Place, Led, led, is_brief, every_offer, beginning}
 use Rattle.uv_find.specs.Questions.{answers}
 use Rattle.uv_find.specs.declared.kept.Along.{Along}
 use Rattle.uv_find.specs.declared.kept.Kept.{Kept}
@@ -15,8 +20,31 @@ use Rattle.uv_find.specs.declared.orders.Made.{Made}
 use Rattle.uv_find.specs.declared.orders.Was.{Was}
 use Rattle.uv_find.specs.declared.orders.Was.TheVariants as was
 use Rattle.uv_asking.specs.Asked.{Asked}
-use Rattle.uv_script.specs.Program.{Program, worker_count}
+use Rattle.uv_asking.specs.declared.asking.Question.{Question}
+use Rattle.uv_asking.specs.declared.asking.Question.TheVariants as asks
+use Rattle.uv_script.specs.Program.{Program, arena_size, worker_count}
 use Rattle.uv_session.specs.Shown.{Shown}
+
+-- where a search forgets, a slot's generations don't run out within the steps of an order
+abbrev pub is_few : Option ℕ → ℕ → Bool
+is_few (Some n) steps = nat_lt steps LONGEST
+is_few None steps = true
+
+-- no more of a state need be known than its normal form, with calls counted so far
+pub record CanForget (r : Rules) (n : ℕ) : Type 0 where
+  -- no number of a call that the script, a bound or the question says is as large, and whether there was one is told
+  pub before : AreBefore n r.program
+  pub most : most_end r.most ≤ n
+  pub takes : takes_end r.takes ≤ n
+  pub question : question_end r.question ≤ n
+  pub some : 1 ≤ n
+  -- no time of the script is long, and no slot's generations run out
+  pub short : IsShort LONG r.program
+  pub lasts : LONGEST < (arena_size r.program).last_generation
+  -- nothing names the clock, a place in a recording, or the request that a worker runs
+  pub clock : r.clock ≡ None
+  pub differ : r.differ ≡ None
+  pub aside : none_during r.offers ≡ true
 
 pub record Spot : Type 0 where
   pub place : Place
@@ -25,7 +53,8 @@ pub record Spot : Type 0 where
 -- the spot after an event, and whether it answers the question
 abbrev pub spot_of : Rules → Spot → Option Led → Option (Spot × Bool)
 spot_of r s None = None
-spot_of r s (Some l) = Some (record { place = l.place; steps = s.steps ++ l.event ∷ [] }, answers r s.place l)
+spot_of r s (Some l) =
+    if is_few r.forget (length s.steps + 1) then Some (record { place = l.place; steps = s.steps ++ l.event ∷ [] }, answers r s.place l) else None
 
 abbrev pub next_spot : Rules → Spot → ℕ → Option (Spot × Bool)
 next_spot r s number = spot_of r s (led r s.place number)
@@ -53,19 +82,61 @@ left_code xs = number_code (length xs) ++ each_code xs
 abbrev pub along_code : Along → List ℕ
 along_code a = number_code a.next ++ (number_code a.polls ++ (number_code a.steps ++ number_code a.spare))
 
-abbrev pub kept_code : Kept → List ℕ
-kept_code k = number_code k.due ++ (number_code k.owed ++ along_code k.along)
+-- how long ago it was due, and how long it isn't yet: where a search forgets, and asks of a timer. Else the due time itself
+abbrev pub told_due : Option ℕ → Question → ℕ → ℕ → ℕ × ℕ
+told_due (Some n) (asks.Late name ms) clock due = (clock - due, due - clock)
+told_due forget question clock due = (due, 0)
 
--- the key of a place: what decides what comes after
-abbrev pub place_code : Place → List ℕ
-place_code p = state_code p.state ++ left_code p.left ++ kept_code p.kept
+-- what tells a place from others: what decides what comes after
+pub record Told : Type 0 where
+  pub state : State
+  pub left : List Left
+  pub due : ℕ × ℕ
+  pub owed : ℕ
+  pub along : Along
 
-abbrev pub spot_code : Spot → List ℕ
-spot_code s = place_code s.place
+abbrev pub told : Rules → Place → Told
+told r p = record {
+  state = formed r.forget p.state;
+  left = p.left;
+  due = told_due r.forget r.question p.state.clock p.kept.due;
+  owed = p.kept.owed;
+  along = p.kept.along;
+}
+
+abbrev pub kept_code : ℕ × ℕ → ℕ → Along → List ℕ
+kept_code due owed along = number_code due.0 ++ (number_code due.1 ++ (number_code owed ++ along_code along))
+
+abbrev pub told_code : Told → List ℕ
+told_code t = state_code t.state ++ left_code t.left ++ kept_code t.due t.owed t.along
+
+-- the key of a place
+abbrev pub place_code : Rules → Place → List ℕ
+place_code r p = told_code (told r p)
+
+abbrev pub spot_code : Rules → Spot → List ℕ
+spot_code r s = place_code r s.place
+
+-- no long time goes by at once
+abbrev pub AreBrief : Option ℕ → List Event → Type 0
+AreBrief forget [] = Unit {0}
+AreBrief forget (e ∷ es) = (is_brief forget e ≡ true) × AreBrief forget es
+
+-- where a search forgets, it may
+abbrev pub MayForget : Rules → Type 0
+MayForget r = (n : ℕ) → r.forget ≡ Some n → CanForget r n
 
 -- the steps led to the state
 pub record IsSpot (r : Rules) (s : Spot) : Type 0 where
   pub state : s.place.state ≡ after r.program s.steps
+  pub forgets : MayForget r
+  pub brief : AreBrief r.forget s.steps
+  pub few : is_few r.forget (length s.steps) ≡ true
+
+-- a session holds the steps
+pub record IsStanding (r : Rules) (s : Spot) : Type 0 where
+  pub spot : IsSpot r s
+  pub room : length s.steps ≤ STEPS
 
 -- what was left before a move, where this is left behind it
 abbrev pub left_before : Was → List Left → List Left
@@ -97,6 +168,7 @@ rules_of p asked = record {
   clock = asked.clock;
   most = asked.most;
   question = asked.question;
+  forget = forget_of p asked;
 }
 
 abbrev pub first_spot : Rules → Spot
@@ -113,6 +185,7 @@ rules_by p t = record {
   clock = t.clock;
   most = t.most.items;
   question = t.question;
+  forget = t.forget;
 }
 
 -- where a session stands
@@ -128,10 +201,13 @@ searched s terms xs kept made = record {
 }
 
 -- what the fields of a search keep: as many steps stand as choices were taken, a step back wants no memory
-pub record IsSearched (BackWantsMemory : Type 0) (s : Shown) (made : List Made) : Type 0 where
+pub record IsSearched (BackWantsMemory : Type 0) (s : Shown) (terms : Terms) (made : List Made) : Type 0 where
   pub limit : s.limit ≡ STEPS
   pub taken : length made ≡ length s.standing
   pub back : BackWantsMemory → ⊥
+  pub forgets : MayForget (rules_by s.program terms)
+  pub brief : AreBrief terms.forget s.standing
+  pub room : length s.standing ≤ STEPS
 
 -- a step more may be taken, and one behind it that is only tried
 abbrev pub IsDeep : Spot → Type 0

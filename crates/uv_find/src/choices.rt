@@ -1,10 +1,11 @@
 //! The choices of a place.
 ghost use Rattle.std.specs.Prelude.{◌≡◌, ◌<◌, IfOk, None, length, slice_get, slice_set, option_map};
 ghost use Rattle.uv_asking.specs.declared.asking.Offered.{Offered};
-ghost use Rattle.uv_find.specs.Orders.{less, lessened, offered_by, choice_at};
+ghost use Rattle.uv_find.specs.Orders.{is_brief, brief, less, lessened, offered_by, choice_at};
 ghost use Rattle.uv_find.specs.Spots.{rules_by, place_by};
 ghost use Rattle.uv_find.specs.Steps.{Stands, MakesMove, TakesOffer, choice_of, has_none, is_idle, state_in};
 
+use crate::forgetting::LONG;
 use crate::kept::Kept;
 use crate::left::Left;
 use crate::recorded::choose_recorded;
@@ -64,6 +65,32 @@ pub fn lessen(left: &mut Vec<Left>, number: usize) -> Left
     }
 }
 
+/// Where a search forgets, no long time goes by at once.
+fn is_brief(forget: Option<u64>, event: Event) -> bool
+    ensures { result ≡ is_brief forget event }
+{
+    match (forget, event) {
+        (Some(_), Event::Tick(ms)) => ms < LONG,
+        _ => true,
+    }
+}
+
+/// The event, if it is such a one.
+fn brief(forget: Option<u64>, event: Option<Event>) -> Option<Event>
+    ensures { result ≡ brief forget event }
+{
+    match event {
+        Some(event) => {
+            if is_brief(forget, event) {
+                Some(event)
+            } else {
+                None
+            }
+        }
+        None => None,
+    }
+}
+
 /// The event of an offer, if it may still be taken. Nothing changes.
 fn offered<M: Machine>(
     session: &mut Session<M>,
@@ -80,7 +107,8 @@ fn offered<M: Machine>(
 {
     match (terms.offers.get(number).copied(), left.get(number).copied()) {
         (Some(offered), Some(left)) => {
-            offered_here(session, terms.clock, kept, offered.offer, left)
+            let event = offered_here(session, terms.clock, kept, offered.offer, left)?;
+            Ok(brief(terms.forget, event))
         }
         _ => Ok(None),
     }

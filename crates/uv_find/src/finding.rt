@@ -16,7 +16,8 @@ const EFFORT: usize = 2_097_152;
 pub enum Answer {
     /// The last step answers the question, or the place does from which none is taken. So many places were kept until then.
     Found(usize),
-    /// No steps do, however many, and the place doesn't. They lead to so many places.
+    /// No steps do, however many, and the place doesn't. They lead to so many places, of those that are told apart. Where a search
+    /// forgets, the steps are fewer than a slot has generations.
     Never(usize),
     /// Steps lead to more places than may be kept.
     Unsettled,
@@ -64,7 +65,8 @@ fn find_behind<M: Machine>(alloc: Global, orders: &mut Orders<M>, limit: usize) 
     }
 }
 
-/// The key of a place tells which one it is, of those that steps lead to. It does nothing, and is called for its clause.
+/// The key of a place tells all of it that decides what comes after, of those that steps lead to. It does nothing, and is called for its
+/// clause.
 pub fn place_keys_tell()
     ensures { KeysTell }
 {}

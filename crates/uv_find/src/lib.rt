@@ -1,12 +1,15 @@
 //! The orders in which what comes from outside may meet a script's loop, and a search through all of them.
 //!
-//! The main call is `find` (`finding.rt`, clause `found`). Read `specs/Orders.antt` and `Questions.antt` first, then `Found.antt`
-//! (`IsNever`).
+//! The main call is `find` (`finding.rt`, clause `found`). Read `specs/Orders.antt` and `Questions.antt` first, then `Courses.antt` and
+//! `Found.antt` (`IsNever`). Where a search needs no whole states says `Forgetting.antt`, and what it tells apart then `Spots.antt` (`told`).
+//! `Clocks.antt`, `Readings.antt`, `Alike.antt`, `Lines.antt`, `Onward.antt`, `Led.antt`, `Telling.antt`, `Covering.antt` and `Laws.antt`
+//! of `specs/` are proofs, which the impl of `Maze` names.
 #![tactic(auto)]
 
 mod beginning;
 mod choices;
 mod finding;
+mod forgetting;
 mod jobs;
 mod kept;
 mod left;
@@ -19,6 +22,7 @@ mod terms;
 
 pub use choices::{Choice, Moved, Taken};
 pub use finding::{Answer, find, place_keys_tell};
+pub use forgetting::may_forget;
 pub use kept::{Along, Kept};
 pub use left::Left;
 pub use orders::{Made, Orders, Was};

@@ -7,7 +7,7 @@ ghost use Rattle.uv_asking.specs.declared.asking.Question.TheVariants.{Stuck};
 ghost use Rattle.uv_find.specs.Kept.{kept_after};
 ghost use Rattle.uv_find.specs.Orders.{is_blocked, led, move_count};
 ghost use Rattle.uv_find.specs.Questions.{none_leads, line_answers, place_answers, step_answers};
-ghost use Rattle.uv_find.specs.Spots.{Searched, IsSearched, IsSpot, searched, rules_of, first_spot, kind_code, event_code, each_code, left_code, along_code, kept_code, next_spot, spot_code, left_before, IsDeep};
+ghost use Rattle.uv_find.specs.Spots.{Searched, IsSearched, IsStanding, searched, rules_of, first_spot, kind_code, event_code, each_code, left_code, along_code, told_due, kept_code, next_spot, spot_code, left_before, IsDeep};
 ghost use Rattle.uv_find.specs.Steps.{Takes as TakesOne};
 
 use crate::beginning::first_left;
@@ -75,7 +75,7 @@ impl<M: Machine> Model for Orders<M> {
 
     ghost view = { λ a. searched a.session a.terms a.left.items a.kept a.made.items };
 
-    ghost invariant = { λ a. IsSearched M.BackWantsMemory a.session a.made.items };
+    ghost invariant = { λ a. IsSearched M.BackWantsMemory a.session a.terms a.made.items };
 }
 
 impl<M: Machine> Orders<M> {
@@ -225,7 +225,7 @@ impl<M: Machine> Orders<M> {
     /// How many moves there are.
     pub(crate) fn move_count(&self) -> usize
         ensures count { result ≡ move_count self.now.rules self.now.spot.place }
-        ensures spot { IsSpot self.now.rules self.now.spot }
+        ensures spot { IsStanding self.now.rules self.now.spot }
     {
         move_count(&self.terms, &self.left)
     }
@@ -375,14 +375,25 @@ fn put_along(out: &mut Vec<u8>, along: Along)
     put_number(out, u64::from(along.spare));
 }
 
-/// Appends what is kept.
-fn push_kept(out: &mut Vec<u8>, kept: Kept) -> Result<(), AllocError>
-    ensures { OnOk result (out.new.items ≡ out.old.items ++ kept_code kept) }
+/// How long ago a timer was due, and how long it isn't yet, where a search forgets and asks of it. Else what is kept of its due time.
+fn told_due(forget: Option<u64>, question: Question, clock: u64, due: u64) -> (u64, u64)
+    ensures { result ≡ told_due forget question clock due }
 {
-    out.reserve(60)?;
-    put_number(out, kept.due);
-    put_number(out, kept.owed);
-    put_along(out, kept.along);
+    match (forget, question) {
+        (Some(_), Question::Late(_, _)) => (clock.saturating_sub(due), due.saturating_sub(clock)),
+        _ => (due, 0),
+    }
+}
+
+/// Appends what is kept.
+fn push_kept(out: &mut Vec<u8>, due: (u64, u64), owed: u64, along: Along) -> Result<(), AllocError>
+    ensures { OnOk result (out.new.items ≡ out.old.items ++ kept_code due owed along) }
+{
+    out.reserve(70)?;
+    put_number(out, due.0);
+    put_number(out, due.1);
+    put_number(out, owed);
+    put_along(out, along);
     Ok(())
 }
 
@@ -406,9 +417,9 @@ impl<M: Machine> Maze for Orders<M> {
 
     ghost next = { spots.next_spot };
 
-    ghost key = { λ _ s. spots.spot_code s };
+    ghost key = { spots.spot_code };
 
-    ghost IsPlace = { spots.IsSpot };
+    ghost IsPlace = { spots.IsStanding };
 
     ghost IsReached = { spots.IsSpot };
 
@@ -444,14 +455,17 @@ impl<M: Machine> Maze for Orders<M> {
     }
 
     fn key(&self, out: &mut Vec<u8>) -> Result<(), AllocError> {
-        push_key(out, self.session.machine())?;
+        let machine = self.session.machine();
+        push_key(out, machine, self.terms.forget)?;
         push_left(out, &self.left)?;
-        push_kept(out, self.kept)
+        let clock = machine.numbers().clock;
+        let due = told_due(self.terms.forget, self.terms.question, clock, self.kept.due);
+        push_kept(out, due, self.kept.owed, self.kept.along)
     }
 
     ghost alike = { spots_alike };
 
-    ghost stands = { λ _ _ is. is };
+    ghost stands = { λ _ _ is. is.spot };
 
     ghost leads = { spots_lead };
 }

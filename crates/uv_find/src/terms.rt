@@ -5,6 +5,7 @@ ghost use Rattle.uv_find.specs.Orders.{move_count_by};
 ghost use Rattle.uv_find.specs.Spots.{rules_by, rules_of};
 
 use crate::beginning::every_offer;
+use crate::forgetting::forget_of;
 use crate::left::Left;
 use std::alloc::{AllocError, Global};
 use uv_asking::{Asking, Most, Offered, Question, Recorded, Takes};
@@ -21,6 +22,8 @@ pub struct Terms {
     pub clock: Option<u64>,
     pub most: Vec<Most>,
     pub question: Question,
+    /// Where places are told apart only by what decides what comes after them: how far calls are counted.
+    pub forget: Option<u64>,
 }
 
 /// The terms of what is asked of a script.
@@ -42,6 +45,7 @@ pub(crate) fn terms_of(alloc: Global, script: &Script, asking: &Asking) -> Resul
         clock: asking.clock,
         most,
         question: asking.question,
+        forget: forget_of(script, asking),
     })
 }
 

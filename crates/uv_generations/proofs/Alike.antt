@@ -7,7 +7,7 @@ use Rattle.uv_model.specs.Next.{next}
 use Rattle.uv_generations.specs.Renamed as any
 use Rattle.uv_generations.specs.Renamed.{Renaming}
 use Rattle.uv_generations.specs.More.{Frees, freed_more, more, more_line, more_next, CanRename}
-use Rattle.uv_generations.specs.Youngest.{freed_less, least_of, base, youngest, unfreed_line, IsYoung, TakesAlike}
+use Rattle.uv_generations.specs.Youngest.{freed_less, least_of, surplus, youngest, unfreed_line, IsYoung, TakesAlike}
 use Rattle.uv_generations.proofs.More.{rename}
 use Rattle.uv_generations.proofs.Slots.{held_renamed}
 use Rattle.uv_generations.proofs.Steps.{next_renamed}
@@ -22,21 +22,21 @@ length_same f [] = refl
 length_same f (x ∷ xs) = ap suc (length_same (λ n. f (suc n)) xs)
 
 -- a slot that was never used was never freed
-base_unused : (s : State) (slot : ℕ) → length s.arena.slots ≤ slot → base s slot ≡ 0
+base_unused : (s : State) (slot : ℕ) → length s.arena.slots ≤ slot → surplus s slot ≡ 0
 base_unused s slot l = ap (least_of slot s.names) (slice_get_past s.arena.slots slot l)
 
-youngest_can : (p : Program) (s : State) → IsYoung p s → CanRename p (base s) (youngest s)
+youngest_can : (p : Program) (s : State) → IsYoung p s → CanRename p (surplus s) (youngest s)
 youngest_can p s h =
     let same = youngest_more p s h in
-    let used = length_same (freed_less (base s)) s.arena.slots in
+    let used = length_same (freed_less (surplus s)) s.arena.slots in
     record {
       unused = base_unused s (length (youngest s).arena.slots) (omega (arith, used));
-      left = λ id x e. h.left (rename (base s) id) x
-          (ap (λ (u : State). held u.arena.slots (rename (base s) id)) (sym same) ∙ held_renamed (base s) (youngest s).arena.slots id ∙ e);
+      left = λ id x e. h.left (rename (surplus s) id) x
+          (ap (λ (u : State). held u.arena.slots (rename (surplus s) id)) (sym same) ∙ held_renamed (surplus s) (youngest s).arena.slots id ∙ e);
     }
 
-pub youngest_next : (p : Program) (s : State) (e : Event) → IsYoung p s → next p s e ≡ more_next (base s) (next p (youngest s) e)
-youngest_next p s e h = ap (λ (x : State). next p x e) (sym (youngest_more p s h)) ∙ next_renamed p (base s) (youngest s) e (youngest_can p s h)
+pub youngest_next : (p : Program) (s : State) (e : Event) → IsYoung p s → next p s e ≡ more_next (surplus s) (next p (youngest s) e)
+youngest_next p s e h = ap (λ (x : State). next p x e) (sym (youngest_more p s h)) ∙ next_renamed p (surplus s) (youngest s) e (youngest_can p s h)
 
 -- ---- two states
 
@@ -58,27 +58,27 @@ absent : (slots : List (Slot Content)) (n : ℕ) → slice_get slots n ≡ None 
 absent slots n e = grind (arith, slice_get_cases slots n)
 
 -- behind a step, too, a slot that was never used was never freed
-unused_behind : (p : Program) (s : State) (e : Event) (u : State) (says : Option Seen) → next p (youngest s) e ≡ Moves u says →
-    (slot : ℕ) → slice_get u.arena.slots slot ≡ None → base s slot ≡ 0
+pub unused_behind : (p : Program) (s : State) (e : Event) (u : State) (says : Option Seen) → next p (youngest s) e ≡ Moves u says →
+    (slot : ℕ) → slice_get u.arena.slots slot ≡ None → surplus s slot ≡ 0
 unused_behind p s e u says takes slot gone =
     let n = length (youngest s).arena.slots in
     let least : n ≤ n = omega arith in
     let grows : n ≤ length u.arena.slots = subst (Stays n) takes (next_grows p n (youngest s) e least) in
-    let used = length_same (freed_less (base s)) s.arena.slots in
+    let used = length_same (freed_less (surplus s)) s.arena.slots in
     let past = absent u.arena.slots slot gone in
     base_unused s slot (omega (arith, grows, used, past))
 
 pub takes_alike : (p : Program) (s other : State) (e : Event) (t : State) (line : Option Seen) → IsYoung p s → IsYoung p other →
     youngest s ≡ youngest other → next p s e ≡ Moves t line → TakesAlike (next p other e) t line
 takes_alike p s other e t line h k same takes =
-    let one = moved_as (base s) (next p (youngest s) e) t line (sym (youngest_next p s e h) ∙ takes) in
+    let one = moved_as (surplus s) (next p (youngest s) e) t line (sym (youngest_next p s e h) ∙ takes) in
     let young : next p (youngest other) e ≡ Moves one.state one.says = ap (λ (x : State). next p x e) (sym same) ∙ one.takes in
     record {
-      state = more (base other) one.state;
-      says = option_map (more_line (base other)) one.says;
-      takes = youngest_next p other e k ∙ ap (more_next (base other)) young;
-      same = youngest_same (base other) one.state (unused_behind p other e one.state one.says young)
-          ∙ sym (youngest_same (base s) one.state (unused_behind p s e one.state one.says one.takes)) ∙ ap youngest (sym one.moved);
-      same_line = lines_unfreed (freed_more (base other)) one.says ∙ sym (lines_unfreed (freed_more (base s)) one.says)
+      state = more (surplus other) one.state;
+      says = option_map (more_line (surplus other)) one.says;
+      takes = youngest_next p other e k ∙ ap (more_next (surplus other)) young;
+      same = youngest_same (surplus other) one.state (unused_behind p other e one.state one.says young)
+          ∙ sym (youngest_same (surplus s) one.state (unused_behind p s e one.state one.says one.takes)) ∙ ap youngest (sym one.moved);
+      same_line = lines_unfreed (freed_more (surplus other)) one.says ∙ sym (lines_unfreed (freed_more (surplus s)) one.says)
           ∙ ap (option_map unfreed_line) (sym one.moved_line);
     }

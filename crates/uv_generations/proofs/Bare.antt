@@ -23,7 +23,7 @@ use Rattle.uv_shift.proofs.Base.{earliest_later, earliest_same}
 use Rattle.uv_shift.proofs.Timed.{has_later}
 use Rattle.uv_shift.proofs.Alike.{earliest_next, earliest_back}
 use Rattle.uv_generations.specs.Renamed.{Renaming, renamed_slots, renamed_entry, renamed}
-use Rattle.uv_generations.specs.Youngest.{freed_less, least_of, base, youngest, unfreed_line, IsHeld, IsYoung}
+use Rattle.uv_generations.specs.Youngest.{freed_less, least_of, surplus, youngest, unfreed_line, IsInSlot, IsYoung}
 use Rattle.uv_generations.specs.Bare.{bare, bare_line, GoesBare}
 use Rattle.uv_generations.proofs.Alike.{takes_alike}
 
@@ -55,7 +55,7 @@ least_retimed : (r : Retiming) (slot : ℕ) (names : List Named) (o : Option (Sl
 least_retimed r slot names None = refl
 least_retimed r slot names (Some it) = refl
 
-base_retimed : (r : Retiming) (s : State) (slot : ℕ) → base (retimed r s) slot ≡ base s slot
+base_retimed : (r : Retiming) (s : State) (slot : ℕ) → surplus (retimed r s) slot ≡ surplus s slot
 base_retimed r s slot = ap (least_of slot s.names) (slice_get-map (retimed_slot r) s.arena.slots slot)
     ∙ least_retimed r slot s.names (slice_get s.arena.slots slot)
 
@@ -76,7 +76,7 @@ base_renamed f s =
 pub forms_apart : (s : State) → youngest (earliest s) ≡ earliest (youngest s)
 forms_apart s =
     let r = earlier (early.base s) in
-    let f = freed_less (base s) in
+    let f = freed_less (surplus s) in
     let same = base_retimed r s in
     ap (λ (g : Renaming). renamed g (retimed r s)) (λ i slot. freed_less (λ n. same n i) slot)
     ∙ apart f r s
@@ -90,19 +90,19 @@ lines_apart : (p : Program) (o : Option Seen) →
 lines_apart p None = refl
 lines_apart p (Some line) = ap Some (sym (line_apart p line))
 
-lines_bare : (p : Program) (o : Option Seen) → option_map (bare_line p) o ≡ option_map (untimed_line p) (option_map unfreed_line o)
+pub lines_bare : (p : Program) (o : Option Seen) → option_map (bare_line p) o ≡ option_map (untimed_line p) (option_map unfreed_line o)
 lines_bare p None = refl
 lines_bare p (Some line) = refl
 
 -- a line that is later has the same bare one
-bare_later : (p : Program) (d : By) (o : Option Seen) → option_map (bare_line p) (option_map (shift_line p d) o) ≡ option_map (bare_line p) o
+pub bare_later : (p : Program) (d : By) (o : Option Seen) → option_map (bare_line p) (option_map (shift_line p d) o) ≡ option_map (bare_line p) o
 bare_later p d o = lines_apart p (option_map (shift_line p d) o) ∙ ap (option_map unfreed_line) (lines_untimed p (later d) o) ∙ sym (lines_apart p o)
 
 -- ---- the earliest form of a young state is young
 
-held_earlier : (d : By) (s : State) (id : Id) → IsHeld (shift d s) id → IsHeld s id
+held_earlier : (d : By) (s : State) (id : Id) → IsInSlot (shift d s) id → IsInSlot s id
 held_earlier d s id k = by (held s.arena.slots id) refl (sym (held_shift d s.arena.slots id) ∙ k.holds) where
-  by : (o : Option Content) → held s.arena.slots id ≡ o → option_map (retimed_content (later d)) o ≡ Some k.its → IsHeld s id
+  by : (o : Option Content) → held s.arena.slots id ≡ o → option_map (retimed_content (later d)) o ≡ Some k.its → IsInSlot s id
   by None f g = cc g
   by (Some x) f g = record { its = x; holds = f }
 

@@ -7,12 +7,12 @@ use Rattle.uv_records.specs.declared.lists.WatcherKind.TheVariants as watcher
 use Rattle.uv_generations.specs.Renamed as any
 use Rattle.uv_generations.specs.Renamed.{Renaming, renamed}
 use Rattle.uv_generations.specs.More.{Frees, freed_more, more}
-use Rattle.uv_generations.specs.Youngest.{freed_less, or_bound, least_bound, least_of, base, youngest, IsHeld, IsYoung}
+use Rattle.uv_generations.specs.Youngest.{freed_less, or_bound, least_bound, least_of, surplus, youngest, IsInSlot, IsYoung}
 use Rattle.uv_generations.proofs.More.{rename, renamed_named}
 use Rattle.uv_generations.proofs.Slots.{get_renamed}
 use Rattle.uv_generations.proofs.Twice.{both, twice, has_front, has_behind, ids_same, walk_same, running_same, timers_same, slots_same}
 
--- ---- none of its ids is younger than its base
+-- ---- none of its ids is younger than its surplus
 
 or_least : (slot : ℕ) (o : Option Id) (least : ℕ) → or_bound slot o least ≤ least
 or_least slot None least = omega arith
@@ -64,14 +64,14 @@ slot_of slots id x (Some slot) e = (slot, refl, same (slot.generation == id.gene
   same true f e = grind (arith, f)
   same false f e = absurd (let f : ⊥ = cc in f)
 
-held_least : (s : State) (id : Id) → IsHeld s id → base s id.slot ≤ id.generation
+held_least : (s : State) (id : Id) → IsInSlot s id → surplus s id.slot ≤ id.generation
 held_least s id h =
     let slot = slot_of s.arena.slots id h.its (slice_get s.arena.slots id.slot) h.holds in
     let l = bound_least id.slot s.names slot.0.generation in
     let m : least_of id.slot s.names (Some slot.0) ≤ id.generation = omega (arith, l, slot.2) in
     subst (λ (o : Option (Slot Content)). least_of id.slot s.names o ≤ id.generation) (sym slot.1) m
 
-name_least : (s : State) (i : ℕ) (n : Named) (id : Id) → slice_get s.names i ≡ Some n → n.id ≡ Some id → base s id.slot ≤ id.generation
+name_least : (s : State) (i : ℕ) (n : Named) (id : Id) → slice_get s.names i ≡ Some n → n.id ≡ Some id → surplus s id.slot ≤ id.generation
 name_least s i n id e f = by (slice_get s.arena.slots id.slot) where
   by : (o : Option (Slot Content)) → least_of id.slot s.names o ≤ id.generation
   by None = omega arith
@@ -88,17 +88,17 @@ names_same f (n ∷ ns) h =
       by None e = refl
       by (Some id) e = ap Some (h zero n id refl e)
 
-slot_least : (s : State) (n : ℕ) (slot : Slot Content) → slice_get s.arena.slots n ≡ Some slot → base s n ≤ slot.generation
+slot_least : (s : State) (n : ℕ) (slot : Slot Content) → slice_get s.arena.slots n ≡ Some slot → surplus s n ≤ slot.generation
 slot_least s n slot e = subst (λ (o : Option (Slot Content)). least_of n s.names o ≤ slot.generation) (sym e)
     (bound_least n s.names slot.generation)
 
 -- the youngest form, whose slots were freed more often by as much as those of the state itself, is the state
-pub youngest_more : (p : Program) (s : State) → IsYoung p s → more (base s) (youngest s) ≡ s
+pub youngest_more : (p : Program) (s : State) → IsYoung p s → more (surplus s) (youngest s) ≡ s
 youngest_more p s h =
-    let f = again (base s) in
-    let each : (id : Id) → IsHeld s id → any.rename f id ≡ id = λ id k. id_again (base s) id (held_least s id k) in
-    let names = names_same f s.names (λ i n id e k. id_again (base s) id (name_least s i n id e k)) in
-    let slots = slots_same f s.arena.slots (λ n slot e. back_again slot.generation (base s n) (slot_least s n slot e)) in
+    let f = again (surplus s) in
+    let each : (id : Id) → IsInSlot s id → any.rename f id ≡ id = λ id k. id_again (surplus s) id (held_least s id k) in
+    let names = names_same f s.names (λ i n id e k. id_again (surplus s) id (name_least s i n id e k)) in
+    let slots = slots_same f s.arena.slots (λ n slot e. back_again slot.generation (surplus s n) (slot_least s n slot e)) in
     let timers = timers_same f s.timers (λ due id k. each id (h.timers due id k)) in
     let ready = ids_same f s.ready (λ id k. each id (h.ready id k)) in
     let idle = walk_same f s.watchers.idle (λ id k. each id (h.watchers watcher.Idle id k)) in
@@ -109,7 +109,7 @@ youngest_more p s h =
     let waiting = ids_same f s.waiting (λ id k. each id (h.opened id (has_front s.waiting (run_ids s.running) id k))) in
     let running = running_same f s.running (λ id k. each id (h.opened id (has_behind s.waiting (run_ids s.running) id k))) in
     let done = walk_same f s.done (λ id k. each id (h.done id k)) in
-    twice (freed_more (base s)) (freed_less (base s)) s
+    twice (freed_more (surplus s)) (freed_less (surplus s)) s
     ∙ (λ i. record s {
       names = names i;
       arena = record s.arena { slots = slots i };
@@ -142,7 +142,8 @@ bound_more k slot [] least = refl
 bound_more k slot (n ∷ ns) least =
     ap (or_bound slot (option_map (rename k) n.id)) (bound_more k slot ns least) ∙ or_more k slot n.id (least_bound slot ns least)
 
-base_more : (k : Frees) (s : State) (slot : ℕ) → (slice_get s.arena.slots slot ≡ None → k slot ≡ 0) → base (more k s) slot ≡ base s slot + k slot
+base_more : (k : Frees) (s : State) (slot : ℕ) → (slice_get s.arena.slots slot ≡ None → k slot ≡ 0)
+    → surplus (more k s) slot ≡ surplus s slot + k slot
 base_more k s slot unused = ap (least_of slot (map (renamed_named k) s.names)) (get_renamed k s.arena.slots slot)
     ∙ by (slice_get s.arena.slots slot) refl where
       by : (o : Option (Slot Content)) → slice_get s.arena.slots slot ≡ o →
@@ -153,7 +154,7 @@ base_more k s slot unused = ap (least_of slot (map (renamed_named k) s.names)) (
 
 pub youngest_same : (k : Frees) (s : State) → ((slot : ℕ) → slice_get s.arena.slots slot ≡ None → k slot ≡ 0) → youngest (more k s) ≡ youngest s
 youngest_same k s unused =
-    let b = base (more k s) in
-    let each : (slot g : ℕ) → g + k slot - b slot ≡ g - base s slot = λ slot g. (let e = base_more k s slot (unused slot) in omega (arith, e)) in
-    let same : both (freed_less b) (freed_more k) ≡ freed_less (base s) = λ i slot g. each slot g i in
+    let b = surplus (more k s) in
+    let each : (slot g : ℕ) → g + k slot - b slot ≡ g - surplus s slot = λ slot g. (let e = base_more k s slot (unused slot) in omega (arith, e)) in
+    let same : both (freed_less b) (freed_more k) ≡ freed_less (surplus s) = λ i slot g. each slot g i in
     twice (freed_less b) (freed_more k) s ∙ ap (λ (r : Renaming). renamed r s) same

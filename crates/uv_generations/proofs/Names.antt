@@ -1,5 +1,6 @@
 -- The names that proofs of this crate bring in.
-pub use Rattle.std.proofs.Common.{Bool, Err, List, None, Ok, Option, Result, Some, [], add-zero, ap, ap₂, arith, drop, false, if◌then◌else◌, length, nat_le, nat_lt, not, option_and_then, refl, replicate, slice_get, slice_set, subst, suc, sym, true, zero, ℕ, ◌&&◌, ◌++◌, ◌+◌, ◌<◌, ◌==◌, ◌∙◌, ◌∷◌, ◌≡◌}
+pub use Rattle.std.proofs.Common.{Bool, Err, List, None, Ok, Option, Result, Some, [], add-zero, ap, ap₂, arith, drop, false, if◌then◌else◌, length, nat_le, nat_lt, not}
+pub use Rattle.std.proofs.Common.{option_and_then, refl, replicate, slice_get, slice_set, subst, suc, sym, true, zero, ℕ, ◌&&◌, ◌++◌, ◌+◌, ◌<◌, ◌==◌, ◌∙◌, ◌∷◌, ◌≡◌}
 pub use Rattle.std.proofs.lemmas.Bool.{eqb-true}
 pub use Rattle.std.specs.List.{list_any}
 pub use Rattle.std.specs.Ordering.{match_ordering}
@@ -25,7 +26,8 @@ pub use Rattle.uv_model.specs.Found.{found_or}
 pub use Rattle.uv_model.specs.Ids.{same_id, without_id}
 pub use Rattle.uv_model.specs.Next.{Moves, Next, Refuses}
 pub use Rattle.uv_model.specs.Ops.{do_op, refuses}
-pub use Rattle.uv_model.specs.State.{State, Watchers, as_handle, as_request, fresh, front, front_request, handle, live, live_handle, live_id, live_request, named, refreshed, request, those_of, watched, with_handle, with_id, with_named, with_request, with_those_of, with_watched}
+pub use Rattle.uv_model.specs.State.{State, Watchers, as_handle, as_request, fresh, front, front_request, handle, live, live_handle, live_id, live_request, named}
+pub use Rattle.uv_model.specs.State.{refreshed, request, those_of, watched, with_handle, with_id, with_named, with_request, with_those_of, with_watched}
 pub use Rattle.uv_model.specs.Timers.{due_after, restarted, started, stopped, taken_off, with_timer, without_timer}
 pub use Rattle.uv_model.specs.declared.place.Body.{Body}
 pub use Rattle.uv_model.specs.declared.place.Place.{Place}

@@ -7,7 +7,7 @@ use Rattle.uv_script.specs.Program.{Program}
 use Rattle.uv_model.specs.State.{State}
 use Rattle.uv_order.specs.Active.{Before, InOrder, Has, IsTimer, AreTimers}
 use Rattle.uv_generations.specs.More.{Frees, more}
-use Rattle.uv_generations.specs.Youngest.{base, youngest, IsYoung}
+use Rattle.uv_generations.specs.Youngest.{surplus, youngest, IsYoung}
 use Rattle.uv_generations.proofs.More.{rename, renamed_entry}
 use Rattle.uv_generations.proofs.Slots.{handle_renamed}
 use Rattle.uv_generations.proofs.Base.{youngest_more}
@@ -66,4 +66,4 @@ timers_less k s h = record {
 
 pub youngest_timers : (p : Program) (s : State) → IsYoung p s → AreTimers s s.timers → AreTimers (youngest s) (youngest s).timers
 youngest_timers p s h k =
-    timers_less (base s) (youngest s) (subst (λ (x : State). AreTimers x x.timers) (sym (youngest_more p s h)) k)
+    timers_less (surplus s) (youngest s) (subst (λ (x : State). AreTimers x x.timers) (sym (youngest_more p s h)) k)

@@ -8,7 +8,7 @@ use Rattle.uv_model.specs.Next.{next}
 use Rattle.uv_model.proofs.Bounded.{next_bounded}
 use Rattle.uv_model.proofs.Counting.{Counts, Freed, IsBounded, StaysBounded, slot_freed}
 use Rattle.uv_order.proofs.Reaching.{reached}
-use Rattle.uv_generations.specs.Youngest.{IsHeld, IsYoung}
+use Rattle.uv_generations.specs.Youngest.{IsInSlot, IsYoung}
 use Rattle.uv_generations.proofs.Base.{slot_of}
 
 -- ---- how often slots were freed
@@ -42,15 +42,15 @@ held_freed s n id x h e =
 
 -- ---- who is held
 
-handle_held : (s : State) (id : Id) (h : HandleRecord) → handle s id ≡ Some h → IsHeld s id
+handle_held : (s : State) (id : Id) (h : HandleRecord) → handle s id ≡ Some h → IsInSlot s id
 handle_held s id h e = by (held s.arena.slots id) refl e where
-  by : (o : Option Content) → held s.arena.slots id ≡ o → handle_in o ≡ Some h → IsHeld s id
+  by : (o : Option Content) → held s.arena.slots id ≡ o → handle_in o ≡ Some h → IsInSlot s id
   by None f g = cc g
   by (Some x) f g = record { its = x; holds = f }
 
-request_held : (s : State) (id : Id) (r : Request) → request s id ≡ Some r → IsHeld s id
+request_held : (s : State) (id : Id) (r : Request) → request s id ≡ Some r → IsInSlot s id
 request_held s id r e = by (held s.arena.slots id) refl e where
-  by : (o : Option Content) → held s.arena.slots id ≡ o → request_in o ≡ Some r → IsHeld s id
+  by : (o : Option Content) → held s.arena.slots id ≡ o → request_in o ≡ Some r → IsInSlot s id
   by None f g = cc g
   by (Some x) f g = record { its = x; holds = f }
 

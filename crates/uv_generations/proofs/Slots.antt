@@ -100,7 +100,8 @@ named_renamed k s v = ap (λ (o : Option Named). unwrap_or o unbound) (slice_get
 pub with_named_renamed : (k : Frees) (s : State) (v : Var) (n : Named) → with_named (renamed k s) v (renamed_named k n) ≡ renamed k (with_named s v n)
 with_named_renamed k s v n = ap (λ (ns : List Named). record (renamed k s) { names = ns }) (set_map (renamed_named k) s.names v.0 n)
 
-live_id_renamed : (k : Frees) (s : State) (o : Option Id) → live_id (renamed k s) (option_map (rename k) o) ≡ option_map (renamed_pair k) (live_id s o)
+live_id_renamed : (k : Frees) (s : State) (o : Option Id)
+    → live_id (renamed k s) (option_map (rename k) o) ≡ option_map (renamed_pair k) (live_id s o)
 live_id_renamed k s None = refl
 live_id_renamed k s (Some id) = ap (with_id (rename k id)) (held_renamed k s.arena.slots id) ∙ with_id_renamed k id (held s.arena.slots id)
 

@@ -373,7 +373,8 @@ io_run_renamed : (p : Program) (k : Frees) (s : State) (place : Place) → steps
 io_run_renamed p k s (Main line) = refl
 io_run_renamed p k s (Running run) = ap (λ (b : Bool). if has_io p && b then Some run else None) (takes_renamed k s run.stage run.body)
 
-io_handle_renamed : (k : Frees) (t : Result (Id × HandleRecord) Code) → steps.io_handle (renamed_found k t) ≡ option_map (rename k) (steps.io_handle t)
+io_handle_renamed : (k : Frees) (t : Result (Id × HandleRecord) Code)
+    → steps.io_handle (renamed_found k t) ≡ option_map (rename k) (steps.io_handle t)
 io_handle_renamed k (Err code) = refl
 io_handle_renamed k (Ok t) = by (records.is_io t.1.kind && t.1.active) where
   by : (b : Bool) → (if b then Some (rename k t.0) else None) ≡ option_map (rename k) (if b then Some t.0 else None)

@@ -39,27 +39,27 @@ least_of slot names None = 0
 least_of slot names (Some it) = least_bound slot names it.generation
 
 -- how many times more the slots of a state were freed than those of its youngest form
-abbrev pub base : State → Frees
-base s = λ slot. least_of slot s.names (slice_get s.arena.slots slot)
+abbrev pub surplus : State → Frees
+surplus s = λ slot. least_of slot s.names (slice_get s.arena.slots slot)
 
 abbrev pub youngest : State → State
-youngest s = less (base s) s
+youngest s = less (surplus s) s
 
 -- ---- what holds of each state that steps lead to
 
 -- the id's slot holds it still
-pub record IsHeld (s : State) (id : Id) : Type 0 where
+pub record IsInSlot (s : State) (id : Id) : Type 0 where
   pub its : Content
   pub holds : held s.arena.slots id ≡ Some its
 
 -- who stands on a list is held, and none of those that are held is at its last generation
 pub record IsYoung (p : Program) (s : State) : Type 0 where
-  pub timers : (due : Due) (id : Id) → Has s.timers due id → IsHeld s id
-  pub ready : (id : Id) → has_id s.ready id ≡ true → IsHeld s id
-  pub watchers : (q : WatcherKind) (id : Id) → has_id ((watched s q).list ++ (watched s q).yet) id ≡ true → IsHeld s id
-  pub closing : (id : Id) → has_id (s.closing.list ++ s.closing.yet) id ≡ true → IsHeld s id
-  pub opened : (id : Id) → has_id (s.waiting ++ run_ids s.running) id ≡ true → IsHeld s id
-  pub done : (id : Id) → has_id (s.done.list ++ s.done.yet) id ≡ true → IsHeld s id
+  pub timers : (due : Due) (id : Id) → Has s.timers due id → IsInSlot s id
+  pub ready : (id : Id) → has_id s.ready id ≡ true → IsInSlot s id
+  pub watchers : (q : WatcherKind) (id : Id) → has_id ((watched s q).list ++ (watched s q).yet) id ≡ true → IsInSlot s id
+  pub closing : (id : Id) → has_id (s.closing.list ++ s.closing.yet) id ≡ true → IsInSlot s id
+  pub opened : (id : Id) → has_id (s.waiting ++ run_ids s.running) id ≡ true → IsInSlot s id
+  pub done : (id : Id) → has_id (s.done.list ++ s.done.yet) id ≡ true → IsInSlot s id
   pub left : (id : Id) (x : Content) → held s.arena.slots id ≡ Some x → id.generation < (arena_size p).last_generation
 
 -- ---- steps that are the same except for the generations

@@ -7,7 +7,7 @@ ghost use Rattle.uv_model.specs.State.{State};
 ghost use Rattle.uv_model.specs.Next.{Moves, next};
 ghost use Rattle.uv_model.specs.After.{after};
 ghost use Rattle.uv_generations.specs.More.{Frees, more, more_next, CanRename};
-ghost use Rattle.uv_generations.specs.Youngest.{base, youngest, IsYoung, TakesAlike};
+ghost use Rattle.uv_generations.specs.Youngest.{surplus, youngest, IsYoung, TakesAlike};
 ghost use Rattle.uv_generations.specs.Bare.{bare, GoesBare};
 ghost use Rattle.uv_shift.specs.Earliest.{IsTimed};
 ghost use Rattle.uv_shift.specs.Shift.{ClockFits};
@@ -18,10 +18,10 @@ pub fn generations_rename()
     ensures { (p : Program) (k : Frees) (s : State) (e : Event) → CanRename p k s → next p (more k s) e ≡ more_next k (next p s e) }
 {}
 
-/// The youngest form of a state, freed more often by its base, is the state; and however often its slots were freed more, its youngest
+/// The youngest form of a state, freed more often by its surplus, is the state; and however often its slots were freed more, its youngest
 /// form is the same, if those that were never used were never freed. It does nothing, and is called for its clause.
 pub fn youngest_form()
-    ensures renamed { (p : Program) (s : State) → IsYoung p s → more (base s) (youngest s) ≡ s }
+    ensures renamed { (p : Program) (s : State) → IsYoung p s → more (surplus s) (youngest s) ≡ s }
     ensures same { (k : Frees) (s : State) → ((slot : ℕ) → slice_get s.arena.slots slot ≡ None → k slot ≡ 0) → youngest (more k s) ≡ youngest s }
 {}
 

@@ -33,7 +33,7 @@ bound_capped n s v = ap (λ (x : Named). x.id) (named_capped n s v)
 
 -- ---- counts
 
-count_capped : (n : ℕ) (kind : Callback) (c : Calls) → count_of kind (capped_calls n c) ≡ min (count_of kind c) n
+pub count_capped : (n : ℕ) (kind : Callback) (c : Calls) → count_of kind (capped_calls n c) ≡ min (count_of kind c) n
 count_capped n callback.Handle c = refl
 count_capped n callback.After c = refl
 count_capped n callback.Close c = refl

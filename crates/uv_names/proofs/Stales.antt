@@ -44,7 +44,7 @@ slot_stays id (Some slot) = by (nat_lt id.generation slot.generation)
     by true = refl
     by false = refl
 
-held_same : (slots : List (Slot Content)) (id : Id) → held slots (staled_id slots id) ≡ held slots id
+pub held_same : (slots : List (Slot Content)) (id : Id) → held slots (staled_id slots id) ≡ held slots id
 held_same slots id = ap (λ n. option_and_then (held_in (staled_id slots id)) (slice_get slots n)) (slot_stays id (slice_get slots id.slot))
     ∙ held_alike id (slice_get slots id.slot)
 
@@ -178,7 +178,7 @@ alike_by_names p s t e same = sym (names_staled p s e) ∙ ap (λ u. staled_next
 
 -- ---- what staled names tell
 
-named_staled : (s : State) (v : Var) → named (staled s) v ≡ staled_name s.arena.slots (named s v)
+pub named_staled : (s : State) (v : Var) → named (staled s) v ≡ staled_name s.arena.slots (named s v)
 named_staled s v = named_changed (staled_name s.arena.slots) as_is s v refl
 
 pub live_staled : (s : State) (v : Var) → live (staled s) v ≡ live s v

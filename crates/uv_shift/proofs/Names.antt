@@ -1,5 +1,6 @@
 -- The names that proofs of this crate bring in.
-pub use Rattle.std.proofs.Common.{All, Bool, Err, List, None, Ok, Option, Result, Some, [], ap, ap₂, arith, drop, false, if◌then◌else◌, length, nat_le, nat_lt, not, option_and_then, refl, replicate, slice_get, slice_set, subst, suc, sym, true, zero, ℕ, ◌&&◌, ◌++◌, ◌+◌, ◌-◌, ◌<◌, ◌==◌, ◌^◌, ◌∙◌, ◌∷◌, ◌≡◌, ◌≤◌}
+pub use Rattle.std.proofs.Common.{All, Bool, Err, List, None, Ok, Option, Result, Some, [], ap, ap₂, arith, drop, false, if◌then◌else◌, length, nat_le, nat_lt, not, option_and_then}
+pub use Rattle.std.proofs.Common.{refl, replicate, slice_get, slice_set, subst, suc, sym, true, zero, ℕ, ◌&&◌, ◌++◌, ◌+◌, ◌-◌, ◌<◌, ◌==◌, ◌^◌, ◌∙◌, ◌∷◌, ◌≡◌, ◌≤◌}
 pub use Rattle.std.proofs.lemmas.Bool.{cond_both}
 pub use Rattle.std.proofs.lemmas.Grind.{elements}
 pub use Rattle.std.proofs.lemmas.Option.{none-some, same_Some}
@@ -27,7 +28,8 @@ pub use Rattle.uv_model.specs.Found.{found_or}
 pub use Rattle.uv_model.specs.Ids.{same_id, without_id}
 pub use Rattle.uv_model.specs.Next.{Moves, Next, Refuses, first_due}
 pub use Rattle.uv_model.specs.Ops.{do_op, refuses}
-pub use Rattle.uv_model.specs.State.{State, as_handle, as_request, fresh, front, front_request, handle, live, live_handle, live_id, live_request, named, refreshed, request, watched, with_handle, with_id, with_request, with_watched}
+pub use Rattle.uv_model.specs.State.{State, as_handle, as_request, fresh, front, front_request, handle, live, live_handle, live_id, live_request}
+pub use Rattle.uv_model.specs.State.{named, refreshed, request, watched, with_handle, with_id, with_request, with_watched}
 pub use Rattle.uv_model.specs.Timers.{due_after, restarted, started, stopped, taken_off, with_timer, without_timer}
 pub use Rattle.uv_model.specs.declared.place.Body.{Body}
 pub use Rattle.uv_model.specs.declared.place.Place.{Place}
@@ -45,7 +47,8 @@ pub use Rattle.uv_model.specs.declared.place.Way.TheVariants.{ToEnd, ToPending, 
 pub use Rattle.uv_records.specs.Handles.{activated, begun_at, inited, is_async, is_timer, referenced_as, repeating}
 pub use Rattle.uv_records.specs.Lists.{watcher_kind}
 pub use Rattle.uv_records.specs.Names.{unbound}
-pub use Rattle.uv_records.specs.Refusals.{again_refusal, close_refusal, invalid_if, is_startable, no_refusal, only_if, send_refusal, start_timer_refusal, start_watcher_refusal, stop_refusal, timer_refusal}
+pub use Rattle.uv_records.specs.Refusals.{again_refusal, close_refusal, invalid_if, is_startable, no_refusal, only_if, send_refusal}
+pub use Rattle.uv_records.specs.Refusals.{start_timer_refusal, start_watcher_refusal, stop_refusal, timer_refusal}
 pub use Rattle.uv_records.specs.Slots.{Slots, freed, held, held_in, id_of, next_free, next_id, taken, taken_from}
 pub use Rattle.uv_records.specs.Walks.{with_first, with_last}
 pub use Rattle.uv_records.specs.declared.handle.HandleRecord.{HandleRecord}

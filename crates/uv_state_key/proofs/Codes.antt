@@ -24,7 +24,8 @@ use Rattle.uv_model.specs.declared.place.Timing.TheVariants.{Collecting, Firing}
 use Rattle.uv_key.specs.Codes.{number_code, byte_code, Tells}
 use Rattle.uv_key.proofs.Numbers.{number_small}
 use Rattle.uv_key.proofs.Telling.{numbers_tell, byte_tells, pair_tells, part_tells, list_tells, option_tells, settled_back}
-use Rattle.uv_state_key.specs.Key.{id_code, ids_code, bit, mode_number, callback_number, stage_part, stage_code, body_code, run_code, place_code, calls_code, named_code, kind_number, flags_of, handle_code, slot_code, walk_code, numbers_code}
+use Rattle.uv_state_key.specs.Key.{id_code, ids_code, bit, mode_number, callback_number, stage_part, stage_code, body_code, run_code}
+use Rattle.uv_state_key.specs.Key.{place_code, calls_code, named_code, kind_number, flags_of, handle_code, slot_code, walk_code, numbers_code}
 
 -- ---- ids
 

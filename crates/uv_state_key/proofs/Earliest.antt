@@ -18,7 +18,8 @@ use Rattle.uv_generations.proofs.Base.{youngest_more}
 use Rattle.uv_generations.proofs.Bare.{earliest_young}
 use Rattle.uv_generations.proofs.Ordered.{youngest_timers}
 use Rattle.uv_state_key.specs.Key.{state_code}
-use Rattle.uv_state_key.proofs.States.{IsTold, states_tell, after_told}
+use Rattle.uv_state_key.specs.Told.{IsTold}
+use Rattle.uv_state_key.proofs.States.{states_tell, after_told}
 
 -- it keeps what a state keeps of which the bytes tell all
 pub earliest_told : (s : State) → IsTold s → IsTold (earliest s)
@@ -46,8 +47,8 @@ youngest_told p s young h =
     let same = youngest_more p s young in
     record {
       timers = youngest_timers p s young h.timers;
-      digests = λ id r e. h.digests (rename (old.base s) id) r
-          (ap (λ (x : State). request x (rename (old.base s) id)) (sym same) ∙ request_renamed (old.base s) (youngest s) id ∙ e);
+      digests = λ id r e. h.digests (rename (old.surplus s) id) r
+          (ap (λ (x : State). request x (rename (old.surplus s) id)) (sym same) ∙ request_renamed (old.surplus s) (youngest s) id ∙ e);
     }
 
 -- equal bytes of two bare forms are equal forms

@@ -4,4 +4,7 @@ mod Timers
 mod Slots
 pub mod States
 pub mod Earliest
+mod TurnedLemmas
+mod ComputedLemmas
+pub mod FormsTell
 pub mod Listed

@@ -1,5 +1,6 @@
 -- What stands on lists is held by slots: where no slot holds any of it, a list is empty.
-use Rattle.std.proofs.Common.{arith, ◌≡◌, ◌⊎◌, inl, inr, ℕ, zero, suc, ◌<◌, Bool, true, false, List, [], ◌∷◌, ◌++◌, length, Option, Some, None, option_and_then, slice_get, if◌then◌else◌, refl, ap, sym, subst, ◌∙◌}
+use Rattle.std.proofs.Common.{arith, ◌≡◌, ◌⊎◌, inl, inr, ℕ, zero, suc, ◌<◌, Bool, true, false, List, []}
+use Rattle.std.proofs.Common.{◌∷◌, ◌++◌, length, Option, Some, None, option_and_then, slice_get, if◌then◌else◌, refl, ap, sym, subst, ◌∙◌}
 use Rattle.std.proofs.lemmas.Bool.{eqb-true}
 use Rattle.std.proofs.lemmas.List.{append-nil}
 use Rattle.uv_ids.specs.declared.event.Event.{Event}
@@ -29,7 +30,7 @@ use Rattle.uv_state_key.specs.Key.{id_code, ids_code}
 use Rattle.uv_state_key.specs.declared.holds.Holds.{Holds}
 use Rattle.uv_state_key.specs.declared.holds.Few.{Few}
 use Rattle.uv_state_key.specs.declared.holds.Few.TheVariants as few
-use Rattle.uv_state_key.specs.Holding.{AreFew, one_more, with_content, content_at, id_at, id_by, holds_in, held_by, no_holds, with_active, with_closing, with_handle, with_request, with_resting}
+use Rattle.uv_state_key.specs.Holding.{AreFew, one_more, and_content, content_at, id_at, id_by, holds_in, held_by, no_holds, and_active, and_closing, and_handle, and_request, and_resting}
 
 -- ---- what one of them holds is told
 
@@ -41,8 +42,8 @@ or_last (suc k) (suc n) l = elim (or_last k n (omega arith)) [ inl e ↦ inl (ap
 
 -- something of a slot is told by a flag: it is set by such a slot, and stays set
 record Told (flag : Holds → Bool) (Is : Option Content → Type 0) : Type 0 where
-  pub adds : (f : Holds) (id : Id) (c : Option Content) → Is c → flag (with_content f id c) ≡ true
-  pub stays : (f : Holds) (id : Id) (c : Option Content) → flag f ≡ true → flag (with_content f id c) ≡ true
+  pub adds : (f : Holds) (id : Id) (c : Option Content) → Is c → flag (and_content f id c) ≡ true
+  pub stays : (f : Holds) (id : Id) (c : Option Content) → flag f ≡ true → flag (and_content f id c) ≡ true
 
 told_by : (flag : Holds → Bool) (Is : Option Content → Type 0) → Told flag Is → (slots : List (Slot Content)) (k n : ℕ) → k < n
     → Is (content_at slots k) → flag (holds_in slots n) ≡ true
@@ -50,7 +51,7 @@ told_by flag Is t slots k zero l is = absurd (omega (arith, l))
 told_by flag Is t slots k (suc n) l is = by (or_last k n l) (λ m. told_by flag Is t slots k n m is)
   where
     by : ((k ≡ n) ⊎ (k < n)) → (k < n → flag (holds_in slots n) ≡ true)
-        → flag (with_content (holds_in slots n) (id_at slots n) (content_at slots n)) ≡ true
+        → flag (and_content (holds_in slots n) (id_at slots n) (content_at slots n)) ≡ true
     by (inl e) more = t.adds (holds_in slots n) (id_at slots n) (content_at slots n) (subst (λ i. Is (content_at slots i)) e is)
     by (inr m) more = t.stays (holds_in slots n) (id_at slots n) (content_at slots n) (more m)
 
@@ -99,8 +100,8 @@ Counts was id is There = (is ≡ was) ⊎ (There × (is ≡ one_more was id))
 
 record Counted (count : Holds → Few) (Is : Option Content → Type 0) : Type 0 where
   pub begins : count no_holds ≡ few.None
-  pub adds : (f : Holds) (id : Id) (c : Option Content) → Is c → count (with_content f id c) ≡ one_more (count f) id
-  pub counts : (f : Holds) (id : Id) (c : Option Content) → Counts (count f) id (count (with_content f id c)) (Is c)
+  pub adds : (f : Holds) (id : Id) (c : Option Content) → Is c → count (and_content f id c) ≡ one_more (count f) id
+  pub counts : (f : Holds) (id : Id) (c : Option Content) → Counts (count f) id (count (and_content f id c)) (Is c)
 
 not_none : (x : Few) (id : Id) → one_more x id ≡ few.None → ⊥
 not_none few.None id e = cc e
@@ -129,7 +130,7 @@ module _ (count : Holds → Few) (Is : Option Content → Type 0) (t : Counted c
       id : Id
       id = id_at slots n
 
-      by : Counts (count f) id (count (with_content f id (content_at slots n))) (Is (content_at slots n)) → (k ≡ n) ⊎ (k < n)
+      by : Counts (count f) id (count (and_content f id (content_at slots n))) (Is (content_at slots n)) → (k ≡ n) ⊎ (k < n)
           → (count f ≡ few.None → k < n → ⊥) → ⊥
       by (inr there) at more = not_none (count f) id (sym there.1 ∙ e)
       by (inl same) (inr m) more = more (sym same ∙ e) m
@@ -147,7 +148,7 @@ module _ (count : Holds → Few) (Is : Option Content → Type 0) (t : Counted c
       id : Id
       id = id_at slots n
 
-      by : Counts (count f) id (count (with_content f id (content_at slots n))) (Is (content_at slots n)) → (k ≡ n) ⊎ (k < n)
+      by : Counts (count f) id (count (and_content f id (content_at slots n))) (Is (content_at slots n)) → (k ≡ n) ⊎ (k < n)
           → (count f ≡ few.One x → k < n → id_at slots k ≡ x) → id_at slots k ≡ x
       by (inl same) (inr m) more = more (sym same ∙ e) m
       by (inl same) (inl last) more = absurd (not_again (count f) id x x (sym same ∙ e)
@@ -167,7 +168,7 @@ module _ (count : Holds → Few) (Is : Option Content → Type 0) (t : Counted c
       id : Id
       id = id_at slots n
 
-      by : Counts (count f) id (count (with_content f id (content_at slots n))) (Is (content_at slots n))
+      by : Counts (count f) id (count (and_content f id (content_at slots n))) (Is (content_at slots n))
           → (count f ≡ few.One x → (k : ℕ) × ((k < n) × Is (content_at slots k) × (id_at slots k ≡ x)))
           → (k : ℕ) × ((k < suc n) × Is (content_at slots k) × (id_at slots k ≡ x))
       by (inl same) more = let one = more (sym same ∙ e) in (one.0, (omega (arith, one.1.0), one.1.1, one.1.2))
@@ -242,21 +243,21 @@ Opens b c = (r : Request) × ((c ≡ Some (content.Request r)) × (is_open r.out
 
 -- ---- where the slots hold handles of a kind
 
-active_told : (q : WatcherKind) (f : Holds) (id : Id) (k : Kind) → Counts (watch_count q f) id (watch_count q (with_active f id k)) (k ≡ kind_as q)
+active_told : (q : WatcherKind) (f : Holds) (id : Id) (k : Kind) → Counts (watch_count q f) id (watch_count q (and_active f id k)) (k ≡ kind_as q)
 active_told watcher.Idle f id kind.Idle = inr (refl, refl)
 active_told watcher.Prepare f id kind.Prepare = inr (refl, refl)
 active_told watcher.Check f id kind.Check = inr (refl, refl)
 active_told watcher.Async f id kind.Async = inr (refl, refl)
 active_told q f id k = inl refl
 
-closing_stays : (q : WatcherKind) (f : Holds) (id : Id) (b : Bool) → watch_count q (with_closing f id b) ≡ watch_count q f
+closing_stays : (q : WatcherKind) (f : Holds) (id : Id) (b : Bool) → watch_count q (and_closing f id b) ≡ watch_count q f
 closing_stays watcher.Idle f id true = refl
 closing_stays watcher.Prepare f id true = refl
 closing_stays watcher.Check f id true = refl
 closing_stays watcher.Async f id true = refl
 closing_stays q f id false = refl
 
-resting_stays : (q : WatcherKind) (f : Holds) (b : Bool) → watch_count q (with_resting f b) ≡ watch_count q f
+resting_stays : (q : WatcherKind) (f : Holds) (b : Bool) → watch_count q (and_resting f b) ≡ watch_count q f
 resting_stays watcher.Idle f true = refl
 resting_stays watcher.Prepare f true = refl
 resting_stays watcher.Check f true = refl
@@ -264,7 +265,7 @@ resting_stays watcher.Async f true = refl
 resting_stays q f false = refl
 
 request_stays : (q : WatcherKind) (f : Holds) (id : Id) (r : Request) (b : Bool) → is_open r.outcome ≡ b
-    → watch_count q (with_request f id r) ≡ watch_count q f
+    → watch_count q (and_request f id r) ≡ watch_count q f
 request_stays watcher.Idle f id r true e = rw e refl
 request_stays watcher.Prepare f id r true e = rw e refl
 request_stays watcher.Check f id r true e = rw e refl
@@ -274,7 +275,7 @@ request_stays watcher.Prepare f id r false e = rw e refl
 request_stays watcher.Check f id r false e = rw e refl
 request_stays watcher.Async f id r false e = rw e refl
 
-active_adds : (q : WatcherKind) (f : Holds) (id : Id) → watch_count q (with_active f id (kind_as q)) ≡ one_more (watch_count q f) id
+active_adds : (q : WatcherKind) (f : Holds) (id : Id) → watch_count q (and_active f id (kind_as q)) ≡ one_more (watch_count q f) id
 active_adds watcher.Idle f id = refl
 active_adds q f id = refl
 
@@ -282,7 +283,7 @@ active_counted : (q : WatcherKind) → Counted (watch_count q) (Active (kind_as 
 active_counted q = record {
   begins = begins q;
   adds = λ f id c is. rw (is.1.0, is.1.2, is.1.1)
-      (active_adds q (with_closing f id is.0.closing) id ∙ ap (λ x. one_more x id) (closing_stays q f id is.0.closing));
+      (active_adds q (and_closing f id is.0.closing) id ∙ ap (λ x. one_more x id) (closing_stays q f id is.0.closing));
   counts = counts;
 } where
   begins : (q : WatcherKind) → watch_count q no_holds ≡ few.None
@@ -290,53 +291,53 @@ active_counted q = record {
   begins q = refl
 
   handle : (f : Holds) (id : Id) (h : HandleRecord) (b : Bool) → h.active ≡ b
-      → Counts (watch_count q f) id (watch_count q (with_handle f id h)) (Active (kind_as q) (Some (content.Handle h)))
-  handle f id h false e = rw e (inl (resting_stays q (with_closing f id h.closing) (is_timer h.kind) ∙ closing_stays q f id h.closing))
+      → Counts (watch_count q f) id (watch_count q (and_handle f id h)) (Active (kind_as q) (Some (content.Handle h)))
+  handle f id h false e = rw e (inl (resting_stays q (and_closing f id h.closing) (is_timer h.kind) ∙ closing_stays q f id h.closing))
   handle f id h true e =
-      let g : Holds = with_closing f id h.closing in
-      let step : watch_count q (with_handle f id h) ≡ watch_count q (with_active g id h.kind) =
-      ap (λ (b : Bool). watch_count q (if b then with_active g id h.kind else with_resting g (is_timer h.kind))) e in
-      let one : Counts (watch_count q f) id (watch_count q (with_active g id h.kind)) (Active (kind_as q) (Some (content.Handle h))) =
+      let g : Holds = and_closing f id h.closing in
+      let step : watch_count q (and_handle f id h) ≡ watch_count q (and_active g id h.kind) =
+      ap (λ (b : Bool). watch_count q (if b then and_active g id h.kind else and_resting g (is_timer h.kind))) e in
+      let one : Counts (watch_count q f) id (watch_count q (and_active g id h.kind)) (Active (kind_as q) (Some (content.Handle h))) =
       elim (active_told q g id h.kind) [
         | inl same ↦ inl (same ∙ closing_stays q f id h.closing)
         | inr one ↦ inr ((h, (refl, one.0, e)), one.1 ∙ ap (λ x. one_more x id) (closing_stays q f id h.closing))
       ] in
       subst (λ x. Counts (watch_count q f) id x (Active (kind_as q) (Some (content.Handle h)))) (sym step) one
 
-  counts : (f : Holds) (id : Id) (c : Option Content) → Counts (watch_count q f) id (watch_count q (with_content f id c)) (Active (kind_as q) c)
+  counts : (f : Holds) (id : Id) (c : Option Content) → Counts (watch_count q f) id (watch_count q (and_content f id c)) (Active (kind_as q) c)
   counts f id None = inl refl
   counts f id (Some (content.Request r)) = inl (request_stays q f id r (is_open r.outcome) refl)
   counts f id (Some (content.Handle h)) = handle f id h h.active refl
 
 -- ---- where they hold handles that close, and requests that ended
 
-active_else : (f : Holds) (id : Id) (k : Kind) → ((with_active f id k).closing ≡ f.closing) × ((with_active f id k).ended ≡ f.ended)
+active_else : (f : Holds) (id : Id) (k : Kind) → ((and_active f id k).closing ≡ f.closing) × ((and_active f id k).ended ≡ f.ended)
 active_else f id kind.Timer = (refl, refl)
 active_else f id k = (refl, refl)
 
-resting_else : (f : Holds) (b : Bool) → ((with_resting f b).closing ≡ f.closing) × ((with_resting f b).ended ≡ f.ended)
+resting_else : (f : Holds) (b : Bool) → ((and_resting f b).closing ≡ f.closing) × ((and_resting f b).ended ≡ f.ended)
 resting_else f true = (refl, refl)
 resting_else f false = (refl, refl)
 
 handle_else : (f : Holds) (id : Id) (h : HandleRecord) (b : Bool) → h.active ≡ b
-    → ((with_handle f id h).closing ≡ (with_closing f id h.closing).closing) × ((with_handle f id h).ended ≡ (with_closing f id h.closing).ended)
-handle_else f id h true e = rw e (active_else (with_closing f id h.closing) id h.kind)
-handle_else f id h false e = rw e (resting_else (with_closing f id h.closing) (is_timer h.kind))
+    → ((and_handle f id h).closing ≡ (and_closing f id h.closing).closing) × ((and_handle f id h).ended ≡ (and_closing f id h.closing).ended)
+handle_else f id h true e = rw e (active_else (and_closing f id h.closing) id h.kind)
+handle_else f id h false e = rw e (resting_else (and_closing f id h.closing) (is_timer h.kind))
 
 closing_counted : Counted (λ f. f.closing) Closing
 closing_counted = record { begins = refl; adds = adds; counts = counts } where
-  adds : (f : Holds) (id : Id) (c : Option Content) → Closing c → (with_content f id c).closing ≡ one_more f.closing id
+  adds : (f : Holds) (id : Id) (c : Option Content) → Closing c → (and_content f id c).closing ≡ one_more f.closing id
   adds f id c (h, (is, on)) = rw is ((handle_else f id h h.active refl).0 ∙ rw on refl)
 
   closes : (f : Holds) (id : Id) (h : HandleRecord) (b : Bool) → h.closing ≡ b
-      → Counts f.closing id (with_closing f id b).closing (Closing (Some (content.Handle h)))
+      → Counts f.closing id (and_closing f id b).closing (Closing (Some (content.Handle h)))
   closes f id h true e = inr ((h, (refl, e)), refl)
   closes f id h false e = inl refl
 
-  counts : (f : Holds) (id : Id) (c : Option Content) → Counts f.closing id (with_content f id c).closing (Closing c)
+  counts : (f : Holds) (id : Id) (c : Option Content) → Counts f.closing id (and_content f id c).closing (Closing c)
   counts f id None = inl refl
   counts f id (Some (content.Request r)) = by (is_open r.outcome) refl where
-    by : (b : Bool) → is_open r.outcome ≡ b → Counts f.closing id (with_request f id r).closing (Closing (Some (content.Request r)))
+    by : (b : Bool) → is_open r.outcome ≡ b → Counts f.closing id (and_request f id r).closing (Closing (Some (content.Request r)))
     by true e = rw e (inl refl)
     by false e = rw e (inl refl)
   counts f id (Some (content.Handle h)) =
@@ -345,14 +346,14 @@ closing_counted = record { begins = refl; adds = adds; counts = counts } where
 
 ended_counted : Counted (λ f. f.ended) (Opens false)
 ended_counted = record { begins = refl; adds = λ f id c is. rw (is.1.0, is.1.1) refl; counts = counts } where
-  ends : (f : Holds) (id : Id) (b : Bool) → (with_closing f id b).ended ≡ f.ended
+  ends : (f : Holds) (id : Id) (b : Bool) → (and_closing f id b).ended ≡ f.ended
   ends f id true = refl
   ends f id false = refl
 
-  counts : (f : Holds) (id : Id) (c : Option Content) → Counts f.ended id (with_content f id c).ended (Opens false c)
+  counts : (f : Holds) (id : Id) (c : Option Content) → Counts f.ended id (and_content f id c).ended (Opens false c)
   counts f id None = inl refl
   counts f id (Some (content.Request r)) = by (is_open r.outcome) refl where
-    by : (b : Bool) → is_open r.outcome ≡ b → Counts f.ended id (with_request f id r).ended (Opens false (Some (content.Request r)))
+    by : (b : Bool) → is_open r.outcome ≡ b → Counts f.ended id (and_request f id r).ended (Opens false (Some (content.Request r)))
     by true e = rw e (inl refl)
     by false e = rw e (inr ((r, (refl, e)), refl))
   counts f id (Some (content.Handle h)) = inl ((handle_else f id h h.active refl).1 ∙ ends f id h.closing)

@@ -18,13 +18,13 @@ use Rattle.uv_model.specs.declared.place.Place.{Place}
 use Rattle.uv_model.specs.After.{after}
 use Rattle.uv_model.specs.Queries.{numbers}
 use Rattle.uv_model.specs.State.{State, request}
-use Rattle.uv_order.specs.Active.{AreTimers}
 use Rattle.uv_order.specs.Once.{SaysTrue}
 use Rattle.uv_order.proofs.Documents.{holds_after}
 use Rattle.uv_order.proofs.Reaching.{reached}
 use Rattle.uv_key.specs.Codes.{list_code, option_code, Tells}
 use Rattle.uv_key.proofs.Telling.{any_tells, pair_tells, pair_tells_of, list_tells, option_tells}
 use Rattle.uv_state_key.specs.Key.{id_code, ids_code, walk_code, watchers_code, requests_code, state_code}
+use Rattle.uv_state_key.specs.Told.{IsTold}
 use Rattle.uv_state_key.proofs.Codes.{id_tells, ids_tell, walk_tells, place_tells, named_tells, loop_numbers_tell}
 use Rattle.uv_state_key.proofs.Slots.{ArenaFits, arena_tells, arena_fits}
 use Rattle.uv_state_key.proofs.Timers.{same_timers}
@@ -109,11 +109,6 @@ same_state a b e timers = λ i. let p = e i in record {
   stop_flag = p.1.stop_flag;
   idled = p.1.idled;
 }
-
--- what a state keeps of which the bytes tell all: its order of timers is that of the active timers, and each digest is that of its task
-pub record IsTold (s : State) : Type 0 where
-  pub timers : AreTimers s s.timers
-  pub digests : (id : Id) (r : Request) → request s id ≡ Some r → IsDigest r.task r.outcome
 
 pub states_tell : (a b : State) (x y : List ℕ) → IsTold a → IsTold b → state_code a ++ x ≡ state_code b ++ y → (a ≡ b) × (x ≡ y)
 states_tell a b x y h k e =

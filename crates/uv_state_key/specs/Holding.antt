@@ -34,34 +34,34 @@ one_more few.None id = few.One id
 one_more (few.One x) id = few.Many
 one_more few.Many id = few.Many
 
-abbrev pub with_active : Holds → Id → Kind → Holds
-with_active f id kind.Timer = f
-with_active f id kind.Idle = record f { idle = one_more f.idle id }
-with_active f id kind.Prepare = record f { prepare = one_more f.prepare id }
-with_active f id kind.Check = record f { check = one_more f.check id }
-with_active f id kind.Async = record f { wakes = one_more f.wakes id }
-with_active f id kind.Io = f
+abbrev pub and_active : Holds → Id → Kind → Holds
+and_active f id kind.Timer = f
+and_active f id kind.Idle = record f { idle = one_more f.idle id }
+and_active f id kind.Prepare = record f { prepare = one_more f.prepare id }
+and_active f id kind.Check = record f { check = one_more f.check id }
+and_active f id kind.Async = record f { wakes = one_more f.wakes id }
+and_active f id kind.Io = f
 
-abbrev pub with_closing : Holds → Id → Bool → Holds
-with_closing f id true = record f { closing = one_more f.closing id }
-with_closing f id false = f
+abbrev pub and_closing : Holds → Id → Bool → Holds
+and_closing f id true = record f { closing = one_more f.closing id }
+and_closing f id false = f
 
-abbrev pub with_resting : Holds → Bool → Holds
-with_resting f true = record f { rests = true }
-with_resting f false = f
+abbrev pub and_resting : Holds → Bool → Holds
+and_resting f true = record f { rests = true }
+and_resting f false = f
 
-abbrev pub with_handle : Holds → Id → HandleRecord → Holds
-with_handle f id h =
-    let g = with_closing f id h.closing in
-    if h.active then with_active g id h.kind else with_resting g (is_timer h.kind)
+abbrev pub and_handle : Holds → Id → HandleRecord → Holds
+and_handle f id h =
+    let g = and_closing f id h.closing in
+    if h.active then and_active g id h.kind else and_resting g (is_timer h.kind)
 
-abbrev pub with_request : Holds → Id → Request → Holds
-with_request f id r = if is_open r.outcome then record f { opened = true } else record f { ended = one_more f.ended id }
+abbrev pub and_request : Holds → Id → Request → Holds
+and_request f id r = if is_open r.outcome then record f { opened = true } else record f { ended = one_more f.ended id }
 
-abbrev pub with_content : Holds → Id → Option Content → Holds
-with_content f id None = f
-with_content f id (Some (content.Handle h)) = with_handle f id h
-with_content f id (Some (content.Request r)) = with_request f id r
+abbrev pub and_content : Holds → Id → Option Content → Holds
+and_content f id None = f
+and_content f id (Some (content.Handle h)) = and_handle f id h
+and_content f id (Some (content.Request r)) = and_request f id r
 
 abbrev pub content_at : List (Slot Content) → ℕ → Option Content
 content_at slots n = option_and_then (λ (slot : Slot Content). slot.content) (slice_get slots n)
@@ -77,7 +77,7 @@ id_at slots n = id_by n (slice_get slots n)
 -- what the first slots hold
 abbrev pub holds_in : List (Slot Content) → ℕ → Holds
 holds_in slots zero = no_holds
-holds_in slots (suc n) = with_content (holds_in slots n) (id_at slots n) (content_at slots n)
+holds_in slots (suc n) = and_content (holds_in slots n) (id_at slots n) (content_at slots n)
 
 abbrev pub held_by : State → Holds
 held_by s = holds_in s.arena.slots (length s.arena.slots)

@@ -2,8 +2,10 @@
 ghost use Rattle.std.specs.Prelude.{◌≡◌, ◌+◌, ◌≤◌, ◌<◌, ◌++◌, OnOk, Some, vec_len, vec_capacity};
 ghost use Rattle.uv_work.specs.declared.content.Content.TheVariants.{Handle};
 ghost use Rattle.uv_work.specs.declared.request.Request.{Request};
+ghost use Rattle.uv_state_key.specs.Turned.{slot_in};
 ghost use Rattle.uv_state_key.specs.Key.{calls_code, named_code, kind_number, flags_of, handle_code, outcome_number, request_code, slot_code};
 
+use crate::forms::{Form, turn_generation, turn_handle};
 use crate::places::{bit, put_byte, put_id_option};
 use std::alloc::AllocError;
 use uv_ids::{Id, Kind};
@@ -185,21 +187,27 @@ fn push_handle(out: &mut Vec<u8>, generation: u32, handle: HandleRecord) -> Resu
     Ok(())
 }
 
-/// The number of what a slot holds stands in each arm: so nothing is read of the slot that isn't written.
+/// A slot, which has this number.
 #[tactic(auto, unfolding(crate::specs::Key::slot_code))]
 #[inline(always)]
-pub(crate) fn push_slot(out: &mut Vec<u8>, slot: Slot<Content>) -> Result<(), AllocError>
+pub(crate) fn push_slot(
+    out: &mut Vec<u8>,
+    form: &Option<Form>,
+    number: u32,
+    slot: Slot<Content>,
+) -> Result<(), AllocError>
     requires { vec_len out.old + 53 ≤ vec_capacity out.old }
-    ensures { OnOk result (out.new.items ≡ out.old.items ++ slot_code slot) }
+    ensures { OnOk result (out.new.items ≡ out.old.items ++ slot_code (slot_in form.now number slot)) }
 {
-    let generation = slot.generation;
+    // (each arm puts its own number of what the slot holds, so that nothing is read of the slot that isn't written)
+    let generation = turn_generation(form, number, slot.generation);
     match slot.content {
         None => {
             put_number(out, u64::from(generation));
             put_byte(out, 0);
             Ok(())
         }
-        Some(Content::Handle(handle)) => push_handle(out, generation, handle),
+        Some(Content::Handle(handle)) => push_handle(out, generation, turn_handle(form, handle)),
         Some(Content::Request(request)) => {
             put_number(out, u64::from(generation));
             put_byte(out, 2);

@@ -1,6 +1,6 @@
 //! Of what stands on lists, which the slots hold.
 ghost use Rattle.std.specs.Prelude.{◌≡◌};
-ghost use Rattle.uv_state_key.specs.Holding.{one_more, with_active, with_handle, with_request, with_content, no_holds};
+ghost use Rattle.uv_state_key.specs.Holding.{one_more, and_active, and_handle, and_request, and_content, no_holds};
 
 use uv_ids::{Id, Kind};
 use uv_records::HandleRecord;
@@ -67,7 +67,7 @@ fn add_one(few: &mut Few, id: Id)
 /// With an active handle of this kind.
 #[inline(always)]
 fn add_active(holds: &mut Holds, id: Id, kind: Kind)
-    ensures { holds.new ≡ with_active holds.old id kind }
+    ensures { holds.new ≡ and_active holds.old id kind }
 {
     match kind {
         Kind::Timer => {}
@@ -81,7 +81,7 @@ fn add_active(holds: &mut Holds, id: Id, kind: Kind)
 
 #[inline(always)]
 fn add_handle(holds: &mut Holds, id: Id, handle: HandleRecord)
-    ensures { holds.new ≡ with_handle holds.old id handle }
+    ensures { holds.new ≡ and_handle holds.old id handle }
 {
     if handle.closing {
         add_one(&mut holds.closing, id);
@@ -95,7 +95,7 @@ fn add_handle(holds: &mut Holds, id: Id, handle: HandleRecord)
 
 #[inline(always)]
 fn add_request(holds: &mut Holds, id: Id, request: Request)
-    ensures { holds.new ≡ with_request holds.old id request }
+    ensures { holds.new ≡ and_request holds.old id request }
 {
     if request.is_open() {
         holds.opened = true;
@@ -107,7 +107,7 @@ fn add_request(holds: &mut Holds, id: Id, request: Request)
 /// With the slot of an id, which holds this.
 #[inline(always)]
 pub(crate) fn add_content(holds: &mut Holds, id: Id, content: Option<Content>)
-    ensures { holds.new ≡ with_content holds.old id content }
+    ensures { holds.new ≡ and_content holds.old id content }
 {
     match content {
         None => {}

@@ -1,13 +1,23 @@
 //! What the bytes tell.
-ghost use Rattle.std.specs.Prelude.{◌≡◌, ◌++◌, ℕ, List};
+ghost use Rattle.std.specs.Prelude.{◌≡◌, ◌++◌, ℕ, List, Option};
 ghost use Rattle.uv_ids.specs.declared.event.Event.{Event};
 ghost use Rattle.uv_script.specs.Program.{Program};
 ghost use Rattle.uv_model.specs.After.{after};
+ghost use Rattle.uv_model.specs.State.{State};
+ghost use Rattle.uv_state_key.specs.Formed.{formed};
 ghost use Rattle.uv_state_key.specs.Key.{state_code};
+ghost use Rattle.uv_state_key.specs.Told.{IsToldIn};
 
 /// For every script and all lists of steps: where the bytes of two states that the steps lead to are equal, the states are, whatever
 /// follows the bytes. It does nothing, and is called for its clause.
 pub fn keys_tell()
     ensures { (p : Program) (es fs : List Event) (x y : List ℕ) → state_code (after p es) ++ x ≡ state_code (after p fs) ++ y
         → (after p es ≡ after p fs) × (x ≡ y) }
+{}
+
+/// The same of the forms of two states, which are equal then, and not the states themselves. It does nothing, and is called for its
+/// clause.
+pub fn forms_tell()
+    ensures { (p : Program) (most : Option ℕ) (s t : State) (x y : List ℕ) → IsToldIn most p s → IsToldIn most p t
+        → state_code (formed most s) ++ x ≡ state_code (formed most t) ++ y → (formed most s ≡ formed most t) × (x ≡ y) }
 {}

@@ -1,14 +1,17 @@
-//! The bytes that name a state of the loop.
+//! The bytes that name a state of the loop, or its normal form.
 //!
-//! The main call is `push_key`, and `keys_tell` (`laws.rt`) its theorem: equal bytes are equal states. Read `specs/Key.antt`.
+//! The main call is `push_key`, and `keys_tell` and `forms_tell` (`laws.rt`) are its theorems: equal bytes are equal states, or equal
+//! forms. Read `specs/Key.antt`, then `Formed.antt`, and of which states the second holds `Told.antt`.
 #![tactic(auto)]
 
+mod bases;
 mod contents;
+mod forms;
 mod holds;
 mod laws;
 mod lists;
 mod places;
 mod state;
 
-pub use laws::keys_tell;
+pub use laws::{forms_tell, keys_tell};
 pub use state::push_key;

@@ -1,12 +1,14 @@
 //! The bytes of lists of slots.
-ghost use Rattle.std.specs.Prelude.{◌≡◌, ◌++◌, ◌∷◌, false, [], OnOk};
+ghost use Rattle.std.specs.Prelude.{◌≡◌, ◌++◌, ◌∷◌, false, [], OnOk, map};
 ghost use Rattle.uv_key.specs.Codes.{number_code, list_code};
 ghost use Rattle.uv_model.specs.After.{after};
 ghost use Rattle.uv_model.specs.Queries.{members};
 ghost use Rattle.uv_state_key.specs.Holding.{AreFew};
+ghost use Rattle.uv_state_key.specs.Turned.{id_in};
 ghost use Rattle.uv_state_key.specs.declared.holds.Few.TheVariants.{One};
 ghost use Rattle.uv_state_key.specs.Key.{ids_code};
 
+use crate::forms::{Form, turn_id};
 use crate::holds::Few;
 use crate::places::{push_id, put_id};
 use std::alloc::AllocError;
@@ -16,12 +18,12 @@ use uv_model::Machine;
 use uv_records::ListName;
 
 #[tactic(auto, unfolding(uv_key::specs::Codes::list_code))]
-fn push_ids(out: &mut Vec<u8>, ids: &[Id]) -> Result<(), AllocError>
-    ensures { OnOk result (out.new.items ≡ out.old.items ++ ids_code ids.now) }
+fn push_ids(out: &mut Vec<u8>, form: &Option<Form>, ids: &[Id]) -> Result<(), AllocError>
+    ensures { OnOk result (out.new.items ≡ out.old.items ++ ids_code (map (id_in form.now) ids.now)) }
 {
     push_number(out, ids.len() as u64)?;
     for id in ids {
-        push_id(out, *id)?;
+        push_id(out, turn_id(form, *id))?;
     }
     Ok(())
 }
@@ -30,14 +32,16 @@ fn push_ids(out: &mut Vec<u8>, ids: &[Id]) -> Result<(), AllocError>
 pub(crate) fn push_members<M: Machine>(
     out: &mut Vec<u8>,
     machine: &M,
+    form: &Option<Form>,
     list: ListName,
 ) -> Result<(), AllocError>
-    ensures { OnOk result (out.new.items ≡ out.old.items ++ ids_code (members (after (M.program machine.now) (M.standing machine.now)) list)) }
+    ensures { OnOk result (out.new.items ≡ out.old.items
+        ++ ids_code (map (id_in form.now) (members (after (M.program machine.now) (M.standing machine.now)) list))) }
 {
     let Ok(ids) = machine.members(list) else {
         return Err(AllocError);
     };
-    push_ids(out, ids.as_slice())
+    push_ids(out, form, ids.as_slice())
 }
 
 /// No members.
@@ -54,14 +58,16 @@ fn push_none(out: &mut Vec<u8>) -> Result<(), AllocError>
 pub(crate) fn push_members_if<M: Machine>(
     out: &mut Vec<u8>,
     machine: &M,
+    form: &Option<Form>,
     list: ListName,
     may: bool,
 ) -> Result<(), AllocError>
     requires { may ≡ false → members (after (M.program machine.now) (M.standing machine.now)) list ≡ [] }
-    ensures { OnOk result (out.new.items ≡ out.old.items ++ ids_code (members (after (M.program machine.now) (M.standing machine.now)) list)) }
+    ensures { OnOk result (out.new.items ≡ out.old.items
+        ++ ids_code (map (id_in form.now) (members (after (M.program machine.now) (M.standing machine.now)) list))) }
 {
     if may {
-        push_members(out, machine, list)
+        push_members(out, machine, form, list)
     } else {
         push_none(out)
     }
@@ -77,7 +83,6 @@ fn push_neither(out: &mut Vec<u8>) -> Result<(), AllocError>
 }
 
 /// A list with this member alone, and one without.
-
 fn push_single(out: &mut Vec<u8>, id: Id) -> Result<(), AllocError>
     ensures { OnOk result (out.new.items ≡ out.old.items ++ (ids_code (id ∷ []) ++ ids_code [])) }
 {
@@ -93,23 +98,25 @@ fn push_single(out: &mut Vec<u8>, id: Id) -> Result<(), AllocError>
 fn push_one_of<M: Machine>(
     out: &mut Vec<u8>,
     machine: &M,
+    form: &Option<Form>,
     list: ListName,
     yet: ListName,
     id: Id,
 ) -> Result<(), AllocError>
     requires { AreFew (One id) (members (after (M.program machine.now) (M.standing machine.now)) list)
         (members (after (M.program machine.now) (M.standing machine.now)) yet) }
-    ensures { OnOk result (out.new.items ≡ out.old.items ++ (ids_code (members (after (M.program machine.now) (M.standing machine.now)) list)
-        ++ ids_code (members (after (M.program machine.now) (M.standing machine.now)) yet))) }
+    ensures { OnOk result (out.new.items ≡ out.old.items
+        ++ (ids_code (map (id_in form.now) (members (after (M.program machine.now) (M.standing machine.now)) list))
+        ++ ids_code (map (id_in form.now) (members (after (M.program machine.now) (M.standing machine.now)) yet)))) }
 {
     let Ok(ids) = machine.members(yet) else {
         return Err(AllocError);
     };
     if ids.len() == 0 {
-        return push_single(out, id);
+        return push_single(out, turn_id(form, id));
     }
     push_none(out)?;
-    push_ids(out, ids.as_slice())
+    push_ids(out, form, ids.as_slice())
 }
 
 /// The members of a list, and then those of it that are yet to be called, where so many stand on the two.
@@ -117,21 +124,23 @@ fn push_one_of<M: Machine>(
 pub(crate) fn push_walk<M: Machine>(
     out: &mut Vec<u8>,
     machine: &M,
+    form: &Option<Form>,
     list: ListName,
     yet: ListName,
     few: Few,
 ) -> Result<(), AllocError>
     requires { AreFew few (members (after (M.program machine.now) (M.standing machine.now)) list)
         (members (after (M.program machine.now) (M.standing machine.now)) yet) }
-    ensures { OnOk result (out.new.items ≡ out.old.items ++ (ids_code (members (after (M.program machine.now) (M.standing machine.now)) list)
-        ++ ids_code (members (after (M.program machine.now) (M.standing machine.now)) yet))) }
+    ensures { OnOk result (out.new.items ≡ out.old.items
+        ++ (ids_code (map (id_in form.now) (members (after (M.program machine.now) (M.standing machine.now)) list))
+        ++ ids_code (map (id_in form.now) (members (after (M.program machine.now) (M.standing machine.now)) yet)))) }
 {
     match few {
         Few::None => push_neither(out),
-        Few::One(id) => push_one_of(out, machine, list, yet, id),
+        Few::One(id) => push_one_of(out, machine, form, list, yet, id),
         Few::Many => {
-            push_members(out, machine, list)?;
-            push_members(out, machine, yet)
+            push_members(out, machine, form, list)?;
+            push_members(out, machine, form, yet)
         }
     }
 }

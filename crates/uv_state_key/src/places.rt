@@ -116,7 +116,7 @@ fn stage_number(stage: Stage) -> u8
 }
 
 /// The deadline of a poll.
-fn stage_deadline(stage: Stage) -> Option<u64>
+pub(crate) fn stage_deadline(stage: Stage) -> Option<u64>
     ensures { result ≡ (stage_part stage).1 }
 {
     match stage {

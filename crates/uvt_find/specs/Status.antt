@@ -11,7 +11,7 @@ use Rattle.uv_asking.specs.Asked.{Asked}
 use Rattle.uv_find.specs.Orders.{Place, beginning}
 use Rattle.uv_find.specs.Courses.{IsAnswer}
 use Rattle.uv_find.specs.Found.{AreReached, IsNever, IsMore, IsDeepest}
-use Rattle.uv_find.specs.Spots.{rules_of}
+use Rattle.uv_find.specs.Spots.{rules_of, first_spot}
 use Rattle.uv_inquiry.specs.Grammar.{IsInquiry, IsBadInput}
 use Rattle.uv_inquiry.specs.Texts.{found_text, never_text, unsettled_text, too_deep_text, out_of_memory_text}
 
@@ -20,8 +20,8 @@ pub data Answers (p : Program) (a : Asked) : List ℕ → ℕ → Type 0 where
   -- these events answer the question: the last of them does
   found : (es : List Event) (q : Place) (states : ℕ) → IsAnswer (rules_of p a) (beginning (rules_of p a)) es q → states ≤ a.states →
       Answers p a (found_text p es states) 0
-  -- no events do, however many; they lead to so many places
-  never : (states : ℕ) → IsNever (rules_of p a) (beginning (rules_of p a)) states → states ≤ a.states → Answers p a (never_text p a states) 1
+  -- no events do, however many (`NeverAnswered`); the places that they lead to are told apart by so many keys
+  never : (states : ℕ) → IsNever (rules_of p a) (first_spot (rules_of p a)) states → states ≤ a.states → Answers p a (never_text p a states) 1
   -- there are more places than may be kept
   unsettled : IsMore (rules_of p a) (beginning (rules_of p a)) a.states → Answers p a (unsettled_text a.states) 3
   -- events lead to where no more of them may be taken

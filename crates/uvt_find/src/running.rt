@@ -10,7 +10,7 @@ ghost use Rattle.uvt_find.specs.Status.{Answers, EndsBy, IsAnswerStatus, IsReply
 use std::alloc::Global;
 use std::io::Write;
 use uv_engine::{Sink, Source, write_text};
-use uv_find::{Answer, Orders, find};
+use uv_find::{Answer, Orders, find, may_forget};
 use uv_ids::Fault;
 use uv_inquiry::{
     Inquiry, found_text, may_never_end, never_text, no_end_text, out_of_memory_text, read_inquiry,
@@ -106,9 +106,9 @@ fn fail<E: Write>(fault: Fault, errors: &mut E) -> u8
     }
 }
 
-/// Says so where there may be no end of states.
+/// Says so where there may be no end of states: the script repeats without a bound, and its states don't come round again.
 fn warn<E: Write>(inquiry: &Inquiry, errors: &mut E) {
-    if may_never_end(inquiry) {
+    if may_never_end(inquiry) && !may_forget(&inquiry.script, &inquiry.asking) {
         let _ = write!(errors, "uvt: {}", no_end_text());
     }
 }

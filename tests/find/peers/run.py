@@ -17,7 +17,7 @@ import tempfile
 from pathlib import Path
 from typing import NamedTuple
 
-from tests.find.costs import BUILT, growing
+from tests.find.costs import BUILT, growing, whole
 
 HERE = Path(__file__).resolve().parent
 SIZES = ["2,6,0", "2,4,4", "4,4,2", "4,6,0"]
@@ -69,7 +69,7 @@ def spin(size: Size, folder: Path, reduces: bool) -> Searched:
 def beside(size: Size, find: str, folder: Path) -> bool:
     """Prints a line for each search, and answers whether all have as many states."""
     all_of = {
-        "uvt": searched([find], growing(*size)),
+        "uvt": searched([find], whole(growing(*size))),
         "C": searched([str(folder / "search"), *(str(it) for it in size)]),
         "SPIN": spin(size, folder, False),
         "SPIN, reduced": spin(size, folder, True),

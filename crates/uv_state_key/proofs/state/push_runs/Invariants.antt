@@ -1,12 +1,16 @@
-use Rattle.std.proofs.Common.{◌≡◌, ◌++◌, take}
+use Rattle.std.proofs.Common.{◌≡◌, ◌++◌, Option, take}
+use Rattle.std.specs.Prelude.{option_map}
 use Rattle.std.specs.List.{flat_map}
+use Rattle.uv_ids.specs.declared.id.Id.{Id}
 use Rattle.uv_model.specs.After.{after}
 use Rattle.uv_key.specs.Codes.{option_code}
 use Rattle.uv_state_key.specs.Key.{id_code}
+use Rattle.uv_state_key.specs.Turned.{id_in}
 use Rattle.uv_state_key.proofs.state.push_runs.Given as goal
 
 -- those before this one
 abbrev pub invariant-loop-worker : goal.invariant-loop-worker
 invariant-loop-worker g l =
     let s = after (g.M.Machine.program l.machine) (g.M.Machine.standing l.machine) in
-    l.out.items ≡ l.initial.out.items ++ flat_map (option_code id_code) (take l.worker s.running)
+    l.out.items ≡ l.initial.out.items
+    ++ flat_map (λ (run : Option Id). option_code id_code (option_map (id_in l.form) run)) (take l.worker s.running)

@@ -1,9 +1,12 @@
-use Rattle.std.proofs.Common.{◌≡◌, ◌∙◌, ap, ap₂}
+use Rattle.std.proofs.Common.{arith, ◌≡◌, ◌∙◌, ap, ap₂, length, subst, sym}
 use Rattle.uv_model.proofs.Runs.{after-nil}
 use Rattle.uv_model.specs.After.{after}
 use Rattle.uv_model.specs.State.{fresh}
 use Rattle.uv_find.specs.Kept.{none_kept}
 use Rattle.uv_find.specs.Orders.{first_left}
+use Rattle.uv_find.specs.Spots.{AreBrief, MayForget, rules_by}
+use Rattle.uv_asking.specs.Asked.{asked_in}
+use Rattle.uv_find.proofs.Forgets.{forgets}
 use Rattle.uv_find.proofs.orders.Orders.new.Goals as goal
 
 pub returns-clause-spot : goal.returns-clause-spot
@@ -15,3 +18,18 @@ returns-clause-spot g c =
     let kept = c.none_kept-kept.ensures ∙ ap (λ es. none_kept es differ) c.deref-3.ensures.value in
     let state : after p c.new.result.standing ≡ fresh p = ap (after p) steps ∙ after-nil p in
     λ i. record { place = record { state = state i; left = left i; kept = kept i }; steps = steps i }
+
+pub invariant_of-result : goal.invariant_of-result
+invariant_of-result g c =
+    let p = c.script.result.now in
+    let terms = c.in_ok-terms.terms in
+    let may = subst MayForget (sym c.in_ok-terms.ensures) (forgets p (asked_in c.args.asking.now)) in
+    let same : c.new.result.program ≡ p = c.new.ensures.program ∙ sym c.script.ensures in
+    record {
+      limit = c.new.ensures.limit;
+      taken = ap length c.new-2.ensures.items ∙ sym (ap length c.new.ensures.standing);
+      back = c.requires.back;
+      forgets = subst (λ q. MayForget (rules_by q terms)) (sym same) may;
+      brief = subst (AreBrief c.in_ok-terms.terms.forget) (sym c.new.ensures.standing) tt;
+      room = rw c.new.ensures.standing (omega arith);
+    }

@@ -7,7 +7,7 @@ use Rattle.uv_find.specs.Kept.{kept_after}
 use Rattle.uv_find.specs.Orders.{lessened}
 use Rattle.uv_find.specs.Spots.{place_by}
 use Rattle.uv_find.specs.Steps.{offer_taken}
-use Rattle.uv_find.proofs.Taking.{takes_one}
+use Rattle.uv_find.proofs.Taking.{takes_one, taken_searched}
 use Rattle.uv_find.proofs.orders.Orders.take_offer.Goals as goal
 
 pub returns-in-Some : goal.returns-in-Some
@@ -25,3 +25,13 @@ returns-in-Some g c =
     rw (← c.self.view_is, c.push_reserved.ensures.items, c.in_ok-reserve.ensures.items, c.lessen-was.ensures.less, kept)
     (takes_one AllocError i.session c.make_offer.new.session i.terms i.left.items i.kept i.made.items number
     (offer_taken (place_by i.session i.left.items i.kept) number taken.event) taken.outcome made back refl goes)
+
+pub invariant_of-self-in-Some : goal.invariant_of-self-in-Some
+invariant_of-self-in-Some g c =
+    let i = c.self.inside in
+    let goes = rw c.in-Some.is at c.in_ok-make_offer.ensures in
+    let made : Made = record { was = was.One c.args.number c.lessen-was.result; kept = i.kept } in
+    rw (c.push_reserved.ensures.items, c.in_ok-reserve.ensures.items)
+    (taken_searched g.M.Machine.BackWantsMemory i.session c.make_offer.new.session i.terms i.left.items i.kept i.made.items c.args.number
+    (offer_taken (place_by i.session i.left.items i.kept) c.args.number c.in-Some.taken.event) c.in-Some.taken.outcome.seen made c.self.invariant
+    (rw (← c.self.view_is) at c.requires.room) goes)

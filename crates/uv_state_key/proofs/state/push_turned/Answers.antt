@@ -1,5 +1,5 @@
 use Rattle.uv_state_key.proofs.Listed.{few_closing, no_ready}
-use Rattle.uv_state_key.proofs.state.push_key.Goals as goal
+use Rattle.uv_state_key.proofs.state.push_turned.Goals as goal
 
 pub push_members_if-requires : goal.push_members_if-requires
 push_members_if-requires g c off =

@@ -1,0 +1,7 @@
+use Rattle.std.proofs.Common.{◌≡◌, drop}
+use Rattle.std.specs.Prelude.{max}
+use Rattle.uv_find.specs.Forgetting.{most_end}
+use Rattle.uv_find.proofs.forgetting.most_end.Given as goal
+
+abbrev pub invariant-bounds : goal.invariant-bounds
+invariant-bounds l = max l.end (most_end (drop l.bound-index l.most)) ≡ most_end l.most

@@ -1,0 +1,256 @@
+-- Places with the same normal form, and as much left and kept, go on alike. These are proofs; the impl of a search names them.
+use Rattle.std.proofs.Common.{◌≡◌, ℕ, ◌+◌, ◌<◌, ◌≤◌, ◌&&◌, not, Bool, true, false, List, [], ◌∷◌, length, Option, Some, None, nat_le, nat_lt, refl, ap, ap₂, sym, subst, ◌∙◌, arith, if◌then◌else◌}
+use Rattle.std.proofs.lemmas.Bool.{ltb-true}
+use Rattle.uv_ids.specs.declared.event.Event.{Event}
+use Rattle.uv_ids.specs.declared.event.Event.TheVariants.{Loop, Take, Finish, Cancel, Send, Io, Tick}
+use Rattle.uv_ids.specs.declared.id.Id.{Id}
+use Rattle.uv_ids.specs.declared.id.Var.{Var}
+use Rattle.uv_ids.specs.declared.seen.Callback.{Callback}
+use Rattle.uv_ids.specs.declared.seen.Callback.TheVariants as callback
+use Rattle.uv_records.specs.Slots.{held}
+use Rattle.uv_work.specs.declared.content.Content.{Content}
+use Rattle.uv_work.specs.declared.content.Content.TheVariants as content
+use Rattle.uv_script.specs.Program.{Program, worker_count}
+use Rattle.uv_model.specs.After.{after}
+use Rattle.uv_model.specs.Limits.{LATEST}
+use Rattle.uv_model.specs.Next.{Next, Moves, Refuses, next}
+use Rattle.uv_model.specs.State.{State, named}
+use Rattle.uv_shift.specs.Shift.{ClockFits}
+use Rattle.uv_shift.specs.Earliest.{IsTimed}
+use Rattle.uv_shift.proofs.Reached.{after_timed}
+use Rattle.uv_generations.specs.Youngest.{IsYoung}
+use Rattle.uv_generations.proofs.Reached.{after_young}
+use Rattle.uv_normal.specs.Normal.{normal, NextAlike}
+use Rattle.uv_normal.proofs.Steps.{steps_alike}
+use Rattle.uv_asking.specs.declared.asking.Most.{Most}
+use Rattle.uv_asking.specs.declared.asking.Offer.{Offer}
+use Rattle.uv_asking.specs.declared.asking.Offer.TheVariants as offers
+use Rattle.uv_asking.specs.declared.asking.Offered.{Offered}
+use Rattle.uv_asking.specs.declared.asking.Question.{Question}
+use Rattle.uv_asking.specs.declared.asking.Question.TheVariants as asks
+use Rattle.uv_find.specs.declared.kept.Kept.{Kept}
+use Rattle.uv_find.specs.declared.left.Left.{Left}
+use Rattle.uv_find.specs.Forgetting.{LONG, LONGEST, is_aside, most_end}
+use Rattle.uv_find.specs.Kept.{due_under, due_else, due_in, kept_due}
+use Rattle.uv_find.specs.Orders.{Rules, Place, aim, is_made, is_free, spending, step_of, is_blocked, refused_as_blocked, deadline_at, wait_until, take_by}
+use Rattle.uv_find.specs.Kept.{is_in_timers}
+use Rattle.uv_find.specs.Orders.{idle_among, is_quiet}
+use Rattle.uv_find.specs.Orders.{event_of, timed, is_brief, brief, may_take, offered_by, is_called_within, is_within}
+use Rattle.uv_find.specs.Spots.{Spot, CanForget, IsSpot, AreBrief, is_few}
+use Rattle.uv_find.specs.Clocks.{after_clock}
+use Rattle.uv_find.specs.Readings.{Reads, reads_alike, is_bound, reads_bound, is_shut, reads_shut, count, reads_count, within_capped, reads_quiet, reads_timers, until, wait_of, reads_wait, reads_idle, lag_of, lag_under, lag, reads_lag}
+
+-- what holds of the state of a place
+pub record IsRegular (p : Program) (s : State) : Type 0 where
+  pub timed : IsTimed p s
+  pub young : IsYoung p s
+
+-- of a timer that is asked about it is the same how late the clock is for what is kept of it
+abbrev pub DueAlike : Question → ℕ → ℕ → ℕ → ℕ → Type 0
+DueAlike (asks.Late name ms) clock due other_clock other_due = clock + other_due ≡ other_clock + due
+DueAlike question clock due other_clock other_due = due ≡ other_due
+
+pub record AreAlike (r : Rules) (n : ℕ) (p q : Place) : Type 0 where
+  pub state : normal n p.state ≡ normal n q.state
+  pub left : p.left ≡ q.left
+  pub owed : p.kept.owed ≡ q.kept.owed
+  pub along : p.kept.along ≡ q.kept.along
+  pub due : DueAlike r.question p.state.clock p.kept.due q.state.clock q.kept.due
+
+-- ---- what holds of each spot
+
+module _ (r : Rules) (n : ℕ) (forget : r.forget ≡ Some n) (can : CanForget r n) where
+  few_steps : (s : Spot) → IsSpot r s → length s.steps < LONGEST
+  few_steps s is = ltb-true (length s.steps) LONGEST (subst (λ (o : Option ℕ). is_few o (length s.steps) ≡ true) forget is.few)
+
+  pub regular_by : (s : State) (es : List Event) → s ≡ after r.program es → length es ≤ LONGEST → IsRegular r.program s
+  regular_by s es is few = record {
+    timed = subst (IsTimed r.program) (sym is) (after_timed r.program LONG es (omega arith) (omega arith) can.short);
+    young = subst (IsYoung r.program) (sym is) (after_young r.program es (omega (arith, few, can.lasts)));
+  }
+
+  pub spot_regular : (s : Spot) → IsSpot r s → IsRegular r.program s.place.state
+  spot_regular s is =
+      let few = few_steps s is in
+      regular_by s.place.state s.steps is.state (omega (arith, few))
+
+  spot_clock : (s : Spot) → IsSpot r s → s.place.state.clock + LONG ≤ LATEST
+  spot_clock s is =
+      let few = few_steps s is in
+      let here : s.place.state.clock ≡ (after r.program s.steps).clock = ap (λ (u : State). u.clock) is.state in
+      let l = after_clock r.program n s.steps (subst (λ (o : Option ℕ). AreBrief o s.steps) forget is.brief) in
+      omega (arith, few, here, l)
+
+  -- a brief event doesn't take the clock to its limit
+  pub spot_fits : (s : Spot) (e : Event) → IsSpot r s → is_brief (Some n) e ≡ true → ClockFits s.place.state e
+  spot_fits s (Tick ms) is short =
+      let l = spot_clock s is in
+      let few = ltb-true ms LONG short in
+      omega (arith, l, few)
+  spot_fits s Loop is short = tt
+  spot_fits s (Take worker) is short = tt
+  spot_fits s (Finish worker) is short = tt
+  spot_fits s (Cancel v) is short = tt
+  spot_fits s (Send v) is short = tt
+  spot_fits s (Io v) is short = tt
+
+  -- ---- what is read
+
+  module _ (a b : State) (ra : IsRegular r.program a) (rb : IsRegular r.program b) (same : normal n a ≡ normal n b) where
+    pub both : {X : Type 0} (R : State → X) → Reads n R → R a ≡ R b
+    both R reads = reads_alike n R reads r.program a b ra.timed ra.young rb.timed rb.young same
+
+    made_alike : (o : Option Var) → is_made a o ≡ is_made b o
+    made_alike None = refl
+    made_alike (Some v) = both (is_bound v) (reads_bound n v)
+
+    within_one : (most : Most) → most.calls < n → is_called_within a most ≡ is_called_within b most
+    within_one most below =
+        let f : ℕ → Bool = λ c. nat_le c most.calls in
+        let same_calls = λ (kind : Callback). both (λ s. f (count kind most.name s))
+        (reads_count f n (within_capped most.calls n below) kind most.name) in
+        λ i. same_calls callback.Handle i && same_calls callback.After i && same_calls callback.Close i
+
+    pub within_alike : (most : List Most) → most_end most ≤ n → is_within most a ≡ is_within most b
+    within_alike [] below = refl
+    within_alike (m ∷ ms) below = ap₂ (λ x y. x && y) (within_one m (omega (arith, below))) (within_alike ms (omega (arith, below)))
+
+    -- ---- when the timer is due that is asked about
+
+    abbrev DueBy : Option (ℕ × ℕ) → ℕ → ℕ → ℕ → Type 0
+    DueBy None clock was due = due ≡ was
+    DueBy (Some l) clock was due = clock + l.1 ≡ due + l.0
+
+    due_content : (clock was : ℕ) (o : Option Content) → DueBy (lag_of clock o) clock was (due_in o was)
+    due_content clock was None = refl
+    due_content clock was (Some (content.Handle h)) = grind arith
+    due_content clock was (Some (content.Request q)) = refl
+
+    due_by_lag : (s : State) (was : ℕ) (o : Option Id) → DueBy (lag_under s o) s.clock was (due_under s o was)
+    due_by_lag s was None = refl
+    due_by_lag s was (Some id) = due_content s.clock was (held s.arena.slots id)
+
+    by_lag : (l : Option (ℕ × ℕ)) (x y u v d e : ℕ) → DueBy l x u d → DueBy l y v e → x + v ≡ y + u → x + e ≡ y + d
+    by_lag None x y u v d e h k same = omega (arith, h, k, same)
+    by_lag (Some l) x y u v d e h k same = omega (arith, h, k, same)
+
+    else_by : (in_timers : Bool) (x y d e : ℕ) → x + e ≡ y + d → x + (if in_timers then e else y) ≡ y + (if in_timers then d else x)
+    else_by true x y d e same = same
+    else_by false x y d e same = omega arith
+
+    else_alike : (d e : ℕ) → a.clock + e ≡ b.clock + d → a.clock + due_else b e ≡ b.clock + due_else a d
+    else_alike d e same =
+        let timers = both (λ s. is_in_timers s.place) (reads_timers n) in
+        subst (λ x. a.clock + (if x then e else b.clock) ≡ b.clock + due_else a d) timers (else_by (is_in_timers a.place) a.clock b.clock d e same)
+
+    -- the due times are relative to the clocks
+    due_alike : (name : Var) (d e : ℕ) → a.clock + e ≡ b.clock + d →
+        a.clock + due_under b (named b name).id (due_else b e) ≡ b.clock + due_under a (named a name).id (due_else a d)
+    due_alike name d e same =
+        let lags = both (lag name) (reads_lag n name) in
+        by_lag (lag name a) a.clock b.clock (due_else a d) (due_else b e) (due_under a (named a name).id (due_else a d))
+        (due_under b (named b name).id (due_else b e)) (due_by_lag a (due_else a d) (named a name).id)
+        (subst (λ l. DueBy l b.clock (due_else b e) (due_under b (named b name).id (due_else b e))) (sym lags)
+        (due_by_lag b (due_else b e) (named b name).id)) (else_alike d e same)
+
+    pub kept_due_alike : (question : Question) (d e : ℕ) → DueAlike question a.clock d b.clock e →
+        DueAlike question a.clock (kept_due question a d) b.clock (kept_due question b e)
+    kept_due_alike (asks.Late name ms) d e same = due_alike name d e same
+    kept_due_alike (asks.Call which name call) d e same = same
+    kept_due_alike (asks.Code code name) d e same = same
+    kept_due_alike (asks.Section word) d e same = same
+    kept_due_alike asks.Poll d e same = same
+    kept_due_alike (asks.Never name) d e same = same
+    kept_due_alike asks.Stuck d e same = same
+    kept_due_alike (asks.Before name other) d e same = same
+    kept_due_alike (asks.Behind name other) d e same = same
+
+  -- ---- what is offered
+
+  module _ (s t : Spot) (hs : IsSpot r s) (ht : IsSpot r t) (alike : AreAlike r n s.place t.place) where
+    abbrev a : State
+    a = s.place.state
+
+    abbrev b : State
+    b = t.place.state
+
+    abbrev k : Kept
+    k = s.place.kept
+
+    abbrev l : Kept
+    l = t.place.kept
+
+    same_read : {X : Type 0} (R : State → X) → Reads n R → R a ≡ R b
+    same_read R reads = both a b (spot_regular s hs) (spot_regular t ht) alike.state R reads
+
+    blocked_by : (x y : Next) → NextAlike r.program n a b x y → refused_as_blocked x ≡ refused_as_blocked y
+    blocked_by (Moves u line) (Moves v other) h = refl
+    blocked_by (Refuses why) (Refuses other) h = ap (λ w. refused_as_blocked (Refuses w)) h
+    blocked_by (Moves u line) (Refuses other) h = absurd h
+    blocked_by (Refuses why) (Moves v other) h = absurd h
+
+    pub goes_alike : (e : Event) → is_brief (Some n) e ≡ true → NextAlike r.program n a b (next r.program a e) (next r.program b e)
+    goes_alike e short =
+        let ra = spot_regular s hs in
+        let rb = spot_regular t ht in
+        steps_alike r.program n a b e can.before ra.timed ra.young rb.timed rb.young alike.state (spot_fits s e hs short) (spot_fits t e ht short)
+
+    pub blocked_alike : is_blocked r.program a ≡ is_blocked r.program b
+    blocked_alike = blocked_by (next r.program a Loop) (next r.program b Loop) (goes_alike Loop refl)
+
+    free_alike : (e : Event) → is_free a k e ≡ is_free b l e
+    free_alike (Io v) = ap (λ o. not (nat_lt 0 o)) alike.owed
+    free_alike (Tick ms) = ap (λ o. not (nat_lt 0 o)) alike.owed
+    free_alike (Send v) =
+        ap₂ (λ x y. not x && not y) (same_read (λ u. is_quiet u.place) (reads_quiet n)) (same_read (is_shut v) (reads_shut n v))
+    free_alike Loop = refl
+    free_alike (Take worker) = refl
+    free_alike (Finish worker) = refl
+    free_alike (Cancel v) = refl
+
+    spending_alike : (e : Event) → spending k e ≡ spending l e
+    spending_alike Loop = ap (λ o. if nat_lt 0 o then Tick o else Loop) alike.owed
+    spending_alike (Io v) = refl
+    spending_alike (Tick ms) = refl
+    spending_alike (Send v) = refl
+    spending_alike (Take worker) = refl
+    spending_alike (Finish worker) = refl
+    spending_alike (Cancel v) = refl
+
+    step_alike : (e : Event) → step_of a k e ≡ step_of b l e
+    step_alike e =
+        let made = made_alike a b (spot_regular s hs) (spot_regular t ht) alike.state (aim e) in
+        let free = free_alike e in
+        let spent = spending_alike e in
+        λ i. if made i && free i then Some (spent i) else None
+
+    abbrev waits : Bool → Option ℕ → Option Event
+    waits blocked None = None
+    waits blocked (Some ms) = if blocked then Some (Tick ms) else None
+
+    waits_is : (u : State) (deadline : Option ℕ) → wait_until r.program u deadline ≡ waits (is_blocked r.program u) (until u.clock deadline)
+    waits_is u None = refl
+    waits_is u (Some deadline) = refl
+
+    wait_alike : wait_until r.program a (deadline_at a.place) ≡ wait_until r.program b (deadline_at b.place)
+    wait_alike =
+        waits_is a (deadline_at a.place) ∙ ap₂ waits blocked_alike (same_read wait_of (reads_wait n)) ∙ sym (waits_is b (deadline_at b.place))
+
+    event_alike : (offer : Offer) → is_aside offer ≡ true → event_of r.program a k offer ≡ event_of r.program b l offer
+    event_alike (offers.Step e) h = step_alike e
+    event_alike (offers.SendDuring v job) h = absurd cc
+    event_alike offers.Take h = ap take_by (same_read (λ u. idle_among u (worker_count r.program)) (reads_idle n (worker_count r.program)))
+    event_alike offers.Wait h = wait_alike
+
+    unbounded : (clock : ℕ) (o : Option Event) → timed None clock o ≡ o
+    unbounded clock None = refl
+    unbounded clock (Some e) = refl
+
+    pub offered_alike : (offered : Option Offered) (x : Option Left) → ((o : Offered) → offered ≡ Some o → is_aside o.offer ≡ true) →
+        offered_by r s.place offered x ≡ offered_by r t.place offered x
+    offered_alike None x aside = refl
+    offered_alike (Some o) None aside = refl
+    offered_alike (Some o) (Some x) aside =
+        let times = λ (u : State) (e : Option Event). ap (λ m. timed m u.clock e) can.clock ∙ unbounded u.clock e in
+        ap (λ e. brief r.forget (if may_take x then e else None))
+        (times a (event_of r.program a k o.offer) ∙ event_alike o.offer (aside o refl) ∙ sym (times b (event_of r.program b l o.offer)))

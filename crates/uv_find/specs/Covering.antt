@@ -1,0 +1,344 @@
+-- What a place does, one that has the same key does as well: it leads by each move to one of the same key, and answers alike. These are
+-- proofs; the impl of a search names them.
+use Rattle.std.proofs.Common.{◌≡◌, ℕ, zero, suc, ◌+◌, ◌-◌, ◌<◌, ◌&&◌, Bool, true, false, List, [], ◌∷◌, ◌++◌, length, nat_lt, is_none, slice_get, refl, sym, ap, ap₂, subst, ◌∙◌, Option, Some, None, if◌then◌else◌, length-append, arith}
+use Rattle.std.specs.List.{list_all}
+use Rattle.std.proofs.lemmas.Bool.{and_parts, ltb-true}
+use Rattle.std.proofs.lemmas.Option.{same_Some, none-some}
+use Rattle.uv_ids.specs.declared.event.Event.{Event}
+use Rattle.uv_ids.specs.declared.seen.Seen.{Seen}
+use Rattle.uv_model.specs.State.{State}
+use Rattle.uv_model.specs.Next.{Next, Moves, Refuses, next}
+use Rattle.uv_search.specs.Ways.{CoversMoves, CoversStep}
+use Rattle.uv_state_key.specs.Formed.{formed}
+use Rattle.uv_normal.specs.Normal.{calls_timer, StepsAlike, NextAlike}
+use Rattle.uv_asking.specs.declared.asking.Offered.{Offered}
+use Rattle.uv_asking.specs.declared.asking.Question.{Question}
+use Rattle.uv_asking.specs.declared.asking.Question.TheVariants as asks
+use Rattle.uv_find.specs.declared.left.Left.{Left}
+use Rattle.uv_find.specs.Forgetting.{LONGEST, is_aside}
+use Rattle.uv_find.specs.Orders.{Rules, Place, Choice, Led, led, led_by, placed, choice_at, choice_by, chosen, lessened, offered_by, is_brief, move_count, taken, reached, is_within}
+use Rattle.uv_find.specs.Questions.{answers, place_answers, none_leads, has_ended}
+use Rattle.uv_find.specs.Spots.{Spot, spot_of, next_spot, told_due, told, Told, told_code, spot_code, CanForget, IsSpot, IsStanding, is_few}
+use Rattle.uv_find.specs.Alike.{IsRegular, regular_by, spot_regular, AreAlike, DueAlike, kept_due_alike, within_alike, goes_alike, blocked_alike, offered_alike, both}
+use Rattle.uv_find.specs.Led.{led_leads, leads_spot, state_behind, offered_brief}
+use Rattle.uv_find.specs.Onward.{LinesAlike, owed_alike, along_alike, uncalled_alike, line_alike}
+use Rattle.uv_find.specs.Readings.{reads_ended}
+use Rattle.uv_find.specs.Telling.{places_tell}
+
+module _ (r : Rules) (n : ℕ) (forget : r.forget ≡ Some n) (can : CanForget r n) where
+  -- ---- what is offered
+
+  -- the event of an offer, if it is one
+  abbrev event_at : Place → ℕ → Option Event
+  event_at p number =
+      if nat_lt number (move_count r p) then offered_by r p (slice_get r.offers number) (slice_get p.left number) else None
+
+  choice_is : (p : Place) (number : ℕ) → choice_at r p number ≡ chosen (lessened p.left number) p.kept (event_at p number)
+  unfolding choice_at
+  choice_is p number =
+      ap (λ d. if nat_lt number (move_count r p) then choice_by r p number d else None) can.differ ∙ by (nat_lt number (move_count r p))
+    where
+      by : (b : Bool) → (if b then choice_by r p number None else None)
+          ≡ chosen (lessened p.left number) p.kept (if b then offered_by r p (slice_get r.offers number) (slice_get p.left number) else None)
+      by true = refl
+      by false = refl
+
+  event_brief : (p : Place) (number : ℕ) (e : Event) → event_at p number ≡ Some e → is_brief (Some n) e ≡ true
+  event_brief p number e is = by (nat_lt number (move_count r p)) is where
+    by : (b : Bool) → (if b then offered_by r p (slice_get r.offers number) (slice_get p.left number) else None) ≡ Some e → is_brief (Some n) e ≡ true
+    by true h = ap (λ o. is_brief o e) (sym forget) ∙ offered_brief r p (slice_get r.offers number) (slice_get p.left number) e h
+    by false h = absurd (none-some e h)
+
+  aside_by : (xs : List Offered) (number : ℕ) (o : Offered) → list_all (λ (x : Offered). is_aside x.offer) xs ≡ true → slice_get xs number ≡ Some o →
+      is_aside o.offer ≡ true
+  aside_by [] number o all e = absurd (none-some o e)
+  aside_by (x ∷ xs) zero o all e = subst (λ (y : Offered). is_aside y.offer ≡ true) (same_Some x o e) (and_parts _ _ all).0
+  aside_by (x ∷ xs) (suc number) o all e = aside_by xs number o (and_parts _ _ all).1 e
+
+  -- ---- where it leads
+
+  record LeadsAlike (s t : Spot) (x y : Led) : Type 0 where
+    event : x.event ≡ y.event
+    places : AreAlike r n x.place y.place
+    regular : IsRegular r.program x.place.state
+    other : IsRegular r.program y.place.state
+    lines : LinesAlike r.program x.line y.line
+    timers : calls_timer x.place.state x.line ≡ calls_timer y.place.state y.line
+    dues : DueAlike r.question x.place.state.clock s.place.kept.due y.place.state.clock t.place.kept.due
+
+  abbrev LedAlike : Spot → Spot → Option Led → Option Led → Type 0
+  LedAlike s t None None = Unit {0}
+  LedAlike s t (Some x) (Some y) = LeadsAlike s t x y
+  LedAlike s t x y = ⊥
+
+  due_goes : (q : Question) (a b u v d e : ℕ) → DueAlike q a d b e → u + b ≡ v + a → DueAlike q u d v e
+  due_goes (asks.Late name ms) a b u v d e h k = omega (arith, h, k)
+  due_goes (asks.Call which name call) a b u v d e h k = h
+  due_goes (asks.Code code name) a b u v d e h k = h
+  due_goes (asks.Section word) a b u v d e h k = h
+  due_goes asks.Poll a b u v d e h k = h
+  due_goes (asks.Never name) a b u v d e h k = h
+  due_goes asks.Stuck a b u v d e h k = h
+  due_goes (asks.Before name other) a b u v d e h k = h
+  due_goes (asks.Behind name other) a b u v d e h k = h
+
+  module _ (s t : Spot) (hs : IsSpot r s) (ht : IsSpot r t) (alike : AreAlike r n s.place t.place) where
+    events_alike : (number : ℕ) → event_at s.place number ≡ event_at t.place number
+    events_alike number =
+        let offered = offered_alike r n forget can s t hs ht alike (slice_get r.offers number) in
+        let aside = λ (o : Offered) (is : slice_get r.offers number ≡ Some o). aside_by r.offers number o can.aside is in
+        ap₂ (λ (xs : List Left) (o : Option Event). if nat_lt number (counts xs) then o else None) alike.left
+        (offered (slice_get s.place.left number) aside
+        ∙ ap (λ (xs : List Left). offered_by r t.place (slice_get r.offers number) (slice_get xs number)) alike.left)
+      where
+        counts : List Left → ℕ
+        counts xs = move_count r (record s.place { left = xs })
+
+    module _ (number : ℕ) (e : Event) (brief : is_brief (Some n) e ≡ true) where
+      abbrev c : Choice
+      c = record { event = e; left = lessened s.place.left number; kept = s.place.kept }
+
+      abbrev d : Choice
+      d = record { event = e; left = lessened t.place.left number; kept = t.place.kept }
+
+      length_more : (es : List Event) → length (es ++ e ∷ []) ≡ length es + 1
+      length_more es = omega (arith, length-append {A = Event})
+
+      behind : (w : Spot) (hw : IsSpot r w) (u : State) (line : Option Seen) → next r.program w.place.state e ≡ Moves u line → IsRegular r.program u
+      behind w hw u line goes =
+          let few : length w.steps < LONGEST =
+          ltb-true (length w.steps) LONGEST (subst (λ (o : Option ℕ). is_few o (length w.steps) ≡ true) forget hw.few) in
+          let long = length_more w.steps in
+          regular_by r n forget can u (w.steps ++ e ∷ []) (state_behind r w e u line hw goes) (omega (arith, few, long))
+
+      taken_alike : (u v : State) (line other : Option Seen) → next r.program s.place.state e ≡ Moves u line →
+          next r.program t.place.state e ≡ Moves v other → StepsAlike r.program n s.place.state t.place.state u v line other →
+          LeadsAlike s t (record { event = e; place = taken r c u line; line = line }) (record { event = e; place = taken r d v other; line = other })
+      taken_alike u v line other goes comes k =
+          let ru = behind s hs u line goes in
+          let rv = behind t ht v other comes in
+          let dues = due_goes r.question s.place.state.clock t.place.state.clock u.clock v.clock s.place.kept.due t.place.kept.due alike.due
+          k.clocks in
+          record {
+            event = refl;
+            places = record {
+              state = k.same;
+              left = ap (λ xs. lessened xs number) alike.left;
+              owed = owed_alike r n forget can u v ru rv k.same s.place.kept.owed t.place.kept.owed line other alike.owed k.same_line;
+              along = along_alike r n forget can u v ru rv k.same s.place.kept.along t.place.kept.along e line other alike.along k.same_line;
+              due = kept_due_alike r n forget can u v ru rv k.same r.question s.place.kept.due t.place.kept.due dues;
+            };
+            regular = ru;
+            other = rv;
+            lines = k.same_line;
+            timers = k.timers;
+            dues = dues;
+          }
+
+      placed_alike : (x y : Next) → next r.program s.place.state e ≡ x → next r.program t.place.state e ≡ y →
+          NextAlike r.program n s.place.state t.place.state x y → LedAlike s t (placed r c (reached r.most x)) (placed r d (reached r.most y))
+      placed_alike (Refuses why) (Refuses other) goes comes k = tt
+      placed_alike (Refuses why) (Moves v other) goes comes k = absurd k
+      placed_alike (Moves u line) (Refuses why) goes comes k = absurd k
+      placed_alike (Moves u line) (Moves v other) goes comes k =
+          by (is_within r.most u) (is_within r.most v)
+          (within_alike r n forget can u v (behind s hs u line goes) (behind t ht v other comes) k.same r.most can.most)
+        where
+          by : (g h : Bool) → g ≡ h →
+              LedAlike s t (placed r c (if◌then◌else◌ {A = Option (State × Option Seen)} g (Some (u, line)) None))
+              (placed r d (if◌then◌else◌ {A = Option (State × Option Seen)} h (Some (v, other)) None))
+          by true true same = taken_alike u v line other goes comes k
+          by false false same = tt
+          by true false same = absurd cc
+          by false true same = absurd cc
+
+    led_alike : (number : ℕ) → LedAlike s t (led r s.place number) (led r t.place number)
+    led_alike number =
+        let one : led_by r s.place (chosen (lessened s.place.left number) s.place.kept (event_at s.place number)) ≡ led r s.place number =
+        ap (led_by r s.place) (sym (choice_is s.place number)) in
+        let two : led_by r t.place (chosen (lessened t.place.left number) t.place.kept (event_at s.place number)) ≡ led r t.place number =
+        ap (λ o. led_by r t.place (chosen (lessened t.place.left number) t.place.kept o)) (events_alike number)
+        ∙ ap (led_by r t.place) (sym (choice_is t.place number)) in
+        subst (λ x. LedAlike s t x (led r t.place number)) one
+        (subst (λ y. LedAlike s t (led_by r s.place (chosen (lessened s.place.left number) s.place.kept (event_at s.place number))) y) two
+        (by (event_at s.place number) (event_brief s.place number)))
+      where
+        by : (o : Option Event) → ((e : Event) → o ≡ Some e → is_brief (Some n) e ≡ true) →
+            LedAlike s t (led_by r s.place (chosen (lessened s.place.left number) s.place.kept o))
+            (led_by r t.place (chosen (lessened t.place.left number) t.place.kept o))
+        by None brief = tt
+        by (Some e) brief =
+            placed_alike number e (brief e refl) (next r.program s.place.state e) (next r.program t.place.state e) refl refl
+            (goes_alike r n forget can s t hs ht alike e (brief e refl))
+
+    -- ---- what a place answers
+
+    none_by : (x y : Option Led) → LedAlike s t x y → is_none x ≡ is_none y
+    none_by None None h = refl
+    none_by (Some x) (Some y) h = refl
+    none_by None (Some y) h = absurd h
+    none_by (Some x) None h = absurd h
+
+    none_alike : (count : ℕ) → none_leads r s.place count ≡ none_leads r t.place count
+    none_alike zero = refl
+    none_alike (suc count) =
+        ap₂ (λ x y. x && y) (none_alike count) (none_by (led r s.place count) (led r t.place count) (led_alike count))
+
+    count_alike : move_count r s.place ≡ move_count r t.place
+    count_alike = ap (λ (xs : List Left). move_count r (record s.place { left = xs })) alike.left
+
+    place_alike : (q : Question) → place_answers r s.place q ≡ place_answers r t.place q
+    place_alike (asks.Never name) =
+        let ra = spot_regular r n forget can s hs in
+        let rb = spot_regular r n forget can t ht in
+        ap₂ (λ x y. x && y)
+        (both r n forget can s.place.state t.place.state ra rb alike.state (λ u. has_ended r.program u.place) (reads_ended n r.program))
+        (uncalled_alike r n forget can s.place.state t.place.state ra rb alike.state name)
+    place_alike asks.Stuck =
+        ap₂ (λ x y. x && y) (blocked_alike r n forget can s t hs ht alike)
+        (none_alike (move_count r s.place) ∙ ap (none_leads r t.place) count_alike)
+    place_alike (asks.Late name ms) = refl
+    place_alike (asks.Call which name call) = refl
+    place_alike (asks.Code code name) = refl
+    place_alike (asks.Section word) = refl
+    place_alike asks.Poll = refl
+    place_alike (asks.Before name other) = refl
+    place_alike (asks.Behind name other) = refl
+
+  -- ---- the key
+
+  due_told : (q : Question) (a b d e : ℕ) → DueAlike q a d b e → told_due (Some n) q a d ≡ told_due (Some n) q b e
+  due_told (asks.Late name ms) a b d e h =
+      let late : a - d ≡ b - e = omega (arith, h) in
+      let early : d - a ≡ e - b = omega (arith, h) in
+      λ i. (late i, early i)
+  due_told (asks.Call which name call) a b d e h = ap (λ x. (x, 0)) h
+  due_told (asks.Code code name) a b d e h = ap (λ x. (x, 0)) h
+  due_told (asks.Section word) a b d e h = ap (λ x. (x, 0)) h
+  due_told asks.Poll a b d e h = ap (λ x. (x, 0)) h
+  due_told (asks.Never name) a b d e h = ap (λ x. (x, 0)) h
+  due_told asks.Stuck a b d e h = ap (λ x. (x, 0)) h
+  due_told (asks.Before name other) a b d e h = ap (λ x. (x, 0)) h
+  due_told (asks.Behind name other) a b d e h = ap (λ x. (x, 0)) h
+
+  told_alike : (p q : Place) → AreAlike r n p q → told r p ≡ told r q
+  told_alike p q h =
+      let state : formed r.forget p.state ≡ formed r.forget q.state =
+      subst (λ o. formed o p.state ≡ formed o q.state) (sym forget) h.state in
+      let due : told_due r.forget r.question p.state.clock p.kept.due ≡ told_due r.forget r.question q.state.clock q.kept.due =
+      subst (λ o. told_due o r.question p.state.clock p.kept.due ≡ told_due o r.question q.state.clock q.kept.due) (sym forget)
+      (due_told r.question p.state.clock q.state.clock p.kept.due q.kept.due h.due) in
+      λ i. record { state = state i; left = h.left i; due = due i; owed = h.owed i; along = h.along i }
+
+  due_by : (q : Question) (a b d e : ℕ) → told_due (Some n) q a d ≡ told_due (Some n) q b e → DueAlike q a d b e
+  due_by (asks.Late name ms) a b d e h =
+      let late : a - d ≡ b - e = ap (λ x. x.0) h in
+      let early : d - a ≡ e - b = ap (λ x. x.1) h in
+      omega (arith, late, early)
+  due_by (asks.Call which name call) a b d e h = ap (λ x. x.0) h
+  due_by (asks.Code code name) a b d e h = ap (λ x. x.0) h
+  due_by (asks.Section word) a b d e h = ap (λ x. x.0) h
+  due_by asks.Poll a b d e h = ap (λ x. x.0) h
+  due_by (asks.Never name) a b d e h = ap (λ x. x.0) h
+  due_by asks.Stuck a b d e h = ap (λ x. x.0) h
+  due_by (asks.Before name other) a b d e h = ap (λ x. x.0) h
+  due_by (asks.Behind name other) a b d e h = ap (λ x. x.0) h
+
+  alike_by : (p q : Place) → told r p ≡ told r q → AreAlike r n p q
+  alike_by p q h = record {
+    state = subst (λ o. formed o p.state ≡ formed o q.state) forget (ap (λ (x : Told). x.state) h);
+    left = ap (λ (x : Told). x.left) h;
+    owed = ap (λ (x : Told). x.owed) h;
+    along = ap (λ (x : Told). x.along) h;
+    due = due_by r.question p.state.clock q.state.clock p.kept.due q.kept.due
+        (subst (λ o. told_due o r.question p.state.clock p.kept.due ≡ told_due o r.question q.state.clock q.kept.due) forget
+        (ap (λ (x : Told). x.due) h));
+  }
+
+  -- ---- and so the moves
+
+  module _ (s t : Spot) (hs : IsSpot r s) (ht : IsStanding r t) (alike : AreAlike r n s.place t.place) where
+    few_behind : is_few r.forget (length t.steps + 1) ≡ true
+    few_behind = ap (λ o. is_few o (length t.steps + 1)) forget ∙ few (omega (arith, ht.room)) where
+      few : length t.steps + 1 < LONGEST → nat_lt (length t.steps + 1) LONGEST ≡ true
+      few below = grind (arith, below)
+
+    step_covers : (x y : Led) → LeadsAlike s t x y → IsSpot r (record { place = x.place; steps = s.steps ++ x.event ∷ [] }) →
+        IsSpot r (record { place = y.place; steps = t.steps ++ y.event ∷ [] }) →
+        (spot_code r (record { place = x.place; steps = s.steps ++ x.event ∷ [] })
+        ≡ spot_code r (record { place = y.place; steps = t.steps ++ y.event ∷ [] }))
+        × (answers r s.place x ≡ answers r t.place y)
+    step_covers x y h hx hy =
+        let line = line_alike r n forget can x.place.state y.place.state h.regular h.other h.places.state s.place.kept.due t.place.kept.due
+        x.line y.line h.dues h.lines h.timers in
+        let place = place_alike (record { place = x.place; steps = s.steps ++ x.event ∷ [] })
+        (record { place = y.place; steps = t.steps ++ y.event ∷ [] })
+        hx hy h.places r.question in (
+          ap told_code (told_alike x.place y.place h.places),
+          ap₂ (λ one two. if one then true else two) line place,
+        )
+
+    module _ (number : ℕ) where
+      covers_by : (x y : Option Led) → led r s.place number ≡ x → led r t.place number ≡ y → LedAlike s t x y →
+          CoversStep (spot_code r) (spot_of r s x) (spot_of r t y)
+      covers_by None None is so h = tt
+      covers_by None (Some y) is so h = absurd h
+      covers_by (Some x) None is so h = absurd h
+      covers_by (Some x) (Some y) is so h = by (is_few r.forget (length s.steps + 1)) (is_few r.forget (length t.steps + 1)) refl few_behind where
+        by : (b c : Bool) → is_few r.forget (length s.steps + 1) ≡ b → c ≡ true →
+            CoversStep (spot_code r)
+            (if◌then◌else◌ {A = Option (Spot × Bool)} b
+            (Some (record { place = x.place; steps = s.steps ++ x.event ∷ [] }, answers r s.place x)) None)
+            (if◌then◌else◌ {A = Option (Spot × Bool)} c
+            (Some (record { place = y.place; steps = t.steps ++ y.event ∷ [] }, answers r t.place y)) None)
+        by false c few more = tt
+        by true false few more = absurd cc
+        by true true few more =
+            step_covers x y h (leads_spot r s x hs (led_leads r s.place number x is) few)
+            (leads_spot r t y ht.spot (led_leads r t.place number y so) few_behind)
+
+    covers : CoversMoves (λ (a : Spot). move_count r a.place) (next_spot r) (spot_code r) s t
+    covers = (
+      count_alike s t hs ht.spot alike,
+      λ number below. covers_by number (led r s.place number) (led r t.place number) refl refl (led_alike s t hs ht.spot alike number),
+    )
+
+-- ---- where places are told whole
+
+same_spots : (r : Rules) (s t : Spot) → s.place ≡ t.place → r.forget ≡ None → (o : Option Led) →
+    CoversStep (spot_code r) (spot_of r s o) (spot_of r t o)
+same_spots r s t same whole None = tt
+same_spots r s t same whole (Some l) = by (is_few r.forget (length s.steps + 1)) (is_few r.forget (length t.steps + 1))
+    (ap (λ o. is_few o (length t.steps + 1)) whole)
+  where
+    by : (b c : Bool) → c ≡ true → CoversStep (spot_code r)
+        (if◌then◌else◌ {A = Option (Spot × Bool)} b (Some (record { place = l.place; steps = s.steps ++ l.event ∷ [] }, answers r s.place l)) None)
+        (if◌then◌else◌ {A = Option (Spot × Bool)} c (Some (record { place = l.place; steps = t.steps ++ l.event ∷ [] }, answers r t.place l)) None)
+    by false c few = tt
+    by true false few = absurd cc
+    by true true few = (refl, ap (λ (p : Place). answers r p l) same)
+
+whole_place : (r : Rules) (p q : Place) → r.forget ≡ None → told r p ≡ told r q → p ≡ q
+whole_place r p q whole e =
+    let state : p.state ≡ q.state = subst (λ o. formed o p.state ≡ formed o q.state) whole (ap (λ (x : Told). x.state) e) in
+    let dues = subst (λ o. told_due o r.question p.state.clock p.kept.due ≡ told_due o r.question q.state.clock q.kept.due) whole
+    (ap (λ (x : Told). x.due) e) in
+    let due : p.kept.due ≡ q.kept.due = ap (λ x. x.0) dues in
+    λ i. record { state = state i; left = (e i).left; kept = record { due = due i; owed = (e i).owed; along = (e i).along } }
+
+pub spots_alike : (r : Rules) (s t : Spot) → IsSpot r s → IsStanding r t → spot_code r s ≡ spot_code r t
+    → CoversMoves (λ (a : Spot). move_count r a.place) (next_spot r) (spot_code r) s t
+spots_alike r s t is js e = by r.forget refl where
+  same : told r s.place ≡ told r t.place
+  same = places_tell r s t is js.spot e
+
+  by : (o : Option ℕ) → r.forget ≡ o → CoversMoves (λ (a : Spot). move_count r a.place) (next_spot r) (spot_code r) s t
+  by (Some n) some =
+      let can = is.forgets n some in
+      covers r n some can s t is js (alike_by r n some can s.place t.place same)
+  by None whole =
+      let place = whole_place r s.place t.place whole same in (
+        ap (move_count r) place,
+        λ i below. subst (λ (p : Place). CoversStep (spot_code r) (next_spot r s i) (spot_of r t (led r p i))) place
+            (same_spots r s t place whole (led r s.place i)),
+      )

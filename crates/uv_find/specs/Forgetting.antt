@@ -1,0 +1,91 @@
+-- Where a search needs to know no more of a state than its normal form: no bound names the clock, nothing is held to a recording, and all
+-- numbers of ms are small.
+use Rattle.std.specs.Prelude.{ℕ, ◌+◌, ◌^◌, ◌&&◌, not, Bool, true, false, List, [], ◌∷◌, Option, Some, None, is_none, max, nat_lt, if◌then◌else◌}
+use Rattle.std.specs.List.{list_all}
+use Rattle.uv_ids.specs.declared.event.Event.TheVariants as event
+use Rattle.uv_script.specs.declared.op.Op.{Op}
+use Rattle.uv_script.specs.declared.op.Op.TheVariants as op
+use Rattle.uv_script.specs.declared.op.MainOp.{MainOp}
+use Rattle.uv_script.specs.declared.op.MainOp.TheVariants as main
+use Rattle.uv_script.specs.declared.op.CallbackLine.{CallbackLine}
+use Rattle.uv_script.specs.Program.{Program, Callbacks, arena_size}
+use Rattle.uv_names.specs.Counts.{call_end, script_end}
+use Rattle.uv_asking.specs.Asked.{Asked}
+use Rattle.uv_asking.specs.declared.asking.Most.{Most}
+use Rattle.uv_asking.specs.declared.asking.Offer.{Offer}
+use Rattle.uv_asking.specs.declared.asking.Offer.TheVariants.{Step, SendDuring}
+use Rattle.uv_asking.specs.declared.asking.Offered.{Offered}
+use Rattle.uv_asking.specs.declared.asking.Takes.{Takes}
+use Rattle.uv_asking.specs.declared.asking.Question.{Question}
+use Rattle.uv_asking.specs.declared.asking.Question.TheVariants as asks
+
+-- so many ms are a long time: twelve days
+abbrev pub LONG : ℕ
+LONG = 2 ^ 30
+
+-- an order has fewer steps than these, where a search forgets: behind one for each generation of a slot, slots run out
+abbrev pub LONGEST : ℕ
+LONGEST = 4294967294
+
+abbrev pub is_small_op : Op → Bool
+is_small_op (op.Start v timeout repeat) = nat_lt timeout LONG && nat_lt repeat LONG
+is_small_op (op.SetRepeat v repeat) = nat_lt repeat LONG
+is_small_op o = true
+
+abbrev pub is_small_main : MainOp → Bool
+is_small_main (main.Op o) = is_small_op o
+is_small_main o = true
+
+abbrev pub are_small_lines : List CallbackLine → Bool
+are_small_lines lines = list_all (λ (line : CallbackLine). is_small_op line.op) lines
+
+abbrev pub are_small_callbacks : Callbacks → Bool
+are_small_callbacks c = are_small_lines c.handle && are_small_lines c.after && are_small_lines c.close
+
+abbrev pub is_small_script : Program → Bool
+is_small_script p = list_all is_small_main p.main && list_all are_small_callbacks p.callbacks
+
+abbrev pub is_small_offer : Offer → Bool
+is_small_offer (Step (event.Tick ms)) = nat_lt ms LONG
+is_small_offer offer = true
+
+abbrev pub are_small_offers : List Offered → Bool
+are_small_offers offers = list_all (λ (offered : Offered). is_small_offer offered.offer) offers
+
+abbrev pub are_small_takes : List Takes → Bool
+are_small_takes takes = list_all (λ (t : Takes). nat_lt t.ms LONG) takes
+
+-- no offer is bound to the request that a worker runs
+abbrev pub is_aside : Offer → Bool
+is_aside (SendDuring v job) = false
+is_aside offer = true
+
+abbrev pub none_during : List Offered → Bool
+none_during offers = list_all (λ (offered : Offered). is_aside offered.offer) offers
+
+abbrev pub may_forget : Program → Asked → Bool
+may_forget p asked =
+    not asked.full && is_none asked.clock && is_none asked.differ && nat_lt LONGEST (arena_size p).last_generation
+    && is_small_script p && are_small_offers asked.offers && none_during asked.offers && are_small_takes asked.takes
+
+-- ---- the calls that a script or a question tells from later ones
+
+abbrev pub most_end : List Most → ℕ
+most_end [] = 0
+most_end (m ∷ ms) = max (m.calls + 1) (most_end ms)
+
+abbrev pub takes_end : List Takes → ℕ
+takes_end [] = 0
+takes_end (t ∷ ts) = max (call_end t.call) (takes_end ts)
+
+abbrev pub question_end : Question → ℕ
+question_end (asks.Call which name call) = call_end call
+question_end question = 0
+
+-- whether there was a call is told, of each name
+abbrev pub calls_end : Program → Asked → ℕ
+calls_end p asked = max 1 (max (script_end p) (max (most_end asked.most) (max (takes_end asked.takes) (question_end asked.question))))
+
+-- up to which number calls are counted where a search forgets
+abbrev pub forget_of : Program → Asked → Option ℕ
+forget_of p asked = if may_forget p asked then Some (calls_end p asked) else None

@@ -1,0 +1,131 @@
+-- Where a move leads: on by an event that is brief, to a spot. These are proofs; the impl of a search names them.
+use Rattle.std.proofs.Common.{◌≡◌, ℕ, ◌+◌, ◌<◌, Bool, true, false, List, [], ◌∷◌, ◌++◌, length, nat_lt, refl, sym, ap, subst, ◌∙◌, Option, Some, None, if◌then◌else◌, slice_get, length-append, arith}
+use Rattle.uv_ids.specs.declared.event.Event.{Event}
+use Rattle.uv_ids.specs.declared.seen.Seen.{Seen}
+use Rattle.uv_model.specs.State.{State}
+use Rattle.uv_model.specs.Next.{Next, Moves, Refuses, next}
+use Rattle.uv_model.specs.After.{after, state_of}
+use Rattle.uv_model.proofs.Runs.{after-push}
+use Rattle.uv_asking.specs.declared.asking.Offered.{Offered}
+use Rattle.uv_find.specs.declared.left.Left.{Left}
+use Rattle.uv_find.specs.declared.kept.Kept.{Kept}
+use Rattle.uv_find.specs.Orders.{Rules, Place, Choice, Led, led, led_by, placed, choice_at, choice_by, chosen, lessened, offered_by, offered_here, is_brief, brief, move_count, taken, reached, is_within}
+use Rattle.uv_find.specs.Questions.{answers}
+use Rattle.uv_find.specs.Courses.{LeadsOn}
+use Rattle.uv_find.specs.Spots.{Spot, spot_of, next_spot, MayForget, AreBrief, is_few, IsSpot}
+
+module _ (r : Rules) (p : Place) (number : ℕ) (l : Led) where
+  by_within : (c : Choice) (s : State) (line : Option Seen) (b : Bool) → choice_at r p number ≡ Some c → next r.program p.state c.event ≡ Moves s line
+      → is_within r.most s ≡ b
+      → placed r c (if◌then◌else◌ {A = Option (State × Option Seen)} b (Some (s, line)) None) ≡ Some l → LeadsOn r p l
+  by_within c s line true offered accepted within is =
+      let one : ◌≡◌ {A = Led} (record { event = c.event; place = taken r c s line; line = line }) l = cc in
+      subst (LeadsOn r p) one (record {
+        number = number;
+        choice = c;
+        offered = offered;
+        event = refl;
+        accepted = accepted;
+        within = within;
+        taken = refl;
+      })
+  by_within c s line false offered accepted within is = absurd (let f : ⊥ = cc in f)
+
+  by_next : (c : Choice) (x : Next) → choice_at r p number ≡ Some c → next r.program p.state c.event ≡ x → placed r c (reached r.most x) ≡ Some l
+      → LeadsOn r p l
+  by_next c (Refuses why) offered accepted is = absurd (let f : ⊥ = cc in f)
+  by_next c (Moves s line) offered accepted is = by_within c s line (is_within r.most s) offered accepted refl is
+
+  by_choice : (c : Option Choice) → choice_at r p number ≡ c → led_by r p c ≡ Some l → LeadsOn r p l
+  by_choice None offered is = absurd (let f : ⊥ = cc in f)
+  by_choice (Some c) offered is = by_next c (next r.program p.state c.event) offered refl is
+
+  -- a choice that leads on is an event that does
+  pub led_leads : led r p number ≡ Some l → LeadsOn r p l
+  led_leads is = by_choice (choice_at r p number) refl is
+
+-- ---- what is chosen is brief
+
+brief_is : (forget : Option ℕ) (o : Option Event) (e : Event) → brief forget o ≡ Some e → is_brief forget e ≡ true
+brief_is forget None e h = absurd cc
+brief_is forget (Some x) e h = by (is_brief forget x) refl h where
+  by : (b : Bool) → is_brief forget x ≡ b → (if b then Some x else None) ≡ Some e → is_brief forget e ≡ true
+  by true is same =
+      let one : x ≡ e = cc in
+      subst (λ y. is_brief forget y ≡ true) one is
+  by false is same = absurd cc
+
+pub offered_brief : (r : Rules) (p : Place) (offered : Option Offered) (x : Option Left) (e : Event) → offered_by r p offered x ≡ Some e →
+    is_brief r.forget e ≡ true
+offered_brief r p None x e h = absurd cc
+offered_brief r p (Some o) None e h = absurd cc
+offered_brief r p (Some o) (Some x) e h = brief_is r.forget (offered_here r.program r.clock p.state p.kept o.offer x) e h
+
+chosen_is : (xs : List Left) (kept : Kept) (o : Option Event) (c : Choice) → chosen xs kept o ≡ Some c → o ≡ Some c.event
+chosen_is xs kept None c h = absurd cc
+chosen_is xs kept (Some e) c h =
+    let one : ◌≡◌ {A = Choice} (record { event = e; left = xs; kept = kept }) c = cc in
+    ap (λ (x : Choice). Some x.event) one
+
+pub choice_brief : (r : Rules) (p : Place) (number : ℕ) (c : Choice) → MayForget r → choice_at r p number ≡ Some c → is_brief r.forget c.event ≡ true
+unfolding choice_at
+choice_brief r p number c may h = by r.forget refl where
+  within : (b : Bool) → (if b then choice_by r p number r.differ else None) ≡ Some c → choice_by r p number r.differ ≡ Some c
+  within true e = e
+  within false e = absurd cc
+
+  by : (o : Option ℕ) → r.forget ≡ o → is_brief r.forget c.event ≡ true
+  by None none = ap (λ o. is_brief o c.event) none
+  by (Some n) some =
+      let differ = (may n some).differ in
+      let offer = ap (choice_by r p number) (sym differ) ∙ within (nat_lt number (move_count r p)) h in
+      offered_brief r p (slice_get r.offers number) (slice_get p.left number) c.event
+      (chosen_is (lessened p.left number) p.kept (offered_by r p (slice_get r.offers number) (slice_get p.left number)) c offer)
+
+-- ---- a spot, with an event more that leads on
+
+pub brief_more : (forget : Option ℕ) (es : List Event) (e : Event) → AreBrief forget es → is_brief forget e ≡ true → AreBrief forget (es ++ e ∷ [])
+brief_more forget [] e h k = (k, tt)
+brief_more forget (x ∷ xs) e h k = (h.0, brief_more forget xs e h.1 k)
+
+length_more : (es : List Event) (e : Event) → length (es ++ e ∷ []) ≡ length es + 1
+length_more es e = omega (arith, length-append {A = Event})
+
+pub state_behind : (r : Rules) (s : Spot) (e : Event) (t : State) (line : Option Seen) → IsSpot r s → next r.program s.place.state e ≡ Moves t line →
+    t ≡ after r.program (s.steps ++ e ∷ [])
+state_behind r s e t line is goes =
+    let accepted : next r.program (after r.program s.steps) e ≡ Moves t line = subst (λ x. next r.program x e ≡ Moves t line) is.state goes in
+    sym (after-push r.program s.steps e ∙ ap (state_of (after r.program s.steps)) accepted)
+
+pub leads_spot : (r : Rules) (s : Spot) (l : Led) → IsSpot r s → LeadsOn r s.place l → is_few r.forget (length s.steps + 1) ≡ true
+    → IsSpot r (record { place = l.place; steps = s.steps ++ l.event ∷ [] })
+leads_spot r s l is on few = record {
+  state = state_behind r s l.event l.place.state l.line is on.accepted;
+  forgets = is.forgets;
+  brief = brief_more r.forget s.steps l.event is.brief
+      (subst (λ e. is_brief r.forget e ≡ true) (sym on.event) (choice_brief r s.place on.number on.choice is.forgets on.offered));
+  few = ap (is_few r.forget) (length_more s.steps l.event) ∙ few;
+}
+
+-- what a move leads to, and that it may
+pub spot_led : (r : Rules) (s : Spot) (l : Led) (t : Spot) (b : Bool) → spot_of r s (Some l) ≡ Some (t, b)
+    → (t ≡ record { place = l.place; steps = s.steps ++ l.event ∷ [] }) × (b ≡ answers r s.place l) × (is_few r.forget (length s.steps + 1) ≡ true)
+spot_led r s l t b e = by (is_few r.forget (length s.steps + 1)) refl e where
+  by : (c : Bool) → is_few r.forget (length s.steps + 1) ≡ c
+      → (if◌then◌else◌ {A = Option (Spot × Bool)} c (Some (record { place = l.place; steps = s.steps ++ l.event ∷ [] }, answers r s.place l)) None)
+      ≡ Some (t, b)
+      → (t ≡ record { place = l.place; steps = s.steps ++ l.event ∷ [] }) × (b ≡ answers r s.place l) × (is_few r.forget (length s.steps + 1) ≡ true)
+  by true is h =
+      let pair : ◌≡◌ {A = Spot × Bool} (record { place = l.place; steps = s.steps ++ l.event ∷ [] }, answers r s.place l) (t, b) = cc in
+      (sym (ap (λ x. x.0) pair), sym (ap (λ x. x.1) pair), is)
+  by false is h = absurd (let f : ⊥ = cc in f)
+
+pub spots_lead : (r : Rules) (s : Spot) (i : ℕ) (t : Spot) (b : Bool) → IsSpot r s → i < move_count r s.place
+    → next_spot r s i ≡ Some (t, b) → IsSpot r t
+spots_lead r s i t b is below goes = by (led r s.place i) refl goes
+  where
+    by : (o : Option Led) → led r s.place i ≡ o → spot_of r s o ≡ Some (t, b) → IsSpot r t
+    by None e h = absurd (let f : ⊥ = cc in f)
+    by (Some l) e h =
+        let k = spot_led r s l t b h in
+        subst (IsSpot r) (sym k.0) (leads_spot r s l is (led_leads r s.place i l e) k.2)

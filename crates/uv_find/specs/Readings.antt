@@ -1,0 +1,342 @@
+-- What a search reads of a state is the same of its normal form. These are proofs; the impl of a search names them.
+use Rattle.std.proofs.Common.{◌≡◌, ℕ, zero, suc, ◌+◌, ◌-◌, ◌<◌, ◌≤◌, ◌==◌, ◌&&◌, Bool, false, List, [], ◌∷◌, Option, Some, None, nat_eq, nat_le, is_none, is_some, option_and_then, slice_get, refl, ap, ap₂, sym, ◌∙◌, arith, if◌then◌else◌}
+use Rattle.std.specs.Prelude.{min, option_map}
+use Rattle.std.specs.Option.{option_eq}
+use Rattle.std.proofs.lemmas.Option.{slice_get-map}
+use Rattle.uv_ids.specs.declared.id.Id.{Id}
+use Rattle.uv_ids.specs.declared.id.Var.{Var}
+use Rattle.uv_ids.specs.declared.seen.Callback.{Callback}
+use Rattle.uv_records.specs.declared.named.Named.{Named}
+use Rattle.uv_records.specs.Names.{count_of}
+use Rattle.uv_records.specs.Slots.{held}
+use Rattle.uv_script.specs.Program.{Program, is_for}
+use Rattle.uv_work.specs.declared.content.Content.{Content}
+use Rattle.uv_work.specs.declared.content.Content.TheVariants as content
+use Rattle.uv_model.specs.declared.place.Place.{Place}
+use Rattle.uv_model.specs.declared.place.Place.TheVariants.{Main, Running}
+use Rattle.uv_model.specs.declared.place.Stage.{Stage}
+use Rattle.uv_model.specs.declared.place.Stage.TheVariants as stage
+use Rattle.uv_model.specs.State.{State, named}
+use Rattle.uv_shift.specs.Retimed.{Retiming, retimed_handle, retimed_content, retimed_stage, retimed_place}
+use Rattle.uv_shift.specs.Shift.{By, later, shift}
+use Rattle.uv_shift.specs.Earliest.{earliest, IsTimed}
+use Rattle.uv_shift.specs.Earliest as early
+use Rattle.uv_shift.proofs.Slots.{held_shift}
+use Rattle.uv_shift.proofs.Base.{earliest_later}
+use Rattle.uv_generations.specs.More.{Frees, more}
+use Rattle.uv_generations.specs.Youngest.{surplus, youngest, IsYoung}
+use Rattle.uv_generations.proofs.More.{rename}
+use Rattle.uv_generations.proofs.Slots.{held_renamed, named_renamed}
+use Rattle.uv_generations.proofs.Base.{youngest_more}
+use Rattle.uv_generations.proofs.Bare.{earliest_young}
+use Rattle.uv_names.specs.Counts.{capped_body, capped_place, call_end}
+use Rattle.uv_names.specs.Stale.{staled, staled_id}
+use Rattle.uv_names.proofs.Counted.{named_capped, bound_capped, count_capped}
+use Rattle.uv_names.proofs.Stales.{bound_staled, calls_staled, held_same, named_staled}
+use Rattle.uv_normal.specs.Normal.{reduced, normal}
+use Rattle.uv_normal.proofs.Reduced.{reduced_timed, reduced_young}
+use Rattle.uv_asking.specs.declared.asking.Takes.{Takes}
+use Rattle.uv_find.specs.Forgetting.{takes_end}
+use Rattle.uv_records.specs.declared.handle.HandleRecord.{HandleRecord}
+use Rattle.uv_records.specs.Handles.{is_timer}
+use Rattle.uv_find.specs.Questions.{has_ended}
+use Rattle.uv_find.specs.Kept.{is_over, is_timers_stage, is_in_timers, said_time, time_taken, or_time}
+use Rattle.uv_find.specs.Orders.{idle_among, or_else, is_quiet, is_behind_poll, is_closing, closes, deadline_in, deadline_at}
+
+-- what is read of a state is the same of the state reduced, later, and with slots that were freed more often
+pub record Reads {X : Type 0} (n : ℕ) (R : State → X) : Type 0 where
+  reduces : (s : State) → R (reduced n s) ≡ R s
+  shifts : (d : By) (s : State) → R (shift d s) ≡ R s
+  frees : (k : Frees) (s : State) → R (more k s) ≡ R s
+
+module _ {X : Type 0} (n : ℕ) (R : State → X) (reads : Reads n R) (p : Program) where
+  of_normal : (s : State) → IsTimed p s → IsYoung p s → R s ≡ R (normal n s)
+  of_normal s timed young =
+      let r = reduced n s in
+      let old = reduced_timed p n s timed in
+      let fresh = earliest_young p r old (reduced_young p n s young) in
+      sym (reads.reduces s) ∙ ap R (sym (earliest_later r old.timers)) ∙ reads.shifts (early.base r) (earliest r)
+      ∙ ap R (sym (youngest_more p (earliest r) fresh)) ∙ reads.frees (surplus (earliest r)) (youngest (earliest r))
+
+  -- so it is the same of states that have the same normal form
+  pub reads_alike : (s t : State) → IsTimed p s → IsYoung p s → IsTimed p t → IsYoung p t → normal n s ≡ normal n t → R s ≡ R t
+  reads_alike s t timed young timely youth same = of_normal s timed young ∙ ap R same ∙ sym (of_normal t timely youth)
+
+-- ---- names
+
+abbrev pub is_bound : Var → State → Bool
+is_bound v s = is_some (named s v).id
+
+some_map : {A B : Type 0} (f : A → B) (o : Option A) → is_some (option_map f o) ≡ is_some o
+some_map f None = refl
+some_map f (Some x) = refl
+
+pub reads_bound : (n : ℕ) (v : Var) → Reads n (is_bound v)
+reads_bound n v = record {
+  reduces = λ s. ap is_some (bound_capped n (staled s) v) ∙ bound_staled s v;
+  shifts = λ d s. refl;
+  frees = λ k s. ap (λ (x : Named). is_some x.id) (named_renamed k s v) ∙ some_map (rename k) (named s v).id;
+}
+
+id_reduced : (n : ℕ) (s : State) (v : Var) → (named (reduced n s) v).id ≡ option_map (staled_id s.arena.slots) (named s v).id
+id_reduced n s v = bound_capped n (staled s) v ∙ ap (λ (x : Named). x.id) (named_staled s v)
+
+-- what is read of what the slot holds that a name is bound to, by a function that sees no times
+module _ {Y : Type 0} (f : Option Content → Y) (none : Y) where
+  abbrev pub of_bound : State → Option Id → Y
+  of_bound s None = none
+  of_bound s (Some id) = f (held s.arena.slots id)
+
+  abbrev pub of_named : Var → State → Y
+  of_named v s = of_bound s (named s v).id
+
+  bound_reduced : (n : ℕ) (s : State) (o : Option Id) → of_bound (reduced n s) (option_map (staled_id s.arena.slots) o) ≡ of_bound s o
+  bound_reduced n s None = refl
+  bound_reduced n s (Some id) = ap f (held_same s.arena.slots id)
+
+  bound_shifted : ((d : By) (o : Option Content) → f (option_map (retimed_content (later d)) o) ≡ f o) → (d : By) (s : State) (o : Option Id) →
+      of_bound (shift d s) o ≡ of_bound s o
+  bound_shifted same d s None = refl
+  bound_shifted same d s (Some id) = ap f (held_shift d s.arena.slots id) ∙ same d (held s.arena.slots id)
+
+  bound_freed : (k : Frees) (s : State) (o : Option Id) → of_bound (more k s) (option_map (rename k) o) ≡ of_bound s o
+  bound_freed k s None = refl
+  bound_freed k s (Some id) = ap f (held_renamed k s.arena.slots id)
+
+  pub reads_named : ((d : By) (o : Option Content) → f (option_map (retimed_content (later d)) o) ≡ f o) → (n : ℕ) (v : Var) → Reads n (of_named v)
+  reads_named same n v = record {
+    reduces = λ s. ap (of_bound (reduced n s)) (id_reduced n s v) ∙ bound_reduced n s (named s v).id;
+    shifts = λ d s. bound_shifted same d s (named s v).id;
+    frees = λ k s. ap (λ (x : Named). of_bound (more k s) x.id) (named_renamed k s v) ∙ bound_freed k s (named s v).id;
+  }
+
+closing_later : (d : By) (o : Option Content) → is_closing (option_map (retimed_content (later d)) o) ≡ is_closing o
+closing_later d None = refl
+closing_later d (Some (content.Handle h)) = refl
+closing_later d (Some (content.Request r)) = refl
+
+abbrev pub is_shut : Var → State → Bool
+is_shut v s = closes s (named s v).id
+
+shut_is : (v : Var) (s : State) → is_shut v s ≡ of_named is_closing false v s
+shut_is v s = by (named s v).id where
+  by : (o : Option Id) → closes s o ≡ of_bound is_closing false s o
+  by None = refl
+  by (Some id) = refl
+
+pub reads_shut : (n : ℕ) (v : Var) → Reads n (is_shut v)
+reads_shut n v =
+    let r = reads_named is_closing false closing_later n v in
+    record {
+      reduces = λ s. shut_is v (reduced n s) ∙ r.reduces s ∙ sym (shut_is v s);
+      shifts = λ d s. shut_is v (shift d s) ∙ r.shifts d s ∙ sym (shut_is v s);
+      frees = λ k s. shut_is v (more k s) ∙ r.frees k s ∙ sym (shut_is v s);
+    }
+
+-- ---- counts
+
+abbrev pub count : Callback → Var → State → ℕ
+count kind v s = count_of kind (named s v).calls
+
+count_reduced : (n : ℕ) (kind : Callback) (v : Var) (s : State) → count kind v (reduced n s) ≡ min (count kind v s) n
+count_reduced n kind v s =
+    ap (λ (x : Named). count_of kind x.calls) (named_capped n (staled s) v) ∙ count_capped n kind (named (staled s) v).calls
+    ∙ ap (λ c. min (count_of kind c) n) (calls_staled s v)
+
+-- by a function that tells no numbers from n on
+pub reads_count : {X : Type 0} (f : ℕ → X) (n : ℕ) → ((c : ℕ) → f (min c n) ≡ f c) → (kind : Callback) (v : Var) → Reads n (λ s. f (count kind v s))
+reads_count f n same kind v = record {
+  reduces = λ s. ap f (count_reduced n kind v s) ∙ same (count kind v s);
+  shifts = λ d s. refl;
+  frees = λ k s. ap (λ (x : Named). f (count_of kind x.calls)) (named_renamed k s v);
+}
+
+pub meant_capped : (call : Option ℕ) (n : ℕ) → call_end call ≤ n → (c : ℕ) → is_for (min c n) call ≡ is_for c call
+meant_capped None n below c = refl
+meant_capped (Some k) n below c = grind arith
+
+pub within_capped : (most n : ℕ) → most < n → (c : ℕ) → nat_le (min c n) most ≡ nat_le c most
+within_capped most n below c = grind arith
+
+pub none_capped : (n : ℕ) → 1 ≤ n → (c : ℕ) → (min c n == 0) ≡ (c == 0)
+none_capped n some c = grind arith
+
+said_capped : (call : Option ℕ) (n : ℕ) → call_end call ≤ n → (c : ℕ) → option_eq nat_eq call (Some (min c n)) ≡ option_eq nat_eq call (Some c)
+said_capped None n below c = refl
+said_capped (Some k) n below c = grind arith
+
+said_time_capped : (takes : List Takes) (v : Var) (n : ℕ) → takes_end takes ≤ n → (c : ℕ) →
+    said_time takes v (Some (min c n)) ≡ said_time takes v (Some c)
+said_time_capped [] v n below c = refl
+said_time_capped (t ∷ ts) v n below c =
+    ap₂ (λ (b : Bool) (o : Option ℕ). if (t.name.0 == v.0) && b then Some t.ms else o)
+    (said_capped t.call n (omega (arith, below)) c) (said_time_capped ts v n (omega (arith, below)) c)
+
+pub taken_capped : (takes : List Takes) (v : Var) (n : ℕ) → takes_end takes ≤ n → (c : ℕ) → time_taken takes v (min c n) ≡ time_taken takes v c
+taken_capped takes v n below c = ap (λ o. or_time o (said_time takes v None)) (said_time_capped takes v n below c)
+
+-- ---- where the loop stands
+
+-- by a function that sees no deadline, and no number of a call
+pub reads_place : {X : Type 0} (f : Place → X) (n : ℕ) → ((place : Place) → f (capped_place n place) ≡ f place) →
+    ((d : By) (place : Place) → f (retimed_place (later d) place) ≡ f place) → Reads n (λ s. f s.place)
+reads_place f n capped timed = record {
+  reduces = λ s. capped s.place;
+  shifts = λ d s. timed d s.place;
+  frees = λ k s. refl;
+}
+
+quiet_later : (r : Retiming) (x : Stage) → is_behind_poll (retimed_stage r x) ≡ is_behind_poll x
+quiet_later r (stage.Poll deadline) = refl
+quiet_later r x = refl
+
+timers_later : (r : Retiming) (x : Stage) → is_timers_stage (retimed_stage r x) ≡ is_timers_stage x
+timers_later r (stage.Poll deadline) = refl
+timers_later r x = refl
+
+pub reads_quiet : (n : ℕ) → Reads n (λ s. is_quiet s.place)
+reads_quiet n = reads_place is_quiet n capped later_too where
+  capped : (place : Place) → is_quiet (capped_place n place) ≡ is_quiet place
+  capped (Main line) = refl
+  capped (Running run) = refl
+
+  later_too : (d : By) (place : Place) → is_quiet (retimed_place (later d) place) ≡ is_quiet place
+  later_too d (Main line) = refl
+  later_too d (Running run) = quiet_later (later d) run.stage
+
+pub reads_timers : (n : ℕ) → Reads n (λ s. is_in_timers s.place)
+reads_timers n = reads_place is_in_timers n capped later_too where
+  capped : (place : Place) → is_in_timers (capped_place n place) ≡ is_in_timers place
+  capped (Main line) = refl
+  capped (Running run) = refl
+
+  later_too : (d : By) (place : Place) → is_in_timers (retimed_place (later d) place) ≡ is_in_timers place
+  later_too d (Main line) = refl
+  later_too d (Running run) = timers_later (later d) run.stage
+
+none_map : {A B : Type 0} (f : A → B) (o : Option A) → is_none (option_map f o) ≡ is_none o
+none_map f None = refl
+none_map f (Some x) = refl
+
+pub reads_over : (n : ℕ) → Reads n (λ s. is_over s.place)
+reads_over n = reads_place is_over n capped later_too where
+  capped : (place : Place) → is_over (capped_place n place) ≡ is_over place
+  capped (Main line) = refl
+  capped (Running run) = none_map (capped_body n) run.body
+
+  later_too : (d : By) (place : Place) → is_over (retimed_place (later d) place) ≡ is_over place
+  later_too d (Main line) = refl
+  later_too d (Running run) = refl
+
+pub reads_ended : (n : ℕ) (p : Program) → Reads n (λ s. has_ended p s.place)
+reads_ended n p = reads_place (has_ended p) n capped later_too where
+  capped : (place : Place) → has_ended p (capped_place n place) ≡ has_ended p place
+  capped (Main line) = refl
+  capped (Running run) = refl
+
+  later_too : (d : By) (place : Place) → has_ended p (retimed_place (later d) place) ≡ has_ended p place
+  later_too d (Main line) = refl
+  later_too d (Running run) = refl
+
+-- ---- the deadline of a poll
+
+-- how long it is until then
+abbrev pub until : ℕ → Option ℕ → Option ℕ
+until clock deadline = option_map (λ d. d - clock) deadline
+
+abbrev pub wait_of : State → Option ℕ
+wait_of s = until s.clock (deadline_at s.place)
+
+until_later : (clock ms : ℕ) (deadline : Option ℕ) → until (clock + ms) (option_map (λ d. d + ms) deadline) ≡ until clock deadline
+until_later clock ms None = refl
+until_later clock ms (Some d) =
+    let same : d + ms - (clock + ms) ≡ d - clock = omega arith in
+    ap Some same
+
+stage_until : (clock : ℕ) (d : By) (x : Stage) → until (clock + d.ms) (deadline_in (retimed_stage (later d) x)) ≡ until clock (deadline_in x)
+stage_until clock d (stage.Poll deadline) = until_later clock d.ms deadline
+stage_until clock d x = refl
+
+pub reads_wait : (n : ℕ) → Reads n wait_of
+reads_wait n = record {
+  reduces = λ s. ap (until s.clock) (capped s.place);
+  shifts = λ d s. shifted s.clock d s.place;
+  frees = λ k s. refl;
+} where
+  capped : (place : Place) → deadline_at (capped_place n place) ≡ deadline_at place
+  capped (Main line) = refl
+  capped (Running run) = refl
+
+  shifted : (clock : ℕ) (d : By) (place : Place) → until (clock + d.ms) (deadline_at (retimed_place (later d) place))
+      ≡ until clock (deadline_at place)
+  shifted clock d (Main line) = refl
+  shifted clock d (Running run) = stage_until clock d run.stage
+
+-- ---- workers
+
+run_freed : (k : Frees) (o : Option (Option Id)) →
+    is_none (option_and_then (λ run. run) (option_map (option_map (rename k)) o)) ≡ is_none (option_and_then (λ run. run) o)
+run_freed k None = refl
+run_freed k (Some None) = refl
+run_freed k (Some (Some id)) = refl
+
+idle_freed : (k : Frees) (s : State) (m : ℕ) → idle_among (more k s) m ≡ idle_among s m
+idle_freed k s zero = refl
+idle_freed k s (suc m) =
+    ap₂ (λ (o : Option ℕ) (b : Bool). or_else o (if b then Some m else None)) (idle_freed k s m)
+    (ap (λ (o : Option (Option Id)). is_none (option_and_then (λ run. run) o)) (slice_get-map (option_map (rename k)) s.running m)
+    ∙ run_freed k (slice_get s.running m))
+
+idle_same : (s t : State) → s.running ≡ t.running → (m : ℕ) → idle_among s m ≡ idle_among t m
+idle_same s t same zero = refl
+idle_same s t same (suc m) =
+    ap₂ (λ (o : Option ℕ) (b : Bool). or_else o (if b then Some m else None)) (idle_same s t same m)
+    (ap (λ (rs : List (Option Id)). is_none (option_and_then (λ run. run) (slice_get rs m))) same)
+
+pub reads_idle : (n m : ℕ) → Reads n (λ s. idle_among s m)
+reads_idle n m = record {
+  reduces = λ s. idle_same (reduced n s) s refl m;
+  shifts = λ d s. idle_same (shift d s) s refl m;
+  frees = λ k s. idle_freed k s m;
+}
+
+-- ---- when a timer is due
+
+-- how late the clock is for an active timer, and how early
+abbrev pub lag_of : ℕ → Option Content → Option (ℕ × ℕ)
+lag_of clock (Some (content.Handle h)) = if is_timer h.kind && h.active then Some (clock - h.due.at, h.due.at - clock) else None
+lag_of clock o = None
+
+abbrev pub lag_under : State → Option Id → Option (ℕ × ℕ)
+lag_under s None = None
+lag_under s (Some id) = lag_of s.clock (held s.arena.slots id)
+
+abbrev pub lag : Var → State → Option (ℕ × ℕ)
+lag v s = lag_under s (named s v).id
+
+handle_lag : (clock : ℕ) (d : By) (h : HandleRecord) → lag_of (clock + d.ms) (Some (content.Handle (retimed_handle (later d) h))) ≡
+    lag_of clock (Some (content.Handle h))
+handle_lag clock d h = grind arith
+
+content_lag : (clock : ℕ) (d : By) (o : Option Content) → lag_of (clock + d.ms) (option_map (retimed_content (later d)) o) ≡ lag_of clock o
+content_lag clock d None = refl
+content_lag clock d (Some (content.Handle h)) = handle_lag clock d h
+content_lag clock d (Some (content.Request r)) = refl
+
+pub reads_lag : (n : ℕ) (v : Var) → Reads n (lag v)
+reads_lag n v = record {
+  reduces = λ s. ap (lag_under (reduced n s)) (id_reduced n s v) ∙ reduces s (named s v).id;
+  shifts = λ d s. shifts d s (named s v).id;
+  frees = λ k s. ap (λ (x : Named). lag_under (more k s) x.id) (named_renamed k s v) ∙ frees k s (named s v).id;
+} where
+  reduces : (s : State) (o : Option Id) → lag_under (reduced n s) (option_map (staled_id s.arena.slots) o) ≡ lag_under s o
+  reduces s None = refl
+  reduces s (Some id) = ap (lag_of s.clock) (held_same s.arena.slots id)
+
+  shifts : (d : By) (s : State) (o : Option Id) → lag_under (shift d s) o ≡ lag_under s o
+  shifts d s None = refl
+  shifts d s (Some id) = ap (lag_of (s.clock + d.ms)) (held_shift d s.arena.slots id) ∙ content_lag s.clock d (held s.arena.slots id)
+
+  frees : (k : Frees) (s : State) (o : Option Id) → lag_under (more k s) (option_map (rename k) o) ≡ lag_under s o
+  frees k s None = refl
+  frees k s (Some id) = ap (lag_of s.clock) (held_renamed k s.arena.slots id)

@@ -1,0 +1,235 @@
+//! Where a search needs to know no more of a state than its normal form.
+ghost use Rattle.std.specs.Prelude.{◌≡◌, length};
+ghost use Rattle.std.specs.List.{list_all};
+ghost use Rattle.uv_script.specs.Program.{IsWhole, callbacks_of};
+ghost use Rattle.uv_names.specs.Counts.{call_end, lines_end, callbacks_end, script_end};
+ghost use Rattle.uv_asking.specs.Asked.{asked_in};
+ghost use Rattle.uv_find.specs.Forgetting.{is_small_op, is_small_main, are_small_lines, are_small_callbacks, is_small_script};
+ghost use Rattle.uv_find.specs.Forgetting.{is_small_offer, are_small_offers, is_aside, none_during, are_small_takes, may_forget};
+ghost use Rattle.uv_find.specs.Forgetting.{most_end, takes_end, question_end, calls_end, forget_of};
+
+use uv_asking::{Asking, Most, Offer, Offered, Question, Takes};
+use uv_ids::{Callback, Event, Var};
+use uv_script::{CallbackLine, MainOp, Op, Script};
+
+/// The most lines of a script that count.
+const MOST_LINES: usize = 1_048_575;
+
+/// So many ms are a long time: twelve days.
+pub(crate) const LONG: u64 = 1_073_741_824;
+
+/// An order has fewer steps than these, where a search forgets.
+const LONGEST: u32 = 4_294_967_294;
+
+/// Up to which number calls are counted where a search forgets; none where it keeps each state whole.
+pub(crate) fn forget_of(script: &Script, asking: &Asking) -> Option<u64>
+    ensures { result ≡ forget_of script.now (asked_in asking.now) }
+{
+    if may_forget(script, asking) {
+        Some(calls_end(script, asking))
+    } else {
+        None
+    }
+}
+
+/// Whether a search needs to know no more of a state than its normal form. Then the states of a script that repeats come round again.
+pub fn may_forget(script: &Script, asking: &Asking) -> bool
+    ensures { result ≡ may_forget script.now (asked_in asking.now) }
+{
+    !asking.full
+        && asking.clock.is_none()
+        && asking.differ.is_none()
+        && script.arena_size().last_generation > LONGEST
+        && is_small_script(script)
+        && are_small_offers(&asking.offers)
+        && none_during(&asking.offers)
+        && are_small_takes(&asking.takes)
+}
+
+fn is_small_op(op: Op) -> bool
+    ensures { result ≡ is_small_op op }
+{
+    match op {
+        Op::Start(_, timeout, repeat) => timeout < LONG && repeat < LONG,
+        Op::SetRepeat(_, repeat) => repeat < LONG,
+        _ => true,
+    }
+}
+
+fn is_small_main(line: MainOp) -> bool
+    ensures { result ≡ is_small_main line }
+{
+    match line {
+        MainOp::Op(op) => is_small_op(op),
+        MainOp::Run(_) => true,
+    }
+}
+
+fn is_small_script(script: &Script) -> bool
+    ensures { result ≡ is_small_script script.now }
+{
+    let names = script.names().len();
+    has_small_main(script) && has_small_callbacks(script, names)
+}
+
+#[tactic(auto, using(crate::proofs::Scans::scanning))]
+fn has_small_main(script: &Script) -> bool
+    requires whole { IsWhole script.now }
+    ensures { result ≡ list_all is_small_main script.now.main }
+{
+    'lines: for line in 0..MOST_LINES {
+        let Some(op) = script.main_op(line) else {
+            return true;
+        };
+        if !is_small_main(op) {
+            return false;
+        }
+    }
+    true
+}
+
+#[tactic(auto, using(crate::proofs::Scans::scanning))]
+fn has_small_callbacks(script: &Script, names: usize) -> bool
+    requires whole { IsWhole script.now }
+    requires names { names ≡ length script.now.names }
+    ensures { result ≡ list_all are_small_callbacks script.now.callbacks }
+{
+    'names: for name in 0..names {
+        if !are_small_callbacks(script, Var(name as u32)) {
+            return false;
+        }
+    }
+    true
+}
+
+fn are_small_callbacks(script: &Script, name: Var) -> bool
+    ensures { result ≡ are_small_callbacks (callbacks_of script.now name) }
+{
+    are_small_lines(script.lines_in(Callback::Handle, name))
+        && are_small_lines(script.lines_in(Callback::After, name))
+        && are_small_lines(script.lines_in(Callback::Close, name))
+}
+
+fn are_small_lines(lines: &[CallbackLine]) -> bool
+    ensures { result ≡ are_small_lines lines.now }
+{
+    lines.iter().all(|line| is_small_op(line.op))
+}
+
+fn is_small_offer(offer: Offer) -> bool
+    ensures { result ≡ is_small_offer offer }
+{
+    match offer {
+        Offer::Step(Event::Tick(ms)) => ms < LONG,
+        _ => true,
+    }
+}
+
+fn are_small_offers(offers: &[Offered]) -> bool
+    ensures { result ≡ are_small_offers offers.now }
+{
+    offers.iter().all(|offered| is_small_offer(offered.offer))
+}
+
+/// Whether an offer isn't bound to the request that a worker runs.
+fn is_aside(offer: Offer) -> bool
+    ensures { result ≡ is_aside offer }
+{
+    match offer {
+        Offer::SendDuring(_, _) => false,
+        _ => true,
+    }
+}
+
+fn none_during(offers: &[Offered]) -> bool
+    ensures { result ≡ none_during offers.now }
+{
+    offers.iter().all(|offered| is_aside(offered.offer))
+}
+
+fn are_small_takes(takes: &[Takes]) -> bool
+    ensures { result ≡ are_small_takes takes.now }
+{
+    takes.iter().all(|takes| takes.ms < LONG)
+}
+
+/// Which calls are told from later ones: none from this number on.
+fn calls_end(script: &Script, asking: &Asking) -> u64
+    ensures { result ≡ calls_end script.now (asked_in asking.now) }
+{
+    let script = script_end(script, script.names().len());
+    let bounds = most_end(&asking.most);
+    let times = takes_end(&asking.takes);
+    let question = question_end(asking.question);
+    1.max(script.max(bounds.max(times.max(question))))
+}
+
+#[tactic(auto, using(crate::proofs::Scans::scanning))]
+fn script_end(script: &Script, names: usize) -> u64
+    requires whole { IsWhole script.now }
+    requires names { names ≡ length script.now.names }
+    ensures { result ≡ script_end script.now }
+{
+    let mut end = 0;
+    'names: for name in 0..names {
+        end = callbacks_end(script, Var(name as u32)).max(end);
+    }
+    end
+}
+
+fn callbacks_end(script: &Script, name: Var) -> u64
+    ensures { result ≡ callbacks_end (callbacks_of script.now name) }
+{
+    let handle = lines_end(script.lines_in(Callback::Handle, name));
+    let after = lines_end(script.lines_in(Callback::After, name));
+    let close = lines_end(script.lines_in(Callback::Close, name));
+    handle.max(after.max(close))
+}
+
+fn lines_end(lines: &[CallbackLine]) -> u64
+    ensures { result ≡ lines_end lines.now }
+{
+    let mut end = 0;
+    'lines: for line in lines {
+        end = call_end(line.call).max(end);
+    }
+    end
+}
+
+fn call_end(call: Option<u32>) -> u64
+    ensures { result ≡ call_end call }
+{
+    match call {
+        None => 0,
+        Some(call) => u64::from(call) + 1,
+    }
+}
+
+fn most_end(most: &[Most]) -> u64
+    ensures { result ≡ most_end most.now }
+{
+    let mut end = 0;
+    'bounds: for bound in most {
+        end = (u64::from(bound.calls) + 1).max(end);
+    }
+    end
+}
+
+fn takes_end(takes: &[Takes]) -> u64
+    ensures { result ≡ takes_end takes.now }
+{
+    let mut end = 0;
+    'times: for time in takes {
+        end = call_end(time.call).max(end);
+    }
+    end
+}
+
+fn question_end(question: Question) -> u64
+    ensures { result ≡ question_end question }
+{
+    match question {
+        Question::Call(_, _, call) => call_end(call),
+        _ => 0,
+    }
+}

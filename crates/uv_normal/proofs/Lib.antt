@@ -1,0 +1,3 @@
+pub mod Reduced
+pub mod Moved
+pub mod Steps
