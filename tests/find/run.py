@@ -4,8 +4,9 @@ Random scripts with one to four names (scripts.py; their numbers are the seeds) 
 search in Python (slow.py) that has no loop of its own and asks `uvt debug` for each step and each state. The kinds of answer must agree;
 of `never` the number of states and the bounds, too; and the session of a `found` must run in `uvt debug`: each step is offered there, is
 accepted and keeps the bounds, and the last one answers. Where the search may forget (normal.py), the slow one counts normal forms, else
-whole states. Scripts with more places than --places are passed over, if the search doesn't answer `never` within as many. Where something is wrong, the input and the answer are left in
-out/find/. Status 1 if anything was, or if with 1,000 scripts and more some kind of question was never answered by `found`, or by `never`.
+whole states. Scripts with more places than --places are passed over, if the search doesn't answer `never` within as many. Where something is wrong,
+the input and the answer are left in out/find/. Status 1 if anything was, or if with 1,000 scripts and more some kind of question was never answered
+by `found`, or by `never`.
 
 With --slow FILE the slow search alone answers an input."""
 import argparse
