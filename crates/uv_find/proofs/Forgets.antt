@@ -23,12 +23,8 @@ use Rattle.uv_ids.specs.declared.event.Event.TheVariants as event
 use Rattle.uv_asking.specs.declared.asking.Offered.{Offered}
 use Rattle.uv_asking.specs.declared.asking.Offer.TheVariants.{Step}
 use Rattle.uv_find.specs.Orders.{at_will, finishes, every_offer}
+use Rattle.uv_find.proofs.Led.{each}
 use Rattle.uv_find.specs.Spots.{CanForget, MayForget, rules_of}
-
-each : {A : Type 0} (f : A → Bool) (xs : List A) (k : ℕ) (x : A) → list_all f xs ≡ true → slice_get xs k ≡ Some x → f x ≡ true
-each f [] k x all e = absurd (none-some x e)
-each f (y ∷ ys) zero x all e = subst (λ z. f z ≡ true) (same_Some y x e) (and_parts (f y) (list_all f ys) all).0
-each f (y ∷ ys) (suc k) x all e = each f ys k x (and_parts (f y) (list_all f ys) all).1 e
 
 -- ---- small numbers
 

@@ -1,3 +1,11 @@
+mod Clocks
+mod Readings
+mod Alike
+mod Lines
+mod Onward
+pub mod Led
+pub mod Telling
+pub mod Covering
 pub mod Idle
 pub mod Taking
 pub mod Undone

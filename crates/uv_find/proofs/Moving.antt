@@ -10,7 +10,7 @@ use Rattle.uv_find.specs.Questions.{answers}
 use Rattle.uv_find.specs.Courses as courses
 use Rattle.uv_find.specs.Courses.{Course, LeadsOn}
 use Rattle.uv_find.specs.Spots.{Spot, spot_of, next_spot, is_few}
-use Rattle.uv_find.specs.Led.{led_leads, spot_led}
+use Rattle.uv_find.proofs.Led.{led_leads, spot_led}
 
 -- the spot after an event
 abbrev pub after_event : Spot → Led → Spot

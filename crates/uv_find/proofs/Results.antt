@@ -10,8 +10,8 @@ use Rattle.uv_find.specs.Courses.{Course}
 use Rattle.uv_find.specs.Questions.{place_answers}
 use Rattle.uv_find.specs.Spots.{Spot, next_spot, spot_code, first_spot, is_few, MayForget, IsSpot, IsDeep}
 use Rattle.uv_find.specs.Found.{AreReached, Finds, KeysTell}
-use Rattle.uv_find.specs.Led.{leads_spot}
-use Rattle.uv_find.specs.Telling.{places_tell}
+use Rattle.uv_find.proofs.Led.{leads_spot}
+use Rattle.uv_find.proofs.Telling.{places_tell}
 use Rattle.uv_find.proofs.Moving.{fewer, after_event, moves_course, course_moves, moves_answer, course_answers}
 
 module _ (r : Rules) (s : Spot) where

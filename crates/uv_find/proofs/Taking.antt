@@ -14,7 +14,7 @@ use Rattle.uv_find.specs.declared.left.Left.{Left}
 use Rattle.uv_find.specs.declared.terms.Terms.{Terms}
 use Rattle.uv_find.specs.Kept.{kept_after}
 use Rattle.uv_find.specs.Orders.{Rules, Choice, led_by, placed, taken}
-use Rattle.uv_find.specs.Led.{brief_more, choice_brief}
+use Rattle.uv_find.proofs.Led.{brief_more, choice_brief}
 use Rattle.uv_find.specs.Spots.{AreBrief, MayForget, IsSearched, searched, spots_before, left_before, rules_by, place_by}
 use Rattle.uv_find.specs.Steps.{Stands, Takes, Makes, MakesNone, state_in}
 

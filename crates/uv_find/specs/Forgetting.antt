@@ -63,6 +63,7 @@ is_aside offer = true
 abbrev pub none_during : List Offered → Bool
 none_during offers = list_all (λ (offered : Offered). is_aside offered.offer) offers
 
+-- a search needs to know no more of a state than its normal form
 abbrev pub may_forget : Program → Asked → Bool
 may_forget p asked =
     not asked.full && is_none asked.clock && is_none asked.differ && nat_lt LONGEST (arena_size p).last_generation

@@ -5,17 +5,15 @@ use Rattle.uv_ids.specs.declared.seen.Callback.{Callback}
 use Rattle.uv_ids.specs.declared.seen.Callback.TheVariants as callback
 use Rattle.uv_ids.specs.declared.seen.Seen.{Seen}
 use Rattle.uv_ids.specs.declared.seen.Seen.TheVariants as seen
-use Rattle.uv_records.specs.Handles.{is_timer}
 use Rattle.uv_records.specs.Names.{count_of}
 use Rattle.uv_records.specs.Slots.{held}
 use Rattle.uv_script.specs.declared.op.Op.{Op}
 use Rattle.uv_script.specs.Program.{Program, op_at, op_name, is_for}
-use Rattle.uv_work.specs.declared.content.Content.{Content}
-use Rattle.uv_work.specs.declared.content.Content.TheVariants as content
 use Rattle.uv_model.specs.declared.place.Place as loop
 use Rattle.uv_model.specs.declared.place.Place.TheVariants.{Main, Running}
 use Rattle.uv_model.specs.State.{State, named}
 use Rattle.uv_session.specs.Breaks.{answers_code, begins_section, begins_poll}
+use Rattle.uv_normal.specs.Normal.{holds_timer}
 use Rattle.uv_asking.specs.declared.asking.Which.{Which}
 use Rattle.uv_asking.specs.declared.asking.Which.TheVariants as which
 use Rattle.uv_asking.specs.declared.asking.Question.{Question}
@@ -72,11 +70,6 @@ is_name name (Some v) = v.0 == name.0
 abbrev pub is_of : Option Var → Option Var → Bool
 is_of None v = true
 is_of (Some name) v = is_name name v
-
--- a slot holds a timer
-abbrev pub holds_timer : Option Content → Bool
-holds_timer (Some (content.Handle h)) = is_timer h.kind
-holds_timer _ = false
 
 -- the line calls the timer of this name, which was due then, so many ms after that or later
 abbrev pub is_late : Var → ℕ → ℕ → State → Seen → Bool

@@ -1,7 +1,7 @@
 //! The choices of a place.
 ghost use Rattle.std.specs.Prelude.{◌≡◌, ◌<◌, IfOk, None, length, slice_get, slice_set, option_map};
 ghost use Rattle.uv_asking.specs.declared.asking.Offered.{Offered};
-ghost use Rattle.uv_find.specs.Orders.{is_brief, brief, less, lessened, offered_by, choice_at};
+ghost use Rattle.uv_find.specs.Orders.{is_brief, less, lessened, offered_by, choice_at};
 ghost use Rattle.uv_find.specs.Spots.{rules_by, place_by};
 ghost use Rattle.uv_find.specs.Steps.{Stands, MakesMove, TakesOffer, choice_of, has_none, is_idle, state_in};
 
@@ -75,22 +75,6 @@ fn is_brief(forget: Option<u64>, event: Event) -> bool
     }
 }
 
-/// The event, if it is such a one.
-fn brief(forget: Option<u64>, event: Option<Event>) -> Option<Event>
-    ensures { result ≡ brief forget event }
-{
-    match event {
-        Some(event) => {
-            if is_brief(forget, event) {
-                Some(event)
-            } else {
-                None
-            }
-        }
-        None => None,
-    }
-}
-
 /// The event of an offer, if it may still be taken. Nothing changes.
 fn offered<M: Machine>(
     session: &mut Session<M>,
@@ -108,7 +92,7 @@ fn offered<M: Machine>(
     match (terms.offers.get(number).copied(), left.get(number).copied()) {
         (Some(offered), Some(left)) => {
             let event = offered_here(session, terms.clock, kept, offered.offer, left)?;
-            Ok(brief(terms.forget, event))
+            Ok(event.filter(|event| is_brief(terms.forget, *event)))
         }
         _ => Ok(None),
     }

@@ -2,8 +2,6 @@
 //!
 //! The main call is `find` (`finding.rt`, clause `found`). Read `specs/Orders.antt` and `Questions.antt` first, then `Courses.antt` and
 //! `Found.antt` (`IsNever`). Where a search needs no whole states says `Forgetting.antt`, and what it tells apart then `Spots.antt` (`told`).
-//! `Clocks.antt`, `Readings.antt`, `Alike.antt`, `Lines.antt`, `Onward.antt`, `Led.antt`, `Telling.antt`, `Covering.antt` and `Laws.antt`
-//! of `specs/` are proofs, which the impl of `Maze` names.
 #![tactic(auto)]
 
 mod beginning;

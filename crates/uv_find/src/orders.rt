@@ -401,7 +401,6 @@ impl<M: Machine> Maze for Orders<M> {
     ghost use Rattle.std.specs.Prelude.{length};
     ghost use Rattle.uv_find.specs.Orders as orders;
     ghost use Rattle.uv_find.specs.Spots as spots;
-    ghost use Rattle.uv_find.specs.Laws.{spots_alike, spots_lead};
 
     ghost Rules = { orders.Rules };
 
@@ -463,9 +462,5 @@ impl<M: Machine> Maze for Orders<M> {
         push_kept(out, due, self.kept.owed, self.kept.along)
     }
 
-    ghost alike = { spots_alike };
-
-    ghost stands = { λ _ _ is. is.spot };
-
-    ghost leads = { spots_lead };
+    fn laws() {}
 }

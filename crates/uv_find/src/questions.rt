@@ -2,7 +2,8 @@
 ghost use Rattle.std.specs.Prelude.{◌≡◌, ◌==◌, ◌&&◌};
 ghost use Rattle.uv_model.specs.After.{after};
 ghost use Rattle.uv_script.specs.Program.{is_for, op_name};
-ghost use Rattle.uv_find.specs.Questions.{begun, is_which, is_call, is_uncalled, name_in, answered_name, is_name, is_of, is_late, holds_timer, answers_line, line_answers, has_ended};
+ghost use Rattle.uv_normal.specs.Normal.{holds_timer};
+ghost use Rattle.uv_find.specs.Questions.{begun, is_which, is_call, is_uncalled, name_in, answered_name, is_name, is_of, is_late, answers_line, line_answers, has_ended};
 
 use uv_asking::{Question, Which};
 use uv_ids::{Callback, Seen, Var};

@@ -1,6 +1,7 @@
 -- The names that proofs of this crate bring in.
 pub use Rattle.std.proofs.Common.{Bool, Err, List, None, Ok, Option, Result, Some, [], add-zero, ap, ap₂, arith, drop, false, if◌then◌else◌, length, nat_le, nat_lt, not}
-pub use Rattle.std.proofs.Common.{option_and_then, refl, replicate, slice_get, slice_set, subst, suc, sym, true, zero, ℕ, ◌&&◌, ◌++◌, ◌+◌, ◌<◌, ◌==◌, ◌∙◌, ◌∷◌, ◌≡◌}
+pub use Rattle.std.proofs.Common.{option_and_then, refl, replicate, slice_get, slice_set, subst, suc, sym, true}
+pub use Rattle.std.proofs.Common.{zero, ℕ, ◌&&◌, ◌++◌, ◌+◌, ◌<◌, ◌==◌, ◌∙◌, ◌∷◌, ◌≡◌}
 pub use Rattle.std.proofs.lemmas.Bool.{eqb-true}
 pub use Rattle.std.specs.List.{list_any}
 pub use Rattle.std.specs.Ordering.{match_ordering}

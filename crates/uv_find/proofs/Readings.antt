@@ -1,4 +1,4 @@
--- What a search reads of a state is the same of its normal form. These are proofs; the impl of a search names them.
+-- What a search reads of a state is the same of its normal form.
 use Rattle.std.proofs.Common.{◌≡◌, ℕ, zero, suc, ◌+◌, ◌-◌, ◌<◌, ◌≤◌, ◌==◌, ◌&&◌, Bool, false, List, [], ◌∷◌, Option, Some, None, nat_eq, nat_le, is_none, is_some, option_and_then, slice_get, refl, ap, ap₂, sym, ◌∙◌, arith, if◌then◌else◌}
 use Rattle.std.specs.Prelude.{min, option_map}
 use Rattle.std.specs.Option.{option_eq}

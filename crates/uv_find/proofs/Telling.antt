@@ -1,4 +1,4 @@
--- The key of a place tells all of it that decides what comes after. These are proofs; the impl of a search names them.
+-- The key of a place tells all of it that decides what comes after.
 use Rattle.std.proofs.Common.{◌≡◌, ℕ, List, [], ◌∷◌, ◌++◌, length, refl, sym, ap, ap₂, subst, ◌∙◌, Option, Some, None, append_assoc, arith}
 use Rattle.uv_key.specs.Codes.{number_code}
 use Rattle.uv_key.proofs.Telling.{numbers_tell}
@@ -11,7 +11,7 @@ use Rattle.uv_find.specs.declared.kept.Along.{Along}
 use Rattle.uv_find.specs.declared.left.Left.{Left}
 use Rattle.uv_find.specs.declared.left.Left.TheVariants as left
 use Rattle.uv_find.specs.Spots.{Spot, Told, told, kind_code, event_code, each_code, left_code, along_code, kept_code, spot_code, IsSpot}
-use Rattle.uv_find.specs.Alike.{spot_regular}
+use Rattle.uv_find.proofs.Alike.{spot_regular}
 
 kinds_tell : (a b : Left) (x y : List ℕ) → kind_code a ≡ kind_code b → event_code a ++ x ≡ event_code b ++ y → (a ≡ b) × (x ≡ y)
 kinds_tell left.AtWill left.AtWill x y e same = (refl, same)

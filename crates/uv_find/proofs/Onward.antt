@@ -1,5 +1,4 @@
--- Where places that are alike lead by the same event: to places that are alike, which answer alike. These are proofs; the impl of a search
--- names them.
+-- Where places that are alike lead by the same event: to places that are alike, which answer alike.
 use Rattle.std.proofs.Common.{◌≡◌, ℕ, ◌+◌, ◌-◌, ◌≤◌, ◌==◌, ◌&&◌, not, Bool, Option, Some, None, nat_le, refl, ap, ap₂, sym, ◌∙◌, arith, if◌then◌else◌}
 use Rattle.std.specs.Prelude.{option_map}
 use Rattle.std.proofs.lemmas.Option.{same_Some, none-some}
@@ -26,9 +25,9 @@ use Rattle.uv_find.specs.Kept.{caller, is_poll, is_over, takes_time, time_taken,
 use Rattle.uv_find.specs.Orders.{Rules}
 use Rattle.uv_find.specs.Questions.{begun, is_which, is_call, is_uncalled, answered_name, is_of, is_late, answers_line, line_answers}
 use Rattle.uv_find.specs.Spots.{CanForget}
-use Rattle.uv_find.specs.Alike.{IsRegular, DueAlike, both}
-use Rattle.uv_find.specs.Lines.{lines_read, bare_caller, bare_begun, bare_answered, bare_code, bare_section, bare_poll, bare_is_poll, is_tick, bare_tick, calls_name, bare_calls}
-use Rattle.uv_find.specs.Readings.{Reads, count, reads_count, meant_capped, none_capped, taken_capped, reads_over}
+use Rattle.uv_find.proofs.Alike.{IsRegular, DueAlike, both}
+use Rattle.uv_find.proofs.Lines.{lines_read, bare_caller, bare_begun, bare_answered, bare_code, bare_section, bare_poll, bare_is_poll, is_tick, bare_tick, calls_name, bare_calls}
+use Rattle.uv_find.proofs.Readings.{Reads, count, reads_count, meant_capped, none_capped, taken_capped, reads_over}
 
 -- two lines that leave out the same, or none
 abbrev pub LinesAlike : Program → Option Seen → Option Seen → Type 0

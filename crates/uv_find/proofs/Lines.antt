@@ -1,4 +1,4 @@
--- What a search reads of a line is the same of a line that leaves out times and generations. These are proofs; the impl of a search names them.
+-- What a search reads of a line is the same of a line that leaves out times and generations.
 use Rattle.std.proofs.Common.{◌≡◌, ◌==◌, Bool, true, false, Some, ap, sym, ◌∙◌, arith}
 use Rattle.uv_ids.specs.declared.code.Code.{Code}
 use Rattle.uv_ids.specs.declared.id.Var.{Var}

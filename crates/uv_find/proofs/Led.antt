@@ -1,5 +1,8 @@
--- Where a move leads: on by an event that is brief, to a spot. These are proofs; the impl of a search names them.
-use Rattle.std.proofs.Common.{◌≡◌, ℕ, ◌+◌, ◌<◌, Bool, true, false, List, [], ◌∷◌, ◌++◌, length, nat_lt, refl, sym, ap, subst, ◌∙◌, Option, Some, None, if◌then◌else◌, slice_get, length-append, arith}
+-- Where a move leads: on by an event that is brief, to a spot.
+use Rattle.std.proofs.Common.{◌≡◌, ℕ, zero, suc, ◌+◌, ◌<◌, Bool, true, false, List, [], ◌∷◌, ◌++◌, length, nat_lt, refl, sym, ap, subst, ◌∙◌, Option, Some, None, if◌then◌else◌, slice_get, length-append, arith}
+use Rattle.std.specs.List.{list_all}
+use Rattle.std.proofs.lemmas.Bool.{and_parts}
+use Rattle.std.proofs.lemmas.Option.{same_Some, none-some}
 use Rattle.uv_ids.specs.declared.event.Event.{Event}
 use Rattle.uv_ids.specs.declared.seen.Seen.{Seen}
 use Rattle.uv_model.specs.State.{State}
@@ -44,6 +47,17 @@ module _ (r : Rules) (p : Place) (number : ℕ) (l : Led) where
   pub led_leads : led r p number ≡ Some l → LeadsOn r p l
   led_leads is = by_choice (choice_at r p number) refl is
 
+-- ---- lists
+
+-- what holds of each holds of this one
+pub each : {A : Type 0} (f : A → Bool) (xs : List A) (k : ℕ) (x : A) → list_all f xs ≡ true → slice_get xs k ≡ Some x → f x ≡ true
+each f [] k x all e = absurd (none-some x e)
+each f (y ∷ ys) zero x all e = subst (λ z. f z ≡ true) (same_Some y x e) (and_parts (f y) (list_all f ys) all).0
+each f (y ∷ ys) (suc k) x all e = each f ys k x (and_parts (f y) (list_all f ys) all).1 e
+
+pub length_more : (es : List Event) (e : Event) → length (es ++ e ∷ []) ≡ length es + 1
+length_more es e = omega (arith, length-append {A = Event})
+
 -- ---- what is chosen is brief
 
 brief_is : (forget : Option ℕ) (o : Option Event) (e : Event) → brief forget o ≡ Some e → is_brief forget e ≡ true
@@ -87,9 +101,6 @@ choice_brief r p number c may h = by r.forget refl where
 pub brief_more : (forget : Option ℕ) (es : List Event) (e : Event) → AreBrief forget es → is_brief forget e ≡ true → AreBrief forget (es ++ e ∷ [])
 brief_more forget [] e h k = (k, tt)
 brief_more forget (x ∷ xs) e h k = (h.0, brief_more forget xs e h.1 k)
-
-length_more : (es : List Event) (e : Event) → length (es ++ e ∷ []) ≡ length es + 1
-length_more es e = omega (arith, length-append {A = Event})
 
 pub state_behind : (r : Rules) (s : Spot) (e : Event) (t : State) (line : Option Seen) → IsSpot r s → next r.program s.place.state e ≡ Moves t line →
     t ≡ after r.program (s.steps ++ e ∷ [])

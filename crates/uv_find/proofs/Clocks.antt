@@ -1,4 +1,4 @@
--- How far the clock goes: by what a tick says, and by nothing else. These are proofs; the impl of a search names them.
+-- How far the clock goes: by what a tick says, and by nothing else.
 use Rattle.std.proofs.Common.{◌≡◌, ℕ, ◌+◌, ◌*◌, ◌<◌, ◌≤◌, true, List, [], ◌∷◌, length, Option, Some, None, Result, Ok, Err, slice_get, refl, ap, subst, arith}
 use Rattle.uv_ids.specs.declared.event.Event.{Event}
 use Rattle.uv_ids.specs.declared.event.Event.TheVariants.{Loop, Take, Finish, Cancel, Send, Io, Tick}

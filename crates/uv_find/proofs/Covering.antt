@@ -1,9 +1,7 @@
--- What a place does, one that has the same key does as well: it leads by each move to one of the same key, and answers alike. These are
--- proofs; the impl of a search names them.
-use Rattle.std.proofs.Common.{◌≡◌, ℕ, zero, suc, ◌+◌, ◌-◌, ◌<◌, ◌&&◌, Bool, true, false, List, [], ◌∷◌, ◌++◌, length, nat_lt, is_none, slice_get, refl, sym, ap, ap₂, subst, ◌∙◌, Option, Some, None, if◌then◌else◌, length-append, arith}
-use Rattle.std.specs.List.{list_all}
-use Rattle.std.proofs.lemmas.Bool.{and_parts, ltb-true}
-use Rattle.std.proofs.lemmas.Option.{same_Some, none-some}
+-- What a place does, one that has the same key does as well: it leads by each move to one of the same key, and answers alike.
+use Rattle.std.proofs.Common.{◌≡◌, ℕ, zero, suc, ◌+◌, ◌-◌, ◌<◌, ◌&&◌, Bool, true, false, List, [], ◌∷◌, ◌++◌, length, nat_lt, is_none, slice_get, refl, sym, ap, ap₂, subst, ◌∙◌, Option, Some, None, if◌then◌else◌, arith}
+use Rattle.std.proofs.lemmas.Bool.{ltb-true}
+use Rattle.std.proofs.lemmas.Option.{none-some}
 use Rattle.uv_ids.specs.declared.event.Event.{Event}
 use Rattle.uv_ids.specs.declared.seen.Seen.{Seen}
 use Rattle.uv_model.specs.State.{State}
@@ -19,11 +17,11 @@ use Rattle.uv_find.specs.Forgetting.{LONGEST, is_aside}
 use Rattle.uv_find.specs.Orders.{Rules, Place, Choice, Led, led, led_by, placed, choice_at, choice_by, chosen, lessened, offered_by, is_brief, move_count, taken, reached, is_within}
 use Rattle.uv_find.specs.Questions.{answers, place_answers, none_leads, has_ended}
 use Rattle.uv_find.specs.Spots.{Spot, spot_of, next_spot, told_due, told, Told, told_code, spot_code, CanForget, IsSpot, IsStanding, is_few}
-use Rattle.uv_find.specs.Alike.{IsRegular, regular_by, spot_regular, AreAlike, DueAlike, kept_due_alike, within_alike, goes_alike, blocked_alike, offered_alike, both}
-use Rattle.uv_find.specs.Led.{led_leads, leads_spot, state_behind, offered_brief}
-use Rattle.uv_find.specs.Onward.{LinesAlike, owed_alike, along_alike, uncalled_alike, line_alike}
-use Rattle.uv_find.specs.Readings.{reads_ended}
-use Rattle.uv_find.specs.Telling.{places_tell}
+use Rattle.uv_find.proofs.Alike.{IsRegular, regular_by, spot_regular, AreAlike, DueAlike, kept_due_alike, within_alike, goes_alike, blocked_alike, offered_alike, both}
+use Rattle.uv_find.proofs.Led.{each, length_more, led_leads, leads_spot, state_behind, offered_brief}
+use Rattle.uv_find.proofs.Onward.{LinesAlike, owed_alike, along_alike, uncalled_alike, line_alike}
+use Rattle.uv_find.proofs.Readings.{reads_ended}
+use Rattle.uv_find.proofs.Telling.{places_tell}
 
 module _ (r : Rules) (n : ℕ) (forget : r.forget ≡ Some n) (can : CanForget r n) where
   -- ---- what is offered
@@ -48,12 +46,6 @@ module _ (r : Rules) (n : ℕ) (forget : r.forget ≡ Some n) (can : CanForget r
     by : (b : Bool) → (if b then offered_by r p (slice_get r.offers number) (slice_get p.left number) else None) ≡ Some e → is_brief (Some n) e ≡ true
     by true h = ap (λ o. is_brief o e) (sym forget) ∙ offered_brief r p (slice_get r.offers number) (slice_get p.left number) e h
     by false h = absurd (none-some e h)
-
-  aside_by : (xs : List Offered) (number : ℕ) (o : Offered) → list_all (λ (x : Offered). is_aside x.offer) xs ≡ true → slice_get xs number ≡ Some o →
-      is_aside o.offer ≡ true
-  aside_by [] number o all e = absurd (none-some o e)
-  aside_by (x ∷ xs) zero o all e = subst (λ (y : Offered). is_aside y.offer ≡ true) (same_Some x o e) (and_parts _ _ all).0
-  aside_by (x ∷ xs) (suc number) o all e = aside_by xs number o (and_parts _ _ all).1 e
 
   -- ---- where it leads
 
@@ -86,7 +78,7 @@ module _ (r : Rules) (n : ℕ) (forget : r.forget ≡ Some n) (can : CanForget r
     events_alike : (number : ℕ) → event_at s.place number ≡ event_at t.place number
     events_alike number =
         let offered = offered_alike r n forget can s t hs ht alike (slice_get r.offers number) in
-        let aside = λ (o : Offered) (is : slice_get r.offers number ≡ Some o). aside_by r.offers number o can.aside is in
+        let aside = λ (o : Offered) (is : slice_get r.offers number ≡ Some o). each (λ (x : Offered). is_aside x.offer) r.offers number o can.aside is in
         ap₂ (λ (xs : List Left) (o : Option Event). if nat_lt number (counts xs) then o else None) alike.left
         (offered (slice_get s.place.left number) aside
         ∙ ap (λ (xs : List Left). offered_by r t.place (slice_get r.offers number) (slice_get xs number)) alike.left)
@@ -101,14 +93,11 @@ module _ (r : Rules) (n : ℕ) (forget : r.forget ≡ Some n) (can : CanForget r
       abbrev d : Choice
       d = record { event = e; left = lessened t.place.left number; kept = t.place.kept }
 
-      length_more : (es : List Event) → length (es ++ e ∷ []) ≡ length es + 1
-      length_more es = omega (arith, length-append {A = Event})
-
       behind : (w : Spot) (hw : IsSpot r w) (u : State) (line : Option Seen) → next r.program w.place.state e ≡ Moves u line → IsRegular r.program u
       behind w hw u line goes =
           let few : length w.steps < LONGEST =
           ltb-true (length w.steps) LONGEST (subst (λ (o : Option ℕ). is_few o (length w.steps) ≡ true) forget hw.few) in
-          let long = length_more w.steps in
+          let long = length_more w.steps e in
           regular_by r n forget can u (w.steps ++ e ∷ []) (state_behind r w e u line hw goes) (omega (arith, few, long))
 
       taken_alike : (u v : State) (line other : Option Seen) → next r.program s.place.state e ≡ Moves u line →

@@ -1,4 +1,4 @@
--- Places with the same normal form, and as much left and kept, go on alike. These are proofs; the impl of a search names them.
+-- Places with the same normal form, and as much left and kept, go on alike.
 use Rattle.std.proofs.Common.{◌≡◌, ℕ, ◌+◌, ◌<◌, ◌≤◌, ◌&&◌, not, Bool, true, false, List, [], ◌∷◌, length, Option, Some, None, nat_le, nat_lt, refl, ap, ap₂, sym, subst, ◌∙◌, arith, if◌then◌else◌}
 use Rattle.std.proofs.lemmas.Bool.{ltb-true}
 use Rattle.uv_ids.specs.declared.event.Event.{Event}
@@ -37,8 +37,8 @@ use Rattle.uv_find.specs.Kept.{is_in_timers}
 use Rattle.uv_find.specs.Orders.{idle_among, is_quiet}
 use Rattle.uv_find.specs.Orders.{event_of, timed, is_brief, brief, may_take, offered_by, is_called_within, is_within}
 use Rattle.uv_find.specs.Spots.{Spot, CanForget, IsSpot, AreBrief, is_few}
-use Rattle.uv_find.specs.Clocks.{after_clock}
-use Rattle.uv_find.specs.Readings.{Reads, reads_alike, is_bound, reads_bound, is_shut, reads_shut, count, reads_count, within_capped, reads_quiet, reads_timers, until, wait_of, reads_wait, reads_idle, lag_of, lag_under, lag, reads_lag}
+use Rattle.uv_find.proofs.Clocks.{after_clock}
+use Rattle.uv_find.proofs.Readings.{Reads, reads_alike, is_bound, reads_bound, is_shut, reads_shut, count, reads_count, within_capped, reads_quiet, reads_timers, until, wait_of, reads_wait, reads_idle, lag_of, lag_under, lag, reads_lag}
 
 -- what holds of the state of a place
 pub record IsRegular (p : Program) (s : State) : Type 0 where
