@@ -250,8 +250,13 @@ def costs(program: Program, case: Case, found: dict[str, float]) -> None:
     found["on, printed"] = (counts[-1] - counts[0]) / more
     if "bytes" in program.columns:
         each = max(1, more // (LONG - SHORT))
-        first = KEPT // 5 // each + 1
-        (few, less), (many, all_of_it) = (held(program, session(case, times)) for times in (first, first + KEPT // each + 1))
+        first = before + 1
+        few, less = held(program, session(case, first))
+        # no list of steps grows while these are counted: it would leave the memory behind that it had
+        while few + KEPT + 2 * each > 1 << few.bit_length():
+            first += ((1 << few.bit_length()) - few) // each + 1
+            few, less = held(program, session(case, first))
+        many, all_of_it = held(program, session(case, first + KEPT // each + 1))
         found["bytes"] = (all_of_it - less) / (many - few)
     for column, line in (("back", f"back {more}"), ("run again", f"forward {more}")):
         if column in program.columns:

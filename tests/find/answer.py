@@ -62,7 +62,7 @@ def wrong_session(program: str, asked: Asked, answer: Answer) -> Optional[str]:
 
 def wrong(program: str, asked: Asked, settled: Settled, answer: Answer) -> Optional[str]:
     """What is wrong with an answer, by the slow search's own."""
-    is_over = asked.states is not None and (settled.places is None or asked.states < settled.places)
+    is_over = asked.states is not None and (settled.kept is None or asked.states < settled.kept)
     if answer.kind == "found":
         if settled.steps is None and settled.places is not None:
             return "found, and there is no answer among all %d places" % settled.places
@@ -74,10 +74,10 @@ def wrong(program: str, asked: Asked, settled: Settled, answer: Answer) -> Optio
             return "never, and %d steps answer" % settled.steps
         if is_over:
             return "never, and there are more places than may be kept"
-        if answer.number != settled.places:
-            return "never with %d states, and there are %s" % (answer.number, settled.places or "more than are looked at")
+        if answer.number != settled.kept:
+            return "never with %d states, and there are %s" % (answer.number, settled.kept or "more than are looked at")
         said = [re.sub(r"\b1 calls\b", "1 call", bound) for bound in answer.within]
         return None if sorted(said) == sorted(bounds_of(asked)) else "it names other bounds: " + ", ".join(answer.within)
     if answer.number != asked.states:
         return "not settled within %d states, and %s may be kept" % (answer.number, asked.states)
-    return None if is_over else "not settled, and there are only %s places" % settled.places
+    return None if is_over else "not settled, and there are only %s places" % settled.kept

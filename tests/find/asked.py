@@ -33,7 +33,7 @@ class Asked(NamedTuple):
     clock: Optional[int]
     most: Dict[str, int]
     states: Optional[int]
-    # each state is kept whole
+    # each state is kept whole, and no move is held back
     full: bool
     # the words behind `find`
     question: Tuple[str, ...]

@@ -2,8 +2,8 @@
 
 Searches each script of measured/, and scripts of a timer and requests that grow by workers, requests and sends. A line says how many states
 there are; for those of measured/, also how many were searched in a second of the processor, how many bytes the whole program held for each,
-and with --instructions how many instructions each of the first 100,000 took (valgrind counts them). Those that may forget are searched with
-the line `full`, too. Nothing is held to a figure. For the hand."""
+and with --instructions how many instructions each of the first 100,000 took (valgrind counts them). Those that may forget, or hold moves back,
+are searched with the line `full`, too. Nothing is held to a figure. For the hand."""
 from __future__ import annotations
 
 import argparse
@@ -15,7 +15,7 @@ import tempfile
 from pathlib import Path
 from typing import Iterator
 
-from tests.find import normal
+from tests.find import holding, normal
 from tests.find.asked import read
 
 HERE = Path(__file__).resolve().parent
@@ -34,13 +34,14 @@ def growing(workers: int, requests: int, sends: int) -> str:
 
 
 def whole(script: str) -> str:
-    """The same with the line `full`: each state is kept whole."""
+    """The same with the line `full`: each state is kept whole, and no move is held back."""
     return script.replace("\nbegin\n", "\nbegin\nfull\n")
 
 
 def beside_whole(name: str, script: str, is_counted: bool) -> Iterator[tuple[str, str, bool]]:
     yield name, script, is_counted
-    if normal.may_forget(read(script)):
+    asked = read(script)
+    if normal.may_forget(asked) or holding.may_hold(asked):
         yield f"{name}, full", whole(script), is_counted
 
 

@@ -1,10 +1,11 @@
-"""Answers of normal forms beside those of whole states: tests/find/forgetting [N] [--seed N] [--jobs N] [--states N] [--find PROGRAM]
+"""Answers of a search that forgets, or holds moves back, beside those of one that doesn't:
+tests/find/forgetting [N] [--seed N] [--jobs N] [--states N] [--find PROGRAM]
 
-Random scripts (scripts.py; their numbers are the seeds) of which a search needs to know no more than normal forms are searched by the program
-twice: without the line `full` and with it. The answers must agree, and so must the steps of `found`; of `never`, whole states are no fewer. Scripts
-of which one search isn't settled within --states are passed over, and the slow search of tests/find/run looks at no state here. Where something
-is wrong, the input is left in out/find/. Status 1 if anything was, or if one kind of answer never came, or if no search kept fewer states by
-forgetting. For the hand."""
+Random scripts (scripts.py; their numbers are the seeds) of which a search needs to know no more than pooled forms, or may hold moves back, are
+searched by the program twice: without the line `full` and with it. The answers must agree, and so must the steps of `found`; of `never`, the
+states with `full` are no fewer. Each third script is one where moves may be held back. Scripts of which one search isn't settled within --states
+are passed over, and the slow search of tests/find/run looks at no state here. Where something is wrong, the input is left in out/find/. Status 1
+if anything was, or if one kind of answer never came, or if no search kept fewer states by forgetting, or none by holding back. For the hand."""
 from __future__ import annotations
 
 import argparse
@@ -17,12 +18,13 @@ from pathlib import Path
 from random import Random
 from typing import NamedTuple
 
-from tests.find import answer, asked, normal, scripts
+from tests.find import answer, asked, holding, normal, scripts
 from tests.helper import Tries
 
 ROOT = Path(__file__).resolve().parent.parent.parent
 BUILT = ROOT / "crates/uvt_find/out/uvt_find"
 SECONDS = 300
+HOW = ("forgetting", "holding")
 
 
 class Tried(NamedTuple):
@@ -32,15 +34,19 @@ class Tried(NamedTuple):
     # so many states fewer
     fewer: int
     wrong: str = ""
+    # moves may be held back
+    holds: bool = False
 
 
 def question(seed: int, states: int) -> str:
     """The script of this number, without bounds of the clock and of states but this one: it may forget, if nothing else is against it. In each
-    second one all names have a bound, so that there is an end of whole states, too."""
+    third one no name has a bound, and moves may be held back. In half of the others all names have a bound, so that there is an end of whole
+    states, too."""
     draw = Random(seed)
-    lines = scripts.script(draw).rstrip("\n").split("\n")
+    is_of_pool = seed % 3 == 0
+    lines = scripts.script(draw, is_of_pool).rstrip("\n").split("\n")
     kept = [line for line in lines if not line.startswith(("most clock ", "most states ", "full"))]
-    names = [line.split(" ")[1] for line in lines if line.startswith("var ")] if seed % 2 else []
+    names = [line.split(" ")[1] for line in lines if line.startswith("var ")] if seed % 2 and not is_of_pool else []
     bounds = [f"most {name} {draw.choice([2, 3, 4])}" for name in names if not any(line.startswith(f"most {name} ") for line in lines)]
     return "\n".join([*kept[:-1], *bounds, f"most states {states}", kept[-1], ""])
 
@@ -55,7 +61,7 @@ def answered(program: str, text: str) -> tuple[answer.Answer, int]:
 
 
 def difference(short: answer.Answer, whole: answer.Answer, fewer: int) -> str:
-    """What is wrong with two settled answers, of normal forms and of whole states."""
+    """What is wrong with two settled answers, without the line `full` and with it."""
     if short.kind != whole.kind:
         return f"{short.kind}, and with `full` {whole.kind}"
     if short.kind == "found" and short.number != whole.number:
@@ -67,7 +73,9 @@ def difference(short: answer.Answer, whole: answer.Answer, fewer: int) -> str:
 
 def try_script(program: str, states: int, seed: int) -> Tried:
     text = question(seed, states)
-    if not normal.may_forget(asked.read(text)):
+    what = asked.read(text)
+    holds = holding.may_hold(what)
+    if not normal.may_forget(what) and not holds:
         return Tried(seed, "nothing to forget", 0)
     try:
         short, some = answered(program, text)
@@ -77,26 +85,29 @@ def try_script(program: str, states: int, seed: int) -> Tried:
     if "not settled" in (short.kind, whole.kind):
         is_settled = short.kind != "not settled"
         return Tried(seed, "settled of normal forms alone" if is_settled else "not settled", 0)
-    return Tried(seed, short.kind, all_states - some, difference(short, whole, all_states - some))
+    return Tried(seed, short.kind, all_states - some, difference(short, whole, all_states - some), holds)
 
 
-def try_all(words: argparse.Namespace, tries: Tries) -> tuple[Counter[str], int]:
-    """How often each answer came, and how many searches kept fewer states by forgetting."""
+def try_all(words: argparse.Namespace, tries: Tries) -> tuple[Counter[str], Counter[str]]:
+    """How often each answer came, and how many searches kept fewer states: by forgetting alone, or where moves may be held back."""
     kinds: Counter[str] = Counter()
-    fewer, seed = 0, words.seed
+    fewer: Counter[str] = Counter()
+    held, seed = 0, words.seed
     with ProcessPoolExecutor(words.jobs) as pool:
         while tries.count < words.count:
             some = range(seed, seed + min(50, words.count - tries.count))
             seed = some.stop
             for one in pool.map(try_script, [words.find] * len(some), [words.states] * len(some), some):
                 kinds[one.kind] += 1
-                fewer += one.fewer > 0
+                fewer["holding" if one.holds else "forgetting"] += one.fewer > 0
+                held += one.holds
                 if one.wrong or one.kind in ("found", "never"):
                     tries.check(f"script {one.seed}", not one.wrong, one.wrong)
                 if one.wrong:
                     folder = ROOT / "out/find"
                     folder.mkdir(parents=True, exist_ok=True)
                     (folder / f"forgetting-{one.seed}.input").write_text(question(one.seed, words.states), encoding="ascii")
+    tries.say(f"{held} of those that are compared may hold moves back")
     return kinds, fewer
 
 
@@ -116,6 +127,6 @@ def main() -> int:
     tries = Tries("forgetting")
     kinds, fewer = try_all(words, tries)
     tries.say(", ".join(f"{number} {kind}" for kind, number in kinds.most_common()))
-    tries.say(f"{fewer} of those that are compared have fewer states")
-    tries.check("each answer comes, and some forget", kinds["found"] and kinds["never"] and fewer)
+    tries.say(f"fewer states: {fewer['holding']} of these, and {fewer['forgetting']} of the others")
+    tries.check("each answer comes, some forget, and some hold back", kinds["found"] and kinds["never"] and all(fewer[it] for it in HOW))
     return tries.end()

@@ -36,6 +36,8 @@ class State(NamedTuple):
     section: Optional[str]
     # the names that are bound to a handle that closes
     closing: List[str]
+    # the workers that run a request, by the slots of these
+    runners: List[int]
 
 
 class Reply(NamedTuple):
@@ -55,7 +57,7 @@ def read_state(lines: List[str]) -> State:
     deadline = int(place[4]) if place[3:4] == ["poll"] and place[4] != "infinite" and "+" not in place else None
     caller = (place[place.index("+") + 1], place[place.index("+") + 2]) if "+" in place else None
     section = None if place[1] == "main" else place[3]
-    state = State("\n".join([numbers[1]] + lines[1:]), int(numbers[2]), main, deadline, {}, [], {}, [], [], [], caller, section, [])
+    state = State("\n".join([numbers[1]] + lines[1:]), int(numbers[2]), main, deadline, {}, [], {}, [], [], [], caller, section, [], [])
     bound, run, closing = {}, [], []
     for line in lines[2:]:
         words = line.split()
@@ -70,6 +72,7 @@ def read_state(lines: List[str]) -> State:
                 state.due[words[3]] = int(words[words.index("due") + 1])
         if words[0] == "slot" and words[2] == "work" and words[4] == "running":
             run.append(words[1])
+            state.runners.append(int(words[5]))
         if words[0] == "slot" and words[8:10] == ["closing", "1"]:
             closing.append(words[1])
         if words[0] == "ready" and len(words) > 1 and section not in TIMERS:

@@ -1,6 +1,8 @@
-"""The normal form of a state, of what `uvt debug` prints of it: what a search keeps where it may forget the rest.
+"""The pooled form of a state, of what `uvt debug` prints of it: what a search keeps where it may forget the rest. It is the normal form, in which
+it is forgotten as well which worker runs which request.
 
-It is written from the words of the definitions: `normal` of uv_normal and what that is made of, `may_forget` and `calls_end` of uv_find."""
+It is written from the words of the definitions: `pooled` of uv_pooled, `normal` of uv_normal and what that is made of, `may_forget` and
+`calls_end` of uv_find."""
 import re
 from typing import Dict, Iterator, List, Optional, Tuple
 
@@ -32,7 +34,7 @@ def times_of(op: List[str]) -> List[int]:
 
 
 def may_forget(asked: Asked) -> bool:
-    """Whether nothing that is asked tells a state from another one of the same normal form."""
+    """Whether nothing that is asked tells a state from another one of the same pooled form."""
     if asked.full or asked.clock is not None or asked.differ is not None or any(offer.job is not None for offer in asked.offers):
         return False
     sizes = [line.split() for line in asked.script if line.startswith("slots ")]
@@ -143,6 +145,11 @@ def earliest(lines: List[str]) -> List[str]:
     return [numbers, place] + [lessened("start", start, lessened("due", ms, it)) if is_active_timer(it) else it for it in lines[2:]]
 
 
-def normal(text: str, calls: int) -> str:
+def workerless(lines: List[str]) -> List[str]:
+    """Of a request that is run, no line says by which worker."""
+    return [re.sub(r"^(slot \S+ work \S+ running) [0-9]+", r"\1", line) for line in lines if line.split(" ")[0] != "running"]
+
+
+def pooled(text: str, calls: int) -> str:
     """Of what `state` prints, without how many steps stand."""
-    return "\n".join(youngest(earliest(staled(capped(text.split("\n"), calls)))))
+    return "\n".join(workerless(youngest(earliest(staled(capped(text.split("\n"), calls))))))

@@ -4,9 +4,10 @@ Random scripts with one to four names (scripts.py; their numbers are the seeds) 
 search in Python (slow.py) that has no loop of its own and asks `uvt debug` for each step and each state. The kinds of answer must agree;
 of `never` the number of states and the bounds, too; and the session of a `found` must run in `uvt debug`: each step is offered there, is
 accepted and keeps the bounds, and the last one answers. Where the search may forget (normal.py), the slow one counts normal forms, else
-whole states. Scripts with more places than --places are passed over, if the search doesn't answer `never` within as many. Where something is wrong,
-the input and the answer are left in out/find/. Status 1 if anything was, or if with 1,000 scripts and more some kind of question was never answered
-by `found`, or by `never`.
+whole states. Where it may hold moves back (holding.py), as in each fourth script, the slow one goes deep first, too, holds them back, and
+counts the places that it keeps then. Scripts with more places than --places are passed over, if the search doesn't answer `never` within as
+many. Where something is wrong, the input and the answer are left in out/find/. Status 1 if anything was, or if with 1,000 scripts and more some
+kind of question was never answered by `found`, or by `never`, or if no move was held back.
 
 With --slow FILE the slow search alone answers an input."""
 import argparse
@@ -20,6 +21,7 @@ from typing import Counter as Count, List, NamedTuple, Optional, Sequence, Tuple
 
 from tests.find import answer
 from tests.find import asked
+from tests.find import holding
 from tests.find import normal
 from tests.find import recording
 from tests.find import scripts
@@ -46,6 +48,8 @@ class Tried(NamedTuple):
     wrong: Optional[str]
     # it is answered of normal forms
     forgets: bool = False
+    # moves were held back: fewer places are kept than there are
+    holds: bool = False
 
 
 def save(seed: int, text: str, output: str) -> None:
@@ -57,9 +61,10 @@ def save(seed: int, text: str, output: str) -> None:
 
 
 def script_of(plan: Plan, seed: int) -> str:
-    """The script of this number, and what is asked of it: each fourth one of the orders that differ from a recording."""
+    """The script of this number, and what is asked of it: of each four, one of the orders that differ from a recording, and one where moves may
+    be held back."""
     draw = Random(seed)
-    text = scripts.script(draw)
+    text = scripts.script(draw, seed % 4 == 2)
     if seed % 4:
         return text
     what = asked.read(text)
@@ -98,13 +103,14 @@ def try_script(plan: Plan, seed: int) -> Tried:
     why = answer.wrong(plan.uvt, what, settled, got)
     if why:
         save(seed, text, ended.stdout)
-    return Tried(seed, (question, got.kind), why, normal.may_forget(what))
+    return Tried(seed, (question, got.kind), why, normal.may_forget(what), settled.kept != settled.places)
 
 
-def try_all(plan: Plan, first: int, count: int, jobs: int) -> Tuple[int, Count[Tuple[str, str]], Count[str]]:
-    """How many are wrong; how often each kind of question had each kind of answer; and how often each came of normal forms."""
+def try_all(plan: Plan, first: int, count: int, jobs: int) -> Tuple[int, Count[Tuple[str, str]], Count[Tuple[str, str]]]:
+    """How many are wrong; how often each kind of question had each kind of answer; and how often each came of normal forms, or of fewer places
+    than there are."""
     kinds: Count[Tuple[str, str]] = Counter()
-    forgotten: Count[str] = Counter()
+    ways: Count[Tuple[str, str]] = Counter()
     wrong = tried = passed = 0
     with ProcessPoolExecutor(jobs) as pool:
         seed = first
@@ -116,12 +122,13 @@ def try_all(plan: Plan, first: int, count: int, jobs: int) -> Tuple[int, Count[T
                 if one.kinds:
                     tried += 1
                     kinds[one.kinds] += 1
-                    forgotten[one.kinds[1]] += one.forgets
+                    ways["forgetting", one.kinds[1]] += one.forgets
+                    ways["holding", one.kinds[1]] += one.holds
                 if one.wrong:
                     wrong += 1
                     print("find: script %d: %s" % (one.seed, one.wrong), flush=True)
             print("find: %d scripts so far, %d wrong, %d passed over" % (tried, wrong, passed), file=sys.stderr, flush=True)
-    return wrong, kinds, forgotten
+    return wrong, kinds, ways
 
 
 def tell(kinds: Count[Tuple[str, str]]) -> List[str]:
@@ -140,6 +147,8 @@ def answer_slowly(plan: Plan, path: str) -> int:
         what = asked.read(file.read())
     settled = slow.search(plan.uvt, what, plan.places)
     places = "more than %d states" % plan.places if settled.places is None else "%d states" % settled.places
+    if holding.may_hold(what):
+        places += ", of which %s are kept" % ("more than %d" % plan.places if settled.kept is None else settled.kept)
     print("never: %s" % places if settled.steps is None else "found in %d steps at least; %s" % (settled.steps, places))
     return 0
 
@@ -183,7 +192,7 @@ def main() -> int:
         plan = plan_of(asked_for)
         if asked_for.slow:
             return answer_slowly(plan, asked_for.slow)
-        wrong, kinds, forgotten = try_all(plan, asked_for.seed, asked_for.scripts, asked_for.jobs)
+        wrong, kinds, ways = try_all(plan, asked_for.seed, asked_for.scripts, asked_for.jobs)
     except (OSError, ValueError) as fault:
         print("find: %s" % fault, file=sys.stderr)
         return 2
@@ -191,11 +200,13 @@ def main() -> int:
         print("find: stopped", file=sys.stderr)
         return 130
     missed = tell(kinds)
-    print("%-10s %6d found %6d never %6d not settled" % ("forgetting", forgotten["found"], forgotten["never"], forgotten["not settled"]))
+    for way in ("forgetting", "holding"):
+        print("%-10s %6d found %6d never %6d not settled" % (way, ways[way, "found"], ways[way, "never"], ways[way, "not settled"]))
     for what in missed:
         tries.say("never came: " + what)
     if asked_for.scripts >= MANY:
         tries.check("what may come", not missed, "%d never came" % len(missed))
+        tries.check("moves are held back", bool(ways["holding", "never"]))
     tries.count += sum(kinds.values())
     tries.failed += wrong
     return tries.end()

@@ -6,6 +6,7 @@ from tests.find.asked import Asked
 from tests.find.recording import Recorded
 
 KINDS = ["timer", "timer", "timer", "async", "async", "request", "request", "request", "prepare", "check", "idle", "io", "io"]
+POOL_KINDS = ["timer", "timer", "async", "request", "request", "request", "request", "prepare", "check", "idle", "io"]
 CODES = ["ok", "EINVAL", "EBUSY", "ECANCELED", "EBOUND", "EFULL", "ESTALE", "EKIND"]
 SECTIONS = ["pending", "idle", "prepare", "poll", "done", "async", "check", "closing", "timers"]
 QUESTIONS = ["call", "nth call", "on", "after", "closed", "code", "code of", "section", "never", "stuck", "late", "before", "behind"]
@@ -136,15 +137,30 @@ def question_kind(question: str) -> str:
     return {("call", 3): "nth call", ("code", 4): "code of"}.get((words[0], len(words)), words[0])
 
 
-def script(draw: Random) -> str:
+def of_pool(draw: Random, kinds: Dict[str, str]) -> List[str]:
+    """What is asked where moves are held back: nothing comes but of the pool, of the clock and of I/O."""
+    lines = ["may io %s %d" % (name, draw.choice([1, 1, 2])) for name, kind in kinds.items() if kind == "io" and draw.random() < 0.9]
+    lines += ["most %s %d" % (name, draw.choice([1, 2, 2])) for name in kinds if draw.random() < 0.15]
+    lines += ["may tick %d %d" % (ms, draw.choice([1, 1, 2])) for ms in draw.sample([1, 5, 7], draw.choice([0, 0, 1, 1, 2]))]
+    lines += ["may wait"] * (draw.random() < 0.9) + ["most clock %d" % draw.choice([7, 10, 20])] * (draw.random() < 0.2)
+    lines += ["most states %d" % draw.choice([5, 50, 300])] * (draw.random() < 0.1)
+    question = question_of(draw, kinds)
+    if question.startswith("late "):
+        question = "call " + question.split()[1]
+    return lines + ["find " + question]
+
+
+def script(draw: Random, is_of_pool: bool = False) -> str:
     """A script, the line `begin`, and what is asked."""
     names = ["a", "b", "c", "d"][: draw.choice([1, 2, 2, 3, 3, 4])]
-    kinds = {name: draw.choice(KINDS) for name in names}
+    kinds = {name: draw.choice(POOL_KINDS if is_of_pool else KINDS) for name in names}
     lines = ["workers %d" % draw.choice([1, 1, 2])] + ["order 1.44"] * (draw.random() < 0.15) + ["slots %d" % len(names)] * (draw.random() < 0.1)
     lines += ["io"] * ("io" in kinds.values())
     lines += ["var " + name for name in names] + ["main " + line for line in main_of(draw, kinds)]
     is_endless = draw.random() < 0.25
     lines += [line for name in kinds for line in again(draw, name, kinds)] if is_endless else bodies_of(draw, kinds)
+    if is_of_pool:
+        return "\n".join(lines + ["begin"] + of_pool(draw, kinds)) + "\n"
     question = question_of(draw, kinds)
     asked = offers_of(draw, kinds, question) + ([] if is_endless else bounds_of(draw, kinds)) + ["find " + question]
     return "\n".join(lines + ["begin"] + asked) + "\n"

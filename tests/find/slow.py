@@ -1,8 +1,10 @@
 """A slow search through every order, breadth first, by what `uvt debug` answers. It has no loop of its own: it knows what is offered, the
-bounds, and what a question asks of a step."""
+bounds, and what a question asks of a step. Where moves may be held back, it also counts the places that are kept then."""
 from collections import deque
-from typing import Deque, Iterator, List, NamedTuple, Optional, Set, Tuple
+from dataclasses import dataclass
+from typing import Deque, Dict, Iterator, List, NamedTuple, Optional, Set, Tuple
 
+from tests.find import holding
 from tests.find import normal
 from tests.find import recording
 from tests.find.asked import Asked, Offer
@@ -33,7 +35,7 @@ class Place(NamedTuple):
             return self.state.text, self.left, self.due, self.owed, self.along
         # (a due time counts from the clock; where no timer is asked for, none is kept)
         due = self.due - self.state.clock if self.due is not None else None
-        return normal.normal(self.state.text, calls), self.left, due, self.owed, self.along
+        return normal.pooled(self.state.text, calls), self.left, due, self.owed, self.along
 
 
 class Move(NamedTuple):
@@ -46,14 +48,30 @@ class Move(NamedTuple):
 
 
 class Settled(NamedTuple):
-    """How many steps the first answer has, if there is one; and how many places there are, unless there are more than were looked at."""
+    """How many steps the first answer has, if there is one; and how many places there are, unless there are more than were looked at. Also how
+    many of them are kept: all, or, where moves may be held back, those that a search comes to that does so."""
 
     steps: Optional[int]
     places: Optional[int]
+    kept: Optional[int]
+
+
+@dataclass
+class Visit:
+    """A place that is under way: the moves that weren't tried there yet, whether the loop's step is apart from the others, and where it led."""
+
+    key: object
+    steps: Tuple[str, ...]
+    place: Place
+    moves: Iterator[Move]
+    is_apart: bool
+    behind_loop: object = None
 
 
 def every_offer(asked: Asked) -> List[Offer]:
-    """The loop goes on, the idle worker of the least number takes, each worker may finish, and then what may come from outside."""
+    """The loop goes on, the idle worker of the least number takes, each worker may finish, and then what may come from outside. The number of a
+    finish is that of the worker; where it is forgotten which of them runs which request, it says whose request that is: of those that are run
+    the first one, by their slots, the second one, and so on."""
     finishes = [Offer("finish", str(worker), None) for worker in range(asked.workers)]
     return [Offer("loop", "", None), Offer("take", "", None)] + finishes + asked.offers
 
@@ -87,6 +105,9 @@ def command_of(asked: Asked, offer: Offer, left: Optional[int], place: Place, is
     if offer.word == "take":
         idle = [worker for worker in range(asked.workers) if worker not in state.busy]
         return "take %d" % idle[0] if idle else None
+    if offer.word == "finish" and normal.may_forget(asked):
+        rank = int(offer.argument)
+        return "finish %d" % state.runners[rank] if rank < len(state.runners) else None
     ms = None
     if offer.word == "tick":
         ms = int(offer.argument)
@@ -229,7 +250,12 @@ def search(program: str, asked: Asked, cap: int) -> Settled:
     """All places, up to so many, and the least steps to an answer among them."""
     loop = Loop(program, asked.script)
     try:
-        return search_from(loop, asked, cap)
+        first = beginning(asked, loop.state)
+        settled = search_from(loop, asked, first, cap)
+        if holding.may_hold(asked):
+            loop.go_back((), first.state)
+            return settled._replace(kept=places_kept(loop, asked, first, cap))
+        return settled
     finally:
         loop.close()
 
@@ -242,8 +268,8 @@ def answers_here(asked: Asked, place: Place, blocked: List[bool], leads: bool) -
     return is_never and place.state.main == asked.main and not any(place.state.calls[asked.question[1]])
 
 
-def search_from(loop: Loop, asked: Asked, cap: int) -> Settled:
-    first, calls = beginning(asked, loop.state), normal.calls_told(asked)
+def search_from(loop: Loop, asked: Asked, first: Place, cap: int) -> Settled:
+    calls = normal.calls_told(asked)
     seen: Set[object] = {first.key(calls)}
     waiting: Deque[Tuple[Tuple[str, ...], Place]] = deque([((), first)])
     found: Optional[int] = None
@@ -259,12 +285,45 @@ def search_from(loop: Loop, asked: Asked, cap: int) -> Settled:
             key = move.place.key(calls)
             if key not in seen:
                 if len(seen) == cap:
-                    return Settled(found, None)
+                    return Settled(found, None, None)
                 seen.add(key)
                 waiting.append((steps + (move.command,), move.place))
         if found is None and answers_here(asked, place, blocked, leads):
             found = len(steps)
-    return Settled(found, len(seen))
+    return Settled(found, len(seen), len(seen))
+
+
+def places_kept(loop: Loop, asked: Asked, first: Place, cap: int) -> Optional[int]:
+    """How many places a search keeps that goes deep first and holds moves back: where the loop's step is apart and led to a place that is done,
+    the other moves aren't tried. A place is done once no move is left to try there. None where there are more than so many."""
+    calls, ops, ticks = normal.calls_told(asked), holding.Ops(asked.script), holding.may_tick(asked)
+    is_done: Dict[object, bool] = {}
+    way: List[Visit] = []
+
+    def visit(steps: Tuple[str, ...], place: Place) -> None:
+        key = place.key(calls)
+        is_done[key] = False
+        way.append(Visit(key, steps, place, moves(loop, asked, place, []), ops.is_loop_apart(ticks, place.state)))
+
+    visit((), first)
+    while way:
+        here = way[-1]
+        # (the moves of a place go on where the last one led to, and take that back)
+        is_held = here.is_apart and is_done.get(here.behind_loop, False)
+        move = None if is_held else next(here.moves, None)
+        if move is None:
+            is_done[here.key] = True
+            loop.go_back(here.steps, here.place.state)
+            way.pop()
+            continue
+        key = move.place.key(calls)
+        if move.command == "loop":
+            here.behind_loop = key
+        if key not in is_done:
+            if len(is_done) == cap:
+                return None
+            visit(here.steps + (move.command,), move.place)
+    return len(is_done)
 
 
 def what_is_wrong(program: str, asked: Asked, steps: List[str]) -> Optional[str]:

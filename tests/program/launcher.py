@@ -595,12 +595,12 @@ def try_builds(check: Check, kit: StandIn) -> None:
 
     kit.write("took", "0.05")
     kit.write("log", "")
-    kit.write("fails", "uv_step")
+    kit.write("fails", "uv_memory")
     status, output, errors = kit.call(["build"])
     check(
         "a build that fails",
         (status, output) == (70, b"")
-        and b"uv_step was not built" in errors
+        and b"uv_memory was not built" in errors
         and b"fn a::c: not proved" in errors
         and b"fn a::b: proved" not in errors,
         "got %r" % errors,

@@ -23,7 +23,7 @@ KEPT = {
     "uv_session: Session::run_to_break": "examples and loop_tests: steps up to a break, in one call",
     "uv_session: Session::taken_back": "loop_tests: how many steps may be run again",
     "uv_session: Session::trace": "live_tests: the lines of the steps, in one list",
-    "uv_step: LastStep::kept": "arena_tests: in which form a record lies, which no clause says",
+    "uv_memory: LastStep::kept": "arena_tests: in which form a record lies, which no clause says",
     "uv_text: image_text": "loop_tests and tries_again: an image in one text",
     "uv_text: seen_text": "loop_tests: a line in one text",
     "uv_text: state_text": "examples: a state in one text",

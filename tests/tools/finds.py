@@ -18,14 +18,15 @@ from typing import NamedTuple
 ROOT = Path(__file__).resolve().parent.parent.parent
 EXAMPLES = ROOT / "crates" / "examples" / "data"
 TOOL = str(ROOT / "tools" / "uvt" / "uvt-find")
+from tests.find.costs import growing
 from tests.helper import Check, Tries
 from launch import reasons
 
 SECONDS = 300
 FOUND, NEVER, BAD, UNSETTLED, INTERRUPTED = 0, 1, 2, 3, 130
-# A pool of eight with eight requests, whose orders no search settles within some seconds.
+# A pool of eight with nine requests, whose orders no search settles within some seconds.
 ENDLESS = "\n".join(
-    ["workers 8", *(f"var r{at}" for at in range(8)), *(f"main queue r{at} 1" for at in range(8)), "main run default", "begin", "find code EBUSY", ""]
+    ["workers 8", *(f"var r{at}" for at in range(9)), *(f"main queue r{at} 1" for at in range(9)), "main run default", "begin", "find code EBUSY", ""]
 )
 # So many seconds behind its start a search is interrupted: it has passed a thousand states by then, also before its proofs.
 INTERRUPTED_AFTER = 10
@@ -164,6 +165,11 @@ def try_lines(check: Check, folder: str) -> None:
         )
     ran = run([str(EXAMPLES / "late-timer.uvt"), *asked[:2], "find late beat 41"])
     check("find, without full", ran.stdout == "never: 159 states, every order\n", ran)
+    apart = os.path.join(folder, "apart")
+    Path(apart).write_text(growing(2, 2, 0), encoding="ascii")
+    for states, word in ((377, ""), (706, "--full")):
+        ran = run([apart, *word.split()])
+        check(f"find, {states} states of a pool", (ran.returncode, ran.stdout) == (NEVER, f"never: {states} states, every order\n"), ran)
     ran = run([str(EXAMPLES / "server.find")])
     check("find, a server without an end, and no warning", "may be no end of states" not in ran.stderr, ran)
     questions = ["find late beat 40", "find late beat 41", "find call ping"]

@@ -14,7 +14,7 @@
     its manifest starts it (editors.py)
   - the same script on libuv (tools/uvt/uvt-libuv), where it is installed (libuvs.py). By hand, and much more of it: tests/libuv/run
   - recordings of programs (tools/uvt/uvt-record) from the logs of logs/, logs that are cut or changed, and, with a C compiler and libuv, programs
-    (records.py)
+    (records.py); and from logs that are drawn, of threads that are held up within a send (held.py)
   - orders that are forced upon real programs (tools/uvt/uvt-force), with a C compiler and libuv (forces.py, forces/)
   - what `why` says of programs whose true causes are known, and that it says nothing that they don't confirm (truths.py, truths/)
   - what it says of programs in node, of whose JavaScript the hook told (javascripts.py, javascript/)
@@ -51,6 +51,7 @@ from tests.tools.finds import try_find
 from tests.tools.forces import try_forces
 from tests.tools.formed import try_form
 from tests.tools.fuzz import try_fuzz
+from tests.tools.held import try_held
 from tests.tools.interpreters import try_interpreters
 from tests.tools.javascripts import try_javascript
 from tests.tools.libuvs import try_libuv
@@ -304,6 +305,7 @@ PARTS: dict[str, Callable[[Tries], None]] = {
     "find": try_find,
     "truths": try_truths,
     "records": try_records,
+    "held": try_held,
     "forces": try_forces,
     "javascript": try_javascript,
     "interpreters": try_interpreters,

@@ -56,7 +56,7 @@ CLAIMS = (
         (
             Clause("uv_loop", "machine", "step", "records"),
             Clause("uv_loop", "machine", "back", "drops"),
-            Clause("uv_step", "law", "steps_unwind", ""),
+            Clause("uv_memory", "law", "steps_unwind", ""),
         ),
         ("uv_loop", "ArenaLoop"),
     ),
@@ -105,16 +105,43 @@ CLAIMS = (
     ),
     Claim(
         "Where a search of all orders answers `never`, no list of events that may come has a step that answers the question, however long it is, or "
-        "where states are forgotten of fewer than 4,294,967,294 events; and as many states are told apart as it says.",
+        "where states are forgotten of fewer than 4,278,190,077 events; and as many states are told apart, or kept, as it says.",
         (Clause("uv_find", "finding", "find", "found"),),
     ),
     Claim(
-        "A search takes two states for one only where they are equal, or, where it may forget, have the same normal form; and such states go on "
+        "Wherever events lead in such a search, each worker that runs a request may finish it, also where it is forgotten which of them runs which.",
+        (Clause("uv_find", "finding", "each_finishes", ""),),
+    ),
+    Claim(
+        "A search takes two states for one only where they are equal, or, where it may forget, have the same pooled form; and such states go on "
         "alike.",
         (
             Clause("uv_state_key", "laws", "keys_tell", ""),
             Clause("uv_state_key", "laws", "forms_tell", ""),
-            Clause("uv_normal", "laws", "steps_alike", ""),
+            Clause("uv_pooled", "laws", "others_alike", ""),
+            Clause("uv_pooled", "laws", "takes_alike", ""),
+            Clause("uv_pooled", "laws", "finishes_alike", ""),
+        ),
+    ),
+    Claim(
+        "A step of the loop that doesn't read the clock and a tick, and one that is apart and what a worker takes or finishes, can be taken in both "
+        "orders where each is accepted, with the same lines, to the same state.",
+        (
+            Clause("uv_apart", "laws", "ticks_apart", ""),
+            Clause("uv_apart", "laws", "takes_apart", ""),
+            Clause("uv_apart", "laws", "finishes_apart", ""),
+        ),
+    ),
+    Claim(
+        "States that are the same except for which worker runs which request go on alike, with lines that are the same except for workers' numbers; "
+        "and so do states with the same pooled form, as those with the same normal form do.",
+        (
+            Clause("uv_workers", "laws", "others_alike", "alike"),
+            Clause("uv_workers", "laws", "takes_alike", "alike"),
+            Clause("uv_workers", "laws", "finishes_alike", "alike"),
+            Clause("uv_pooled", "laws", "others_alike", ""),
+            Clause("uv_pooled", "laws", "takes_alike", ""),
+            Clause("uv_pooled", "laws", "finishes_alike", ""),
         ),
     ),
     Claim("What the search's program writes is the answer to what its input asks.", (Clause("uvt_find", "running", "run", "text"),)),

@@ -3,13 +3,12 @@
 use std::process::Abort;
 use std::test::Fail;
 use uv_arena::{ChainPlace, PushUndo, RemoveUndo};
-use uv_handle::{DelistUndo, RecordUndo};
+use uv_handle::{DelistUndo, RecordUndo, WalkUndo};
 use uv_ids::{Kind, Var};
+use uv_memory::{Form, Large, LastStep, Medium, Naming, Trail};
 use uv_records::HandleRecord;
 use uv_requests::CollectWorkUndo;
-use uv_step::{Form, Large, LastStep, Medium, Naming, Trail};
 use uv_timer::TimerUndo;
-use uv_watch::WalkUndo;
 use uv_work::{Request, Task};
 
 const PLACE: ChainPlace = ChainPlace {

@@ -83,8 +83,10 @@ fn feed<L: Ledger, R: Clock + Wait>(
         let Some(job) = load.job(slot) else {
             return Err(Fault::Refused(Why::Range));
         };
-        book.lock(rt).submit(job)?;
-        book.wake();
+        let mut guard = book.lock(rt);
+        let submitted = guard.book.submit(job);
+        book.let_go(guard);
+        submitted?;
     }
     let mut collected = 0;
     for _ in rt.forever() {
@@ -94,7 +96,7 @@ fn feed<L: Ledger, R: Clock + Wait>(
             break;
         }
         if more == 0 {
-            book.wait_past(rt, seen);
+            book.let_go(book.wait_past(rt, seen));
         }
     }
     Ok(nanos(start, now(rt)?))
@@ -103,14 +105,22 @@ fn feed<L: Ledger, R: Clock + Wait>(
 /// How many were done, and how long the log is.
 fn collect_all<L: Ledger, R: Wait>(rt: &R, book: &LockedBook<L>) -> Result<(u32, usize), Fault> {
     let mut guard = book.lock(rt);
+    let collected = collect_some(&mut guard.book);
+    let seen = guard.book.log().len();
+    book.let_go(guard);
+    Ok((collected?, seen))
+}
+
+/// Collects at most a thousand of those that are done, and answers how many there were.
+fn collect_some<L: Ledger>(book: &mut PoolBook<L>) -> Result<u32, Fault> {
     let mut collected: u32 = 0;
     for _ in 0..1000 {
-        if guard.collect()?.is_none() {
+        if book.collect()?.is_none() {
             break;
         }
         collected = collected.saturating_add(1);
     }
-    Ok((collected, guard.log().len()))
+    Ok(collected)
 }
 
 fn feed_and_close<L: Ledger, R: Clock + Wait>(
@@ -119,8 +129,7 @@ fn feed_and_close<L: Ledger, R: Clock + Wait>(
     load: Load,
 ) -> Result<u64, Fault> {
     let fed = feed(rt, book, load);
-    book.lock(rt).close();
-    book.wake();
+    book.close(rt);
     fed
 }
 

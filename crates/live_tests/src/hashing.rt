@@ -47,6 +47,13 @@ fn alone<R: Abort + Clock>(rt: &R) -> Result<u64, Fault> {
     Ok(nanos(start, now(rt)?))
 }
 
+fn submit<L: Ledger, R: Abort + Wait>(rt: &R, book: &LockedBook<L>) -> Result<(), Fault> {
+    let mut guard = book.lock(rt);
+    let submitted = guard.book.submit(job(rt));
+    book.let_go(guard);
+    submitted
+}
+
 /// What it takes a worker, and the book that it takes the job of and hands the result to.
 fn by_worker<L: Ledger, R: Abort + Clock + Wait>(
     rt: &R,
@@ -59,7 +66,7 @@ fn by_worker<L: Ledger, R: Abort + Clock + Wait>(
 {
     let book = LockedBook::new(PoolBook::<L>::new(alloc, blank, 1)?);
     let start = now(rt)?;
-    book.lock(rt).submit(job(rt))?;
+    submit(rt, &book)?;
     book.close(rt);
     let mut desk = Desk::new(rt, alloc, &book);
     let shift = worker(rt, alloc, &mut desk, &mut Quiet, 0)?;

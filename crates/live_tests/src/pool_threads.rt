@@ -30,14 +30,10 @@ fn submit<L: Ledger, R: Abort + Wait>(
     book: &LockedBook<L>,
     slot: u32,
 ) -> Result<(), Fault> {
-    book.lock(rt).submit(job(rt, slot))?;
-    book.wake();
-    Ok(())
-}
-
-fn close<L: Ledger, R: Wait>(rt: &R, book: &LockedBook<L>) {
-    book.lock(rt).close();
-    book.wake();
+    let mut guard = book.lock(rt);
+    let submitted = guard.book.submit(job(rt, slot));
+    book.let_go(guard);
+    submitted
 }
 
 /// What has become of a request.
@@ -135,7 +131,7 @@ struct Load {
 /// Submits the jobs. The book is closed at the end, after a fault too, so that the workers end.
 fn feed<L: Ledger, R: Abort + Wait>(rt: &R, book: &LockedBook<L>, load: Load) -> Result<(), Fault> {
     let fed = submit_all(rt, book, load);
-    close(rt, book);
+    book.close(rt);
     fed
 }
 
@@ -146,13 +142,15 @@ fn submit_all<L: Ledger, R: Abort + Wait>(
 ) -> Result<(), Fault> {
     for slot in 0..load.jobs {
         if slot == load.open {
-            drop(book.wait_past(rt, load.open as usize));
-            close(rt, book);
+            book.let_go(book.wait_past(rt, load.open as usize));
+            book.close(rt);
         }
         submit(rt, book, slot)?;
         if load.cancels && slot % 3 == 0 {
-            let _code = book.lock(rt).cancel(id(slot / 2))?;
-            book.wake();
+            let mut guard = book.lock(rt);
+            let cancelled = guard.book.cancel(id(slot / 2));
+            book.let_go(guard);
+            let _code = cancelled?;
         }
     }
     Ok(())
@@ -228,6 +226,103 @@ fn eight_threads_end_by_themselves(rt: HostRuntime) -> Result<(), Fault> {
     Ok(())
 }
 
+/// A gate that holds each worker until so many have begun a job.
+struct Gathering<'a, R: Clock + Wait> {
+    rt: &'a R,
+    begun: &'a AtomicU32,
+    wanted: u32,
+}
+
+impl<'a, R: Clock + Wait> Clone for Gathering<'a, R> {
+    fn clone(&self) -> Result<Gathering<'a, R>, AllocError> {
+        Ok(*self)
+    }
+}
+
+impl<'a, R: Clock + Wait> Copy for Gathering<'a, R> {}
+
+impl<'a, R: Clock + Wait> Gate for Gathering<'a, R> {
+    ghost begins = { λ g k id after. Unit {0} };
+
+    ghost ends = { λ g k id after. Unit {0} };
+
+    ghost sends = { λ g s after. Unit {0} };
+
+    fn begun(&mut self, _k: u16, _id: Id) {
+        self.begun.fetch_add(1, Ordering::SeqCst);
+        for _ in self.rt.forever() {
+            if self.begun.load(Ordering::SeqCst) >= self.wanted {
+                break;
+            }
+            sleep(self.rt, Duration::from_millis(1));
+        }
+    }
+
+    fn ended(&mut self, _k: u16, _id: Id) {}
+
+    fn sending(&mut self, _s: u8) {}
+}
+
+/// Once the four workers may be asleep, submits a job for each, and closes the book when all were finished.
+fn feed_sleepers<L: Ledger, R: Abort + Clock + Wait>(
+    rt: &R,
+    book: &LockedBook<L>,
+) -> Result<(), Fault> {
+    sleep(rt, Duration::from_millis(50));
+    for slot in 0..4 {
+        submit(rt, book, slot)?;
+    }
+    book.let_go(book.wait_past(rt, 11));
+    book.close(rt);
+    Ok(())
+}
+
+/// How many events workers have that are all held until each has begun a job.
+fn gathered<L: Ledger + Send + Sync, R: Abort + Threads + Clock + Wait + Sync>(
+    rt: &R,
+    alloc: Global,
+    blank: Blank,
+) -> Result<usize, Fault>
+    requires name { blank.name ≡ L.name }
+    requires parts { blank.parts ≡ L.parts }
+    requires more { 4 < blank.parts }
+{
+    let locked = LockedBook::new(PoolBook::<L>::new(alloc, blank, 4)?);
+    let begun = AtomicU32::new(0);
+    let book = &locked;
+    let gate = Gathering {
+        rt,
+        begun: &begun,
+        wanted: 4,
+    };
+    let (fed, answers) = join(
+        rt,
+        move || feed_sleepers(rt, book),
+        move || {
+            map_indices(
+                rt,
+                alloc,
+                4,
+                &|k| {
+                    let mut gate = gate;
+                    work(rt, alloc, book, &mut gate, k.min(1024) as u16)
+                },
+            )
+        },
+    );
+    match (fed, &answers) {
+        (Ok(()), Ok(answers)) => events(answers),
+        (Err(fault), _) => Err(fault),
+        (_, Err(_)) => Err(Fault::Memory),
+    }
+}
+
+#[test]
+fn a_queue_of_jobs_wakes_one_worker_after_another(rt: HostRuntime) -> Result<(), Fault> {
+    assert!(&rt; gathered::<Brand, _>(&rt, rt.alloc(), Blank::new(5))? == 8);
+    Ok(())
+}
+
 /// A gate that looks into the book at each call: how often the log hadn't what it was told of.
 struct Looking<'a, R: Wait, L: Ledger> {
     rt: &'a R,
@@ -237,7 +332,10 @@ struct Looking<'a, R: Wait, L: Ledger> {
 
 impl<'a, R: Wait, L: Ledger> Looking<'a, R, L> {
     fn look(&self, event: PoolEvent) {
-        if !self.book.lock(self.rt).log().contains(&event) {
+        let guard = self.book.lock(self.rt);
+        let is_there = guard.book.log().contains(&event);
+        self.book.let_go(guard);
+        if !is_there {
             self.missed.fetch_add(1, Ordering::SeqCst);
         }
     }
@@ -279,7 +377,7 @@ fn missed<L: Ledger, R: Abort + Wait>(rt: &R, alloc: Global, blank: Blank) -> Re
     for slot in 0..8 {
         submit(rt, &book, slot)?;
     }
-    close(rt, &book);
+    book.close(rt);
     let missed = AtomicU32::new(0);
     let mut gate = Looking {
         rt,
@@ -321,7 +419,9 @@ impl<'a, R: Clock + Wait, L: Ledger> Gate for Grasping<'a, R, L> {
     fn begun(&mut self, _k: u16, _id: Id) {}
 
     fn ended(&mut self, k: u16, _id: Id) {
-        let _ = self.book.lock(self.rt).take(k);
+        let mut guard = self.book.lock(self.rt);
+        let _ = guard.book.take(k);
+        self.book.let_go(guard);
         sleep(self.rt, Duration::from_millis(100));
     }
 
@@ -336,7 +436,10 @@ fn refused<'a, L: Ledger, R: Clock + Wait>(
 ) -> (Option<Fault>, bool) {
     let mut gate = Grasping { rt, book };
     let fault = work(rt, alloc, book, &mut gate, 0).err();
-    (fault, book.lock(rt).closed())
+    let guard = book.lock(rt);
+    let closed = guard.book.closed();
+    book.let_go(guard);
+    (fault, closed)
 }
 
 /// That fault, while a thread waits for a second finish, and another one for a sixth entry.
@@ -362,7 +465,9 @@ fn refused_beside<L: Ledger + Send + Sync, R: Abort + Threads + Clock + Wait + S
                 move || {
                     book.wait_finished(rt, 4);
                 },
-                move || drop(book.wait_past(rt, 5)),
+                move || {
+                    book.let_go(book.wait_past(rt, 5));
+                },
             )
         },
     );

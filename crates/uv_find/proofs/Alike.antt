@@ -1,5 +1,6 @@
--- Places with the same normal form, and as much left and kept, go on alike.
-use Rattle.std.proofs.Common.{◌≡◌, ℕ, ◌+◌, ◌<◌, ◌≤◌, ◌&&◌, not, Bool, true, false, List, [], ◌∷◌, length, Option, Some, None, nat_le, nat_lt, refl, ap, ap₂, sym, subst, ◌∙◌, arith, if◌then◌else◌}
+-- Places with the same pooled form, and as much left and kept, go on alike.
+use Rattle.std.proofs.Common.{◌≡◌, ℕ, ◌+◌, ◌<◌, ◌≤◌, ◌&&◌, not, Bool, true, false, List, [], ◌∷◌, length, Option, Some, None, ◌⊎◌, inl, inr, nat_le, nat_lt, refl, ap, ap₂, sym, subst, ◌∙◌, arith, if◌then◌else◌}
+use Rattle.std.specs.Prelude.{option_map}
 use Rattle.std.proofs.lemmas.Bool.{ltb-true}
 use Rattle.uv_ids.specs.declared.event.Event.{Event}
 use Rattle.uv_ids.specs.declared.event.Event.TheVariants.{Loop, Take, Finish, Cancel, Send, Io, Tick}
@@ -7,10 +8,12 @@ use Rattle.uv_ids.specs.declared.id.Id.{Id}
 use Rattle.uv_ids.specs.declared.id.Var.{Var}
 use Rattle.uv_ids.specs.declared.seen.Callback.{Callback}
 use Rattle.uv_ids.specs.declared.seen.Callback.TheVariants as callback
+use Rattle.uv_ids.specs.declared.seen.Seen.{Seen}
+use Rattle.uv_ids.specs.declared.seen.Seen.TheVariants as seen
 use Rattle.uv_records.specs.Slots.{held}
 use Rattle.uv_work.specs.declared.content.Content.{Content}
 use Rattle.uv_work.specs.declared.content.Content.TheVariants as content
-use Rattle.uv_script.specs.Program.{Program, worker_count}
+use Rattle.uv_script.specs.Program.{Program}
 use Rattle.uv_model.specs.After.{after}
 use Rattle.uv_model.specs.Limits.{LATEST}
 use Rattle.uv_model.specs.Next.{Next, Moves, Refuses, next}
@@ -20,8 +23,10 @@ use Rattle.uv_shift.specs.Earliest.{IsTimed}
 use Rattle.uv_shift.proofs.Reached.{after_timed}
 use Rattle.uv_generations.specs.Youngest.{IsYoung}
 use Rattle.uv_generations.proofs.Reached.{after_young}
-use Rattle.uv_normal.specs.Normal.{normal, NextAlike}
-use Rattle.uv_normal.proofs.Steps.{steps_alike}
+use Rattle.uv_normal.specs.Normal.{calls_timer}
+use Rattle.uv_workers.specs.Workers.{is_of_worker, line_by, next_by}
+use Rattle.uv_pooled.specs.Pooled.{pooled, NextPooled}
+use Rattle.uv_pooled.proofs.Steps as laws
 use Rattle.uv_asking.specs.declared.asking.Most.{Most}
 use Rattle.uv_asking.specs.declared.asking.Offer.{Offer}
 use Rattle.uv_asking.specs.declared.asking.Offer.TheVariants as offers
@@ -30,20 +35,18 @@ use Rattle.uv_asking.specs.declared.asking.Question.{Question}
 use Rattle.uv_asking.specs.declared.asking.Question.TheVariants as asks
 use Rattle.uv_find.specs.declared.kept.Kept.{Kept}
 use Rattle.uv_find.specs.declared.left.Left.{Left}
-use Rattle.uv_find.specs.Forgetting.{LONG, LONGEST, is_aside, most_end}
+use Rattle.uv_find.specs.Forgetting.{LONG, LONGEST, is_common, most_end}
 use Rattle.uv_find.specs.Kept.{due_under, due_else, due_in, kept_due}
 use Rattle.uv_find.specs.Orders.{Rules, Place, aim, is_made, is_free, spending, step_of, is_blocked, refused_as_blocked, deadline_at, wait_until, take_by}
+use Rattle.uv_find.specs.Ranks.{idle_worker, by_rank, ranked}
 use Rattle.uv_find.specs.Kept.{is_in_timers}
-use Rattle.uv_find.specs.Orders.{idle_among, is_quiet}
-use Rattle.uv_find.specs.Orders.{event_of, timed, is_brief, brief, may_take, offered_by, is_called_within, is_within}
+use Rattle.uv_find.specs.Orders.{is_quiet}
+use Rattle.uv_find.specs.Orders.{event_of, timed, is_brief, brief, may_take, offered_here, offered_by, is_called_within, is_within}
 use Rattle.uv_find.specs.Spots.{Spot, CanForget, IsSpot, AreBrief, is_few}
 use Rattle.uv_find.proofs.Clocks.{after_clock}
-use Rattle.uv_find.proofs.Readings.{Reads, reads_alike, is_bound, reads_bound, is_shut, reads_shut, count, reads_count, within_capped, reads_quiet, reads_timers, until, wait_of, reads_wait, reads_idle, lag_of, lag_under, lag, reads_lag}
-
--- what holds of the state of a place
-pub record IsRegular (p : Program) (s : State) : Type 0 where
-  pub timed : IsTimed p s
-  pub young : IsYoung p s
+use Rattle.uv_find.proofs.Lines.{LinesAlike, bare_alike, worker_alike}
+use Rattle.uv_find.proofs.Runners.{IsRegular, EventsAlike, OffersAlike, finishes_alike, takes_alike}
+use Rattle.uv_find.proofs.Readings.{Reads, reads_alike, is_bound, reads_bound, is_shut, reads_shut, count, reads_count, within_capped, reads_quiet, reads_timers, until, wait_of, reads_wait, lag_of, lag_under, lag, reads_lag}
 
 -- of a timer that is asked about it is the same how late the clock is for what is kept of it
 abbrev pub DueAlike : Question → ℕ → ℕ → ℕ → ℕ → Type 0
@@ -51,11 +54,52 @@ DueAlike (asks.Late name ms) clock due other_clock other_due = clock + other_due
 DueAlike question clock due other_clock other_due = due ≡ other_due
 
 pub record AreAlike (r : Rules) (n : ℕ) (p q : Place) : Type 0 where
-  pub state : normal n p.state ≡ normal n q.state
+  pub state : pooled n p.state ≡ pooled n q.state
   pub left : p.left ≡ q.left
   pub owed : p.kept.owed ≡ q.kept.owed
   pub along : p.kept.along ≡ q.kept.along
   pub due : DueAlike r.question p.state.clock p.kept.due q.state.clock q.kept.due
+
+-- ---- steps that are alike
+
+-- two steps, from s and t, led to these states with these lines
+pub record GoesAlike (p : Program) (n : ℕ) (s t a b : State) (line other : Option Seen) : Type 0 where
+  pub same : pooled n a ≡ pooled n b
+  pub lines : LinesAlike p line other
+  -- the clock goes on by as much
+  pub clocks : a.clock + t.clock ≡ b.clock + s.clock
+  pub timers : calls_timer a line ≡ calls_timer b other
+
+-- both are refused, or both are taken
+abbrev pub NextGoes : Program → ℕ → State → State → Next → Next → Type 0
+NextGoes p n s t (Moves a line) (Moves b other) = GoesAlike p n s t a b line other
+NextGoes p n s t (Refuses why) (Refuses other) = why ≡ other
+NextGoes p n s t x y = ⊥
+
+-- whose worker's line it is says nothing of timers
+timer_by : (k : ℕ) (s : State) (line : Option Seen) → calls_timer s (option_map (line_by k) line) ≡ calls_timer s line
+timer_by k s None = refl
+timer_by k s (Some (seen.Take worker v id)) = refl
+timer_by k s (Some (seen.Finish worker v id)) = refl
+timer_by k s (Some l) = refl
+
+others_go : (p : Program) (n : ℕ) (s t : State) (x y : Next) → NextPooled p n s t x y → NextGoes p n s t x y
+others_go p n s t (Moves a line) (Moves b other) h =
+    record { same = h.same; lines = bare_alike p line other h.same_line; clocks = h.clocks; timers = h.timers }
+others_go p n s t (Refuses why) (Refuses other) h = h
+others_go p n s t (Moves a line) (Refuses other) h = absurd h
+others_go p n s t (Refuses why) (Moves b other) h = absurd h
+
+worker_goes : (p : Program) (n : ℕ) (s t : State) (k : ℕ) (x y : Next) → NextPooled p n s t (next_by k x) y → NextGoes p n s t x y
+worker_goes p n s t k (Moves a line) (Moves b other) h = record {
+  same = h.same;
+  lines = worker_alike p k line other h.same_line;
+  clocks = h.clocks;
+  timers = sym (timer_by k a line) ∙ h.timers;
+}
+worker_goes p n s t k (Refuses why) (Refuses other) h = h
+worker_goes p n s t k (Moves a line) (Refuses other) h = absurd h
+worker_goes p n s t k (Refuses why) (Moves b other) h = absurd h
 
 -- ---- what holds of each spot
 
@@ -96,7 +140,7 @@ module _ (r : Rules) (n : ℕ) (forget : r.forget ≡ Some n) (can : CanForget r
 
   -- ---- what is read
 
-  module _ (a b : State) (ra : IsRegular r.program a) (rb : IsRegular r.program b) (same : normal n a ≡ normal n b) where
+  module _ (a b : State) (ra : IsRegular r.program a) (rb : IsRegular r.program b) (same : pooled n a ≡ pooled n b) where
     pub both : {X : Type 0} (R : State → X) → Reads n R → R a ≡ R b
     both R reads = reads_alike n R reads r.program a b ra.timed ra.young rb.timed rb.young same
 
@@ -183,20 +227,39 @@ module _ (r : Rules) (n : ℕ) (forget : r.forget ≡ Some n) (can : CanForget r
     same_read : {X : Type 0} (R : State → X) → Reads n R → R a ≡ R b
     same_read R reads = both a b (spot_regular s hs) (spot_regular t ht) alike.state R reads
 
-    blocked_by : (x y : Next) → NextAlike r.program n a b x y → refused_as_blocked x ≡ refused_as_blocked y
+    blocked_by : (x y : Next) → NextGoes r.program n a b x y → refused_as_blocked x ≡ refused_as_blocked y
     blocked_by (Moves u line) (Moves v other) h = refl
     blocked_by (Refuses why) (Refuses other) h = ap (λ w. refused_as_blocked (Refuses w)) h
     blocked_by (Moves u line) (Refuses other) h = absurd h
     blocked_by (Refuses why) (Moves v other) h = absurd h
 
-    pub goes_alike : (e : Event) → is_brief (Some n) e ≡ true → NextAlike r.program n a b (next r.program a e) (next r.program b e)
-    goes_alike e short =
+    -- events that do alike lead on alike
+    pub goes_alike : (e f : Event) → EventsAlike n a b e f → is_brief (Some n) e ≡ true
+        → NextGoes r.program n a b (next r.program a e) (next r.program b f)
+    goes_alike e f (inl h) short =
         let ra = spot_regular s hs in
         let rb = spot_regular t ht in
-        steps_alike r.program n a b e can.before ra.timed ra.young rb.timed rb.young alike.state (spot_fits s e hs short) (spot_fits t e ht short)
+        subst (λ g. NextGoes r.program n a b (next r.program a e) (next r.program b g)) h.0
+        (others_go r.program n a b (next r.program a e) (next r.program b e)
+        (laws.others_alike r.program n a b can.before ra.timed ra.young rb.timed rb.young alike.state e h.1 (spot_fits s e hs short)
+        (spot_fits t e ht short)))
+    goes_alike e f (inr (inl h)) short =
+        let ra = spot_regular s hs in
+        let rb = spot_regular t ht in
+        subst (λ x. NextGoes r.program n a b (next r.program a x) (next r.program b f)) (sym h.one)
+        (subst (λ y. NextGoes r.program n a b (next r.program a (Take h.worker)) (next r.program b y)) (sym h.two)
+        (worker_goes r.program n a b h.other (next r.program a (Take h.worker)) (next r.program b (Take h.other))
+        (laws.takes_alike r.program n a b can.before ra.timed ra.young rb.timed rb.young alike.state h.worker h.other h.same)))
+    goes_alike e f (inr (inr h)) short =
+        let ra = spot_regular s hs in
+        let rb = spot_regular t ht in
+        subst (λ x. NextGoes r.program n a b (next r.program a x) (next r.program b f)) (sym h.one)
+        (subst (λ y. NextGoes r.program n a b (next r.program a (Finish h.worker)) (next r.program b y)) (sym h.two)
+        (worker_goes r.program n a b h.other (next r.program a (Finish h.worker)) (next r.program b (Finish h.other))
+        (laws.finishes_alike r.program n a b can.before ra.timed ra.young rb.timed rb.young alike.state h.worker h.other h.same)))
 
     pub blocked_alike : is_blocked r.program a ≡ is_blocked r.program b
-    blocked_alike = blocked_by (next r.program a Loop) (next r.program b Loop) (goes_alike Loop refl)
+    blocked_alike = blocked_by (next r.program a Loop) (next r.program b Loop) (goes_alike Loop Loop (inl (refl, refl)) refl)
 
     free_alike : (e : Event) → is_free a k e ≡ is_free b l e
     free_alike (Io v) = ap (λ o. not (nat_lt 0 o)) alike.owed
@@ -236,21 +299,115 @@ module _ (r : Rules) (n : ℕ) (forget : r.forget ≡ Some n) (can : CanForget r
     wait_alike =
         waits_is a (deadline_at a.place) ∙ ap₂ waits blocked_alike (same_read wait_of (reads_wait n)) ∙ sym (waits_is b (deadline_at b.place))
 
-    event_alike : (offer : Offer) → is_aside offer ≡ true → event_of r.program a k offer ≡ event_of r.program b l offer
-    event_alike (offers.Step e) h = step_alike e
-    event_alike (offers.SendDuring v job) h = absurd cc
-    event_alike offers.Take h = ap take_by (same_read (λ u. idle_among u (worker_count r.program)) (reads_idle n (worker_count r.program)))
-    event_alike offers.Wait h = wait_alike
+    -- ---- ranks
+
+    takes_both : OffersAlike n a b (take_by (idle_worker a)) (take_by (idle_worker b))
+    takes_both = takes_alike n r.program a b (spot_regular s hs).young (spot_regular t ht).young alike.state
+
+    take_same : (u : State) (o : Option ℕ) → ranked (Some n) u (take_by o) ≡ take_by o
+    take_same u None = refl
+    take_same u (Some worker) = refl
+
+    same_event : (x : Event) → is_of_worker x ≡ false → OffersAlike n a b (by_rank a x) (by_rank b x)
+    same_event Loop other = inl (refl, refl)
+    same_event (Take worker) other = absurd (let g : true ≡ false = other in cc)
+    same_event (Finish rank) other = absurd (let g : true ≡ false = other in cc)
+    same_event (Cancel v) other = inl (refl, refl)
+    same_event (Send v) other = inl (refl, refl)
+    same_event (Io v) other = inl (refl, refl)
+    same_event (Tick ms) other = inl (refl, refl)
+
+    spends : (e : Event) → is_of_worker e ≡ false → is_of_worker (spending k e) ≡ false
+    spends Loop other = by (nat_lt 0 k.owed) where
+      by : (b : Bool) → is_of_worker (if b then Tick k.owed else Loop) ≡ false
+      by true = refl
+      by false = refl
+    spends (Take worker) other = other
+    spends (Finish rank) other = other
+    spends (Cancel v) other = refl
+    spends (Send v) other = refl
+    spends (Io v) other = refl
+    spends (Tick ms) other = refl
+
+    other_step : (e : Event) → is_of_worker e ≡ false → OffersAlike n a b (ranked (Some n) a (step_of a k e)) (ranked (Some n) b (step_of b l e))
+    other_step e other =
+        subst (λ o. OffersAlike n a b (ranked (Some n) a (step_of a k e)) (ranked (Some n) b o)) (step_alike e)
+        (by (is_made a (aim e) && is_free a k e))
+      where
+        by : (may : Bool) → OffersAlike n a b (ranked (Some n) a (if may then Some (spending k e) else None))
+            (ranked (Some n) b (if may then Some (spending k e) else None))
+        by true = same_event (spending k e) (spends e other)
+        by false = tt
+
+    stepped : (e : Event) → is_common (offers.Step e) ≡ true
+        → OffersAlike n a b (ranked (Some n) a (step_of a k e)) (ranked (Some n) b (step_of b l e))
+    stepped (Finish rank) h = finishes_alike n r.program a b (spot_regular s hs).young (spot_regular t ht).young alike.state rank
+    stepped (Take worker) h = absurd (let g : false ≡ true = h in cc)
+    stepped Loop h = other_step Loop refl
+    stepped (Cancel v) h = other_step (Cancel v) refl
+    stepped (Send v) h = other_step (Send v) refl
+    stepped (Io v) h = other_step (Io v) refl
+    stepped (Tick ms) h = other_step (Tick ms) refl
+
+    waited : (blocked : Bool) (ms : Option ℕ) → OffersAlike n a b (ranked (Some n) a (waits blocked ms)) (ranked (Some n) b (waits blocked ms))
+    waited blocked None = tt
+    waited true (Some ms) = inl (refl, refl)
+    waited false (Some ms) = tt
+
+    event_alike : (offer : Offer) → is_common offer ≡ true →
+        OffersAlike n a b (ranked (Some n) a (event_of r.program a k offer)) (ranked (Some n) b (event_of r.program b l offer))
+    event_alike (offers.Step e) h = stepped e h
+    event_alike (offers.SendDuring v job) h = absurd (let g : false ≡ true = h in cc)
+    event_alike offers.Take h =
+        subst (λ x. OffersAlike n a b x (ranked (Some n) b (take_by (idle_worker b)))) (sym (take_same a (idle_worker a)))
+        (subst (λ y. OffersAlike n a b (take_by (idle_worker a)) y) (sym (take_same b (idle_worker b))) takes_both)
+    event_alike offers.Wait h =
+        let here = waits_is a (deadline_at a.place) in
+        let wait = waits (is_blocked r.program a) (until a.clock (deadline_at a.place)) in
+        subst (λ x. OffersAlike n a b (ranked (Some n) a x) (ranked (Some n) b (wait_until r.program b (deadline_at b.place)))) (sym here)
+        (subst (λ y. OffersAlike n a b (ranked (Some n) a wait) (ranked (Some n) b y))
+        (sym here ∙ wait_alike) (waited (is_blocked r.program a) (until a.clock (deadline_at a.place))))
+
+    -- ---- within the bounds
+
+    brief_is : (e f : Event) → EventsAlike n a b e f → is_brief (Some n) e ≡ is_brief (Some n) f
+    brief_is e f (inl h) = ap (is_brief (Some n)) h.0
+    brief_is e f (inr (inl h)) = ap (is_brief (Some n)) h.one ∙ sym (ap (is_brief (Some n)) h.two)
+    brief_is e f (inr (inr h)) = ap (is_brief (Some n)) h.one ∙ sym (ap (is_brief (Some n)) h.two)
+
+    brief_alike : (x y : Option Event) → OffersAlike n a b x y → OffersAlike n a b (brief (Some n) x) (brief (Some n) y)
+    brief_alike None None h = tt
+    brief_alike None (Some f) h = absurd h
+    brief_alike (Some e) None h = absurd h
+    brief_alike (Some e) (Some f) h = by (is_brief (Some n) e) (is_brief (Some n) f) (brief_is e f h) where
+      by : (p q : Bool) → p ≡ q → OffersAlike n a b (if p then Some e else None) (if q then Some f else None)
+      by true true same = h
+      by false false same = tt
+      by true false same = absurd cc
+      by false true same = absurd cc
 
     unbounded : (clock : ℕ) (o : Option Event) → timed None clock o ≡ o
     unbounded clock None = refl
     unbounded clock (Some e) = refl
 
-    pub offered_alike : (offered : Option Offered) (x : Option Left) → ((o : Offered) → offered ≡ Some o → is_aside o.offer ≡ true) →
-        offered_by r s.place offered x ≡ offered_by r t.place offered x
-    offered_alike None x aside = refl
-    offered_alike (Some o) None aside = refl
-    offered_alike (Some o) (Some x) aside =
-        let times = λ (u : State) (e : Option Event). ap (λ m. timed m u.clock e) can.clock ∙ unbounded u.clock e in
-        ap (λ e. brief r.forget (if may_take x then e else None))
-        (times a (event_of r.program a k o.offer) ∙ event_alike o.offer (aside o refl) ∙ sym (times b (event_of r.program b l o.offer)))
+    pub offered_alike : (offered : Option Offered) (x : Option Left) → ((o : Offered) → offered ≡ Some o → is_common o.offer ≡ true) →
+        OffersAlike n a b (offered_by r s.place offered x) (offered_by r t.place offered x)
+    offered_alike None x common = tt
+    offered_alike (Some o) None common = tt
+    offered_alike (Some o) (Some x) common =
+        let here = event_of r.program a k o.offer in
+        let there = event_of r.program b l o.offer in
+        let one = λ (u : State) (e : Option Event). sym (ap (λ m. timed m u.clock e) can.clock ∙ unbounded u.clock e) in
+        subst (λ g. OffersAlike n a b (brief g (ranked g a (offered_here r.program r.clock a k o.offer x)))
+        (brief g (ranked g b (offered_here r.program r.clock b l o.offer x)))) (sym forget)
+        (subst (λ u. OffersAlike n a b (brief (Some n) (ranked (Some n) a (if may_take x then u else None)))
+        (brief (Some n) (ranked (Some n) b (offered_here r.program r.clock b l o.offer x)))) (one a here)
+        (subst (λ v. OffersAlike n a b (brief (Some n) (ranked (Some n) a (if may_take x then here else None)))
+        (brief (Some n) (ranked (Some n) b (if may_take x then v else None)))) (one b there)
+        (by (may_take x))))
+      where
+        by : (may : Bool) → OffersAlike n a b (brief (Some n) (ranked (Some n) a (if may then event_of r.program a k o.offer else None)))
+            (brief (Some n) (ranked (Some n) b (if may then event_of r.program b l o.offer else None)))
+        by true = brief_alike (ranked (Some n) a (event_of r.program a k o.offer)) (ranked (Some n) b (event_of r.program b l o.offer))
+            (event_alike o.offer (common o refl))
+        by false = tt

@@ -1,5 +1,5 @@
 -- What a place does, one that has the same key does as well: it leads by each move to one of the same key, and answers alike.
-use Rattle.std.proofs.Common.{◌≡◌, ℕ, zero, suc, ◌+◌, ◌-◌, ◌<◌, ◌&&◌, Bool, true, false, List, [], ◌∷◌, ◌++◌, length, nat_lt, is_none, slice_get, refl, sym, ap, ap₂, subst, ◌∙◌, Option, Some, None, if◌then◌else◌, arith}
+use Rattle.std.proofs.Common.{◌≡◌, inl, inr, ℕ, zero, suc, ◌+◌, ◌-◌, ◌<◌, ◌&&◌, Bool, true, false, List, [], ◌∷◌, ◌++◌, length, nat_lt, is_none, slice_get, refl, sym, ap, ap₂, subst, ◌∙◌, Option, Some, None, if◌then◌else◌, arith}
 use Rattle.std.proofs.lemmas.Bool.{ltb-true}
 use Rattle.std.proofs.lemmas.Option.{none-some}
 use Rattle.uv_ids.specs.declared.event.Event.{Event}
@@ -8,40 +8,29 @@ use Rattle.uv_model.specs.State.{State}
 use Rattle.uv_model.specs.Next.{Next, Moves, Refuses, next}
 use Rattle.uv_search.specs.Ways.{CoversMoves, CoversStep}
 use Rattle.uv_state_key.specs.Formed.{formed}
-use Rattle.uv_normal.specs.Normal.{calls_timer, StepsAlike, NextAlike}
+use Rattle.uv_normal.specs.Normal.{calls_timer}
+use Rattle.uv_pooled.specs.Pooled.{pooled}
 use Rattle.uv_asking.specs.declared.asking.Offered.{Offered}
 use Rattle.uv_asking.specs.declared.asking.Question.{Question}
 use Rattle.uv_asking.specs.declared.asking.Question.TheVariants as asks
 use Rattle.uv_find.specs.declared.left.Left.{Left}
-use Rattle.uv_find.specs.Forgetting.{LONGEST, is_aside}
-use Rattle.uv_find.specs.Orders.{Rules, Place, Choice, Led, led, led_by, placed, choice_at, choice_by, chosen, lessened, offered_by, is_brief, move_count, taken, reached, is_within}
+use Rattle.uv_find.specs.Forgetting.{LONGEST, is_common}
+use Rattle.uv_find.specs.Kept.{along_after}
+use Rattle.uv_find.specs.Orders.{Rules, Place, Choice, Led, led, led_by, placed, chosen, lessened, offered_by, is_brief, move_count, move_count_by, taken, reached, is_within}
 use Rattle.uv_find.specs.Questions.{answers, place_answers, none_leads, has_ended}
 use Rattle.uv_find.specs.Spots.{Spot, spot_of, next_spot, told_due, told, Told, told_code, spot_code, CanForget, IsSpot, IsStanding, is_few}
-use Rattle.uv_find.proofs.Alike.{IsRegular, regular_by, spot_regular, AreAlike, DueAlike, kept_due_alike, within_alike, goes_alike, blocked_alike, offered_alike, both}
-use Rattle.uv_find.proofs.Led.{each, length_more, led_leads, leads_spot, state_behind, offered_brief}
-use Rattle.uv_find.proofs.Onward.{LinesAlike, owed_alike, along_alike, uncalled_alike, line_alike}
+use Rattle.uv_find.proofs.Alike.{GoesAlike, NextGoes, regular_by, spot_regular, AreAlike, DueAlike, kept_due_alike, within_alike, goes_alike, blocked_alike, offered_alike, both}
+use Rattle.uv_find.proofs.Led.{each, event_at, choice_is, length_more, led_leads, leads_spot, state_behind, offered_brief}
+use Rattle.uv_find.proofs.Onward.{owed_alike, along_alike, uncalled_alike, line_alike}
+use Rattle.uv_find.proofs.Lines.{LinesAlike}
 use Rattle.uv_find.proofs.Readings.{reads_ended}
+use Rattle.uv_find.proofs.Runners.{IsRegular, EventsAlike, OffersAlike}
 use Rattle.uv_find.proofs.Telling.{places_tell}
 
 module _ (r : Rules) (n : ℕ) (forget : r.forget ≡ Some n) (can : CanForget r n) where
   -- ---- what is offered
 
-  -- the event of an offer, if it is one
-  abbrev event_at : Place → ℕ → Option Event
-  event_at p number =
-      if nat_lt number (move_count r p) then offered_by r p (slice_get r.offers number) (slice_get p.left number) else None
-
-  choice_is : (p : Place) (number : ℕ) → choice_at r p number ≡ chosen (lessened p.left number) p.kept (event_at p number)
-  unfolding choice_at
-  choice_is p number =
-      ap (λ d. if nat_lt number (move_count r p) then choice_by r p number d else None) can.differ ∙ by (nat_lt number (move_count r p))
-    where
-      by : (b : Bool) → (if b then choice_by r p number None else None)
-          ≡ chosen (lessened p.left number) p.kept (if b then offered_by r p (slice_get r.offers number) (slice_get p.left number) else None)
-      by true = refl
-      by false = refl
-
-  event_brief : (p : Place) (number : ℕ) (e : Event) → event_at p number ≡ Some e → is_brief (Some n) e ≡ true
+  event_brief : (p : Place) (number : ℕ) (e : Event) → event_at r p number ≡ Some e → is_brief (Some n) e ≡ true
   event_brief p number e is = by (nat_lt number (move_count r p)) is where
     by : (b : Bool) → (if b then offered_by r p (slice_get r.offers number) (slice_get p.left number) else None) ≡ Some e → is_brief (Some n) e ≡ true
     by true h = ap (λ o. is_brief o e) (sym forget) ∙ offered_brief r p (slice_get r.offers number) (slice_get p.left number) e h
@@ -50,7 +39,6 @@ module _ (r : Rules) (n : ℕ) (forget : r.forget ≡ Some n) (can : CanForget r
   -- ---- where it leads
 
   record LeadsAlike (s t : Spot) (x y : Led) : Type 0 where
-    event : x.event ≡ y.event
     places : AreAlike r n x.place y.place
     regular : IsRegular r.program x.place.state
     other : IsRegular r.program y.place.state
@@ -75,63 +63,82 @@ module _ (r : Rules) (n : ℕ) (forget : r.forget ≡ Some n) (can : CanForget r
   due_goes (asks.Behind name other) a b u v d e h k = h
 
   module _ (s t : Spot) (hs : IsSpot r s) (ht : IsSpot r t) (alike : AreAlike r n s.place t.place) where
-    events_alike : (number : ℕ) → event_at s.place number ≡ event_at t.place number
+    events_alike : (number : ℕ) → OffersAlike n s.place.state t.place.state (event_at r s.place number) (event_at r t.place number)
     events_alike number =
-        let offered = offered_alike r n forget can s t hs ht alike (slice_get r.offers number) in
-        let aside = λ (o : Offered) (is : slice_get r.offers number ≡ Some o). each (λ (x : Offered). is_aside x.offer) r.offers number o can.aside is in
-        ap₂ (λ (xs : List Left) (o : Option Event). if nat_lt number (counts xs) then o else None) alike.left
-        (offered (slice_get s.place.left number) aside
-        ∙ ap (λ (xs : List Left). offered_by r t.place (slice_get r.offers number) (slice_get xs number)) alike.left)
+        subst (λ (xs : List Left). OffersAlike n s.place.state t.place.state (event_at r s.place number)
+        (if nat_lt number (move_count_by r.differ (length r.offers) (length xs))
+        then offered_by r t.place (slice_get r.offers number) (slice_get xs number) else None)) alike.left
+        (by (nat_lt number (move_count r s.place)))
       where
-        counts : List Left → ℕ
-        counts xs = move_count r (record s.place { left = xs })
+        by : (b : Bool) → OffersAlike n s.place.state t.place.state
+            (if b then offered_by r s.place (slice_get r.offers number) (slice_get s.place.left number) else None)
+            (if b then offered_by r t.place (slice_get r.offers number) (slice_get s.place.left number) else None)
+        by true = offered_alike r n forget can s t hs ht alike (slice_get r.offers number) (slice_get s.place.left number)
+            (λ (o : Offered) (is : slice_get r.offers number ≡ Some o). each (λ (x : Offered). is_common x.offer) r.offers number o can.aside is)
+        by false = tt
 
-    module _ (number : ℕ) (e : Event) (brief : is_brief (Some n) e ≡ true) where
+    module _ (number : ℕ) (e f : Event) (does : EventsAlike n s.place.state t.place.state e f) (brief : is_brief (Some n) e ≡ true) where
       abbrev c : Choice
       c = record { event = e; left = lessened s.place.left number; kept = s.place.kept }
 
       abbrev d : Choice
-      d = record { event = e; left = lessened t.place.left number; kept = t.place.kept }
+      d = record { event = f; left = lessened t.place.left number; kept = t.place.kept }
 
-      behind : (w : Spot) (hw : IsSpot r w) (u : State) (line : Option Seen) → next r.program w.place.state e ≡ Moves u line → IsRegular r.program u
-      behind w hw u line goes =
+      behind : (w : Spot) (hw : IsSpot r w) (g : Event) (u : State) (line : Option Seen) → next r.program w.place.state g ≡ Moves u line
+          → IsRegular r.program u
+      behind w hw g u line goes =
           let few : length w.steps < LONGEST =
           ltb-true (length w.steps) LONGEST (subst (λ (o : Option ℕ). is_few o (length w.steps) ≡ true) forget hw.few) in
-          let long = length_more w.steps e in
-          regular_by r n forget can u (w.steps ++ e ∷ []) (state_behind r w e u line hw goes) (omega (arith, few, long))
+          let long = length_more w.steps g in
+          regular_by r n forget can u (w.steps ++ g ∷ []) (state_behind r w g u line hw goes) (omega (arith, few, long))
+
+      along_both : (u v : State) (line other : Option Seen) → IsRegular r.program u → IsRegular r.program v → pooled n u ≡ pooled n v
+          → LinesAlike r.program line other
+          → along_after r.recorded s.place.kept.along e line ≡ along_after r.recorded t.place.kept.along f other
+      along_both u v line other ru rv same lines = by does where
+        by : EventsAlike n s.place.state t.place.state e f
+            → along_after r.recorded s.place.kept.along e line ≡ along_after r.recorded t.place.kept.along f other
+        by (inl h) =
+            subst (λ g. along_after r.recorded s.place.kept.along e line ≡ along_after r.recorded t.place.kept.along g other) h.0
+            (along_alike r n forget can u v ru rv same s.place.kept.along t.place.kept.along e line other alike.along lines)
+        by (inr (inl h)) =
+            ap (λ g. along_after r.recorded s.place.kept.along g line) h.one ∙ alike.along
+            ∙ sym (ap (λ g. along_after r.recorded t.place.kept.along g other) h.two)
+        by (inr (inr h)) =
+            ap (λ g. along_after r.recorded s.place.kept.along g line) h.one ∙ alike.along
+            ∙ sym (ap (λ g. along_after r.recorded t.place.kept.along g other) h.two)
 
       taken_alike : (u v : State) (line other : Option Seen) → next r.program s.place.state e ≡ Moves u line →
-          next r.program t.place.state e ≡ Moves v other → StepsAlike r.program n s.place.state t.place.state u v line other →
-          LeadsAlike s t (record { event = e; place = taken r c u line; line = line }) (record { event = e; place = taken r d v other; line = other })
+          next r.program t.place.state f ≡ Moves v other → GoesAlike r.program n s.place.state t.place.state u v line other →
+          LeadsAlike s t (record { event = e; place = taken r c u line; line = line }) (record { event = f; place = taken r d v other; line = other })
       taken_alike u v line other goes comes k =
-          let ru = behind s hs u line goes in
-          let rv = behind t ht v other comes in
+          let ru = behind s hs e u line goes in
+          let rv = behind t ht f v other comes in
           let dues = due_goes r.question s.place.state.clock t.place.state.clock u.clock v.clock s.place.kept.due t.place.kept.due alike.due
           k.clocks in
           record {
-            event = refl;
             places = record {
               state = k.same;
               left = ap (λ xs. lessened xs number) alike.left;
-              owed = owed_alike r n forget can u v ru rv k.same s.place.kept.owed t.place.kept.owed line other alike.owed k.same_line;
-              along = along_alike r n forget can u v ru rv k.same s.place.kept.along t.place.kept.along e line other alike.along k.same_line;
+              owed = owed_alike r n forget can u v ru rv k.same s.place.kept.owed t.place.kept.owed line other alike.owed k.lines;
+              along = along_both u v line other ru rv k.same k.lines;
               due = kept_due_alike r n forget can u v ru rv k.same r.question s.place.kept.due t.place.kept.due dues;
             };
             regular = ru;
             other = rv;
-            lines = k.same_line;
+            lines = k.lines;
             timers = k.timers;
             dues = dues;
           }
 
-      placed_alike : (x y : Next) → next r.program s.place.state e ≡ x → next r.program t.place.state e ≡ y →
-          NextAlike r.program n s.place.state t.place.state x y → LedAlike s t (placed r c (reached r.most x)) (placed r d (reached r.most y))
+      placed_alike : (x y : Next) → next r.program s.place.state e ≡ x → next r.program t.place.state f ≡ y →
+          NextGoes r.program n s.place.state t.place.state x y → LedAlike s t (placed r c (reached r.most x)) (placed r d (reached r.most y))
       placed_alike (Refuses why) (Refuses other) goes comes k = tt
       placed_alike (Refuses why) (Moves v other) goes comes k = absurd k
       placed_alike (Moves u line) (Refuses why) goes comes k = absurd k
       placed_alike (Moves u line) (Moves v other) goes comes k =
           by (is_within r.most u) (is_within r.most v)
-          (within_alike r n forget can u v (behind s hs u line goes) (behind t ht v other comes) k.same r.most can.most)
+          (within_alike r n forget can u v (behind s hs e u line goes) (behind t ht f v other comes) k.same r.most can.most)
         where
           by : (g h : Bool) → g ≡ h →
               LedAlike s t (placed r c (if◌then◌else◌ {A = Option (State × Option Seen)} g (Some (u, line)) None))
@@ -143,22 +150,23 @@ module _ (r : Rules) (n : ℕ) (forget : r.forget ≡ Some n) (can : CanForget r
 
     led_alike : (number : ℕ) → LedAlike s t (led r s.place number) (led r t.place number)
     led_alike number =
-        let one : led_by r s.place (chosen (lessened s.place.left number) s.place.kept (event_at s.place number)) ≡ led r s.place number =
-        ap (led_by r s.place) (sym (choice_is s.place number)) in
-        let two : led_by r t.place (chosen (lessened t.place.left number) t.place.kept (event_at s.place number)) ≡ led r t.place number =
-        ap (λ o. led_by r t.place (chosen (lessened t.place.left number) t.place.kept o)) (events_alike number)
-        ∙ ap (led_by r t.place) (sym (choice_is t.place number)) in
+        let one : led_by r s.place (chosen (lessened s.place.left number) s.place.kept (event_at r s.place number)) ≡ led r s.place number =
+        ap (led_by r s.place) (sym (choice_is r can.differ s.place number)) in
+        let two : led_by r t.place (chosen (lessened t.place.left number) t.place.kept (event_at r t.place number)) ≡ led r t.place number =
+        ap (led_by r t.place) (sym (choice_is r can.differ t.place number)) in
         subst (λ x. LedAlike s t x (led r t.place number)) one
-        (subst (λ y. LedAlike s t (led_by r s.place (chosen (lessened s.place.left number) s.place.kept (event_at s.place number))) y) two
-        (by (event_at s.place number) (event_brief s.place number)))
+        (subst (λ y. LedAlike s t (led_by r s.place (chosen (lessened s.place.left number) s.place.kept (event_at r s.place number))) y) two
+        (by (event_at r s.place number) (event_at r t.place number) (event_brief s.place number) (events_alike number)))
       where
-        by : (o : Option Event) → ((e : Event) → o ≡ Some e → is_brief (Some n) e ≡ true) →
-            LedAlike s t (led_by r s.place (chosen (lessened s.place.left number) s.place.kept o))
-            (led_by r t.place (chosen (lessened t.place.left number) t.place.kept o))
-        by None brief = tt
-        by (Some e) brief =
-            placed_alike number e (brief e refl) (next r.program s.place.state e) (next r.program t.place.state e) refl refl
-            (goes_alike r n forget can s t hs ht alike e (brief e refl))
+        by : (x y : Option Event) → ((e : Event) → x ≡ Some e → is_brief (Some n) e ≡ true) → OffersAlike n s.place.state t.place.state x y →
+            LedAlike s t (led_by r s.place (chosen (lessened s.place.left number) s.place.kept x))
+            (led_by r t.place (chosen (lessened t.place.left number) t.place.kept y))
+        by None None brief h = tt
+        by None (Some f) brief h = absurd h
+        by (Some e) None brief h = absurd h
+        by (Some e) (Some f) brief h =
+            placed_alike number e f h (brief e refl) (next r.program s.place.state e) (next r.program t.place.state f) refl refl
+            (goes_alike r n forget can s t hs ht alike e f h (brief e refl))
 
     -- ---- what a place answers
 
@@ -246,12 +254,8 @@ module _ (r : Rules) (n : ℕ) (forget : r.forget ≡ Some n) (can : CanForget r
 
   -- ---- and so the moves
 
-  module _ (s t : Spot) (hs : IsSpot r s) (ht : IsStanding r t) (alike : AreAlike r n s.place t.place) where
-    few_behind : is_few r.forget (length t.steps + 1) ≡ true
-    few_behind = ap (λ o. is_few o (length t.steps + 1)) forget ∙ few (omega (arith, ht.room)) where
-      few : length t.steps + 1 < LONGEST → nat_lt (length t.steps + 1) LONGEST ≡ true
-      few below = grind (arith, below)
-
+  module _ (s t : Spot) (hs : IsSpot r s) (ht : IsSpot r t) (few_behind : is_few r.forget (length t.steps + 1) ≡ true)
+      (alike : AreAlike r n s.place t.place) where
     step_covers : (x y : Led) → LeadsAlike s t x y → IsSpot r (record { place = x.place; steps = s.steps ++ x.event ∷ [] }) →
         IsSpot r (record { place = y.place; steps = t.steps ++ y.event ∷ [] }) →
         (spot_code r (record { place = x.place; steps = s.steps ++ x.event ∷ [] })
@@ -284,12 +288,12 @@ module _ (r : Rules) (n : ℕ) (forget : r.forget ≡ Some n) (can : CanForget r
         by true false few more = absurd cc
         by true true few more =
             step_covers x y h (leads_spot r s x hs (led_leads r s.place number x is) few)
-            (leads_spot r t y ht.spot (led_leads r t.place number y so) few_behind)
+            (leads_spot r t y ht (led_leads r t.place number y so) few_behind)
 
     covers : CoversMoves (λ (a : Spot). move_count r a.place) (next_spot r) (spot_code r) s t
     covers = (
-      count_alike s t hs ht.spot alike,
-      λ number below. covers_by number (led r s.place number) (led r t.place number) refl refl (led_alike s t hs ht.spot alike number),
+      count_alike s t hs ht alike,
+      λ number below. covers_by number (led r s.place number) (led r t.place number) refl refl (led_alike s t hs ht alike number),
     )
 
 -- ---- where places are told whole
@@ -315,16 +319,23 @@ whole_place r p q whole e =
     let due : p.kept.due ≡ q.kept.due = ap (λ x. x.0) dues in
     λ i. record { state = state i; left = (e i).left; kept = record { due = due i; owed = (e i).owed; along = (e i).along } }
 
-pub spots_alike : (r : Rules) (s t : Spot) → IsSpot r s → IsStanding r t → spot_code r s ≡ spot_code r t
-    → CoversMoves (λ (a : Spot). move_count r a.place) (next_spot r) (spot_code r) s t
-spots_alike r s t is js e = by r.forget refl where
+-- behind a place that a session holds a step is one of few
+pub few_standing : (r : Rules) (t : Spot) → IsStanding r t → is_few r.forget (length t.steps + 1) ≡ true
+few_standing r t js = by r.forget where
+  by : (o : Option ℕ) → is_few o (length t.steps + 1) ≡ true
+  by None = refl
+  by (Some n) = let few : length t.steps + 1 < LONGEST = omega (arith, js.room) in grind (arith, few)
+
+pub spots_alike : (r : Rules) (s t : Spot) → IsSpot r s → IsSpot r t → is_few r.forget (length t.steps + 1) ≡ true
+    → spot_code r s ≡ spot_code r t → CoversMoves (λ (a : Spot). move_count r a.place) (next_spot r) (spot_code r) s t
+spots_alike r s t is js few e = by r.forget refl where
   same : told r s.place ≡ told r t.place
-  same = places_tell r s t is js.spot e
+  same = places_tell r s t is js e
 
   by : (o : Option ℕ) → r.forget ≡ o → CoversMoves (λ (a : Spot). move_count r a.place) (next_spot r) (spot_code r) s t
   by (Some n) some =
       let can = is.forgets n some in
-      covers r n some can s t is js (alike_by r n some can s.place t.place same)
+      covers r n some can s t is js few (alike_by r n some can s.place t.place same)
   by None whole =
       let place = whole_place r s.place t.place whole same in (
         ap (move_count r) place,

@@ -18,9 +18,10 @@ use Rattle.uv_names.specs.Counts.{script_end}
 use Rattle.uv_names.proofs.Counted.{script_before}
 use Rattle.uv_shift.specs.Shift.{IsShortOp, IsShort}
 use Rattle.uv_asking.specs.Asked.{Asked}
-use Rattle.uv_find.specs.Forgetting.{LONG, is_small_op, is_small_main, are_small_lines, are_small_callbacks, is_small_script, may_forget, most_end, takes_end, question_end, none_during, calls_end, LONGEST}
+use Rattle.uv_find.specs.Forgetting.{LONG, is_small_op, is_small_main, are_small_lines, are_small_callbacks, is_small_script, may_forget, most_end, takes_end, question_end, is_aside, are_aside, is_common, are_common, calls_end, LONGEST}
 use Rattle.uv_ids.specs.declared.event.Event.TheVariants as event
 use Rattle.uv_asking.specs.declared.asking.Offered.{Offered}
+use Rattle.uv_asking.specs.declared.asking.Offer.{Offer}
 use Rattle.uv_asking.specs.declared.asking.Offer.TheVariants.{Step}
 use Rattle.uv_find.specs.Orders.{at_will, finishes, every_offer}
 use Rattle.uv_find.proofs.Led.{each}
@@ -71,24 +72,34 @@ script_short p small = at where
 
 -- ---- the whole
 
-is_absent : {A : Type 0} (o : Option A) → is_none o ≡ true → o ≡ None
+pub is_absent : {A : Type 0} (o : Option A) → is_none o ≡ true → o ≡ None
 is_absent None e = refl
 is_absent (Some x) e = absurd cc
 
 ends : (a b c d n : ℕ) → max 1 (max a (max b (max c d))) ≡ n → (a ≤ n) × (b ≤ n) × (c ≤ n) × (d ≤ n) × (1 ≤ n)
 ends a b c d n e = (omega (arith, e), omega (arith, e), omega (arith, e), omega (arith, e), omega (arith, e))
 
--- no offer that is there of itself is bound to a request
-all_front : {A : Type 0} (f : A → Bool) (xs ys : List A) → list_all f xs ≡ true → list_all f ys ≡ true → list_all f (xs ++ ys) ≡ true
+-- no offer that is there of itself is bound to a request, or to a worker by its number
+pub all_front : {A : Type 0} (f : A → Bool) (xs ys : List A) → list_all f xs ≡ true → list_all f ys ≡ true → list_all f (xs ++ ys) ≡ true
 all_front f [] ys h k = k
 all_front f (x ∷ xs) ys h k = let both = and_parts (f x) (list_all f xs) h in rw (both.0, all_front f xs ys both.1 k) refl
 
-finishes_aside : (workers : ℕ) → none_during (finishes workers) ≡ true
-finishes_aside zero = refl
-finishes_aside (suc n) = all_front _ (finishes n) (at_will (Step (event.Finish n)) ∷ []) (finishes_aside n) refl
+finishes_common : (workers : ℕ) → are_common (finishes workers) ≡ true
+finishes_common zero = refl
+finishes_common (suc n) = all_front _ (finishes n) (at_will (Step (event.Finish n)) ∷ []) (finishes_common n) refl
 
-every_aside : (workers : ℕ) (asked : List Offered) → none_during asked ≡ true → none_during (every_offer workers asked) ≡ true
-every_aside workers asked h = all_front _ (finishes workers) asked (finishes_aside workers) h
+aside_common : (offer : Offer) → is_aside offer ≡ true → is_common offer ≡ true
+aside_common (Step (event.Finish worker)) h = refl
+aside_common offer h = h
+
+asked_common : (asked : List Offered) → are_aside asked ≡ true → are_common asked ≡ true
+asked_common [] h = refl
+asked_common (o ∷ os) h =
+    let both = and_parts (is_aside o.offer) (are_aside os) h in
+    rw (aside_common o.offer both.0, asked_common os both.1) refl
+
+every_common : (workers : ℕ) (asked : List Offered) → are_aside asked ≡ true → are_common (every_offer workers asked) ≡ true
+every_common workers asked h = all_front _ (finishes workers) asked (finishes_common workers) (asked_common asked h)
 
 forgetting : (p : Program) (asked : Asked) (n : ℕ) → may_forget p asked ≡ true → calls_end p asked ≡ n → CanForget (rules_of p asked) n
 forgetting p asked n may end =
@@ -110,7 +121,7 @@ forgetting p asked n may end =
       lasts = ltb-true LONGEST (arena_size p).last_generation lasts.1;
       clock = is_absent asked.clock clock.1;
       differ = is_absent asked.differ differ.1;
-      aside = every_aside (worker_count p) asked.offers aside.1;
+      aside = every_common (worker_count p) asked.offers aside.1;
     }
 
 pub forgets : (p : Program) (asked : Asked) → MayForget (rules_of p asked)

@@ -13,6 +13,7 @@ use Rattle.uv_asking.specs.declared.asking.Offered.{Offered}
 use Rattle.uv_find.specs.declared.left.Left.{Left}
 use Rattle.uv_find.specs.declared.kept.Kept.{Kept}
 use Rattle.uv_find.specs.Orders.{Rules, Place, Choice, Led, led, led_by, placed, choice_at, choice_by, chosen, lessened, offered_by, offered_here, is_brief, brief, move_count, taken, reached, is_within}
+use Rattle.uv_find.specs.Ranks.{ranked}
 use Rattle.uv_find.specs.Questions.{answers}
 use Rattle.uv_find.specs.Courses.{LeadsOn}
 use Rattle.uv_find.specs.Spots.{Spot, spot_of, next_spot, MayForget, AreBrief, is_few, IsSpot}
@@ -47,6 +48,24 @@ module _ (r : Rules) (p : Place) (number : ℕ) (l : Led) where
   pub led_leads : led r p number ≡ Some l → LeadsOn r p l
   led_leads is = by_choice (choice_at r p number) refl is
 
+-- ---- the event of an offer
+
+-- if it is one
+abbrev pub event_at : Rules → Place → ℕ → Option Event
+event_at r p number =
+    if nat_lt number (move_count r p) then offered_by r p (slice_get r.offers number) (slice_get p.left number) else None
+
+pub choice_is : (r : Rules) → r.differ ≡ None → (p : Place) (number : ℕ)
+    → choice_at r p number ≡ chosen (lessened p.left number) p.kept (event_at r p number)
+unfolding choice_at
+choice_is r none p number =
+    ap (λ d. if nat_lt number (move_count r p) then choice_by r p number d else None) none ∙ by (nat_lt number (move_count r p))
+  where
+    by : (b : Bool) → (if b then choice_by r p number None else None)
+        ≡ chosen (lessened p.left number) p.kept (if b then offered_by r p (slice_get r.offers number) (slice_get p.left number) else None)
+    by true = refl
+    by false = refl
+
 -- ---- lists
 
 -- what holds of each holds of this one
@@ -73,7 +92,7 @@ pub offered_brief : (r : Rules) (p : Place) (offered : Option Offered) (x : Opti
     is_brief r.forget e ≡ true
 offered_brief r p None x e h = absurd cc
 offered_brief r p (Some o) None e h = absurd cc
-offered_brief r p (Some o) (Some x) e h = brief_is r.forget (offered_here r.program r.clock p.state p.kept o.offer x) e h
+offered_brief r p (Some o) (Some x) e h = brief_is r.forget (ranked r.forget p.state (offered_here r.program r.clock p.state p.kept o.offer x)) e h
 
 chosen_is : (xs : List Left) (kept : Kept) (o : Option Event) (c : Choice) → chosen xs kept o ≡ Some c → o ≡ Some c.event
 chosen_is xs kept None c h = absurd cc

@@ -1,17 +1,22 @@
 mod Clocks
 mod Readings
+pub mod Ranking
+pub mod Runners
 mod Alike
 mod Lines
 mod Onward
 pub mod Led
 pub mod Telling
 pub mod Covering
-pub mod Idle
 pub mod Taking
 pub mod Undone
 pub mod Leading
 pub mod Moving
 pub mod Results
 pub mod Refusing
+pub mod Finishing
 mod Scans
 pub mod Forgets
+mod Apart
+mod Meeting
+mod Holds

@@ -1,5 +1,6 @@
--- What a search reads of a line is the same of a line that leaves out times and generations.
-use Rattle.std.proofs.Common.{◌≡◌, ◌==◌, Bool, true, false, Some, ap, sym, ◌∙◌, arith}
+-- What a search reads of a line is the same of a line that leaves out times, generations and the numbers of workers.
+use Rattle.std.proofs.Common.{◌≡◌, ℕ, ◌==◌, Bool, true, false, Option, Some, None, refl, ap, sym, ◌∙◌, arith}
+use Rattle.std.specs.Prelude.{option_map}
 use Rattle.uv_ids.specs.declared.code.Code.{Code}
 use Rattle.uv_ids.specs.declared.id.Var.{Var}
 use Rattle.uv_ids.specs.declared.phase.Phase.{Phase}
@@ -7,48 +8,81 @@ use Rattle.uv_ids.specs.declared.seen.Seen.{Seen}
 use Rattle.uv_ids.specs.declared.seen.Seen.TheVariants as seen
 use Rattle.uv_script.specs.Program.{Program}
 use Rattle.uv_generations.specs.Bare.{bare_line}
+use Rattle.uv_workers.specs.Workers.{line_by}
 use Rattle.uv_session.specs.Breaks.{answers_code, begins_section, begins_poll}
 use Rattle.uv_find.specs.Kept.{caller, is_poll}
 use Rattle.uv_find.specs.Questions.{begun, answered_name}
 
--- by a function that sees neither
-pub lines_read : {X : Type 0} (f : Seen → X) (p : Program) → ((l : Seen) → f (bare_line p l) ≡ f l) → (l m : Seen) → bare_line p l ≡ bare_line p m →
-    f l ≡ f m
+-- the line without them
+abbrev pub plain_line : Program → Seen → Seen
+plain_line p line = line_by 0 (bare_line p line)
+
+-- two lines that leave out the same, or none
+abbrev pub LinesAlike : Program → Option Seen → Option Seen → Type 0
+LinesAlike p x y = option_map (plain_line p) x ≡ option_map (plain_line p) y
+
+-- of which worker they are doesn't matter
+any_worker : (p : Program) (k : ℕ) (l : Seen) → plain_line p (line_by k l) ≡ plain_line p l
+any_worker p k (seen.Take worker v id) = refl
+any_worker p k (seen.Finish worker v id) = refl
+any_worker p k l = refl
+
+plain_alike : (p : Program) (x y : Option Seen) → option_map (bare_line p) x ≡ option_map (bare_line p) y
+    → option_map (line_by 0) (option_map (bare_line p) x) ≡ option_map (line_by 0) (option_map (bare_line p) y)
+plain_alike p x y e = ap (option_map (line_by 0)) e
+
+is_plain : (p : Program) (x : Option Seen) → option_map (line_by 0) (option_map (bare_line p) x) ≡ option_map (plain_line p) x
+is_plain p None = refl
+is_plain p (Some l) = refl
+
+pub bare_alike : (p : Program) (x y : Option Seen) → option_map (bare_line p) x ≡ option_map (bare_line p) y → LinesAlike p x y
+bare_alike p x y e = sym (is_plain p x) ∙ plain_alike p x y e ∙ is_plain p y
+
+pub worker_alike : (p : Program) (k : ℕ) (x y : Option Seen) → option_map (bare_line p) (option_map (line_by k) x) ≡ option_map (bare_line p) y
+    → LinesAlike p x y
+worker_alike p k x y e = sym (by x) ∙ bare_alike p (option_map (line_by k) x) y e where
+  by : (o : Option Seen) → option_map (plain_line p) (option_map (line_by k) o) ≡ option_map (plain_line p) o
+  by None = refl
+  by (Some l) = ap Some (any_worker p k l)
+
+-- by a function that sees none of these
+pub lines_read : {X : Type 0} (f : Seen → X) (p : Program) → ((l : Seen) → f (plain_line p l) ≡ f l) → (l m : Seen) → plain_line p l ≡ plain_line p m
+    → f l ≡ f m
 lines_read f p same l m e = sym (same l) ∙ ap f e ∙ same m
 
-pub bare_caller : (p : Program) (l : Seen) → caller (bare_line p l) ≡ caller l
-bare_caller p l = grind arith
+pub plain_caller : (p : Program) (l : Seen) → caller (plain_line p l) ≡ caller l
+plain_caller p l = grind arith
 
-pub bare_begun : (p : Program) (l : Seen) → begun (bare_line p l) ≡ begun l
-bare_begun p l = grind arith
+pub plain_begun : (p : Program) (l : Seen) → begun (plain_line p l) ≡ begun l
+plain_begun p l = grind arith
 
-pub bare_answered : (p : Program) (l : Seen) → answered_name p (bare_line p l) ≡ answered_name p l
-bare_answered p l = grind arith
+pub plain_answered : (p : Program) (l : Seen) → answered_name p (plain_line p l) ≡ answered_name p l
+plain_answered p l = grind arith
 
-pub bare_code : (p : Program) (code : Code) (l : Seen) → answers_code code (bare_line p l) ≡ answers_code code l
-bare_code p code l = grind arith
+pub plain_code : (p : Program) (code : Code) (l : Seen) → answers_code code (plain_line p l) ≡ answers_code code l
+plain_code p code l = grind arith
 
-pub bare_section : (p : Program) (word : Phase) (l : Seen) → begins_section word (bare_line p l) ≡ begins_section word l
-bare_section p word l = grind arith
+pub plain_section : (p : Program) (word : Phase) (l : Seen) → begins_section word (plain_line p l) ≡ begins_section word l
+plain_section p word l = grind arith
 
-pub bare_poll : (p : Program) (l : Seen) → begins_poll (bare_line p l) ≡ begins_poll l
-bare_poll p l = grind arith
+pub plain_poll : (p : Program) (l : Seen) → begins_poll (plain_line p l) ≡ begins_poll l
+plain_poll p l = grind arith
 
-pub bare_is_poll : (p : Program) (l : Seen) → is_poll (Some (bare_line p l)) ≡ is_poll (Some l)
-bare_is_poll p l = grind arith
+pub plain_is_poll : (p : Program) (l : Seen) → is_poll (Some (plain_line p l)) ≡ is_poll (Some l)
+plain_is_poll p l = grind arith
 
 -- a tick, in which a callback's time goes by
 abbrev pub is_tick : Seen → Bool
 is_tick (seen.Tick ms) = true
 is_tick l = false
 
-pub bare_tick : (p : Program) (l : Seen) → is_tick (bare_line p l) ≡ is_tick l
-bare_tick p l = grind arith
+pub plain_tick : (p : Program) (l : Seen) → is_tick (plain_line p l) ≡ is_tick l
+plain_tick p l = grind arith
 
 -- the callback of this name begins, that of a handle
 abbrev pub calls_name : Var → Seen → Bool
 calls_name name (seen.Call v id) = v.0 == name.0
 calls_name name l = false
 
-pub bare_calls : (p : Program) (name : Var) (l : Seen) → calls_name name (bare_line p l) ≡ calls_name name l
-bare_calls p name l = grind arith
+pub plain_calls : (p : Program) (name : Var) (l : Seen) → calls_name name (plain_line p l) ≡ calls_name name l
+plain_calls p name l = grind arith

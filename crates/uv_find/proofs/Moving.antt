@@ -82,10 +82,10 @@ module _ (r : Rules) where
 
   -- a course is moves
   pub course_moves : (s : Spot) (es : List Event) (q : Place) → is_few r.forget (length s.steps + length es) ≡ true → Course r s.place es q
-      → (is : List ℕ) × LeadsTo s is (record { place = q; steps = s.steps ++ es })
+      → (is : List ℕ) × LeadsTo s is (record { place = q; steps = s.steps ++ es }) × (length is ≡ length es)
   course_moves s [] q few e =
       let none : s.steps ++ [] ≡ s.steps = grind (arith, common_steps) in
-      ([], λ i. record { place = e i; steps = none i })
+      ([], (λ i. record { place = e i; steps = none i }), refl)
   course_moves s (e ∷ es) q few (l, is_event, on, rest) =
       let more = course_moves (after_event s l) es q (ap (is_few r.forget) (one_longer s.steps l.event (length es)) ∙ few) rest in
       let first = fewer r.forget (length s.steps + 1) (length s.steps + suc (length es)) (omega arith) few in
@@ -102,6 +102,7 @@ module _ (r : Rules) where
           goes,
           subst (λ xs. LeadsTo (after_event s l) more.0 (record { place = q; steps = xs })) steps more.1,
         ),
+        ap suc more.2,
       )
 
   -- ---- answers
@@ -130,7 +131,7 @@ module _ (r : Rules) where
 
   pub course_answers : (s : Spot) (es : List Event) (l : Led) → is_few r.forget (length s.steps + length es + 1) ≡ true →
       courses.Answers r s.place es l
-      → (is : List ℕ) × (i : ℕ) × (t : Spot) × WayAnswers s is i t
+      → (is : List ℕ) × (i : ℕ) × (t : Spot) × WayAnswers s is i t × (length is ≡ length es)
   course_answers s es l few a =
       let way = course_moves s es a.place (fewer r.forget (length s.steps + length es) (length s.steps + length es + 1) (omega arith) few) a.course in
       let here : Spot = record { place = a.place; steps = s.steps ++ es } in
@@ -145,4 +146,5 @@ module _ (r : Rules) where
           offered = choice_below a.place a.leads.number a.leads.choice a.leads.offered;
           answers = subst (λ b. next_spot r here a.leads.number ≡ Some (after_event here l, b)) a.answers goes;
         },
+        way.2,
       )

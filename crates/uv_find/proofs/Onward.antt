@@ -1,6 +1,5 @@
 -- Where places that are alike lead by the same event: to places that are alike, which answer alike.
 use Rattle.std.proofs.Common.{◌≡◌, ℕ, ◌+◌, ◌-◌, ◌≤◌, ◌==◌, ◌&&◌, not, Bool, Option, Some, None, nat_le, refl, ap, ap₂, sym, ◌∙◌, arith, if◌then◌else◌}
-use Rattle.std.specs.Prelude.{option_map}
 use Rattle.std.proofs.lemmas.Option.{same_Some, none-some}
 use Rattle.uv_ids.specs.declared.event.Event.{Event}
 use Rattle.uv_ids.specs.declared.event.Event.TheVariants.{Loop, Take, Finish, Cancel, Send, Io, Tick}
@@ -11,8 +10,8 @@ use Rattle.uv_ids.specs.declared.seen.Seen.{Seen}
 use Rattle.uv_ids.specs.declared.seen.Seen.TheVariants as seen
 use Rattle.uv_script.specs.Program.{Program, is_for}
 use Rattle.uv_model.specs.State.{State}
-use Rattle.uv_generations.specs.Bare.{bare_line}
-use Rattle.uv_normal.specs.Normal.{normal, calls_timer}
+use Rattle.uv_normal.specs.Normal.{calls_timer}
+use Rattle.uv_pooled.specs.Pooled.{pooled}
 use Rattle.uv_asking.specs.declared.asking.Which.{Which}
 use Rattle.uv_asking.specs.declared.asking.Which.TheVariants as which
 use Rattle.uv_asking.specs.declared.asking.Question.{Question}
@@ -25,23 +24,20 @@ use Rattle.uv_find.specs.Kept.{caller, is_poll, is_over, takes_time, time_taken,
 use Rattle.uv_find.specs.Orders.{Rules}
 use Rattle.uv_find.specs.Questions.{begun, is_which, is_call, is_uncalled, answered_name, is_of, is_late, answers_line, line_answers}
 use Rattle.uv_find.specs.Spots.{CanForget}
-use Rattle.uv_find.proofs.Alike.{IsRegular, DueAlike, both}
-use Rattle.uv_find.proofs.Lines.{lines_read, bare_caller, bare_begun, bare_answered, bare_code, bare_section, bare_poll, bare_is_poll, is_tick, bare_tick, calls_name, bare_calls}
+use Rattle.uv_find.proofs.Alike.{DueAlike, both}
+use Rattle.uv_find.proofs.Runners.{IsRegular}
+use Rattle.uv_find.proofs.Lines.{LinesAlike, plain_line, lines_read, plain_caller, plain_begun, plain_answered, plain_code, plain_section, plain_poll, plain_is_poll, is_tick, plain_tick, calls_name, plain_calls}
 use Rattle.uv_find.proofs.Readings.{Reads, count, reads_count, meant_capped, none_capped, taken_capped, reads_over}
 
--- two lines that leave out the same, or none
-abbrev pub LinesAlike : Program → Option Seen → Option Seen → Type 0
-LinesAlike p x y = option_map (bare_line p) x ≡ option_map (bare_line p) y
-
-lines_by : {X : Type 0} (p : Program) (f : Option Seen → X) → ((l m : Seen) → bare_line p l ≡ bare_line p m → f (Some l) ≡ f (Some m)) →
+lines_by : {X : Type 0} (p : Program) (f : Option Seen → X) → ((l m : Seen) → plain_line p l ≡ plain_line p m → f (Some l) ≡ f (Some m)) →
     (x y : Option Seen) → LinesAlike p x y → f x ≡ f y
 lines_by p f same None None e = refl
-lines_by p f same None (Some m) e = absurd (none-some (bare_line p m) e)
-lines_by p f same (Some l) None e = absurd (none-some (bare_line p l) (sym e))
-lines_by p f same (Some l) (Some m) e = same l m (same_Some (bare_line p l) (bare_line p m) e)
+lines_by p f same None (Some m) e = absurd (none-some (plain_line p m) e)
+lines_by p f same (Some l) None e = absurd (none-some (plain_line p l) (sym e))
+lines_by p f same (Some l) (Some m) e = same l m (same_Some (plain_line p l) (plain_line p m) e)
 
 module _ (r : Rules) (n : ℕ) (forget : r.forget ≡ Some n) (can : CanForget r n) (a b : State) (ra : IsRegular r.program a)
-    (rb : IsRegular r.program b) (same : normal n a ≡ normal n b) where
+    (rb : IsRegular r.program b) (same : pooled n a ≡ pooled n b) where
   read : {X : Type 0} (R : State → X) → Reads n R → R a ≡ R b
   read R reads = both r n forget can a b ra rb same R reads
 
@@ -60,27 +56,27 @@ module _ (r : Rules) (n : ℕ) (forget : r.forget ≡ Some n) (can : CanForget r
   owed_is owed s (seen.Tick ms) = refl
   owed_is owed s l = refl
 
-  owed_line : (owed other : ℕ) (l m : Seen) → owed ≡ other → bare_line r.program l ≡ bare_line r.program m →
+  owed_line : (owed other : ℕ) (l m : Seen) → owed ≡ other → plain_line r.program l ≡ plain_line r.program m →
       owed_by r.takes owed a l ≡ owed_by r.takes other b m
   owed_line owed other l m e lines =
-      let tick = lines_read is_tick r.program (bare_tick r.program) l m lines in
-      let who = lines_read caller r.program (bare_caller r.program) l m lines in
+      let tick = lines_read is_tick r.program (plain_tick r.program) l m lines in
+      let who = lines_read caller r.program (plain_caller r.program) l m lines in
       owed_is owed a l ∙ ap₂ (λ t ms. if t then 0 else ms) tick (owed_in_alike owed other (caller l) e ∙ ap (owed_in r.takes other b) who)
       ∙ sym (owed_is other b m)
 
   pub owed_alike : (owed other : ℕ) (x y : Option Seen) → owed ≡ other → LinesAlike r.program x y →
       owed_after r.takes owed a x ≡ owed_after r.takes other b y
   owed_alike owed other None None e lines = e
-  owed_alike owed other None (Some m) e lines = absurd (none-some (bare_line r.program m) lines)
-  owed_alike owed other (Some l) None e lines = absurd (none-some (bare_line r.program l) (sym lines))
+  owed_alike owed other None (Some m) e lines = absurd (none-some (plain_line r.program m) lines)
+  owed_alike owed other (Some l) None e lines = absurd (none-some (plain_line r.program l) (sym lines))
   owed_alike owed other (Some l) (Some m) e lines =
-      owed_line owed other l m e (same_Some (bare_line r.program l) (bare_line r.program m) lines)
+      owed_line owed other l m e (same_Some (plain_line r.program l) (plain_line r.program m) lines)
 
   pub along_alike : (along other : Along) (e : Event) (x y : Option Seen) → along ≡ other → LinesAlike r.program x y →
       along_after r.recorded along e x ≡ along_after r.recorded other e y
   along_alike along other Loop x y same_along lines =
       ap₂ (λ (c : Along) (poll : Bool). arrived r.recorded (nearer c poll)) same_along
-      (lines_by r.program is_poll (λ l m e. lines_read (λ o. is_poll (Some o)) r.program (bare_is_poll r.program) l m e) x y lines)
+      (lines_by r.program is_poll (λ l m e. lines_read (λ o. is_poll (Some o)) r.program (plain_is_poll r.program) l m e) x y lines)
   along_alike along other (Take worker) x y same_along lines = same_along
   along_alike along other (Finish worker) x y same_along lines = same_along
   along_alike along other (Cancel v) x y same_along lines = same_along
@@ -104,33 +100,33 @@ module _ (r : Rules) (n : ℕ) (forget : r.forget ≡ Some n) (can : CanForget r
       ap (λ t. is_which w x.0 && (x.1.0 == name.0) && t)
       (read (λ s. is_for (count x.0 name s) call) (reads_count (λ c. is_for c call) n (meant_capped call n below) x.0 name))
 
-  begun_alike : (w : Which) (name : Var) (call : Option ℕ) (l m : Seen) → call_end call ≤ n → bare_line r.program l ≡ bare_line r.program m →
+  begun_alike : (w : Which) (name : Var) (call : Option ℕ) (l m : Seen) → call_end call ≤ n → plain_line r.program l ≡ plain_line r.program m →
       is_call w name call a (begun l) ≡ is_call w name call b (begun m)
   begun_alike w name call l m below lines =
-      call_alike w name call (begun l) below ∙ ap (is_call w name call b) (lines_read begun r.program (bare_begun r.program) l m lines)
+      call_alike w name call (begun l) below ∙ ap (is_call w name call b) (lines_read begun r.program (plain_begun r.program) l m lines)
 
   late_is : (name : Var) (ms due : ℕ) (s : State) (l : Seen) → is_late name ms due s l ≡
       (calls_name name l && calls_timer s (Some l) && nat_le ms (s.clock - due))
   late_is name ms due s (seen.Call v id) = refl
   late_is name ms due s l = refl
 
-  late_alike : (name : Var) (ms due other : ℕ) (l m : Seen) → a.clock + other ≡ b.clock + due → bare_line r.program l ≡ bare_line r.program m →
+  late_alike : (name : Var) (ms due other : ℕ) (l m : Seen) → a.clock + other ≡ b.clock + due → plain_line r.program l ≡ plain_line r.program m →
       calls_timer a (Some l) ≡ calls_timer b (Some m) → is_late name ms due a l ≡ is_late name ms other b m
   late_alike name ms due other l m dues lines timers =
       let late : a.clock - due ≡ b.clock - other = omega (arith, dues) in
-      let calls = lines_read (calls_name name) r.program (bare_calls r.program name) l m lines in
+      let calls = lines_read (calls_name name) r.program (plain_calls r.program name) l m lines in
       late_is name ms due a l ∙ (λ i. calls i && timers i && nat_le ms (late i)) ∙ sym (late_is name ms other b m)
 
   answers_alike : (q : Question) (due other : ℕ) (l m : Seen) → question_end q ≤ n → DueAlike q a.clock due b.clock other →
-      bare_line r.program l ≡ bare_line r.program m → calls_timer a (Some l) ≡ calls_timer b (Some m) →
+      plain_line r.program l ≡ plain_line r.program m → calls_timer a (Some l) ≡ calls_timer b (Some m) →
       answers_line r.program q due a l ≡ answers_line r.program q other b m
   answers_alike (asks.Call w name call) due other l m below dues lines timers = begun_alike w name call l m below lines
   answers_alike (asks.Code code name) due other l m below dues lines timers =
-      ap₂ (λ x y. x && is_of name y) (lines_read (λ o. answers_code code o) r.program (bare_code r.program code) l m lines)
-      (lines_read (answered_name r.program) r.program (bare_answered r.program) l m lines)
+      ap₂ (λ x y. x && is_of name y) (lines_read (λ o. answers_code code o) r.program (plain_code r.program code) l m lines)
+      (lines_read (answered_name r.program) r.program (plain_answered r.program) l m lines)
   answers_alike (asks.Section word) due other l m below dues lines timers =
-      lines_read (begins_section word) r.program (bare_section r.program word) l m lines
-  answers_alike asks.Poll due other l m below dues lines timers = lines_read begins_poll r.program (bare_poll r.program) l m lines
+      lines_read (begins_section word) r.program (plain_section r.program word) l m lines
+  answers_alike asks.Poll due other l m below dues lines timers = lines_read begins_poll r.program (plain_poll r.program) l m lines
   answers_alike (asks.Never name) due other l m below dues lines timers = refl
   answers_alike asks.Stuck due other l m below dues lines timers = refl
   answers_alike (asks.Late name ms) due other l m below dues lines timers = late_alike name ms due other l m dues lines timers
@@ -142,7 +138,7 @@ module _ (r : Rules) (n : ℕ) (forget : r.forget ≡ Some n) (can : CanForget r
   pub line_alike : (due other : ℕ) (x y : Option Seen) → DueAlike r.question a.clock due b.clock other → LinesAlike r.program x y →
       calls_timer a x ≡ calls_timer b y → line_answers r.program r.question due a x ≡ line_answers r.program r.question other b y
   line_alike due other None None dues lines timers = refl
-  line_alike due other None (Some m) dues lines timers = absurd (none-some (bare_line r.program m) lines)
-  line_alike due other (Some l) None dues lines timers = absurd (none-some (bare_line r.program l) (sym lines))
+  line_alike due other None (Some m) dues lines timers = absurd (none-some (plain_line r.program m) lines)
+  line_alike due other (Some l) None dues lines timers = absurd (none-some (plain_line r.program l) (sym lines))
   line_alike due other (Some l) (Some m) dues lines timers =
-      answers_alike r.question due other l m can.question dues (same_Some (bare_line r.program l) (bare_line r.program m) lines) timers
+      answers_alike r.question due other l m can.question dues (same_Some (plain_line r.program l) (plain_line r.program m) lines) timers

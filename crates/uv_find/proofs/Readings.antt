@@ -1,4 +1,4 @@
--- What a search reads of a state is the same of its normal form.
+-- What a search reads of a state is the same of its pooled form.
 use Rattle.std.proofs.Common.{◌≡◌, ℕ, zero, suc, ◌+◌, ◌-◌, ◌<◌, ◌≤◌, ◌==◌, ◌&&◌, Bool, false, List, [], ◌∷◌, Option, Some, None, nat_eq, nat_le, is_none, is_some, option_and_then, slice_get, refl, ap, ap₂, sym, ◌∙◌, arith, if◌then◌else◌}
 use Rattle.std.specs.Prelude.{min, option_map}
 use Rattle.std.specs.Option.{option_eq}
@@ -35,19 +35,22 @@ use Rattle.uv_names.proofs.Counted.{named_capped, bound_capped, count_capped}
 use Rattle.uv_names.proofs.Stales.{bound_staled, calls_staled, held_same, named_staled}
 use Rattle.uv_normal.specs.Normal.{reduced, normal}
 use Rattle.uv_normal.proofs.Reduced.{reduced_timed, reduced_young}
+use Rattle.uv_pooled.specs.Pooled.{pooled}
+use Rattle.uv_workers.specs.Workers.{orderly}
 use Rattle.uv_asking.specs.declared.asking.Takes.{Takes}
 use Rattle.uv_find.specs.Forgetting.{takes_end}
 use Rattle.uv_records.specs.declared.handle.HandleRecord.{HandleRecord}
 use Rattle.uv_records.specs.Handles.{is_timer}
 use Rattle.uv_find.specs.Questions.{has_ended}
 use Rattle.uv_find.specs.Kept.{is_over, is_timers_stage, is_in_timers, said_time, time_taken, or_time}
-use Rattle.uv_find.specs.Orders.{idle_among, or_else, is_quiet, is_behind_poll, is_closing, closes, deadline_in, deadline_at}
+use Rattle.uv_find.specs.Orders.{is_quiet, is_behind_poll, is_closing, closes, deadline_in, deadline_at}
 
--- what is read of a state is the same of the state reduced, later, and with slots that were freed more often
+-- what is read of a state is the same of the state reduced, later, with slots that were freed more often, and with the workers' requests in order
 pub record Reads {X : Type 0} (n : ℕ) (R : State → X) : Type 0 where
   reduces : (s : State) → R (reduced n s) ≡ R s
   shifts : (d : By) (s : State) → R (shift d s) ≡ R s
   frees : (k : Frees) (s : State) → R (more k s) ≡ R s
+  runs : (s : State) → R (orderly s) ≡ R s
 
 module _ {X : Type 0} (n : ℕ) (R : State → X) (reads : Reads n R) (p : Program) where
   of_normal : (s : State) → IsTimed p s → IsYoung p s → R s ≡ R (normal n s)
@@ -58,9 +61,12 @@ module _ {X : Type 0} (n : ℕ) (R : State → X) (reads : Reads n R) (p : Progr
       sym (reads.reduces s) ∙ ap R (sym (earliest_later r old.timers)) ∙ reads.shifts (early.base r) (earliest r)
       ∙ ap R (sym (youngest_more p (earliest r) fresh)) ∙ reads.frees (surplus (earliest r)) (youngest (earliest r))
 
-  -- so it is the same of states that have the same normal form
-  pub reads_alike : (s t : State) → IsTimed p s → IsYoung p s → IsTimed p t → IsYoung p t → normal n s ≡ normal n t → R s ≡ R t
-  reads_alike s t timed young timely youth same = of_normal s timed young ∙ ap R same ∙ sym (of_normal t timely youth)
+  of_pooled : (s : State) → IsTimed p s → IsYoung p s → R s ≡ R (pooled n s)
+  of_pooled s timed young = of_normal s timed young ∙ sym (reads.runs (normal n s))
+
+  -- so it is the same of states that have the same pooled form
+  pub reads_alike : (s t : State) → IsTimed p s → IsYoung p s → IsTimed p t → IsYoung p t → pooled n s ≡ pooled n t → R s ≡ R t
+  reads_alike s t timed young timely youth same = of_pooled s timed young ∙ ap R same ∙ sym (of_pooled t timely youth)
 
 -- ---- names
 
@@ -76,6 +82,7 @@ reads_bound n v = record {
   reduces = λ s. ap is_some (bound_capped n (staled s) v) ∙ bound_staled s v;
   shifts = λ d s. refl;
   frees = λ k s. ap (λ (x : Named). is_some x.id) (named_renamed k s v) ∙ some_map (rename k) (named s v).id;
+  runs = λ s. refl;
 }
 
 id_reduced : (n : ℕ) (s : State) (v : Var) → (named (reduced n s) v).id ≡ option_map (staled_id s.arena.slots) (named s v).id
@@ -108,6 +115,7 @@ module _ {Y : Type 0} (f : Option Content → Y) (none : Y) where
     reduces = λ s. ap (of_bound (reduced n s)) (id_reduced n s v) ∙ bound_reduced n s (named s v).id;
     shifts = λ d s. bound_shifted same d s (named s v).id;
     frees = λ k s. ap (λ (x : Named). of_bound (more k s) x.id) (named_renamed k s v) ∙ bound_freed k s (named s v).id;
+    runs = λ s. refl;
   }
 
 closing_later : (d : By) (o : Option Content) → is_closing (option_map (retimed_content (later d)) o) ≡ is_closing o
@@ -131,6 +139,7 @@ reads_shut n v =
       reduces = λ s. shut_is v (reduced n s) ∙ r.reduces s ∙ sym (shut_is v s);
       shifts = λ d s. shut_is v (shift d s) ∙ r.shifts d s ∙ sym (shut_is v s);
       frees = λ k s. shut_is v (more k s) ∙ r.frees k s ∙ sym (shut_is v s);
+      runs = λ s. refl;
     }
 
 -- ---- counts
@@ -149,6 +158,7 @@ reads_count f n same kind v = record {
   reduces = λ s. ap f (count_reduced n kind v s) ∙ same (count kind v s);
   shifts = λ d s. refl;
   frees = λ k s. ap (λ (x : Named). f (count_of kind x.calls)) (named_renamed k s v);
+  runs = λ s. refl;
 }
 
 pub meant_capped : (call : Option ℕ) (n : ℕ) → call_end call ≤ n → (c : ℕ) → is_for (min c n) call ≡ is_for c call
@@ -184,6 +194,7 @@ reads_place f n capped timed = record {
   reduces = λ s. capped s.place;
   shifts = λ d s. timed d s.place;
   frees = λ k s. refl;
+  runs = λ s. refl;
 }
 
 quiet_later : (r : Retiming) (x : Stage) → is_behind_poll (retimed_stage r x) ≡ is_behind_poll x
@@ -262,6 +273,7 @@ reads_wait n = record {
   reduces = λ s. ap (until s.clock) (capped s.place);
   shifts = λ d s. shifted s.clock d s.place;
   frees = λ k s. refl;
+  runs = λ s. refl;
 } where
   capped : (place : Place) → deadline_at (capped_place n place) ≡ deadline_at place
   capped (Main line) = refl
@@ -271,34 +283,6 @@ reads_wait n = record {
       ≡ until clock (deadline_at place)
   shifted clock d (Main line) = refl
   shifted clock d (Running run) = stage_until clock d run.stage
-
--- ---- workers
-
-run_freed : (k : Frees) (o : Option (Option Id)) →
-    is_none (option_and_then (λ run. run) (option_map (option_map (rename k)) o)) ≡ is_none (option_and_then (λ run. run) o)
-run_freed k None = refl
-run_freed k (Some None) = refl
-run_freed k (Some (Some id)) = refl
-
-idle_freed : (k : Frees) (s : State) (m : ℕ) → idle_among (more k s) m ≡ idle_among s m
-idle_freed k s zero = refl
-idle_freed k s (suc m) =
-    ap₂ (λ (o : Option ℕ) (b : Bool). or_else o (if b then Some m else None)) (idle_freed k s m)
-    (ap (λ (o : Option (Option Id)). is_none (option_and_then (λ run. run) o)) (slice_get-map (option_map (rename k)) s.running m)
-    ∙ run_freed k (slice_get s.running m))
-
-idle_same : (s t : State) → s.running ≡ t.running → (m : ℕ) → idle_among s m ≡ idle_among t m
-idle_same s t same zero = refl
-idle_same s t same (suc m) =
-    ap₂ (λ (o : Option ℕ) (b : Bool). or_else o (if b then Some m else None)) (idle_same s t same m)
-    (ap (λ (rs : List (Option Id)). is_none (option_and_then (λ run. run) (slice_get rs m))) same)
-
-pub reads_idle : (n m : ℕ) → Reads n (λ s. idle_among s m)
-reads_idle n m = record {
-  reduces = λ s. idle_same (reduced n s) s refl m;
-  shifts = λ d s. idle_same (shift d s) s refl m;
-  frees = λ k s. idle_freed k s m;
-}
 
 -- ---- when a timer is due
 
@@ -328,6 +312,7 @@ reads_lag n v = record {
   reduces = λ s. ap (lag_under (reduced n s)) (id_reduced n s v) ∙ reduces s (named s v).id;
   shifts = λ d s. shifts d s (named s v).id;
   frees = λ k s. ap (λ (x : Named). lag_under (more k s) x.id) (named_renamed k s v) ∙ frees k s (named s v).id;
+  runs = λ s. refl;
 } where
   reduces : (s : State) (o : Option Id) → lag_under (reduced n s) (option_map (staled_id s.arena.slots) o) ≡ lag_under s o
   reduces s None = refl

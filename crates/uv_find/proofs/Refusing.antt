@@ -13,7 +13,8 @@ use Rattle.uv_model.specs.State.{State}
 use Rattle.uv_find.specs.declared.kept.Kept.{Kept}
 use Rattle.uv_find.specs.declared.left.Left.{Left}
 use Rattle.uv_find.specs.Orders.{Rules, Place, Choice, chosen, choice_at, choice_by, deadline_at, event_of, keeps_clock, led, led_by, lessened, may_take, move_count, offered_by, placed, reached, timed, wait_until, is_brief, brief}
-use Rattle.uv_find.specs.Steps.{has_none, is_idle}
+use Rattle.uv_find.specs.Ranks.{runner, finish_by, ranked}
+use Rattle.uv_find.specs.Steps.{runs_none, has_none, is_idle}
 
 runs_nothing : (s : State) (x : Option (Option Id)) → is_none (option_and_then (λ run. run) x) ≡ true → (w : Why) × (work_of s x ≡ Err w)
 runs_nothing s None e = (why.NoWorker, refl)
@@ -38,12 +39,26 @@ none_waits : (r : Rules) (p : Place) (deadline : Option ℕ) → is_none deadlin
 none_waits r p None e = refl
 none_waits r p (Some deadline) e = absurd (let f : ⊥ = cc e in f)
 
-has_none_led : (r : Rules) (p : Place) (xs : List Left) (offer : Offer) → has_none p.state offer ≡ true
-    → led_by r p (chosen xs p.kept (timed r.clock p.state.clock (event_of r.program p.state p.kept offer))) ≡ None
-has_none_led r p xs (Step (event.Finish worker)) e =
-    rw (finish_keeps r.clock p.state.clock worker) (finish_refused r p xs p.kept worker e)
+-- so it is of a rank that no worker has
+finish_none : (r : Rules) (p : Place) (xs : List Left) (forget : Option ℕ) (number : ℕ) → runs_none forget p.state number ≡ true
+    → led_by r p (chosen xs p.kept (ranked forget p.state (Some (event.Finish number)))) ≡ None
+finish_none r p xs None worker e = finish_refused r p xs p.kept worker e
+finish_none r p xs (Some n) rank e = by (runner p.state rank) e where
+  by : (o : Option ℕ) → is_none o ≡ true → led_by r p (chosen xs p.kept (finish_by o)) ≡ None
+  by None none = refl
+  by (Some worker) none = absurd (let f : false ≡ true = none in cc)
+
+none_ranked : (forget : Option ℕ) (s : State) → ranked forget s None ≡ None
+none_ranked None s = refl
+none_ranked (Some n) s = refl
+
+has_none_led : (r : Rules) (p : Place) (xs : List Left) (offer : Offer) → has_none r.forget p.state offer ≡ true
+    → led_by r p (chosen xs p.kept (ranked r.forget p.state (timed r.clock p.state.clock (event_of r.program p.state p.kept offer)))) ≡ None
+has_none_led r p xs (Step (event.Finish number)) e =
+    rw (finish_keeps r.clock p.state.clock number) (finish_none r p xs r.forget number e)
 has_none_led r p xs Wait e =
-    ap (λ o. led_by r p (chosen xs p.kept (timed r.clock p.state.clock o))) (none_waits r p (deadline_at p.state.place) e)
+    ap (λ o. led_by r p (chosen xs p.kept (ranked r.forget p.state (timed r.clock p.state.clock o)))) (none_waits r p (deadline_at p.state.place) e)
+    ∙ ap (λ o. led_by r p (chosen xs p.kept o)) (none_ranked r.forget p.state)
 has_none_led r p xs offer e = absurd (let f : ⊥ = cc e in f)
 
 -- so does no part of it
@@ -55,20 +70,20 @@ brief_none r p xs (Some e) h = by (is_brief r.forget e) where
   by true = h
   by false = refl
 
-idle_by : (r : Rules) (p : Place) (xs : List Left) (offered : Option Offered) (x : Option Left) → is_idle p.state offered x ≡ true
+idle_by : (r : Rules) (p : Place) (xs : List Left) (offered : Option Offered) (x : Option Left) → is_idle r.forget p.state offered x ≡ true
     → led_by r p (chosen xs p.kept (offered_by r p offered x)) ≡ None
 idle_by r p xs None x e = refl
 idle_by r p xs (Some offered) None e = refl
 idle_by r p xs (Some offered) (Some x) e = by (may_take x) refl where
   by : (b : Bool) → may_take x ≡ b → led_by r p (chosen xs p.kept (offered_by r p (Some offered) (Some x))) ≡ None
   by true may =
-      rw may (brief_none r p xs (timed r.clock p.state.clock (event_of r.program p.state p.kept offered.offer))
+      rw may (brief_none r p xs (ranked r.forget p.state (timed r.clock p.state.clock (event_of r.program p.state p.kept offered.offer)))
       (has_none_led r p xs offered.offer (rw may at e)))
-  by false may = rw may refl
+  by false may = rw may (ap (λ o. led_by r p (chosen xs p.kept (brief r.forget o))) (none_ranked r.forget p.state))
 
 -- a spent offer, and one without an event that leads on, leads nowhere
 pub idle_leads_nowhere : (r : Rules) (p : Place) (number : ℕ) → r.differ ≡ None
-    → is_idle p.state (slice_get r.offers number) (slice_get p.left number) ≡ true → led r p number ≡ None
+    → is_idle r.forget p.state (slice_get r.offers number) (slice_get p.left number) ≡ true → led r p number ≡ None
 unfolding choice_at
 idle_leads_nowhere r p number offers idle = by (nat_lt number (move_count r p)) where
   by : (b : Bool) → led_by r p (if b then choice_by r p number r.differ else None) ≡ None

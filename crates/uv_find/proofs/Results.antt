@@ -1,14 +1,16 @@
 -- What a search of spots says of orders.
-use Rattle.std.proofs.Common.{◌≡◌, ℕ, suc, ◌+◌, ◌≤◌, length, length-append, Option, Some, None, ap, true, false, inl, inr, List, [], ◌∷◌, ◌++◌, refl, sym, subst, ◌∙◌, arith, append-nil}
+use Rattle.std.proofs.Common.{◌≡◌, ℕ, suc, ◌+◌, ◌≤◌, length, length-append, Option, Some, None, ap, true, false, Bool, is_some, if◌then◌else◌, inl, inr, List, [], ◌∷◌, ◌++◌, refl, sym, subst, ◌∙◌, arith, append-nil}
 use Rattle.std.specs.List.{IsDistinct}
 use Rattle.uv_ids.specs.declared.event.Event.{Event}
+use Rattle.uv_model.specs.After.{STEPS}
 use Rattle.uv_model.proofs.Runs.{after-nil}
 use Rattle.uv_search.specs.Settled as settled
 use Rattle.uv_find.specs.declared.finding.Answer.TheVariants as answer
-use Rattle.uv_find.specs.Orders.{Rules, Place, move_count}
+use Rattle.uv_find.specs.Orders.{Rules, Place, Led, move_count}
+use Rattle.uv_find.specs.Courses as courses
 use Rattle.uv_find.specs.Courses.{Course}
 use Rattle.uv_find.specs.Questions.{place_answers}
-use Rattle.uv_find.specs.Spots.{Spot, next_spot, spot_code, first_spot, is_few, MayForget, IsSpot, IsDeep}
+use Rattle.uv_find.specs.Spots.{Spot, next_spot, spot_code, first_spot, is_few, is_told, apart, apart_by, IsTold, MayForget, IsSpot, IsDeep}
 use Rattle.uv_find.specs.Found.{AreReached, Finds, KeysTell}
 use Rattle.uv_find.proofs.Led.{leads_spot}
 use Rattle.uv_find.proofs.Telling.{places_tell}
@@ -49,17 +51,37 @@ module _ (r : Rules) (s : Spot) where
     ([], record { count = refl; distinct = tt; each = λ k has. absurd cc }),
   )
 
-  pub found_never : (limit number : ℕ) (t : Spot) → number ≤ limit → place_answers r s.place r.question ≡ false
-      → settled.Never (λ (a : Spot). move_count r a.place) (next_spot r) (spot_code r) IsDeep s number → Finds r s limit (answer.Never number) t
+  abbrev IsNone : ℕ → Type 0
+  IsNone number = settled.Never (λ (a : Spot). move_count r a.place) (next_spot r) (spot_code r) IsDeep (apart r) (IsTold r) s number
+
+  -- where moves aren't held back, none is apart
+  holds_none : r.hold ≡ None → settled.HoldsNone (λ (a : Spot). move_count r a.place) (next_spot r) (spot_code r) IsDeep (apart r) (IsTold r) s
+  holds_none none is q led = ap (λ h. apart_by h r.program q.place) none
+
+  mute : (number : ℕ) → IsNone number → (es : List Event) (l : Led) → is_told r (length s.steps + length es + 1) ≡ true
+      → courses.Answers r s.place es l → ⊥
+  mute number n es l told a = by r.hold refl told where
+    by : (o : Option Bool) → r.hold ≡ o
+        → is_few r.forget (if is_some o then length s.steps + length es + 1 + STEPS + 1 else length s.steps + length es + 1) ≡ true → ⊥
+    by None none few =
+        let w = course_answers r s es l few a in
+        (n.whole (holds_none none)).none w.0 w.1 w.2 w.3
+    by (Some ticks) some few =
+        let short = fewer r r.forget (length s.steps + length es + 1) (length s.steps + length es + 1 + STEPS + 1) (omega arith) few in
+        let w = course_answers r s es l short a in
+        n.none w.0 w.1 w.2 (fewer r r.forget (STEPS + (length w.0 + 2)) (length s.steps + length es + 1 + STEPS + 1) (omega (arith, w.4)) few) w.3
+
+  pub found_never : (limit number : ℕ) (t : Spot) → number ≤ limit → place_answers r s.place r.question ≡ false → IsNone number
+      → Finds r s limit (answer.Never number) t
   found_never limit number t few here n = (
     few,
     record {
-      never = (here, λ es l few_steps a. (let w = course_answers r s es l few_steps a in n.none w.0 w.1 w.2 w.3));
+      never = (here, mute number n);
       keys = n.keys;
       are = reached number n.keys n.are;
-      all = λ es q few_steps course. (
+      all = λ none es q few_steps course. (
           let w = course_moves r s es q few_steps course in
-          n.all w.0 (record { place = q; steps = s.steps ++ es }) w.1
+          (n.whole (holds_none none)).all w.0 (record { place = q; steps = s.steps ++ es }) w.1
           );
     },
   )

@@ -15,7 +15,7 @@ use Rattle.uv_find.specs.declared.terms.Terms.{Terms}
 use Rattle.uv_find.specs.Kept.{kept_after}
 use Rattle.uv_find.specs.Orders.{Rules, Choice, led_by, placed, taken}
 use Rattle.uv_find.proofs.Led.{brief_more, choice_brief}
-use Rattle.uv_find.specs.Spots.{AreBrief, MayForget, IsSearched, searched, spots_before, left_before, rules_by, place_by}
+use Rattle.uv_find.specs.Spots.{AreBrief, MayForget, MayHold, IsSearched, searched, spots_before, left_before, rules_by, place_by}
 use Rattle.uv_find.specs.Steps.{Stands, Takes, Makes, MakesNone, state_in}
 
 last_taken : (es : List Event) (e : Event) → take (length (es ++ e ∷ []) - 1) (es ++ e ∷ []) ≡ es
@@ -80,6 +80,7 @@ taken_searched B s t terms left kept made number c line m i few (k, chosen, goes
       taken = rw long (omega (arith, i.taken, length-append {A = Made}));
       back = i.back;
       forgets = subst (λ p. MayForget (rules_by p terms)) (sym k.program) i.forgets;
+      holds = subst (λ p. MayHold (rules_by p terms)) (sym k.program) i.holds;
       brief = subst (AreBrief terms.forget) (sym k.standing) brief;
       room = omega (arith, long, few);
     }
@@ -101,6 +102,7 @@ back_searched B s t terms made rest m i split k =
       taken = rw long (omega (arith, i.taken, count));
       back = i.back;
       forgets = subst (λ p. MayForget (rules_by p terms)) (sym k.program) i.forgets;
+      holds = subst (λ p. MayHold (rules_by p terms)) (sym k.program) i.holds;
       brief = subst (AreBrief terms.forget) (sym k.standing) (brief_front terms.forget (length s.standing - 1) s.standing i.brief);
       room = omega (arith, long, i.room);
     }

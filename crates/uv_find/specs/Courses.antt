@@ -4,7 +4,7 @@ use Rattle.uv_ids.specs.declared.event.Event.{Event}
 use Rattle.uv_model.specs.Next.{Moves, next}
 use Rattle.uv_find.specs.Orders.{Rules, Place, Choice, Led, choice_at, taken, is_within}
 use Rattle.uv_find.specs.Questions.{answers, place_answers}
-use Rattle.uv_find.specs.Spots.{Spot, is_few}
+use Rattle.uv_find.specs.Spots.{Spot, is_told}
 
 -- from a place an event leads on: it is offered there, the loop accepts it, and the bounds hold then
 pub record LeadsOn (r : Rules) (p : Place) (l : Led) : Type 0 where
@@ -29,11 +29,11 @@ pub record Answers (r : Rules) (p : Place) (es : List Event) (l : Led) : Type 0 
   pub answers : answers r place l ≡ true
 
 -- the place doesn't answer the question, and behind no events is one that does: however many they are, or where a search forgets, with those
--- before them fewer than a slot has generations
+-- before them as many at most as is told
 abbrev pub NeverAnswered : Rules → Spot → Type 0
 NeverAnswered r s =
     (place_answers r s.place r.question ≡ false)
-    × ((es : List Event) (l : Led) → is_few r.forget (length s.steps + length es + 1) ≡ true → Answers r s.place es l → ⊥)
+    × ((es : List Event) (l : Led) → is_told r (length s.steps + length es + 1) ≡ true → Answers r s.place es l → ⊥)
 
 -- the last of these events answers the question, and leads here
 abbrev pub LastAnswers : Rules → Place → List Event → Place → Type 0

@@ -1,5 +1,5 @@
--- Where a search needs to know no more of a state than its normal form: no bound names the clock, nothing is held to a recording, and all
--- numbers of ms are small.
+-- Where a search needs to know no more of a state than its pooled form: no bound names the clock, no offer a worker, nothing is held to a
+-- recording, and all numbers of ms are small.
 use Rattle.std.specs.Prelude.{ℕ, ◌+◌, ◌^◌, ◌&&◌, not, Bool, true, false, List, [], ◌∷◌, Option, Some, None, is_none, max, nat_lt, if◌then◌else◌}
 use Rattle.std.specs.List.{list_all}
 use Rattle.uv_ids.specs.declared.event.Event.TheVariants as event
@@ -55,19 +55,29 @@ are_small_offers offers = list_all (λ (offered : Offered). is_small_offer offer
 abbrev pub are_small_takes : List Takes → Bool
 are_small_takes takes = list_all (λ (t : Takes). nat_lt t.ms LONG) takes
 
--- no offer is bound to the request that a worker runs
+-- an offer is bound neither to the request that a worker runs, nor to a worker by its number
 abbrev pub is_aside : Offer → Bool
 is_aside (SendDuring v job) = false
+is_aside (Step (event.Take worker)) = false
+is_aside (Step (event.Finish worker)) = false
 is_aside offer = true
 
-abbrev pub none_during : List Offered → Bool
-none_during offers = list_all (λ (offered : Offered). is_aside offered.offer) offers
+abbrev pub are_aside : List Offered → Bool
+are_aside offers = list_all (λ (offered : Offered). is_aside offered.offer) offers
 
--- a search needs to know no more of a state than its normal form
+-- so are all offers of a search, but that its finishes are by their ranks
+abbrev pub is_common : Offer → Bool
+is_common (Step (event.Finish rank)) = true
+is_common offer = is_aside offer
+
+abbrev pub are_common : List Offered → Bool
+are_common offers = list_all (λ (offered : Offered). is_common offered.offer) offers
+
+-- a search needs to know no more of a state than its pooled form
 abbrev pub may_forget : Program → Asked → Bool
 may_forget p asked =
     not asked.full && is_none asked.clock && is_none asked.differ && nat_lt LONGEST (arena_size p).last_generation
-    && is_small_script p && are_small_offers asked.offers && none_during asked.offers && are_small_takes asked.takes
+    && is_small_script p && are_small_offers asked.offers && are_aside asked.offers && are_small_takes asked.takes
 
 -- ---- the calls that a script or a question tells from later ones
 

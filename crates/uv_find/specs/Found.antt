@@ -1,15 +1,20 @@
 -- What a search of orders finds.
-use Rattle.std.specs.Prelude.{◌≡◌, true, ℕ, ◌+◌, ◌≤◌, List, ◌++◌, length, nat_eq}
+use Rattle.std.specs.Prelude.{◌≡◌, true, Some, None, ℕ, ◌+◌, ◌≤◌, List, ◌++◌, length, nat_eq}
 use Rattle.std.specs.List.{IsDistinct}
 use Rattle.std.specs.Cmp.Lexicographic.{pointwise}
 use Rattle.uv_ids.specs.declared.event.Event.{Event}
+use Rattle.uv_ids.specs.declared.event.Event.TheVariants.{Finish}
+use Rattle.uv_ids.specs.declared.id.Id.{Id}
+use Rattle.uv_script.specs.Program.{Program}
 use Rattle.uv_model.specs.After.{STEPS}
+use Rattle.uv_model.specs.Queries.{run_by}
 use Rattle.uv_search.specs.Keys.{Has}
 use Rattle.uv_find.specs.declared.finding.Answer.{Answer}
 use Rattle.uv_find.specs.declared.finding.Answer.TheVariants as answer
-use Rattle.uv_find.specs.Orders.{Rules, Place, beginning}
+use Rattle.uv_asking.specs.Asked.{Asked}
+use Rattle.uv_find.specs.Orders.{Rules, Place, Choice, choice_at, beginning}
 use Rattle.uv_find.specs.Courses.{Course, NeverAnswered, IsAnswer}
-use Rattle.uv_find.specs.Spots.{Spot, told, place_code, is_few, MayForget, IsDeep}
+use Rattle.uv_find.specs.Spots.{Spot, told, place_code, is_few, MayForget, IsDeep, rules_of}
 
 -- these are the keys of places that events lead to, so many, no two of them the same
 pub record AreReached (r : Rules) (p : Place) (number : ℕ) (keys : List (List ℕ)) : Type 0 where
@@ -18,12 +23,13 @@ pub record AreReached (r : Rules) (p : Place) (number : ℕ) (keys : List (List 
   pub each : (k : List ℕ) → Has keys k → (es : List Event) × (q : Place) × Course r p es q × (place_code r q ≡ k)
 
 -- no events, however many, answer the question, and the places that they lead to are told apart by so many keys; where a search forgets, of
--- events that are fewer than a slot's generations
+-- events that are fewer than a slot's generations. Where moves are held back, so many places were kept of those that events lead to
 pub record IsNever (r : Rules) (s : Spot) (number : ℕ) : Type 0 where
   pub never : NeverAnswered r s
   pub keys : List (List ℕ)
   pub are : AreReached r s.place number keys
-  pub all : (es : List Event) (q : Place) → is_few r.forget (length s.steps + length es) ≡ true → Course r s.place es q → Has keys (place_code r q)
+  pub all : r.hold ≡ None → (es : List Event) (q : Place) → is_few r.forget (length s.steps + length es) ≡ true → Course r s.place es q
+      → Has keys (place_code r q)
 
 -- events lead to more places than so many
 pub record IsMore (r : Rules) (p : Place) (number : ℕ) : Type 0 where
@@ -49,3 +55,15 @@ Finds r s limit answer.TooDeep t = (u : Spot) × (es : List Event) × (u.steps �
 abbrev pub KeysTell : Type 0
 KeysTell = (r : Rules) (es fs : List Event) (p q : Place) → MayForget r → is_few r.forget (length es) ≡ true → is_few r.forget (length fs) ≡ true
     → Course r (beginning r) es p → Course r (beginning r) fs q → place_code r p ≡ place_code r q → told r p ≡ told r q
+
+-- a move from here is that this worker finishes
+pub record IsFinished (r : Rules) (p : Place) (worker : ℕ) : Type 0 where
+  pub number : ℕ
+  pub choice : Choice
+  pub offered : choice_at r p number ≡ Some choice
+  pub event : choice.event ≡ Finish worker
+
+-- wherever events lead, each worker that runs a request may finish it, whichever of the workers it is
+abbrev pub EachFinishes : Type 0
+EachFinishes = (p : Program) (asked : Asked) (es : List Event) (q : Place) (worker : ℕ) (id : Id) → asked.differ ≡ None
+    → Course (rules_of p asked) (beginning (rules_of p asked)) es q → run_by q.state worker ≡ Some id → IsFinished (rules_of p asked) q worker

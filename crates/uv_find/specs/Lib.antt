@@ -1,5 +1,7 @@
 -- a reader of `never` begins with Orders and Questions, and comes to Found
 pub mod Forgetting
+pub mod Holding
+pub mod Ranks
 pub mod Kept
 pub mod Orders
 pub mod Questions

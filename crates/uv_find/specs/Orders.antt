@@ -7,7 +7,7 @@ use Rattle.uv_ids.specs.declared.id.Id.{Id}
 use Rattle.uv_ids.specs.declared.id.Var.{Var}
 use Rattle.uv_ids.specs.declared.seen.Seen.{Seen}
 use Rattle.uv_ids.specs.declared.fault.Why.TheVariants.{Blocked}
-use Rattle.uv_script.specs.Program.{Program, worker_count}
+use Rattle.uv_script.specs.Program.{Program}
 use Rattle.uv_records.specs.Slots.{held}
 use Rattle.uv_records.specs.declared.lists.WatcherKind.TheVariants as watcher
 use Rattle.uv_work.specs.declared.content.Content.{Content}
@@ -17,7 +17,7 @@ use Rattle.uv_model.specs.declared.place.Place.TheVariants.{Main, Running}
 use Rattle.uv_model.specs.declared.place.Stage.{Stage}
 use Rattle.uv_model.specs.declared.place.Stage.TheVariants as stage
 use Rattle.uv_model.specs.State.{State, fresh, named}
-use Rattle.uv_model.specs.Queries.{run_by, worker_of}
+use Rattle.uv_model.specs.Queries.{worker_of}
 use Rattle.uv_model.specs.Next.{Next, Moves, Refuses, next}
 use Rattle.uv_asking.specs.declared.asking.Offer.{Offer}
 use Rattle.uv_asking.specs.declared.asking.Offer.TheVariants.{Step, SendDuring, Take, Wait}
@@ -31,6 +31,7 @@ use Rattle.uv_find.specs.declared.kept.Along.{Along}
 use Rattle.uv_find.specs.declared.left.Left.{Left}
 use Rattle.uv_find.specs.declared.left.Left.TheVariants as left
 use Rattle.uv_find.specs.Forgetting.{LONG}
+use Rattle.uv_find.specs.Ranks.{idle_worker, ranked}
 use Rattle.uv_find.specs.Kept.{none_kept, kept_after, behind, with_spare, owes}
 
 -- what stays the same: the script, what is offered, how long callbacks take, how far the clock goes, how often names are called, what is asked,
@@ -47,6 +48,8 @@ pub record Rules : Type 0 where
   pub question : Question
   -- where places are told apart only by what decides what comes after them: how far calls are counted
   pub forget : Option ℕ
+  -- where moves are held back: whether a time may go by at any step
+  pub hold : Option Bool
 
 -- where a search stands
 pub record Place : Type 0 where
@@ -61,7 +64,7 @@ pub record Place : Type 0 where
 abbrev pub at_will : Offer → Offered
 at_will offer = record { offer = offer; times = None }
 
--- each of the first workers may finish
+-- each of the first workers may finish; by their ranks, where a search forgets which of them runs which request
 abbrev pub finishes : ℕ → List Offered
 finishes zero = []
 finishes (suc n) = finishes n ++ at_will (Step (event.Finish n)) ∷ []
@@ -129,15 +132,6 @@ beginning r = record {
 }
 
 -- ---- the event of an offer
-
--- the least of the first workers that runs no request
-abbrev pub or_else : Option ℕ → Option ℕ → Option ℕ
-or_else None other = other
-or_else (Some n) other = Some n
-
-abbrev pub idle_among : State → ℕ → Option ℕ
-idle_among s zero = None
-idle_among s (suc n) = or_else (idle_among s n) (if is_none (run_by s n) then Some n else None)
 
 abbrev pub take_by : Option ℕ → Option Event
 take_by None = None
@@ -231,7 +225,7 @@ is_run s (Some id) = is_some (worker_of s id)
 abbrev pub event_of : Program → State → Kept → Offer → Option Event
 event_of p s k (Step e) = step_of s k e
 event_of p s k (SendDuring v job) = if is_run s (named s job).id then step_of s k (event.Send v) else None
-event_of p s k Take = take_by (idle_among s (worker_count p))
+event_of p s k Take = take_by (idle_worker s)
 event_of p s k Wait = wait_until p s (deadline_at s.place)
 
 -- from this clock, the event leaves it within its bound, where it has one
@@ -261,7 +255,7 @@ abbrev pub offered_here : Program → Option ℕ → State → Kept → Offer �
 offered_here p most s k offer x = if may_take x then timed most s.clock (event_of p s k offer) else None
 
 abbrev pub offered_by : Rules → Place → Option Offered → Option Left → Option Event
-offered_by r p (Some offered) (Some x) = brief r.forget (offered_here r.program r.clock p.state p.kept offered.offer x)
+offered_by r p (Some offered) (Some x) = brief r.forget (ranked r.forget p.state (offered_here r.program r.clock p.state p.kept offered.offer x))
 offered_by r p _ _ = None
 
 -- ---- what may come at a place

@@ -1,6 +1,7 @@
 -- What a search goes through: places, each with the steps that led there, what is told of it, and its key.
-use Rattle.std.specs.Prelude.{◌≡◌, ℕ, ◌+◌, ◌-◌, ◌≤◌, ◌<◌, nat_lt, if◌then◌else◌, take, Bool, true, List, [], ◌∷◌, ◌++◌, length, reverse, slice_set, Option, Some, None}
+use Rattle.std.specs.Prelude.{◌≡◌, ℕ, ◌+◌, ◌-◌, ◌≤◌, ◌<◌, ◌&&◌, not, nat_lt, if◌then◌else◌, take, Bool, true, false, is_some, slice_get, List, [], ◌∷◌, ◌++◌, length, reverse, slice_set, Option, Some, None}
 use Rattle.uv_ids.specs.declared.event.Event.{Event}
+use Rattle.uv_ids.specs.declared.event.Event.TheVariants.{Loop}
 use Rattle.uv_key.specs.Codes.{number_code}
 use Rattle.uv_model.specs.After.{after, STEPS}
 use Rattle.uv_model.specs.State.{State}
@@ -8,8 +9,12 @@ use Rattle.uv_shift.specs.Shift.{IsShort}
 use Rattle.uv_names.specs.Counts.{AreBefore}
 use Rattle.uv_state_key.specs.Key.{state_code}
 use Rattle.uv_state_key.specs.Formed.{formed}
-use Rattle.uv_find.specs.Forgetting.{LONG, LONGEST, none_during, most_end, takes_end, question_end, forget_of}
-use Rattle.uv_find.specs.Orders.{Rules, Place, Led, led, is_brief, every_offer, beginning}
+use Rattle.uv_find.specs.Forgetting.{LONG, LONGEST, are_common, most_end, takes_end, question_end, forget_of}
+use Rattle.uv_asking.specs.declared.asking.Offer.TheVariants.{Step}
+use Rattle.uv_asking.specs.declared.asking.Offered.{Offered}
+use Rattle.uv_find.specs.Holding.{can_meet, asks_late, hold_of, is_loop_apart, is_at_will}
+use Rattle.uv_find.specs.Kept.{owes}
+use Rattle.uv_find.specs.Orders.{at_will, Rules, Place, Led, led, is_brief, every_offer, beginning}
 use Rattle.uv_find.specs.Questions.{answers}
 use Rattle.uv_find.specs.declared.kept.Along.{Along}
 use Rattle.uv_find.specs.declared.kept.Kept.{Kept}
@@ -30,7 +35,7 @@ abbrev pub is_few : Option ℕ → ℕ → Bool
 is_few (Some n) steps = nat_lt steps LONGEST
 is_few None steps = true
 
--- no more of a state need be known than its normal form, with calls counted so far
+-- no more of a state need be known than its pooled form, with calls counted so far
 pub record CanForget (r : Rules) (n : ℕ) : Type 0 where
   -- no number of a call that the script, a bound or the question says is as large, and whether there was one is told
   pub before : AreBefore n r.program
@@ -41,10 +46,22 @@ pub record CanForget (r : Rules) (n : ℕ) : Type 0 where
   -- no time of the script is long, and no slot's generations run out
   pub short : IsShort LONG r.program
   pub lasts : LONGEST < (arena_size r.program).last_generation
-  -- nothing names the clock, a place in a recording, or the request that a worker runs
+  -- nothing names the clock, a place in a recording, the request that a worker runs, or a worker
   pub clock : r.clock ≡ None
   pub differ : r.differ ≡ None
-  pub aside : none_during r.offers ≡ true
+  pub aside : are_common r.offers ≡ true
+
+-- moves may be held back behind the loop's step, the first offer
+pub record CanHold (r : Rules) (ticks : Bool) : Type 0 where
+  pub first : slice_get r.offers 0 ≡ Some (at_will (Step Loop))
+  pub others : (i : ℕ) (offered : Offered) → 0 < i → slice_get r.offers i ≡ Some offered → can_meet ticks offered.offer ≡ true
+  pub differ : r.differ ≡ None
+  pub takes : r.takes ≡ []
+  pub question : asks_late r.question ≡ false
+
+-- where moves are held back, they may be
+abbrev pub MayHold : Rules → Type 0
+MayHold r = (ticks : Bool) → r.hold ≡ Some ticks → CanHold r ticks
 
 pub record Spot : Type 0 where
   pub place : Place
@@ -126,6 +143,19 @@ AreBrief forget (e ∷ es) = (is_brief forget e ≡ true) × AreBrief forget es
 abbrev pub MayForget : Rules → Type 0
 MayForget r = (n : ℕ) → r.forget ≡ Some n → CanForget r n
 
+-- the loop's step is apart from each other move
+abbrev pub apart_by : Option Bool → Program → Place → Bool
+apart_by None p q = false
+apart_by (Some ticks) p q = is_loop_apart p ticks q.state && (is_at_will (slice_get q.left 0) && not (owes q.kept))
+
+abbrev pub apart : Rules → Spot → Bool
+apart r s = apart_by r.hold r.program s.place
+
+-- so many steps an order has at most of which it is told what it does: where a search forgets, fewer than a slot has generations, and less
+-- those that a session may have taken where moves are held back
+abbrev pub is_told : Rules → ℕ → Bool
+is_told r steps = is_few r.forget (if is_some r.hold then steps + STEPS + 1 else steps)
+
 -- the steps led to the state
 pub record IsSpot (r : Rules) (s : Spot) : Type 0 where
   pub state : s.place.state ≡ after r.program s.steps
@@ -133,9 +163,20 @@ pub record IsSpot (r : Rules) (s : Spot) : Type 0 where
   pub brief : AreBrief r.forget s.steps
   pub few : is_few r.forget (length s.steps) ≡ true
 
+-- so many more steps may follow, where a search forgets
+pub record HasRoom (r : Rules) (n : ℕ) (s : Spot) : Type 0 where
+  pub spot : IsSpot r s
+  pub holds : MayHold r
+  pub few : is_few r.forget (length s.steps + n) ≡ true
+
+-- behind a place that a session holds so many steps may follow
+abbrev pub IsTold : Rules → ℕ → Type 0
+IsTold r n = is_few r.forget (STEPS + n) ≡ true
+
 -- a session holds the steps
 pub record IsStanding (r : Rules) (s : Spot) : Type 0 where
   pub spot : IsSpot r s
+  pub holds : MayHold r
   pub room : length s.steps ≤ STEPS
 
 -- what was left before a move, where this is left behind it
@@ -169,6 +210,7 @@ rules_of p asked = record {
   most = asked.most;
   question = asked.question;
   forget = forget_of p asked;
+  hold = hold_of asked;
 }
 
 abbrev pub first_spot : Rules → Spot
@@ -186,6 +228,7 @@ rules_by p t = record {
   most = t.most.items;
   question = t.question;
   forget = t.forget;
+  hold = t.hold;
 }
 
 -- where a session stands
@@ -206,6 +249,7 @@ pub record IsSearched (BackWantsMemory : Type 0) (s : Shown) (terms : Terms) (ma
   pub taken : length made ≡ length s.standing
   pub back : BackWantsMemory → ⊥
   pub forgets : MayForget (rules_by s.program terms)
+  pub holds : MayHold (rules_by s.program terms)
   pub brief : AreBrief terms.forget s.standing
   pub room : length s.standing ≤ STEPS
 

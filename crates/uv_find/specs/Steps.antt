@@ -21,6 +21,7 @@ use Rattle.uv_find.specs.declared.choices.Taken as taken
 use Rattle.uv_find.specs.declared.recorded.Passed as recorded
 use Rattle.uv_find.specs.declared.terms.Terms.{Terms}
 use Rattle.uv_find.specs.Orders.{Place, Choice, Led, led, reached, choice_at, lessened, may_take, deadline_at}
+use Rattle.uv_find.specs.Ranks.{runner}
 use Rattle.uv_find.specs.Spots.{Searched, rules_by, place_by}
 
 -- a session of the same script, with these steps
@@ -48,16 +49,21 @@ choice_of c = record { event = c.event; left = c.left.items; kept = c.kept }
 abbrev pub passed_of : recorded.Passed → List Left × ℕ
 passed_of t = (t.left.items, t.spare)
 
+-- a worker of this number, or of this rank where a search forgets, runs nothing
+abbrev pub runs_none : Option ℕ → State → ℕ → Bool
+runs_none None s worker = is_none (run_by s worker)
+runs_none (Some n) s rank = is_none (runner s rank)
+
 -- no event that is offered leads on: a worker would finish that runs nothing, or there is no deadline to wait for
-abbrev pub has_none : State → Offer → Bool
-has_none s (Step (event.Finish worker)) = is_none (run_by s worker)
-has_none s Wait = is_none (deadline_at s.place)
-has_none s offer = false
+abbrev pub has_none : Option ℕ → State → Offer → Bool
+has_none forget s (Step (event.Finish number)) = runs_none forget s number
+has_none forget s Wait = is_none (deadline_at s.place)
+has_none forget s offer = false
 
 -- an offer is spent, or has no event that leads on
-abbrev pub is_idle : State → Option Offered → Option Left → Bool
-is_idle s (Some offered) (Some x) = if may_take x then has_none s offered.offer else true
-is_idle s _ _ = true
+abbrev pub is_idle : Option ℕ → State → Option Offered → Option Left → Bool
+is_idle forget s (Some offered) (Some x) = if may_take x then has_none forget s offered.offer else true
+is_idle forget s _ _ = true
 
 -- an offer is taken in this event
 abbrev pub offer_taken : Place → ℕ → Event → Choice

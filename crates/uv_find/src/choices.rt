@@ -1,13 +1,15 @@
 //! The choices of a place.
 ghost use Rattle.std.specs.Prelude.{◌≡◌, ◌<◌, IfOk, None, length, slice_get, slice_set, option_map};
 ghost use Rattle.uv_asking.specs.declared.asking.Offered.{Offered};
+ghost use Rattle.uv_model.specs.After.{after};
 ghost use Rattle.uv_find.specs.Orders.{is_brief, less, lessened, offered_by, choice_at};
 ghost use Rattle.uv_find.specs.Spots.{rules_by, place_by};
-ghost use Rattle.uv_find.specs.Steps.{Stands, MakesMove, TakesOffer, choice_of, has_none, is_idle, state_in};
+ghost use Rattle.uv_find.specs.Steps.{Stands, MakesMove, TakesOffer, choice_of, runs_none, has_none, is_idle, state_in};
 
 use crate::forgetting::LONG;
 use crate::kept::Kept;
 use crate::left::Left;
+use crate::ranks::{ranked, runner};
 use crate::recorded::choose_recorded;
 use crate::steps::{deadline_at, may_take, offered_here, step_within};
 use crate::terms::{Terms, move_count};
@@ -92,18 +94,29 @@ fn offered<M: Machine>(
     match (terms.offers.get(number).copied(), left.get(number).copied()) {
         (Some(offered), Some(left)) => {
             let event = offered_here(session, terms.clock, kept, offered.offer, left)?;
+            let event = ranked(session.machine(), terms.forget, event);
             Ok(event.filter(|event| is_brief(terms.forget, *event)))
         }
         _ => Ok(None),
     }
 }
 
+/// Whether a worker of this number, or of this rank where a search forgets, runs nothing.
+fn runs_none<M: Machine>(machine: &M, forget: Option<u64>, number: u16) -> bool
+    ensures { result ≡ runs_none forget (after (M.program machine.now) (M.standing machine.now)) number }
+{
+    match forget {
+        None => machine.run_by(number as usize).is_none(),
+        Some(_) => runner(machine, number).is_none(),
+    }
+}
+
 /// Whether no event that is offered leads on: a worker would finish that runs nothing, or there is no deadline to wait for.
-fn has_none<M: Machine>(session: &Session<M>, offer: Offer) -> bool
-    ensures { result ≡ has_none (state_in session.now) offer }
+fn has_none<M: Machine>(session: &Session<M>, forget: Option<u64>, offer: Offer) -> bool
+    ensures { result ≡ has_none forget (state_in session.now) offer }
 {
     match offer {
-        Offer::Step(Event::Finish(worker)) => session.machine().run_by(worker as usize).is_none(),
+        Offer::Step(Event::Finish(number)) => runs_none(session.machine(), forget, number),
         Offer::Wait => deadline_at(session.machine().place()).is_none(),
         _ => false,
     }
@@ -117,12 +130,12 @@ pub fn is_idle<M: Machine>(
     left: &Vec<Left>,
     number: usize,
 ) -> bool
-    ensures { result ≡ is_idle (state_in session.now) (slice_get terms.now.offers.items number) (slice_get left.now.items number) }
+    ensures { result ≡ is_idle terms.now.forget (state_in session.now) (slice_get terms.now.offers.items number) (slice_get left.now.items number) }
 {
     match (terms.offers.get(number).copied(), left.get(number).copied()) {
         (Some(offered), Some(left)) => {
             if may_take(left) {
-                has_none(session, offered.offer)
+                has_none(session, terms.forget, offered.offer)
             } else {
                 true
             }

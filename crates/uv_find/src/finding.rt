@@ -1,6 +1,6 @@
 //! A search through all orders.
 ghost use Rattle.std.specs.Prelude.{◌≡◌, false};
-ghost use Rattle.uv_find.specs.Found.{Finds, KeysTell};
+ghost use Rattle.uv_find.specs.Found.{Finds, KeysTell, EachFinishes};
 ghost use Rattle.uv_find.specs.Questions.{place_answers};
 
 use crate::orders::Orders;
@@ -16,8 +16,8 @@ const EFFORT: usize = 2_097_152;
 pub enum Answer {
     /// The last step answers the question, or the place does from which none is taken. So many places were kept until then.
     Found(usize),
-    /// No steps do, however many, and the place doesn't. They lead to so many places, of those that are told apart. Where a search
-    /// forgets, the steps are fewer than a slot has generations.
+    /// No steps do, however many, and the place doesn't. So many places were kept of those that they lead to, and that are told apart: all,
+    /// where no move was held back. Where a search forgets, the steps are fewer than a slot has generations.
     Never(usize),
     /// Steps lead to more places than may be kept.
     Unsettled,
@@ -69,4 +69,10 @@ fn find_behind<M: Machine>(alloc: Global, orders: &mut Orders<M>, limit: usize) 
 /// clause.
 pub fn place_keys_tell()
     ensures { KeysTell }
+{}
+
+/// Wherever events lead, each worker that runs a request may finish it: also where a search forgets which of them runs which. It does nothing,
+/// and is called for its clause.
+pub fn each_finishes()
+    ensures { EachFinishes }
 {}

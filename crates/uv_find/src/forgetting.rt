@@ -1,11 +1,11 @@
-//! Where a search needs to know no more of a state than its normal form.
+//! Where a search needs to know no more of a state than its pooled form.
 ghost use Rattle.std.specs.Prelude.{◌≡◌, length};
 ghost use Rattle.std.specs.List.{list_all};
 ghost use Rattle.uv_script.specs.Program.{IsWhole, callbacks_of};
 ghost use Rattle.uv_names.specs.Counts.{call_end, lines_end, callbacks_end, script_end};
 ghost use Rattle.uv_asking.specs.Asked.{asked_in};
 ghost use Rattle.uv_find.specs.Forgetting.{is_small_op, is_small_main, are_small_lines, are_small_callbacks, is_small_script};
-ghost use Rattle.uv_find.specs.Forgetting.{is_small_offer, are_small_offers, is_aside, none_during, are_small_takes, may_forget};
+ghost use Rattle.uv_find.specs.Forgetting.{is_small_offer, are_small_offers, is_aside, are_aside, are_small_takes, may_forget};
 ghost use Rattle.uv_find.specs.Forgetting.{most_end, takes_end, question_end, calls_end, forget_of};
 
 use uv_asking::{Asking, Most, Offer, Offered, Question, Takes};
@@ -32,7 +32,7 @@ pub(crate) fn forget_of(script: &Script, asking: &Asking) -> Option<u64>
     }
 }
 
-/// Whether a search needs to know no more of a state than its normal form. Then the states of a script that repeats come round again.
+/// Whether a search needs to know no more of a state than its pooled form. Then the states of a script that repeats may come round again.
 pub fn may_forget(script: &Script, asking: &Asking) -> bool
     ensures { result ≡ may_forget script.now (asked_in asking.now) }
 {
@@ -42,7 +42,7 @@ pub fn may_forget(script: &Script, asking: &Asking) -> bool
         && script.arena_size().last_generation > LONGEST
         && is_small_script(script)
         && are_small_offers(&asking.offers)
-        && none_during(&asking.offers)
+        && are_aside(&asking.offers)
         && are_small_takes(&asking.takes)
 }
 
@@ -131,18 +131,20 @@ fn are_small_offers(offers: &[Offered]) -> bool
     offers.iter().all(|offered| is_small_offer(offered.offer))
 }
 
-/// Whether an offer isn't bound to the request that a worker runs.
+/// Whether an offer is bound neither to the request that a worker runs, nor to a worker by its number.
 fn is_aside(offer: Offer) -> bool
     ensures { result ≡ is_aside offer }
 {
     match offer {
         Offer::SendDuring(_, _) => false,
+        Offer::Step(Event::Take(_)) => false,
+        Offer::Step(Event::Finish(_)) => false,
         _ => true,
     }
 }
 
-fn none_during(offers: &[Offered]) -> bool
-    ensures { result ≡ none_during offers.now }
+fn are_aside(offers: &[Offered]) -> bool
+    ensures { result ≡ are_aside offers.now }
 {
     offers.iter().all(|offered| is_aside(offered.offer))
 }

@@ -4,6 +4,8 @@ ghost use Rattle.uv_model.specs.After.{after, STEPS};
 ghost use Rattle.uv_key.specs.Codes.{number_code};
 ghost use Rattle.uv_asking.specs.Asked.{asked_in};
 ghost use Rattle.uv_asking.specs.declared.asking.Question.TheVariants.{Stuck};
+ghost use Rattle.std.specs.Prelude.{slice_get};
+ghost use Rattle.uv_find.specs.Holding.{is_at_will};
 ghost use Rattle.uv_find.specs.Kept.{kept_after};
 ghost use Rattle.uv_find.specs.Orders.{is_blocked, led, move_count};
 ghost use Rattle.uv_find.specs.Questions.{none_leads, line_answers, place_answers, step_answers};
@@ -12,7 +14,8 @@ ghost use Rattle.uv_find.specs.Steps.{Takes as TakesOne};
 
 use crate::beginning::first_left;
 use crate::choices::{Moved, is_idle, lessen, make_move, make_offer};
-use crate::kept::{Along, Kept, kept_after, none_kept};
+use crate::holding::is_loop_apart;
+use crate::kept::{Along, Kept, kept_after, none_kept, owes};
 use crate::left::Left;
 use crate::questions::{has_ended, is_uncalled, line_answers};
 use crate::steps::{is_blocked, take_back};
@@ -56,6 +59,16 @@ fn put_back(left: &mut Vec<Left>, was: Was)
             }
         }
         Was::All(all) => *left = all,
+    }
+}
+
+/// Whether the first offer may be taken as often as one likes.
+fn is_first_at_will(left: &[Left]) -> bool
+    ensures { result ≡ is_at_will (slice_get left.now 0) }
+{
+    match left.first() {
+        Some(Left::AtWill) => true,
+        _ => false,
     }
 }
 
@@ -424,8 +437,25 @@ impl<M: Machine> Maze for Orders<M> {
 
     ghost IsDeep = { λ _ s. spots.IsDeep s };
 
+    ghost apart = { spots.apart };
+
+    ghost IsTold = { spots.IsTold };
+
+    ghost HasRoom = { spots.HasRoom };
+
     fn moves(&self) -> usize {
         self.move_count()
+    }
+
+    fn is_apart(&self) -> bool {
+        match self.terms.hold {
+            None => false,
+            Some(ticks) => {
+                is_loop_apart(self.session.machine(), ticks)
+                    && is_first_at_will(&self.left)
+                    && !owes(self.kept)
+            }
+        }
     }
 
     fn go(&mut self, number: usize) -> Result<Went, AllocError> {

@@ -1,14 +1,14 @@
 //! The event that an offer is, and one step of a session.
 ghost use Rattle.std.specs.Prelude.{◌≡◌, ◌<◌, ◌-◌, ◌&&◌, nat_le, take, length, IfOk};
-ghost use Rattle.uv_find.specs.Orders.{idle_among, take_by, aim, is_made, is_blocked, deadline_at, wait_until, is_behind_poll, is_quiet, is_closing, closes, is_seen, is_free, spending, step_of, is_run, event_of, keeps_clock, timed, may_take, offered_here, is_called_within, is_within};
+ghost use Rattle.uv_find.specs.Orders.{take_by, aim, is_made, is_blocked, deadline_at, wait_until, is_behind_poll, is_quiet, is_closing, closes, is_seen, is_free, spending, step_of, is_run, event_of, keeps_clock, timed, may_take, offered_here, is_called_within, is_within};
 ghost use Rattle.uv_find.specs.Steps.{Stands, StepsWithin, state_in};
 ghost use Rattle.uv_ids.specs.declared.event.Event.TheVariants.{Finish};
 ghost use Rattle.uv_model.specs.After.{after};
-ghost use Rattle.uv_script.specs.Program.{worker_count};
 
 use crate::jobs::result_by;
 use crate::kept::{Kept, owes};
 use crate::left::Left;
+use crate::ranks::idle_worker;
 use std::alloc::AllocError;
 use uv_asking::{Most, Offer};
 use uv_ids::{Event, Fault, Id, Var, Why};
@@ -45,19 +45,6 @@ pub fn is_blocked<M: Machine>(session: &mut Session<M>) -> Result<bool, AllocErr
         Err(Fault::Refused(_)) => Ok(false),
         Err(_) => Err(AllocError),
     }
-}
-
-/// The least worker that runs no request.
-fn idle_worker<M: Machine>(machine: &M) -> Option<u16>
-    ensures { result ≡ idle_among (after (M.program machine.now) (M.standing machine.now)) (worker_count (M.program machine.now)) }
-{
-    let workers = machine.script().workers();
-    'workers: for worker in 0..workers {
-        if machine.run_by(worker as usize).is_none() {
-            return Some(worker);
-        }
-    }
-    None
 }
 
 /// The event in which it takes a request.

@@ -6,6 +6,7 @@ ghost use Rattle.uv_find.specs.Spots.{rules_by, rules_of};
 
 use crate::beginning::every_offer;
 use crate::forgetting::forget_of;
+use crate::holding::hold_of;
 use crate::left::Left;
 use std::alloc::{AllocError, Global};
 use uv_asking::{Asking, Most, Offered, Question, Recorded, Takes};
@@ -24,6 +25,8 @@ pub struct Terms {
     pub question: Question,
     /// Where places are told apart only by what decides what comes after them: how far calls are counted.
     pub forget: Option<u64>,
+    /// Where moves are held back: whether a time may go by at any step.
+    pub hold: Option<bool>,
 }
 
 /// The terms of what is asked of a script.
@@ -46,6 +49,7 @@ pub(crate) fn terms_of(alloc: Global, script: &Script, asking: &Asking) -> Resul
         most,
         question: asking.question,
         forget: forget_of(script, asking),
+        hold: hold_of(asking),
     })
 }
 

@@ -1,2 +1,4 @@
 pub mod Changes
 pub mod Counted
+pub mod Walks
+pub mod Watch

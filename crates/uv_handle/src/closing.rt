@@ -1,20 +1,19 @@
 //! A handle's record, and the closing list.
-ghost use Rattle.std.specs.Prelude.{◌≡◌, Option, Some, None, IfOk, IfErr, IfSome, IfNone, []};
+ghost use Rattle.std.specs.Prelude.{◌≡◌, Option, Some, None, IfOk, IfErr};
 ghost use Rattle.uv_ids.specs.declared.code.Code.{Code};
 ghost use Rattle.uv_records.specs.declared.handle.HandleRecord.{HandleRecord};
-ghost use Rattle.uv_records.specs.declared.lists.ListName.TheVariants.{Closing, ClosingYet};
+ghost use Rattle.uv_records.specs.declared.lists.ListName.TheVariants.{ClosingYet};
 ghost use Rattle.uv_records.specs.Count.{keeps_in};
 ghost use Rattle.uv_records.specs.Refusals.{refusal};
-ghost use Rattle.uv_arena.specs.Image.{members};
-ghost use Rattle.uv_arena.specs.Calls.{IsFirst, IsSpliced};
+ghost use Rattle.uv_arena.specs.Calls.{IsFirst};
 ghost use Rattle.uv_handle.specs.Counted.{counted, record_at, found, IsCounted, take_undone, CanUndoTake};
 ghost use Rattle.uv_handle.specs.Changes.{IsTaken};
 
 use crate::handles::Handles;
 use crate::undo::TakeUndo;
-use uv_arena::{Slots, SpliceUndo};
+use uv_arena::Slots;
 use uv_ids::{Code, Id};
-use uv_records::{HandleRecord, HoldsHandle, ListName};
+use uv_records::{HandleRecord, HoldsHandle};
 
 /// The record of a handle. ESTALE if nothing is held under the id, EKIND if it is no handle.
 pub fn handle_at<T: HoldsHandle>(slots: &Slots<T>, id: Id) -> Result<HandleRecord, Code>
@@ -43,42 +42,12 @@ fn keeps_alive<T: HoldsHandle>(content: &T) -> bool
 }
 
 impl Handles {
-    /// Begins the closing section: the whole closing list has yet to be closed.
-    pub fn begin_closing<T: HoldsHandle>(&self, slots: &mut Slots<T>) -> SpliceUndo
-        requires counts { IsCounted T.held_record (counted slots.old.image self.now) }
-        requires empty { members slots.old.image ClosingYet ≡ [] }
-        ensures spliced { IsSpliced slots.old.image slots.new.image Closing ClosingYet result }
-        ensures counts { IsCounted T.held_record (counted slots.new.image self.now) }
-        ensures pieces { slots.new.room ≡ slots.old.room }
-    {
-        slots.splice(ListName::Closing, ListName::ClosingYet)
-    }
-
-    /// Takes the front of those that have yet to be closed off its list, and frees its slot: what that held, and what takes this back
-    /// with it. None, and nothing changed, where there is none.
-    pub fn take_closing<T: HoldsHandle>(
-        &mut self,
-        slots: &mut Slots<T>,
-    ) -> Option<(Id, T, TakeUndo)>
-        requires { IsCounted T.held_record (counted slots.old.image self.old) }
-        ensures none { IfNone result ((members slots.old.image ClosingYet ≡ [])
-            × (counted slots.new.image self.new ≡ counted slots.old.image self.old)) }
-        ensures some { IfSome result (λ r. IsTaken T.held_record T.of_record (counted slots.old.image self.old)
-            (counted slots.new.image self.new) r.0 r.1 r.2) }
-        ensures pieces { slots.new.room ≡ slots.old.room }
-    {
-        match slots.first(ListName::ClosingYet) {
-            None => None,
-            Some(id) => Some(self.release(slots, id)),
-        }
-    }
-
-    /// Takes a handle off its list, and frees its slot.
-    fn release<T: HoldsHandle>(&mut self, slots: &mut Slots<T>, id: Id) -> (Id, T, TakeUndo)
+    /// Takes this one, the front of those that have yet to be closed, off its list, and frees its slot: what that held, and what takes
+    /// this back with it.
+    pub fn take_closing<T: HoldsHandle>(&mut self, slots: &mut Slots<T>, id: Id) -> (T, TakeUndo)
         requires counts { IsCounted T.held_record (counted slots.old.image self.old) }
         requires first { IsFirst slots.old.image ClosingYet id }
-        ensures id { result.0 ≡ id }
-        ensures taken { IsTaken T.held_record T.of_record (counted slots.old.image self.old) (counted slots.new.image self.new) id result.1 result.2 }
+        ensures taken { IsTaken T.held_record T.of_record (counted slots.old.image self.old) (counted slots.new.image self.new) id result.0 result.1 }
         ensures pieces { slots.new.room ≡ slots.old.room }
     {
         slots.is_sound();
@@ -92,7 +61,7 @@ impl Handles {
                     active,
                     removed: freed.1,
                 };
-                (id, freed.0, undo)
+                (freed.0, undo)
             }
             None => unreachable!(),
         }

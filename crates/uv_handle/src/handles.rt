@@ -1,11 +1,9 @@
 //! The count of active referenced handles, and the changes of records that keep it.
-ghost use Rattle.std.specs.Prelude.{◌≡◌, ◌≢◌, ℕ, ◌+◌, ◌≤◌, Option, Some, None, IfOk, IfErr, IfSome};
+ghost use Rattle.std.specs.Prelude.{◌≡◌, ℕ, ◌+◌, ◌≤◌, Some, IfOk, IfErr};
 ghost use Rattle.uv_ids.specs.declared.id.Id.{Id};
 ghost use Rattle.uv_records.specs.declared.handle.HandleRecord.{HandleRecord};
-ghost use Rattle.uv_records.specs.Handles.{inited};
 ghost use Rattle.uv_records.specs.Count.{one_if, Fits32};
-ghost use Rattle.uv_arena.specs.Undo.{set_undone};
-ghost use Rattle.uv_arena.specs.Calls.{IsInserted, IsSet, RefusesInsert, room_after};
+ghost use Rattle.uv_arena.specs.Calls.{RefusesInsert, room_after};
 ghost use Rattle.uv_handle.specs.Changes.{IsAdded, IsChanged};
 ghost use Rattle.uv_handle.specs.Counted.{counted, record_at, found, IsCounted, record_undone, CanUndoRecord, add_undone, CanUndoAdd};
 

@@ -1,5 +1,5 @@
 //! A handle's record together with the list that the handle is on.
-ghost use Rattle.std.specs.Prelude.{◌≡◌, ℕ, Some, false};
+ghost use Rattle.std.specs.Prelude.{◌≡◌, Some, false};
 ghost use Rattle.uv_arena.specs.Image.{on_list};
 ghost use Rattle.uv_handle.specs.Counted.{counted, record_at, IsCounted, enlist_undone, CanUndoEnlist, delist_undone, CanUndoDelist};
 ghost use Rattle.uv_handle.specs.Changes.{IsEnlisted, IsDelisted};

@@ -38,3 +38,12 @@ pub struct TakeUndo {
     pub active: u32,
     pub removed: RemoveUndo,
 }
+
+/// Takes one step of a walk back: where the handle stood among those yet to run, and the record of an async handle that was
+/// woken.
+#[derive(Clone, Copy)]
+pub struct WalkUndo {
+    pub unlinked: ChainPlace,
+    pub pushed: PushUndo,
+    pub woken: Option<RecordUndo>,
+}

@@ -101,7 +101,7 @@ fn absorb_in_poll<S: Follower>(session: &mut S, outside: &mut Outside<'_>) -> Re
     outside.absorb_all(session)
 }
 
-/// A turn under the book's lock: what its step did, and whether the book was open.
+/// A turn under the book's lock: what its step did, and whether the book was open. Where a job waits behind it, a worker is called.
 fn locked_turn<S: Follower, L: Ledger, R: Wait>(
     rt: &R,
     session: &mut S,
@@ -111,8 +111,10 @@ fn locked_turn<S: Follower, L: Ledger, R: Wait>(
     ensures refused { Refuses result.0 (S.refusal session.new) }
 {
     let mut guard = book.lock(rt);
-    let answer = turn_rest(session, &mut guard);
-    (answer.map(|(_, did)| did), WasOpen::look(&guard))
+    let answer = turn_rest(session, &mut guard.book);
+    let open = WasOpen::look(&guard.book);
+    book.let_go(guard);
+    (answer.map(|(_, did)| did), open)
 }
 
 /// Takes turns until the loop is at its end. False where the book was closed before.
@@ -134,9 +136,6 @@ fn run<S: Follower, L: Ledger, C: Clock, R: Threads + Wait>(
         absorb_in_poll(session, outside)?;
         let (answer, open) = locked_turn(rt, session, book);
         match answer {
-            Ok(Did::Queued(_)) => {
-                book.wake_worker();
-            }
             Ok(_) => {}
             Err(Fault::Refused(Why::Ended)) => return Ok(true),
             Err(Fault::Refused(Why::Blocked)) => match open {

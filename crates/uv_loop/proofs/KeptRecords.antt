@@ -1,6 +1,6 @@
 -- One record more, and one less, where each keeps its place in five words.
 use Rattle.uv_loop.proofs.Names.{◌≡◌, List, [], ◌∷◌, ◌++◌, map-append, sym, ap, ◌∙◌, Place, Record}
-use Rattle.uv_step.specs.Record.{at_place}
+use Rattle.uv_memory.specs.Record.{at_place}
 use Rattle.uv_loop.specs.KeptPlaces.{place_of, record_of, records_of}
 use Rattle.uv_loop.specs.declared.kept_place.KeptPlace.{KeptPlace}
 

@@ -2,7 +2,7 @@
 use Rattle.uv_loop.proofs.Names.{◌≡◌, ℕ, List, [], ◌∷◌, Option, Some, None, refl, ◌∙◌, cond_both, InsertUndo, RemoveUndo, insert_undone, remove_undone, Request, reopened_by, Place, Content, Asked, Record, request_of, Image, Part, undo, unwind_parts, parts, unwound}
 use Rattle.uv_arena.specs.Image as arena
 use Rattle.uv_requests.specs.Working as work
-use Rattle.uv_step.specs.Parts as part
+use Rattle.uv_memory.specs.Parts as part
 
 -- the last generation, and how many slots there may be
 abbrev pub limits : arena.Image Content → ℕ × ℕ

@@ -7,11 +7,15 @@ pub mod Finishes
 pub mod KeptLines
 pub mod KeptRecords
 pub mod Lasts
+pub mod Lies
 pub mod Lines
 mod Names
 pub mod Planned
 pub mod Ready
 pub mod Refusing
+pub mod Same
 pub mod Simulation
 pub mod Takes
 pub mod Told
+pub mod Walked
+pub mod Workers

@@ -17,7 +17,7 @@ use Rattle.uv_model.specs.declared.place.Stage.TheVariants.{Poll}
 use Rattle.uv_model.specs.State.{live_handle}
 use Rattle.uv_model.specs.Next.{next, may_leave, io_run, io_handle}
 use Rattle.uv_model.specs.After.{refusal_of}
-use Rattle.uv_step.specs.Image.{Image}
+use Rattle.uv_memory.specs.Image.{Image}
 use Rattle.uv_stands.specs.Doing.{OfEach}
 use Rattle.uv_loop.specs.Pooling.{MayTake, MayFinish}
 use Rattle.uv_loop.specs.declared.plan.Outside.{Outside}

@@ -9,7 +9,7 @@ use Rattle.uv_model.specs.declared.place.Place.TheVariants.{Main, Running}
 use Rattle.uv_model.specs.declared.place.Stage.{Stage}
 use Rattle.uv_model.specs.declared.place.Stage.TheVariants.{Pending, Walking, Poll, Polled, Done}
 use Rattle.uv_work.specs.declared.content.Content.{Content}
-use Rattle.uv_step.specs.Image.{Image}
+use Rattle.uv_memory.specs.Image.{Image}
 use Rattle.uv_sections.specs.Behind.{IsClearAfter}
 
 -- behind a stage with no body under way

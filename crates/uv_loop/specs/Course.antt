@@ -11,11 +11,11 @@ use Rattle.uv_model.specs.State as state
 use Rattle.uv_model.specs.State.{State}
 use Rattle.uv_model.specs.Next.{next}
 use Rattle.uv_model.specs.After.{state_of, seen_by, IsMove, STEPS}
-use Rattle.uv_step.specs.Record.{Record}
-use Rattle.uv_step.specs.Image.{Image, Held, fresh}
-use Rattle.uv_step.specs.Trail.{Walk, unwound, AddsOne, DropsOne}
-use Rattle.uv_step.specs.Undo.{CanUnwind}
-use Rattle.uv_step.specs.Fit.{IsFit}
+use Rattle.uv_memory.specs.Record.{Record}
+use Rattle.uv_memory.specs.Image.{Image, Held, fresh}
+use Rattle.uv_memory.specs.Trail.{Walk, unwound, AddsOne, DropsOne}
+use Rattle.uv_memory.specs.Undo.{CanUnwind}
+use Rattle.uv_memory.specs.Fit.{IsFit}
 use Rattle.uv_stands.specs.Stands.{StandsFor}
 use Rattle.uv_stands.specs.Doing.{Goes}
 

@@ -4,7 +4,7 @@ use Rattle.uv_model.specs.declared.place.Place.{Place}
 use Rattle.uv_model.specs.declared.place.Place.TheVariants.{Main, Running}
 use Rattle.uv_model.specs.declared.place.Stage.{Stage}
 use Rattle.uv_model.specs.declared.place.Stage.TheVariants as stage
-use Rattle.uv_step.specs.Record.{Record, at_place}
+use Rattle.uv_memory.specs.Record.{Record, at_place}
 use Rattle.uv_loop.specs.declared.kept_place.KeptStage.{KeptStage}
 use Rattle.uv_loop.specs.declared.kept_place.KeptStage.TheVariants as kept
 use Rattle.uv_loop.specs.declared.kept_place.KeptPlace.{KeptPlace}

@@ -6,3 +6,4 @@ pub mod Taken
 pub mod Pooling
 pub mod Acting
 pub mod KeptPlaces
+pub mod Laid

@@ -7,7 +7,7 @@ use Rattle.uv_work.specs.declared.request.Request.{Request}
 use Rattle.uv_requests.specs.Working as work
 use Rattle.uv_model.specs.declared.place.Place.{Place}
 use Rattle.uv_work.specs.Content.{request_of}
-use Rattle.uv_step.specs.Image.{Image}
+use Rattle.uv_memory.specs.Image.{Image}
 
 -- the worker runs nothing, and this request waits longest
 pub record MayTake (i : Image Place) (worker : ℕ) (d : Id) (r : Request) : Type 0 where

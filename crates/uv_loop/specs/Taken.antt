@@ -5,8 +5,8 @@ use Rattle.uv_ids.specs.declared.event.Event.TheVariants.{Loop, Take, Finish, Ca
 use Rattle.uv_ids.specs.declared.seen.Seen.{Seen}
 use Rattle.uv_ids.specs.declared.seen.Seen.TheVariants as seen
 use Rattle.uv_model.specs.declared.place.Place.{Place}
-use Rattle.uv_step.specs.Record.{Record}
-use Rattle.uv_step.specs.Image.{Held}
+use Rattle.uv_memory.specs.Record.{Record}
+use Rattle.uv_memory.specs.Image.{Held}
 use Rattle.uv_loop.specs.declared.steps.Steps.{Steps}
 
 -- the event of the step that appended this: a line from outside names its own, and all else is of the loop

@@ -7,8 +7,8 @@ use Rattle.uv_model.specs.declared.place.Place.{Place}
 use Rattle.uv_model.specs.State.{State}
 use Rattle.uv_model.specs.Next.{Next}
 use Rattle.uv_model.specs.Ops.{do_op}
-use Rattle.uv_step.specs.Record.{Record}
-use Rattle.uv_step.specs.Image.{Image, Held}
+use Rattle.uv_memory.specs.Record.{Record}
+use Rattle.uv_memory.specs.Image.{Image, Held}
 use Rattle.uv_stands.specs.Stands.{StandsFor}
 use Rattle.uv_stands.specs.Doing.{Returns, OfEach, Goes}
 

@@ -3,7 +3,7 @@ ghost use Rattle.uv_model.specs.Limits.{LATEST};
 ghost use Rattle.std.specs.Prelude.{◌≡◌, ◌+◌, ◌≤◌, Some};
 ghost use Rattle.uv_ids.specs.declared.event.Event.TheVariants.{Tick};
 ghost use Rattle.uv_script.specs.Program.{Program};
-ghost use Rattle.uv_step.specs.Image.{held};
+ghost use Rattle.uv_memory.specs.Image.{held};
 ghost use Rattle.uv_stands.specs.Doing.{Returns};
 ghost use Rattle.uv_stands.specs.Ready.{IsReady};
 ghost use Rattle.uv_loop.specs.Course.{Leads};
@@ -14,9 +14,9 @@ use crate::plan::Plan;
 use crate::pooling::{cancel_named, finish_work, take_work};
 use crate::sending::send_to;
 use uv_ids::Seen;
+use uv_memory::Memory;
 use uv_model::Place;
 use uv_script::Script;
-use uv_step::Memory;
 use uv_work::WorkResult;
 
 /// Does what an event from outside asks for, which nothing refuses: what that appends. It wants no memory.

@@ -2,18 +2,18 @@
 ghost use Rattle.std.specs.Prelude.{◌≡◌, IfOk, length};
 ghost use Rattle.uv_script.specs.Program.{arena_size};
 ghost use Rattle.uv_model.specs.After.{after};
-ghost use Rattle.uv_step.specs.Fit.{IsFit};
-ghost use Rattle.uv_step.specs.Image.{held};
-ghost use Rattle.uv_step.specs.Trail.{unwound};
+ghost use Rattle.uv_memory.specs.Fit.{IsFit};
+ghost use Rattle.uv_memory.specs.Image.{held};
+ghost use Rattle.uv_memory.specs.Trail.{unwound};
 ghost use Rattle.uv_stands.specs.Stands.{StandsFor};
 ghost use Rattle.uv_loop.specs.Course.{first_image};
 
 use crate::steps::Steps;
 use std::alloc::{AllocError, Global};
 use std::marker::Model;
+use uv_memory::Memory;
 use uv_model::Place;
 use uv_script::Script;
-use uv_step::Memory;
 
 // A place has at most ten words, with which the head of a record has at most 16.
 const _: () = prove!(std::mem::size_of::<Place>() <= 80);
@@ -45,7 +45,7 @@ pub struct ArenaLoop {
 }
 
 impl Model for ArenaLoop {
-    ghost use Rattle.uv_step.specs.Image.{held};
+    ghost use Rattle.uv_memory.specs.Image.{held};
     ghost use Rattle.uv_loop.specs.Course.{Course, IsCourse};
     ghost use Rattle.uv_loop.specs.Taken.{events_of};
 

@@ -3,7 +3,7 @@ ghost use Rattle.std.specs.Prelude.{◌≤◌, ◌≡◌, ◌<◌, ◌^◌, None
 ghost use Rattle.uv_script.specs.Program.{Program, lines_in, order_of};
 ghost use Rattle.uv_model.specs.declared.place.Body.{Body};
 ghost use Rattle.uv_model.specs.Next.{body_step, main_step};
-ghost use Rattle.uv_step.specs.Image.{held};
+ghost use Rattle.uv_memory.specs.Image.{held};
 ghost use Rattle.uv_stands.specs.Doing.{Returns};
 ghost use Rattle.uv_stands.specs.Ready.{IsReady};
 ghost use Rattle.uv_ops.specs.Wanting.{WantsPiece};
@@ -11,11 +11,11 @@ ghost use Rattle.uv_loop.specs.Turning.{Turns, PerformsAt};
 
 use std::alloc::AllocError;
 use uv_ids::{Answer, Seen, Site};
+use uv_memory::Memory;
 use uv_model::{Body, Place, Run, body_from};
 use uv_ops::perform;
 use uv_script::{CallbackLine, MainOp, Op, Script};
 use uv_sections::{begin_run, stand_at};
-use uv_step::Memory;
 
 /// Does an op, after which the loop is at this place.
 fn perform_at(memory: &mut Memory<Place>, op: Op, place: Place) -> Result<Answer, AllocError>

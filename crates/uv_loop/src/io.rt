@@ -3,7 +3,7 @@ ghost use Rattle.std.specs.Prelude.{◌≡◌, Some};
 ghost use Rattle.uv_ids.specs.declared.event.Event.TheVariants.{Io};
 ghost use Rattle.uv_model.specs.State.{State, live_handle};
 ghost use Rattle.uv_model.specs.Next.{takes_io, io_run, io_handle};
-ghost use Rattle.uv_step.specs.Image.{held};
+ghost use Rattle.uv_memory.specs.Image.{held};
 ghost use Rattle.uv_stands.specs.Doing.{OfEach, Returns};
 ghost use Rattle.uv_stands.specs.Ready.{IsReady};
 ghost use Rattle.uv_stands.specs.Stands.{StandsFor};
@@ -13,12 +13,12 @@ ghost use Rattle.uv_loop.specs.Acting.{MayCall, Plans};
 use crate::plan::Plan;
 use crate::planning::check_name;
 use uv_ids::{Id, Seen, Var, Why};
+use uv_memory::Memory;
 use uv_model::{Place, Run, Stage};
 use uv_records::{ListName, WatcherKind};
 use uv_script::Script;
 use uv_sections::call_io;
 use uv_stands::{has_members, live_handle};
-use uv_step::Memory;
 
 /// Whether a callback of I/O may begin there.
 fn takes_io(memory: &Memory<Place>, run: Run) -> bool

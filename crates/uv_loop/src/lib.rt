@@ -1,7 +1,8 @@
 //! The loop over one memory: a machine whose every step has a record that takes it back.
 //!
 //! The main type is `ArenaLoop`, the machine that the program runs. Its main clauses are `records` of `step` and `drops` of
-//! `back` (`machine.rt`), beside those of `Machine`. Read `specs/Course.antt` first.
+//! `back` (`machine.rt`), beside those of `Machine`. Read `specs/Course.antt` first, and `specs/Laid.antt` for what a layout of
+//! the memory shows.
 #![tactic(auto)]
 
 mod acting;
@@ -9,7 +10,9 @@ mod arena_loop;
 mod bodies;
 mod io;
 mod kept_place;
+mod laying;
 mod line_row;
+mod listing;
 mod looping;
 mod machine;
 mod plan;
@@ -17,6 +20,7 @@ mod planning;
 mod pooling;
 mod record_row;
 mod sending;
+mod showing;
 mod staging;
 mod stepping;
 mod steps;

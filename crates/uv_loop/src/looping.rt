@@ -3,7 +3,7 @@ ghost use Rattle.std.specs.Prelude.{◌≤◌, ◌≡◌, ◌<◌, ◌^◌, IfOk
 ghost use Rattle.uv_ids.specs.declared.event.Event.TheVariants.{Loop};
 ghost use Rattle.uv_model.specs.Next.{run_step, next};
 ghost use Rattle.uv_script.specs.Program.{arena_size};
-ghost use Rattle.uv_step.specs.Image.{held};
+ghost use Rattle.uv_memory.specs.Image.{held};
 ghost use Rattle.uv_stands.specs.Ready.{IsReady};
 ghost use Rattle.uv_ops.specs.Wanting.{WantsPiece};
 ghost use Rattle.uv_loop.specs.Acting.{MayAt, MayIn};
@@ -14,9 +14,9 @@ use crate::bodies::{in_body, in_main};
 use crate::staging::in_stage;
 use std::alloc::AllocError;
 use uv_ids::Seen;
+use uv_memory::Memory;
 use uv_model::{Place, Run};
 use uv_script::Script;
-use uv_step::Memory;
 
 /// The loop does its next step.
 pub(crate) fn turn(memory: &mut Memory<Place>, script: &Script) -> Result<Option<Seen>, AllocError>

@@ -5,22 +5,22 @@ ghost use Rattle.uv_model.specs.After.{Answers, GoesBack, after, STEPS};
 ghost use Rattle.uv_model.specs.Handing.{AnswersResult};
 ghost use Rattle.uv_model.specs.Layout.{LiesFor};
 ghost use Rattle.uv_model.specs.declared.layout.Layout as layout;
-ghost use Rattle.uv_layout.specs.Laid.{ShowsAll};
+ghost use Rattle.uv_loop.specs.Laid.{ShowsAll};
 ghost use Rattle.uv_loop.specs.Course.{Adds, Drops, first_image};
 
 use crate::arena_loop::{ArenaLoop, fresh_memory};
+use crate::laying::layout_of;
+use crate::listing::{free_slots, listed_ids};
 use crate::plan::outside_of;
 use crate::pooling::finish_work;
+use crate::showing::{run_at, shown, shown_name, shown_slot, shown_worker};
 use crate::steps::Steps;
 use std::alloc::Global;
 use uv_ids::{Event, Fault, Id, Seen, Var, Why};
-use uv_layout::{
-    free_slots, layout_of, listed_ids, run_at, shown, shown_name, shown_slot, shown_worker,
-};
 use uv_model::{Layout, Machine, Numbers, Outcome, Place, STEPS};
 use uv_records::{ListName, Named, Slot};
 use uv_script::Script;
-use uv_timing::timer_ids;
+use uv_stands::timer_ids;
 use uv_work::{Content, WorkResult};
 
 impl Machine for ArenaLoop {

@@ -6,17 +6,17 @@ ghost use Rattle.uv_model.specs.Next.{main_step, run_step, stage_step, next};
 ghost use Rattle.uv_model.specs.After.{refusal_of};
 ghost use Rattle.uv_model.specs.State.{State};
 ghost use Rattle.uv_script.specs.Program.{Program, order_of};
-ghost use Rattle.uv_step.specs.Image.{held};
+ghost use Rattle.uv_memory.specs.Image.{held};
 ghost use Rattle.uv_stands.specs.Doing.{OfEach};
 ghost use Rattle.uv_loop.specs.Acting.{MayBehind, MayIn, MayAt, Plans, outside_event};
 
 use crate::io::io_plan;
 use crate::plan::{Outside, Plan};
 use uv_ids::{Var, Why};
+use uv_memory::Memory;
 use uv_model::{LATEST, Place, Run, Stage};
 use uv_script::Script;
 use uv_stands::may_leave;
-use uv_step::Memory;
 
 /// What the clock shows so many ms later; none past its limit.
 fn later(clock: u64, ms: u64) -> Option<u64>

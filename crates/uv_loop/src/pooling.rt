@@ -4,16 +4,16 @@ ghost use Rattle.uv_ids.specs.declared.event.Event.TheVariants.{Take, Finish, Ca
 ghost use Rattle.uv_ids.specs.declared.seen.Seen.TheVariants.{Cancel as cancelled};
 ghost use Rattle.uv_script.specs.Program.{Program};
 ghost use Rattle.uv_work.specs.Requests.{job_of};
-ghost use Rattle.uv_step.specs.Image.{held};
-ghost use Rattle.uv_step.specs.Undo.{Recorded};
+ghost use Rattle.uv_memory.specs.Image.{held};
+ghost use Rattle.uv_memory.specs.Undo.{Recorded};
 ghost use Rattle.uv_stands.specs.Doing.{Returns};
 ghost use Rattle.uv_loop.specs.Course.{Leads};
 ghost use Rattle.uv_loop.specs.Pooling.{MayTake, MayFinish};
 
 use uv_ids::{Answer, Id, Seen, Var};
+use uv_memory::Memory;
 use uv_model::Place;
 use uv_ops::cancel;
-use uv_step::Memory;
 use uv_work::{Request, WorkResult};
 
 /// A worker takes a request: what that appends.

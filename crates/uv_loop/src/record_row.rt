@@ -1,12 +1,12 @@
 //! What takes the steps that stand back.
 ghost use Rattle.std.specs.Prelude.{◌≡◌, ◌<◌, ◌++◌, ◌∷◌, [], OnOk, length};
-ghost use Rattle.uv_step.specs.Record.{at_place};
+ghost use Rattle.uv_memory.specs.Record.{at_place};
 
 use crate::kept_place::KeptPlace;
 use std::alloc::{AllocError, Global};
 use std::marker::Model;
+use uv_memory::{LastStep, Trail};
 use uv_model::Place;
-use uv_step::{LastStep, Trail};
 
 /// The records of the steps that stand, the first step's first.
 #[derive(Drop)]
@@ -16,7 +16,7 @@ pub(crate) struct RecordRow {
 
 impl Model for RecordRow {
     ghost use Rattle.uv_model.specs.declared.place.Place.{Place};
-    ghost use Rattle.uv_step.specs.Kept.{Kept};
+    ghost use Rattle.uv_memory.specs.Kept.{Kept};
     ghost use Rattle.uv_loop.specs.KeptPlaces.{records_of};
 
     ghost Value = { Kept Place };

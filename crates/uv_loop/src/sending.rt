@@ -3,14 +3,14 @@ ghost use Rattle.std.specs.Prelude.{◌≡◌, ◌<◌, Some, length};
 ghost use Rattle.uv_ids.specs.declared.event.Event.TheVariants.{Send};
 ghost use Rattle.uv_ids.specs.declared.seen.Seen.TheVariants.{Send as sent};
 ghost use Rattle.uv_script.specs.Program.{Program};
-ghost use Rattle.uv_step.specs.Image.{held};
+ghost use Rattle.uv_memory.specs.Image.{held};
 ghost use Rattle.uv_stands.specs.Doing.{Returns};
 ghost use Rattle.uv_loop.specs.Course.{Leads};
 
 use uv_ids::{Code, Var};
+use uv_memory::Memory;
 use uv_model::Place;
 use uv_ops::send;
-use uv_step::Memory;
 
 /// Sends to the async handle of a name: what that answers.
 pub(crate) fn send_to(memory: &mut Memory<Place>, name: Var) -> Code

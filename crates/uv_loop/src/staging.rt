@@ -2,13 +2,14 @@
 ghost use Rattle.std.specs.Prelude.{◌≡◌, ◌<◌, ◌^◌, Some};
 ghost use Rattle.uv_script.specs.Program.{arena_size};
 ghost use Rattle.uv_model.specs.Next.{stage_step};
-ghost use Rattle.uv_step.specs.Image.{held};
+ghost use Rattle.uv_memory.specs.Image.{held};
 ghost use Rattle.uv_stands.specs.Ready.{IsReady};
 ghost use Rattle.uv_loop.specs.Acting.{MayBehind};
 ghost use Rattle.uv_loop.specs.Begins.{IsClearBehind};
 ghost use Rattle.uv_loop.specs.Turning.{Turns};
 
 use uv_ids::Seen;
+use uv_memory::Memory;
 use uv_model::{Place, Run, Stage, Turn};
 use uv_records::WatcherKind;
 use uv_script::Script;
@@ -16,7 +17,6 @@ use uv_sections::{
     begin_unwoken_async, begin_walk, in_closing, in_done, in_timers, in_walk, leave_poll,
     leave_polled, turn,
 };
-use uv_step::Memory;
 
 /// What the run does next where no body is under way.
 pub(crate) fn in_stage(memory: &mut Memory<Place>, script: &Script, run: &Run) -> Option<Seen>

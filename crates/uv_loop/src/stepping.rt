@@ -3,7 +3,7 @@
 ghost use Rattle.std.specs.Prelude.{◌≡◌, ◌≤◌, OnOk, length};
 ghost use Rattle.uv_ids.specs.declared.event.Event.TheVariants.{Loop};
 ghost use Rattle.uv_model.specs.After.{Answers, STEPS};
-ghost use Rattle.uv_step.specs.Image.{held};
+ghost use Rattle.uv_memory.specs.Image.{held};
 ghost use Rattle.uv_loop.specs.Course.{Adds};
 ghost use Rattle.uv_loop.specs.Acting.{outside_event};
 ghost use Rattle.uv_loop.specs.Taken.{AreRoomier, HasRoom};
@@ -16,8 +16,8 @@ use crate::planning::{loop_refusal, plan_of};
 use crate::steps::Steps;
 use std::alloc::AllocError;
 use uv_ids::Fault;
+use uv_memory::Memory;
 use uv_model::{Outcome, Place, STEPS};
-use uv_step::Memory;
 
 /// Makes room for one step more, and on the heap for the timer of each slot that is used.
 #[inline(always)]

@@ -1,14 +1,14 @@
 //! The steps that stand.
 ghost use Rattle.std.specs.Prelude.{◌≡◌, ◌<◌, ◌++◌, ◌∷◌, [], OnOk, IsTrue, IsFalse, length, take};
-ghost use Rattle.uv_step.specs.Record.{at_place};
+ghost use Rattle.uv_memory.specs.Record.{at_place};
 ghost use Rattle.uv_loop.specs.Taken.{HasRoom, AreSame, IsOneMore};
 
 use crate::line_row::LineRow;
 use crate::record_row::RecordRow;
 use std::alloc::{AllocError, Global};
 use uv_ids::Seen;
+use uv_memory::LastStep;
 use uv_model::Place;
-use uv_step::LastStep;
 
 /// The steps that stand: what each appended to the trace, which tells its event, and what takes it back.
 #[derive(Drop)]

@@ -8,7 +8,7 @@ use Rattle.uv_records.specs.Slots as plain
 use Rattle.uv_arena.specs.Image as arena
 use Rattle.uv_requests.specs.Working as work
 use Rattle.uv_model.specs.Ops as ops
-use Rattle.uv_step.specs.Change as change
+use Rattle.uv_memory.specs.Change as change
 
 -- ---- who waits
 

@@ -1,6 +1,6 @@
 -- Ops that give a handle another record and touch no list.
 use Rattle.uv_ops.proofs.Names.{◌≡◌, Some, sym, subst, Id, HandleRecord, record_at, IsChanged, Place, State, with_handle, Handle, Record, handle_of, By, Held, counted_of, OnlyHandles, StandsFor, changed_stands}
-use Rattle.uv_step.specs.Change as change
+use Rattle.uv_memory.specs.Change as change
 
 -- each state has the other record, too
 pub edited_stands : (r : Record Place) (h w : Held Place) → OnlyHandles h.image w.image → (d : Id) (from to : HandleRecord)

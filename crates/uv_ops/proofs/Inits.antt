@@ -7,7 +7,7 @@ use Rattle.uv_records.specs.declared.lists.ListName.TheVariants as name
 use Rattle.uv_records.specs.declared.lists.WatcherKind.TheVariants as watcher
 use Rattle.uv_records.specs.Handles as records
 use Rattle.uv_arena.specs.Image as arena
-use Rattle.uv_step.specs.Change as change
+use Rattle.uv_memory.specs.Change as change
 use Rattle.uv_ops.proofs.Made.{make_done, taken_ids, at_end, with_asyncs, handle_stands}
 
 -- which kinds are listed as they are made, in the memory and in the state

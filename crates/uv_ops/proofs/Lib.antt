@@ -1,4 +1,5 @@
 pub mod Cancels
+pub mod Closes
 pub mod Edited
 pub mod Inits
 pub mod Leaving

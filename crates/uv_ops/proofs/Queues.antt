@@ -3,7 +3,7 @@ use Rattle.uv_ops.proofs.Names.{◌≡◌, ◌∷◌, [], ◌++◌, false, Some,
 use Rattle.uv_ids.specs.declared.code.Answer.TheVariants as answer
 use Rattle.uv_script.specs.declared.op.Op.TheVariants as op
 use Rattle.uv_records.specs.declared.lists.ListName.TheVariants as name
-use Rattle.uv_step.specs.Change as change
+use Rattle.uv_memory.specs.Change as change
 use Rattle.uv_ops.proofs.Made.{make_done, taken_ids, taken_slots, at_end}
 
 module _ (r : Record Place) (h w : Held Place) (frame : OnlyWork h.image w.image) (v : Var) (task : Task) (d : Id)

@@ -6,7 +6,7 @@ use Rattle.uv_records.specs.declared.lists.ListName.TheVariants as name
 use Rattle.uv_records.specs.declared.lists.WatcherKind.TheVariants as watcher
 use Rattle.uv_arena.specs.Image as arena
 use Rattle.uv_handle.proofs.Counts as handles
-use Rattle.uv_step.specs.Change as change
+use Rattle.uv_memory.specs.Change as change
 use Rattle.uv_ops.proofs.Relisted.{same_ids, relisted_stands}
 
 -- ---- the watcher was inactive

@@ -8,7 +8,7 @@ use Rattle.uv_records.specs.declared.lists.ListName.TheVariants as name
 use Rattle.uv_records.specs.declared.lists.WatcherKind.TheVariants as watcher
 use Rattle.uv_records.specs.Handles as records
 use Rattle.uv_arena.specs.Image as arena
-use Rattle.uv_step.specs.Change as change
+use Rattle.uv_memory.specs.Change as change
 use Rattle.uv_ops.proofs.Relisted.{IsList, same_ids, relisted_stands}
 use Rattle.uv_ops.proofs.Leaving.{gone, kept}
 

@@ -7,7 +7,7 @@ use Rattle.uv_ids.specs.declared.code.Answer.{Answer}
 use Rattle.uv_model.specs.declared.place.Place.{Place}
 use Rattle.uv_model.specs.State.{State, live_handle, live_request}
 use Rattle.uv_model.specs.Ops.{send, cancel}
-use Rattle.uv_step.specs.Image.{Image}
+use Rattle.uv_memory.specs.Image.{Image}
 use Rattle.uv_stands.specs.Stands.{StandsFor}
 
 -- a send to the async handle of a name

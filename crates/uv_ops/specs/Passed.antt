@@ -4,8 +4,8 @@ use Rattle.uv_ids.specs.declared.code.Code.{Code}
 use Rattle.uv_ids.specs.declared.code.Answer.{Answer}
 use Rattle.uv_ids.specs.declared.code.Answer.TheVariants as answer
 use Rattle.uv_model.specs.declared.place.Place.{Place}
-use Rattle.uv_step.specs.declared.memory.Memory.{Memory}
-use Rattle.uv_step.specs.Image.{held}
+use Rattle.uv_memory.specs.declared.memory.Memory.{Memory}
+use Rattle.uv_memory.specs.Image.{held}
 use Rattle.uv_stands.specs.Doing.{Returns}
 use Rattle.uv_stands.specs.Ready.{IsReady}
 

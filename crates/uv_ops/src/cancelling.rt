@@ -1,14 +1,14 @@
 //! Requests are cancelled.
 ghost use Rattle.std.specs.Prelude.{◌≡◌};
 ghost use Rattle.uv_script.specs.declared.op.Op.TheVariants as op;
-ghost use Rattle.uv_step.specs.Image.{held};
+ghost use Rattle.uv_memory.specs.Image.{held};
 ghost use Rattle.uv_stands.specs.Doing.{Performs, Returns};
 ghost use Rattle.uv_ops.specs.Outside.{Cancels};
 
 use uv_ids::{Answer, Code, Var};
+use uv_memory::Memory;
 use uv_model::Place;
 use uv_stands::bound_id;
-use uv_step::Memory;
 
 /// Cancels a request (uv_cancel), for an op or from outside.
 pub fn cancel(memory: &mut Memory<Place>, name: Var) -> Answer

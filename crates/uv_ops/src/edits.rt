@@ -6,16 +6,16 @@ ghost use Rattle.uv_handle.specs.Counted.{record_at};
 ghost use Rattle.uv_model.specs.State.{State, live_handle, with_handle};
 ghost use Rattle.uv_model.specs.Ops.{on_handle, set_referenced};
 ghost use Rattle.uv_work.specs.Content.{handle_of};
-ghost use Rattle.uv_step.specs.Image.{held};
+ghost use Rattle.uv_memory.specs.Image.{held};
 ghost use Rattle.uv_stands.specs.Doing.{Does, Performs, Returns};
 ghost use Rattle.uv_stands.specs.Stands.{StandsFor};
 ghost use Rattle.uv_ops.specs.Passed.{HasPassed, answered};
 
 use uv_ids::{Answer, Code, Id, Var};
+use uv_memory::Memory;
 use uv_model::Place;
 use uv_records::HandleRecord;
 use uv_stands::{Ask, allowed};
-use uv_step::Memory;
 
 /// Gives a handle another record.
 pub(crate) fn edit(memory: &mut Memory<Place>, id: Id, from: HandleRecord, to: HandleRecord)

@@ -1,7 +1,7 @@
 //! Handles are made and requests queued, and names bound to them.
 ghost use Rattle.std.specs.Prelude.{◌≤◌, IfOk, IfErr};
 ghost use Rattle.uv_script.specs.declared.op.Op.TheVariants as op;
-ghost use Rattle.uv_step.specs.Image.{held};
+ghost use Rattle.uv_memory.specs.Image.{held};
 ghost use Rattle.uv_stands.specs.Doing.{Performs, Returns};
 ghost use Rattle.uv_ops.specs.Passed.{HasPassed};
 ghost use Rattle.uv_ops.specs.Wanting.{WantsPiece};
@@ -9,9 +9,9 @@ ghost use Rattle.uv_ops.specs.Wanting.{WantsPiece};
 use std::alloc::AllocError;
 use uv_arena::InsertFault;
 use uv_ids::{Answer, Code, Kind, Var};
+use uv_memory::Memory;
 use uv_model::Place;
 use uv_stands::{bind_name, is_live};
-use uv_step::Memory;
 use uv_work::{Request, Task};
 
 /// Makes a handle, to which the name is bound (uv_timer_init and the like). Where there is no memory for its slot it makes none, and the

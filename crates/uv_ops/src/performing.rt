@@ -1,6 +1,6 @@
 //! Any op of a script.
 ghost use Rattle.std.specs.Prelude.{◌≤◌, ◌≡◌, IfOk, IfErr};
-ghost use Rattle.uv_step.specs.Image.{held};
+ghost use Rattle.uv_memory.specs.Image.{held};
 ghost use Rattle.uv_stands.specs.Doing.{Performs, Returns};
 ghost use Rattle.uv_stands.specs.Ready.{IsReady};
 ghost use Rattle.uv_ops.specs.Passed.{answered};
@@ -16,9 +16,9 @@ use crate::values::{stop_loop, update_time};
 use crate::watchers::start_watcher;
 use std::alloc::AllocError;
 use uv_ids::{Answer, Code};
+use uv_memory::Memory;
 use uv_model::Place;
 use uv_script::Op;
-use uv_step::Memory;
 
 /// What an op answers that may be refused.
 fn answered(done: Result<Answer, Code>) -> Answer

@@ -1,14 +1,13 @@
 //! Ops that ask something, and change nothing.
-ghost use Rattle.std.specs.Prelude.{◌≡◌};
 ghost use Rattle.uv_script.specs.declared.op.Op.TheVariants as op;
-ghost use Rattle.uv_step.specs.Image.{held};
+ghost use Rattle.uv_memory.specs.Image.{held};
 ghost use Rattle.uv_stands.specs.Doing.{Performs};
 ghost use Rattle.uv_ops.specs.Passed.{answered};
 
 use uv_ids::{Answer, Code, Var};
+use uv_memory::Memory;
 use uv_model::Place;
 use uv_stands::{Ask, allowed, backend_timeout, is_in_use};
-use uv_step::Memory;
 
 /// Whether a handle is referenced (uv_has_ref).
 pub(crate) fn has_ref(memory: &Memory<Place>, name: Var) -> Result<Answer, Code>

@@ -2,15 +2,15 @@
 ghost use Rattle.std.specs.Prelude.{◌≡◌};
 ghost use Rattle.uv_ids.specs.declared.code.Answer.TheVariants as answer;
 ghost use Rattle.uv_script.specs.declared.op.Op.TheVariants as op;
-ghost use Rattle.uv_step.specs.Image.{held};
+ghost use Rattle.uv_memory.specs.Image.{held};
 ghost use Rattle.uv_stands.specs.Doing.{Performs, Returns};
 ghost use Rattle.uv_ops.specs.Outside.{Sends};
 
 use crate::edits::edit;
 use uv_ids::{Code, Var};
+use uv_memory::Memory;
 use uv_model::Place;
 use uv_stands::{Ask, allowed};
-use uv_step::Memory;
 
 /// Has an async handle called (uv_async_send), for an op or from outside.
 pub fn send(memory: &mut Memory<Place>, name: Var) -> Code

@@ -1,13 +1,13 @@
 //! Ops on the loop itself.
 ghost use Rattle.std.specs.Prelude.{◌≡◌};
 ghost use Rattle.uv_script.specs.declared.op.Op.TheVariants as op;
-ghost use Rattle.uv_step.specs.Image.{held};
+ghost use Rattle.uv_memory.specs.Image.{held};
 ghost use Rattle.uv_stands.specs.Doing.{Performs, Returns};
 ghost use Rattle.uv_stands.specs.Ready.{IsReady};
 
 use uv_ids::{Answer, Code};
+use uv_memory::Memory;
 use uv_model::Place;
-use uv_step::Memory;
 
 /// Has the run end before its next iteration (uv_stop).
 pub(crate) fn stop_loop(memory: &mut Memory<Place>) -> Answer

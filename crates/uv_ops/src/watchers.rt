@@ -8,17 +8,17 @@ ghost use Rattle.uv_script.specs.declared.op.Op.TheVariants as op;
 ghost use Rattle.uv_handle.specs.Counted.{record_at};
 ghost use Rattle.uv_model.specs.Ops.{start_watcher, stop};
 ghost use Rattle.uv_work.specs.Content.{handle_of};
-ghost use Rattle.uv_step.specs.Image.{held};
+ghost use Rattle.uv_memory.specs.Image.{held};
 ghost use Rattle.uv_stands.specs.Doing.{Does, Performs, Returns};
 ghost use Rattle.uv_stands.specs.Ready.{IsReady};
 ghost use Rattle.uv_ops.specs.Passed.{HasPassed, answered};
 
 use crate::edits::edit;
 use uv_ids::{Answer, Code, Id, Var};
+use uv_memory::Memory;
 use uv_model::Place;
 use uv_records::{HandleRecord, WatcherKind};
 use uv_stands::{Ask, allowed};
-use uv_step::Memory;
 
 /// Starts a handle that isn't active: an idle, prepare or check handle goes to the front of its list, and one of I/O on none.
 fn start_inactive(memory: &mut Memory<Place>, id: Id, handle: HandleRecord)

@@ -13,6 +13,7 @@ use Rattle.uv_work.specs.declared.result.WorkResult.{WorkResult}
 use Rattle.uv_pool.specs.declared.places.Collected.{Collected}
 use Rattle.uv_pool.specs.Contents.{fresh, pool_of, queued, taken, finished, cancelled, collected}
 use Rattle.uv_pool.specs.Hold.{Hold}
+use Rattle.uv_pool.specs.Sleepers.{none_asleep}
 use Rattle.uv_pool.specs.Book.{Standing}
 
 -- memory was wanted, since no room was reserved; the contents are as before
@@ -94,14 +95,15 @@ GivesBack r (Err e) P = P (Err e.0) × (e.1 ≡ r)
 abbrev pub EnrolsAt : {S : Type 0} → Standing → ℕ → Result S Fault → Standing → Type 0
 EnrolsAt s k (Ok share) t =
     (k < length s.hold.contents.running) × (1 < s.rest.spare)
-    × (t ≡ record { hold = s.hold; rest = record { closed = s.rest.closed; own = s.rest.own; spare = s.rest.spare - 1 } })
+    × (t ≡ record { hold = s.hold; rest = record s.rest { spare = s.rest.spare - 1 } })
 EnrolsAt s k (Err (fault.Refused why.NoWorker)) t = (length s.hold.contents.running ≤ k) × (t ≡ s)
 EnrolsAt s k (Err fault.Limit) t = (k < length s.hold.contents.running) × (s.rest.spare ≡ 1) × (t ≡ s)
 EnrolsAt s k (Err _) t = ⊥
 
 -- a book with an empty log; Range just outside 1 to 1024 workers
 abbrev pub Opens : ℕ → Result Standing Fault → Type 0
-Opens w (Ok b) = (0 < w) × (w ≤ MOST_WORKERS) × (b.hold.contents ≡ fresh w) × (b.rest ≡ record { closed = false; own = 0; spare = w + 1 })
+Opens w (Ok b) = (0 < w) × (w ≤ MOST_WORKERS) × (b.hold.contents ≡ fresh w)
+    × (b.rest ≡ record { closed = false; own = 0; spare = w + 1; sleepers = none_asleep })
 Opens w (Err (fault.Refused why.Range)) = (w ≡ 0) ⊎ (MOST_WORKERS < w)
 Opens w (Err fault.Memory) = (0 < w) × (w ≤ MOST_WORKERS)
 Opens w (Err _) = ⊥

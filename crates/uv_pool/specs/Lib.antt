@@ -3,6 +3,7 @@ pub mod Jobs
 pub mod Contents
 pub mod Hold
 pub mod Held
+pub mod Sleepers
 pub mod Book
 pub mod Results
 pub mod Calls

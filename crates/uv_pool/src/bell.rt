@@ -1,10 +1,8 @@
 //! How those who wait at a book's lock are woken. A value of `Rung` or `RungOnce` is made here alone: who has one has woken them.
 
+use crate::sleepers::Call;
 use std::marker::PhantomData;
 use std::sync::{Condvar, MutexGuard, Wait};
-
-/// A worker waits for a job.
-pub(crate) struct ForJob;
 
 /// Somebody waits for the log to grow.
 pub(crate) struct ForEntry;
@@ -39,11 +37,12 @@ impl<What> Bell<What> {
         }
     }
 
-    /// Lets the lock go until the bell rings, and takes it again.
+    /// Lets the lock go until the bell rings, or for no reason, and takes it again.
     pub(crate) fn wait<'a, T, R: Wait>(
         &self,
         rt: &R,
         guard: MutexGuard<'a, T>,
+        _waits: &What,
     ) -> MutexGuard<'a, T> {
         self.waiting.wait(rt, guard)
     }
@@ -54,8 +53,9 @@ impl<What> Bell<What> {
         Rung { of: PhantomData }
     }
 
-    /// Wakes one of those who wait.
-    pub(crate) fn ring_once(&self) -> RungOnce<What> {
+    /// Wakes one of those who wait, since it was called.
+    pub(crate) fn ring_once(&self, call: Call) -> RungOnce<What> {
+        call.answered();
         self.waiting.notify_one();
         RungOnce { of: PhantomData }
     }

@@ -112,7 +112,7 @@ impl<L: Ledger> Bench<L> for PoolBook<L> {
 
     fn close(&mut self)
         ensures hold { self.new.hold ≡ self.old.hold }
-        ensures rest { self.new.rest ≡ record { closed = true; own = self.old.rest.own; spare = self.old.rest.spare } }
+        ensures rest { self.new.rest ≡ record self.old.rest { closed = true } }
         ensures same { self.new.hold.contents.log ≡ self.old.hold.contents.log }
         ensures shut { self.new.rest.closed ≡ true }
     {

@@ -1,9 +1,10 @@
 //! The pool's book.
-ghost use Rattle.std.specs.Prelude.{◌≡◌, ◌+◌, ◌<◌, ◌≤◌, true, Some, is_ok, cond, IfOk, IfErr, OnOk, length};
+ghost use Rattle.std.specs.Prelude.{◌≡◌, ◌+◌, ◌<◌, ◌≤◌, true, false, [], Some, MatchBool, is_ok, is_some, cond, IfOk, IfErr, OnOk, length};
 ghost use Rattle.uv_ids.specs.Limits.{MOST_WORKERS};
 
 use crate::held::Held;
 use crate::places::Collected;
+use crate::sleepers::{Call, ForJob, Sleepers};
 use std::alloc::Global;
 use std::marker::Model;
 use std::sync::ledger::{Blank, Book, Ledger, Share};
@@ -24,6 +25,7 @@ pub struct PoolBook<L: Ledger> {
     spare: u64,
     finishes: Book<L>,
     own: Share<L>,
+    sleepers: Sleepers,
 }
 
 impl<L: Ledger> Model for PoolBook<L> {
@@ -34,13 +36,17 @@ impl<L: Ledger> Model for PoolBook<L> {
     ghost use Rattle.uv_pool.specs.Book.{IsCounted};
     ghost use Rattle.uv_pool.specs.Held.{contents_of, hold_of, IsKept};
 
-    ghost view = { λ b. record { hold = hold_of b.held; rest = record { closed = b.closed; own = b.own.amount; spare = b.spare } } };
+    ghost view = { λ b. record {
+      hold = hold_of b.held;
+      rest = record { closed = b.closed; own = b.own.amount; spare = b.spare; sleepers = b.sleepers };
+    } };
 
     ghost invariant = { λ b. IsKept b.held × IsCounted (contents_of b.held) b.finishes.total b.own.parts b.spare };
 }
 
 impl<L: Ledger> PoolBook<L> {
-    ghost use Rattle.uv_pool.specs.Book.{IsReplay, finish_count, booked};
+    ghost use Rattle.uv_pool.specs.Book.{IsReplay, finish_count, booked, with_sleepers, CallsNext};
+    ghost use Rattle.uv_pool.specs.Sleepers.{dozed, returned};
     ghost use Rattle.uv_pool.specs.Contents.{result_in};
     ghost use Rattle.uv_pool.specs.Results.{KeepsResults, SetsResult, HandsOut};
     ghost use Rattle.uv_pool.specs.Calls.{Reserves, Submits, TakesNext, Finishes, Cancels, CollectsNext, GivesBack, EnrolsAt, Opens};
@@ -67,6 +73,7 @@ impl<L: Ledger> PoolBook<L> {
             spare,
             finishes,
             own,
+            sleepers: Sleepers::new(),
         })
     }
 
@@ -106,9 +113,42 @@ impl<L: Ledger> PoolBook<L> {
     /// Sets the flag that it is closed. The other calls answer as before.
     pub fn close(&mut self)
         ensures hold { self.new.hold ≡ self.old.hold }
-        ensures rest { self.new.rest ≡ record { closed = true; own = self.old.rest.own; spare = self.old.rest.spare } }
+        ensures rest { self.new.rest ≡ record self.old.rest { closed = true } }
     {
         self.closed = true;
+    }
+
+    /// Whether no job waits for a worker.
+    pub fn is_idle(&self) -> bool
+        ensures { MatchBool result (self.now.hold.contents.waiting ≡ []) (self.now.hold.contents.waiting ≡ [] → ⊥) }
+    {
+        self.held.is_idle()
+    }
+
+    /// A worker falls asleep, since nothing waits for it and the book is open.
+    pub(crate) fn fall_asleep(&mut self) -> ForJob
+        requires nothing { self.old.hold.contents.waiting ≡ [] }
+        requires open { self.old.rest.closed ≡ false }
+        ensures { self.new ≡ with_sleepers self.old (dozed self.old.rest.sleepers) }
+    {
+        self.sleepers.fall_asleep()
+    }
+
+    /// A worker that slept comes back.
+    pub(crate) fn come_back(&mut self, asleep: ForJob)
+        ensures { self.new ≡ with_sleepers self.old (returned self.old.rest.sleepers) }
+    {
+        self.sleepers.come_back(asleep);
+    }
+
+    /// A worker that sleeps is to be woken, where a job waits and none is on its way.
+    pub(crate) fn call_next(&mut self) -> Option<Call>
+        ensures call { CallsNext self.old (is_some result) self.new }
+    {
+        if self.is_idle() {
+            return None;
+        }
+        self.sleepers.call()
     }
 
     /// How many workers there are.

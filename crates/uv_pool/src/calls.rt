@@ -1,5 +1,5 @@
 //! The calls of the book on what it holds, with their refusals.
-ghost use Rattle.std.specs.Prelude.{◌≡◌, IfOk, OnOk, Some};
+ghost use Rattle.std.specs.Prelude.{◌≡◌, [], IfOk, OnOk, MatchBool, Some};
 
 use crate::held::Held;
 use crate::places::{Collected, Place};
@@ -54,6 +54,13 @@ impl Held {
         }
         self.make_room()?;
         Ok(self.take(k))
+    }
+
+    /// Whether no job waits.
+    pub(crate) fn is_idle(&self) -> bool
+        ensures { MatchBool result ((contents_of self.now).waiting ≡ []) ((contents_of self.now).waiting ≡ [] → ⊥) }
+    {
+        self.waiting.is_empty()
     }
 
     pub(crate) fn finish_job(&mut self, k: u16, work: WorkResult) -> Result<(), Fault>

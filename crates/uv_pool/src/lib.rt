@@ -17,12 +17,14 @@ mod places;
 mod queue;
 mod shift;
 mod sightings;
+mod sleepers;
 
 pub use bench::Bench;
 pub use book::PoolBook;
 pub use desk::Desk;
 pub use gate::Gate;
-pub use locked::{LockedBook, Woken, WokenWorker};
+pub use locked::{BookGuard, LetGo, LockedBook, Woken, WokenWorker};
 pub use places::Collected;
 pub use shift::{Shift, worker};
-pub use sightings::{HasFinished, WasClosed, WasOpen};
+pub use sightings::{HasFinished, WasClosed, WasOpen, WasTended};
+pub use sleepers::Sleepers;

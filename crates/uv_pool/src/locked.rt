@@ -3,20 +3,24 @@ ghost use Rattle.std.specs.Prelude.{◌≡◌, ◌+◌, ◌<◌, IfOk, IfErr, On
 ghost use Rattle.uv_work.specs.declared.event.PoolEvent.TheVariants.{Finish};
 ghost use Rattle.uv_pool.specs.Book.{EndsWith};
 ghost use Rattle.uv_pool.specs.Benches.{IsEnrolFault, IsTakeFault, IsFinishFault};
-ghost use Rattle.std.specs.Prelude.{◌⊎◌, ◌≤◌, true, length, Some, vec_len, vec_capacity};
+ghost use Rattle.std.specs.Prelude.{◌⊎◌, ◌≤◌, [], true, false, length, Some, vec_len, vec_capacity};
 ghost use Rattle.uv_pool.specs.Calls.{run_at};
 ghost use Rattle.std.specs.Sync.Mutex.{mutex_guard_value};
 
-use crate::bell::{Bell, ForEntry, ForFinish, ForJob, Rung, RungOnce};
+use crate::bell::{Bell, ForEntry, ForFinish, Rung, RungOnce};
 use crate::book::PoolBook;
-use crate::sightings::{HasFinished, NotTaken, WasClosed, WasOver};
+use crate::sightings::{HasFinished, NotTaken, WasClosed, WasOver, WasTended};
+use crate::sleepers::ForJob;
 use std::sync::ledger::{Ledger, Share};
 use std::sync::{Mutex, MutexGuard, Wait};
 use uv_ids::Fault;
 use uv_work::{Job, PoolEvent, WorkResult};
 
-/// A book that threads share. Whoever holds its lock may call the book; whoever has added to the log or closed the book
-/// calls `wake` once it has let the lock go.
+/// A book that threads share. Whoever holds its lock may call the book, and lets the lock go by `let_go`, which wakes a worker where a job
+/// waits for one. Whoever has added to the log where somebody is in `wait_past`, or has closed the book, calls `wake` then.
+///
+/// One worker is on its way at a time: once it has taken its job it calls the next one, if a job still waits (own). So a few short jobs are
+/// done by one worker, and many by all.
 ///
 /// A hold is short: it hashes nothing, and it waits for nothing but the room that a call makes.
 #[derive(Drop)]
@@ -30,6 +34,15 @@ pub struct LockedBook<L: Ledger> {
     queued: Bell<ForJob>,
 }
 
+/// The lock of a book. It can't be dropped: `LockedBook::let_go` lets it go.
+pub struct BookGuard<'a, L: Ledger> {
+    pub book: MutexGuard<'a, PoolBook<L>>,
+    owed: Owed,
+}
+
+/// That the lock is let go of by `let_go`.
+struct Owed;
+
 /// All that wait at a book were woken: workers, and those in `wait_past` and `wait_finished`.
 #[derive(Drop)]
 pub struct Woken {
@@ -38,10 +51,19 @@ pub struct Woken {
     _finished: Rung<ForFinish>,
 }
 
-/// One worker that waits for a job was woken, where there was one.
+/// One worker that slept was woken.
 #[derive(Drop)]
 pub struct WokenWorker {
     _queued: RungOnce<ForJob>,
+}
+
+/// Who has the jobs that wait, as a book is let go of.
+#[derive(Drop)]
+pub enum LetGo<L: Ledger> {
+    /// There are none, or nobody sleeps, or a worker is on its way.
+    Tended(WasTended<L>),
+    /// A worker that slept.
+    Woken(WokenWorker),
 }
 
 impl<L: Ledger> LockedBook<L> {
@@ -56,20 +78,38 @@ impl<L: Ledger> LockedBook<L> {
     }
 
     /// Waits for the lock.
-    pub fn lock<R: Wait>(&self, rt: &R) -> MutexGuard<'_, PoolBook<L>> {
-        self.book.lock(rt)
+    pub fn lock<R: Wait>(&self, rt: &R) -> BookGuard<'_, L> {
+        BookGuard {
+            book: self.book.lock(rt),
+            owed: Owed,
+        }
+    }
+
+    /// Lets the lock go. Where a job waits, somebody sleeps and nobody is on its way, one worker is woken.
+    pub fn let_go(&self, guard: BookGuard<'_, L>) -> LetGo<L> {
+        let BookGuard { mut book, owed } = guard;
+        let Owed = owed;
+        match book.call_next() {
+            None => LetGo::Tended(WasTended::seen(&book)),
+            Some(call) => {
+                drop(book);
+                LetGo::Woken(WokenWorker {
+                    _queued: self.queued.ring_once(call),
+                })
+            }
+        }
     }
 
     /// Waits until the log is longer than n, or the book closed, and gives the lock.
-    pub fn wait_past<R: Wait>(&self, rt: &R, n: usize) -> MutexGuard<'_, PoolBook<L>>
-        ensures { (n < length (mutex_guard_value result).hold.contents.log) ⊎ ((mutex_guard_value result).rest.closed ≡ true) }
+    pub fn wait_past<R: Wait>(&self, rt: &R, n: usize) -> BookGuard<'_, L>
+        ensures { (n < length (mutex_guard_value result.book).hold.contents.log) ⊎ ((mutex_guard_value result.book).rest.closed ≡ true) }
     {
-        let mut guard = self.book.lock(rt);
+        let mut book = self.book.lock(rt);
         for _ in rt.forever() {
-            if guard.log().len() > n || guard.closed() {
-                return guard;
+            if book.log().len() > n || book.closed() {
+                return BookGuard { book, owed: Owed };
             }
-            guard = self.grown.wait(rt, guard);
+            book = self.grown.wait(rt, book, &ForEntry);
         }
         unreachable!()
     }
@@ -83,7 +123,7 @@ impl<L: Ledger> LockedBook<L> {
             if let Some(seen) = HasFinished::look(&guard, n) {
                 return seen;
             }
-            guard = self.finished.wait(rt, guard);
+            guard = self.finished.wait(rt, guard, &ForFinish);
         }
         unreachable!()
     }
@@ -94,13 +134,6 @@ impl<L: Ledger> LockedBook<L> {
             _queued: self.queued.ring(),
             _grown: self.grown.ring(),
             _finished: self.finished.ring(),
-        }
-    }
-
-    /// Wakes one worker that waits for a job: enough for one job that was submitted, where nobody is in `wait_past`.
-    pub fn wake_worker(&self) -> WokenWorker {
-        WokenWorker {
-            _queued: self.queued.ring_once(),
         }
     }
 
@@ -121,27 +154,40 @@ impl<L: Ledger> LockedBook<L> {
         &self,
         rt: &R,
         k: u16,
-    ) -> (
-        Result<Result<Job, WasOver<L>>, Fault>,
-        MutexGuard<'_, PoolBook<L>>,
-    )
+    ) -> (Result<Result<Job, WasOver<L>>, Fault>, BookGuard<'_, L>)
         ensures faults { IfErr result.0 IsTakeFault }
-        ensures runs { IfOk result.0 (λ given. IfOk given (λ job. run_at (mutex_guard_value result.1).hold k ≡ Some (Some job))) }
+        ensures runs { IfOk result.0 (λ given. IfOk given (λ job. run_at (mutex_guard_value result.1.book).hold k ≡ Some (Some job))) }
     {
-        let mut guard = self.book.lock(rt);
+        let mut book = self.book.lock(rt);
         for _ in rt.forever() {
-            match guard.take(k) {
-                Ok(Some(job)) => return (Ok(Ok(job)), guard),
+            match book.take(k) {
+                Ok(Some(job)) => return (Ok(Ok(job)), BookGuard { book, owed: Owed }),
                 Ok(None) => {}
-                Err(fault) => return (Err(fault), guard),
+                Err(fault) => return (Err(fault), BookGuard { book, owed: Owed }),
             }
-            if guard.closed() {
-                let over = WasOver::seen(&guard);
-                return (Ok(Err(over)), guard);
+            if book.closed() {
+                let over = WasOver::seen(&book);
+                return (Ok(Err(over)), BookGuard { book, owed: Owed });
             }
-            guard = self.queued.wait(rt, guard);
+            book = self.sleep(rt, book);
         }
         unreachable!()
+    }
+
+    /// A worker sleeps until it is woken, or for no reason, and takes the lock again.
+    fn sleep<'a, R: Wait>(
+        &self,
+        rt: &R,
+        book: MutexGuard<'a, PoolBook<L>>,
+    ) -> MutexGuard<'a, PoolBook<L>>
+        requires nothing { (mutex_guard_value book).hold.contents.waiting ≡ [] }
+        requires open { (mutex_guard_value book).rest.closed ≡ false }
+    {
+        let mut book = book;
+        let asleep = book.fall_asleep();
+        let mut book = self.queued.wait(rt, book, &asleep);
+        book.come_back(asleep);
+        book
     }
 
     /// Gives a worker a job, or says that the book was closed and nothing waited. The worker has room for both of its events.
@@ -156,7 +202,7 @@ impl<L: Ledger> LockedBook<L> {
     {
         let _ = events;
         let (answer, guard) = self.taken(rt, k);
-        drop(guard);
+        self.let_go(guard);
         self.grown.ring();
         answer
     }

@@ -1,7 +1,7 @@
 //! What a thread saw of a book while it held the lock, kept once the lock is let go. No clause knows what lies under a lock
 //! then. But these values are made here alone, each where a book that is lent is just so: who has one has seen it.
 ghost use Rattle.std.specs.Prelude.{◌≡◌, ◌<◌, ◌+◌, ◌⊎◌, true, false, [], Ok, Err, IfOk, IfErr, IfSome, IfNone, MatchBool, cond, is_ok};
-ghost use Rattle.uv_pool.specs.Book.{IsFinishedPast};
+ghost use Rattle.uv_pool.specs.Book.{IsFinishedPast, IsTended};
 ghost use Rattle.uv_pool.specs.Calls.{Finishes};
 
 use crate::book::PoolBook;
@@ -57,6 +57,21 @@ impl<L: Ledger> WasOver<L> {
     {
         let _ = book;
         WasOver { of: PhantomData }
+    }
+}
+
+/// No job waited while all that sleep were left asleep: nothing waited for a worker, or nobody slept, or one that was called was on its way.
+#[derive(Drop)]
+pub struct WasTended<L: Ledger> {
+    of: PhantomData<L>,
+}
+
+impl<L: Ledger> WasTended<L> {
+    pub(crate) fn seen(book: &PoolBook<L>) -> WasTended<L>
+        requires { IsTended book.now }
+    {
+        let _ = book;
+        WasTended { of: PhantomData }
     }
 }
 

@@ -90,7 +90,7 @@ fn keep(
     key: &Key,
     step: Reaching,
 ) -> Result<(), AllocError> {
-    if !seen.has(key) {
+    if seen.number(key).is_none() {
         seen.add(key)?;
         reached.push(step)?;
     }

@@ -2,7 +2,7 @@
 use Rattle.uv_sections.proofs.Names.{◌≡◌, ℕ, [], refl, sym, ap, ◌∙◌, WatcherKind, list_of, yet_of, Walk, all_yet, SpliceUndo, IsSpliced, Place, State, watched, with_watched, refreshed, request_of, Image, working_of, OnlySlots, StandsFor, Listed, all_but_two, ids_moved, clock_is, time_is}
 use Rattle.uv_records.specs.declared.lists.ListName.TheVariants as name
 use Rattle.uv_arena.specs.Image as arena
-use Rattle.uv_watch.specs.Watch as watch
+use Rattle.uv_handle.specs.Watch as watch
 use Rattle.uv_requests.specs.Calls as work
 use Rattle.uv_sections.proofs.Keeping.{sections_kept, all_timers, listed_as, stands_then}
 use Rattle.uv_sections.proofs.Watched.{list_is, list_now, yet_now, others_stay, arena_stays, time_stays, state_stays, beside_closing, beside_done}

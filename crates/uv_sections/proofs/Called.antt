@@ -1,8 +1,10 @@
 -- A callback begins behind a change: of what was freed, or of what moved on.
-use Rattle.uv_sections.proofs.Names.{◌≡◌, ◌≢◌, ℕ, Bool, true, if◌then◌else◌, List, Option, None, ◌<◌, ◌^◌, drop, Some, sym, ap, ◌∙◌, subst, Id, Var, Seen, Callback, HandleRecord, WatcherKind, woken, Request, Program, arena_size, Run, Walking, Timers, TimersOf, Collecting, Firing, restarted, stopped, Fires, CallsFirst, OfEach, Goes, Place, State, with_handle, digest_in, Moves, calls, close_front, collect_request, walk, walk_async, call, call_due, stage_polled, time_polled, at, fire, front_moved, named, count_of, Record, Recorded, Image, Held, IsReady, StandsFor, RequestGone, HandleGone, NamedMoved, moved_state}
+use Rattle.uv_sections.proofs.Names.{◌≡◌, ◌≢◌, ℕ, Bool, true, if◌then◌else◌, List, Option, None, ◌<◌, ◌^◌, drop, Some, sym, ap, ◌∙◌, subst, Id, Var, Seen, Callback, HandleRecord, WatcherKind, woken, Request, Program, arena_size, Run, Walking, Timers, TimersOf, Collecting, Firing, restarted, stopped, OfEach, Goes, Place, State, with_handle, digest_in, Moves, calls, close_front, collect_request, walk, walk_async, call, call_due, stage_polled, time_polled, at, fire, front_moved, named, count_of, Record, Recorded, Image, Held, IsReady, StandsFor, RequestGone, HandleGone, NamedMoved, moved_state}
 use Rattle.uv_ids.specs.declared.seen.Seen.TheVariants as seen
 use Rattle.uv_ids.specs.declared.seen.Callback.TheVariants as callback
 use Rattle.uv_records.specs.declared.lists.WatcherKind.TheVariants as watcher
+use Rattle.uv_sections.proofs.Fires.{Fires}
+use Rattle.uv_sections.proofs.FromHeap.{CallsFirst}
 use Rattle.uv_sections.proofs.Moves.{calls_all}
 
 -- how often it was called is what it was before the change

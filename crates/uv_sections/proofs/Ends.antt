@@ -1,5 +1,5 @@
 -- The front of those that end is gone, and its slot is free: what the memory stands for then.
-use Rattle.uv_sections.proofs.Names.{◌≡◌, ◌++◌, ◌∷◌, ℕ, eqb, Bool, ◌||◌, List, [], map, drop, Some, inl, inr, true, false, refl, sym, ap, ◌∙◌, subst, eq-eqb, Id, Due, HandleRecord, ListName, freed, without, plain_slots, TakeUndo, IsTaken, Request, CollectWorkUndo, IsCollected, Working, id_in, Place, same_id, State, with_id, front_request, IsTimer, has_id, IsReached, Content, Asked, handle_of, request_of, FirstIs, Image, counted_of, working_of, OnlyHandles, OnlyWork, StandsFor, list_is, asked_there, first_one, front_there, RequestGone, HandleGone, time_is}
+use Rattle.uv_sections.proofs.Names.{◌≡◌, ◌++◌, ◌∷◌, ℕ, eqb, Bool, ◌||◌, List, [], map, drop, Some, inl, inr, true, false, refl, sym, ap, ◌∙◌, subst, eq-eqb, Id, Due, HandleRecord, ListName, freed, without, plain_slots, TakeUndo, IsTaken, Request, CollectWorkUndo, IsCollected, Working, id_in, Place, same_id, State, with_id, front_request, IsTimer, has_id, IsReached, Content, Asked, handle_of, request_of, Image, counted_of, working_of, OnlyHandles, OnlyWork, StandsFor, list_is, asked_there, front_there, RequestGone, HandleGone, time_is, option_and_then}
 use Rattle.uv_records.specs.declared.lists.ListName.TheVariants as name
 use Rattle.uv_arena.specs.Image as arena
 use Rattle.uv_model.specs.Content as model
@@ -58,40 +58,34 @@ module _ (i j : Image Place) (last : ℕ) (so : i.arena.last ≡ last) (d : Id) 
 
   -- ---- a handle
 
-  module _ (frame : OnlyHandles i j) (e : Id) (q : HandleRecord) (f : FirstIs i.arena name.ClosingYet e q) (g : HandleRecord) (u : TakeUndo)
-      (c : IsTaken handle_of Handle (counted_of i) (counted_of j) d (Handle g) u) where
-    one : d ≡ e
-    one = first_one i.arena name.ClosingYet e d f.first c.first
-
-    freed_closing : plain_slots j.arena ≡ freed last e (plain_slots i.arena)
-    freed_closing = c.plain ∙ (λ l. freed (so l) (one l) (plain_slots i.arena))
-
-    off_closing : (l : ListName) → arena.members j.arena l ≡ without eqb (arena.members i.arena l) e.slot
-    off_closing l = c.lists l ∙ ap (λ (z : Id). without eqb (arena.members i.arena l) z.slot) one
+  module _ (frame : OnlyHandles i j) (q : HandleRecord) (u : TakeUndo)
+      (c : IsTaken handle_of Handle (counted_of i) (counted_of j) d (Handle q) u) where
+    freed_closing : plain_slots j.arena ≡ freed last d (plain_slots i.arena)
+    freed_closing = c.plain ∙ ap (λ n. freed n d (plain_slots i.arena)) so
 
     -- it closes, so it is no active timer
-    no_timer : (s : State) → StandsFor i s → IsReached s → (due : Due) → IsTimer s due e → ⊥
+    no_timer : (s : State) → StandsFor i s → IsReached s → (due : Due) → IsTimer s due d → ⊥
     no_timer s st reached due timer =
-        let front = front_there i s name.ClosingYet e st f.first in
-        let on : has_id (s.closing.list ++ s.closing.yet) e ≡ true =
-        ap (λ ids. has_id (s.closing.list ++ ids) e) front ∙ in_middle s.closing.list (map (id_in i.arena) f.first.rest) e in
-        let closes = reached.closing.each e on in
-        let off : closes.its.active ≡ false = reached.shut e closes.its closes.holds closes.closing in
+        let front = front_there i s name.ClosingYet d st c.first in
+        let on : has_id (s.closing.list ++ s.closing.yet) d ≡ true =
+        ap (λ ids. has_id (s.closing.list ++ ids) d) front ∙ in_middle s.closing.list (map (id_in i.arena) c.first.rest) d in
+        let closes = reached.closing.each d on in
+        let off : closes.its.active ≡ false = reached.shut d closes.its closes.holds closes.closing in
         let same : Some closes.its ≡ Some timer.its = sym closes.holds ∙ timer.holds in
         let active = timer.active in
         cc
 
-    pub handle_gone : (s : State) → StandsFor i s → IsReached s → HandleGone last j s e q
+    pub handle_gone : (s : State) → StandsFor i s → IsReached s → HandleGone last j s d q
     handle_gone s st reached =
-        let a = freed last e s.arena in
+        let a = freed last d s.arena in
         let t : State = record s { arena = a; closing = record s.closing { yet = drop 1 s.closing.yet } } in
         record {
-          front = front_is i s st name.ClosingYet e (Some q) f.first f.handle;
+          front = front_is i s st name.ClosingYet d (Some q) c.first (ap (option_and_then handle_of) c.was);
           stands = stands_then i j s t st frame
               (sections_kept s a s.watchers (record s.closing { yet = drop 1 s.closing.yet }) s.done s.time)
               (time_is st)
-              (freed_slots i s st j.arena last e name.ClosingYet f.first freed_closing off_closing)
-              (freed_lists i s st j.arena last e name.ClosingYet f.first freed_closing off_closing t
+              (freed_slots i s st j.arena last d name.ClosingYet c.first freed_closing c.lists)
+              (freed_lists i s st j.arena last d name.ClosingYet c.first freed_closing c.lists t
               (beside_closing_yet s a (drop 1 s.closing.yet)) refl)
-              (freed_timers i s st j.arena last e name.ClosingYet f.first freed_closing off_closing reached (no_timer s st reached));
+              (freed_timers i s st j.arena last d name.ClosingYet c.first freed_closing c.lists reached (no_timer s st reached));
         }

@@ -1,5 +1,5 @@
 -- The front of those that a section has yet to run moves to the end of its list: what the memory stands for then.
-use Rattle.uv_sections.proofs.Names.{◌≡◌, ◌≢◌, ◌++◌, ◌∷◌, [], ℕ, Bool, true, false, map, drop, Some, None, refl, sym, ap, ◌∙◌, map-append, Id, HandleRecord, WatcherKind, ListName, woken, list_of, yet_of, Walk, moved_on, plain_slots, record_at, id_in, listed_id, WalkUndo, IsMovedOn, pending_of, Place, State, front, watched, with_handle, members, front_moved, Content, handle_of, FirstIs, NoHandleFirst, Image, counted_of, OnlyHandles, StandsFor, slots_set, ids_kept, Listed, all_but_two, beside_lists, ids_moved, front_there, first_one, HandleMoved, moved_state, time_is}
+use Rattle.uv_sections.proofs.Names.{◌≡◌, ◌≢◌, ◌++◌, ◌∷◌, [], ℕ, Bool, true, false, map, drop, Some, None, refl, sym, ap, ◌∙◌, map-append, Id, HandleRecord, WatcherKind, ListName, woken, list_of, yet_of, Walk, moved_on, plain_slots, record_at, id_in, listed_id, WalkUndo, IsMovedOn, pending_of, Place, State, front, watched, with_handle, members, front_moved, Content, handle_of, NoHandleFirst, Image, counted_of, OnlyHandles, StandsFor, slots_set, ids_kept, Listed, all_but_two, beside_lists, ids_moved, front_there, HandleMoved, moved_state, time_is}
 use Rattle.uv_records.specs.declared.lists.WatcherKind.TheVariants as watcher
 use Rattle.uv_records.specs.Slots as plain
 use Rattle.uv_arena.specs.Image as arena
@@ -19,17 +19,11 @@ pub none_moves : (i : Image Place) (s : State) → StandsFor i s → (w : Watche
     → front s (watched s w).yet ≡ None
 none_moves i s h w none = ap (front s) (sym (yet_is s w)) ∙ none_first i s h (yet_of w) none
 
-module _ (i j : Image Place) (frame : OnlyHandles i j) (w : WatcherKind) (e : Id) (pending : Bool)
-    (u : WalkUndo) (c : IsMovedOn handle_of Handle (counted_of i) (counted_of j) w e pending u) where
-  module _ (d : Id) (q : HandleRecord) (f : FirstIs i.arena (yet_of w) d q) where
-    one : e ≡ d
-    one = first_one i.arena (yet_of w) d e f.first c.first
-
-    handle_e : record_at handle_of i.arena e ≡ Some q
-    handle_e = ap (record_at handle_of i.arena) one ∙ f.handle
-
+module _ (i j : Image Place) (frame : OnlyHandles i j) (w : WatcherKind) (d : Id) (pending : Bool)
+    (u : WalkUndo) (c : IsMovedOn handle_of Handle (counted_of i) (counted_of j) w d pending u) where
+  module _ (q : HandleRecord) (holds : record_at handle_of i.arena d ≡ Some q) where
     pub pends : pending ≡ pending_of w (Some q)
-    pends = c.was ∙ ap (pending_of w) handle_e
+    pends = c.was ∙ ap (pending_of w) holds
 
     module _ (s : State) (st : StandsFor i s) where
       abbrev walk : Walk Id
@@ -41,15 +35,15 @@ module _ (i j : Image Place) (frame : OnlyHandles i j) (w : WatcherKind) (e : Id
         here : Listed j.arena t (list_of w)
         here =
             let old = arena.members i.arena (list_of w) in
-            let same : id_in i.arena e.slot ≡ d = listed_id i.arena e c.first.listed.held ∙ one in
+            let same : id_in i.arena d.slot ≡ d = listed_id i.arena d c.first.listed.held in
             let was : (watched s w).list ≡ map (id_in i.arena) old = sym (list_is s w) ∙ st.lists (list_of w) in
-            listed_as i.arena j.arena t (list_of w) walk.list (old ++ e.slot ∷ []) ids
-            ((λ l. was l ++ sym same l ∷ []) ∙ sym (map-append (id_in i.arena) old (e.slot ∷ [])))
+            listed_as i.arena j.arena t (list_of w) walk.list (old ++ d.slot ∷ []) ids
+            ((λ l. was l ++ sym same l ∷ []) ∙ sym (map-append (id_in i.arena) old (d.slot ∷ [])))
             (lists (list_of w) ∙ list_now s w walk) (ap (λ (x : Walk ℕ). x.list) c.walk)
 
         there : Listed j.arena t (yet_of w)
         there =
-            let front = front_there i s (yet_of w) e st c.first in
+            let front = front_there i s (yet_of w) d st c.first in
             listed_as i.arena j.arena t (yet_of w) walk.yet c.first.rest ids (ap (drop 1) (sym (yet_is s w) ∙ front))
             (lists (yet_of w) ∙ yet_now s w walk) (ap (λ (x : Walk ℕ). x.yet) c.walk)
 
@@ -70,11 +64,8 @@ module _ (i j : Image Place) (frame : OnlyHandles i j) (w : WatcherKind) (e : Id
           let m = front_moved s w d in
           let t = with_handle m d (woken q) in
           let set : plain_slots j.arena ≡ record (plain_slots i.arena) { slots = plain.with_held (plain_slots i.arena).slots d (Handle (woken q)) } =
-          c.awake q handle_e on
-          ∙ ap (λ z. (let x : plain.Slots Content = record (plain_slots i.arena) {
-            slots = plain.with_held (plain_slots i.arena).slots z (Handle (woken q));
-          } in x)) one in
-          let was = handles.content_of handle_of i.arena d q f.handle in
+          c.awake q holds on in
+          let was = handles.content_of handle_of i.arena d q holds in
           let ids = ids_kept i.arena j.arena d (Handle (woken q)) was.0 was.1 set in
           let slots : plain_slots j.arena ≡ t.arena =
           slots_set i s j.arena d (Handle (woken q)) st set
@@ -89,7 +80,7 @@ module _ (i j : Image Place) (frame : OnlyHandles i j) (w : WatcherKind) (e : Id
 
       pub handle_moved : HandleMoved w j s d q pending
       handle_moved = record {
-        front = ap (front s) (sym (yet_is s w)) ∙ front_is i s st (yet_of w) d (Some q) f.first f.handle;
+        front = ap (front s) (sym (yet_is s w)) ∙ front_is i s st (yet_of w) d (Some q) c.first holds;
         was = pends;
         stands = at pending refl;
       } where

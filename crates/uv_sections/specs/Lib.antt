@@ -1,3 +1,3 @@
 pub mod Behind
-pub mod Gone
 pub mod Moved
+pub mod Section

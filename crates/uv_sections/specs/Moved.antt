@@ -5,11 +5,11 @@ use Rattle.uv_ids.specs.declared.id.Var.{Var}
 use Rattle.uv_records.specs.declared.handle.HandleRecord.{HandleRecord}
 use Rattle.uv_records.specs.declared.lists.WatcherKind.{WatcherKind}
 use Rattle.uv_records.specs.Handles.{woken}
-use Rattle.uv_watch.specs.Watch.{pending_of}
+use Rattle.uv_handle.specs.Watch.{pending_of}
 use Rattle.uv_model.specs.declared.place.Place.{Place}
 use Rattle.uv_model.specs.State.{State, front, watched, with_handle}
 use Rattle.uv_model.specs.Next.{front_moved}
-use Rattle.uv_step.specs.Image.{Image}
+use Rattle.uv_memory.specs.Image.{Image}
 use Rattle.uv_stands.specs.Stands.{StandsFor}
 
 -- one that a callback was pending of isn't pending any more

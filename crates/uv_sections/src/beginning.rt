@@ -2,34 +2,22 @@
 ghost use Rattle.std.specs.Prelude.{◌≡◌, Some, [], if◌then◌else◌};
 ghost use Rattle.uv_records.specs.declared.lists.ListName.TheVariants.{ClosingYet, DoneYet};
 ghost use Rattle.uv_records.specs.Lists.{yet_of};
-ghost use Rattle.uv_records.specs.Walks.{all_yet};
 ghost use Rattle.uv_arena.specs.Image.{members};
 ghost use Rattle.uv_script.specs.Program.{order_of};
 ghost use Rattle.uv_script.specs.declared.op.MainOp.TheVariants.{Run as run_line};
-ghost use Rattle.uv_model.specs.State.{State, watched, with_watched, refreshed};
+ghost use Rattle.uv_model.specs.State.{State, refreshed};
 ghost use Rattle.uv_model.specs.Next.{begins, begin_walk, begin_closing, begin_done, main_step, refreshes};
-ghost use Rattle.uv_step.specs.Image.{held};
-ghost use Rattle.uv_step.specs.Undo.{Recorded};
+ghost use Rattle.uv_memory.specs.Image.{held};
+ghost use Rattle.uv_memory.specs.Undo.{Recorded};
 ghost use Rattle.uv_stands.specs.Doing.{Returns, Goes};
 ghost use Rattle.uv_stands.specs.Stands.{StandsFor};
 
 use crate::standing::stand_in;
 use uv_ids::{Mode, Order, Phase, Seen};
+use uv_memory::Memory;
 use uv_model::{Place, Run, Stage};
 use uv_records::WatcherKind;
 use uv_script::Script;
-use uv_step::Memory;
-
-/// The whole list of a kind is yet to run.
-fn make_all_yet(memory: &mut Memory<Place>, kind: WatcherKind)
-    requires empty { members (held memory.old).image.arena (yet_of kind) ≡ [] }
-    ensures recorded { Recorded memory.new.step_record (held memory.old) (held memory.new) }
-    ensures stands { (s : State) → StandsFor (held memory.old).image s
-        → StandsFor (held memory.new).image (with_watched s kind (all_yet (watched s kind))) }
-    ensures pieces { memory.new.slots.room ≡ memory.old.slots.room }
-{
-    memory.begin(kind);
-}
 
 /// Begins a section of watchers.
 pub fn begin_walk(memory: &mut Memory<Place>, run: Run, kind: WatcherKind) -> Seen
@@ -38,20 +26,9 @@ pub fn begin_walk(memory: &mut Memory<Place>, run: Run, kind: WatcherKind) -> Se
     ensures goes { Goes (λ s. begin_walk s run kind) (held memory.old).image (held memory.new).image (Some result) }
     ensures pieces { memory.new.slots.room ≡ memory.old.slots.room }
 {
-    make_all_yet(memory, kind);
+    memory.begin(kind);
     stand_in(memory, run, Stage::Walking(kind));
     Seen::Section(kind.phase())
-}
-
-/// The handles that close are yet to be called.
-fn close_all_yet(memory: &mut Memory<Place>)
-    requires empty { members (held memory.old).image.arena ClosingYet ≡ [] }
-    ensures recorded { Recorded memory.new.step_record (held memory.old) (held memory.new) }
-    ensures stands { (s : State) → StandsFor (held memory.old).image s
-        → StandsFor (held memory.new).image (record s { closing = all_yet s.closing }) }
-    ensures pieces { memory.new.slots.room ≡ memory.old.slots.room }
-{
-    memory.begin_closing();
 }
 
 /// Begins the closing section.
@@ -61,20 +38,9 @@ pub fn begin_closing(memory: &mut Memory<Place>, run: Run) -> Seen
     ensures goes { Goes (λ s. begin_closing s run) (held memory.old).image (held memory.new).image (Some result) }
     ensures pieces { memory.new.slots.room ≡ memory.old.slots.room }
 {
-    close_all_yet(memory);
+    memory.begin_closing();
     stand_in(memory, run, Stage::Closing);
     Seen::Section(Phase::Closing)
-}
-
-/// The requests that are done are yet to call back.
-fn end_all_yet(memory: &mut Memory<Place>)
-    requires empty { members (held memory.old).image.arena DoneYet ≡ [] }
-    ensures recorded { Recorded memory.new.step_record (held memory.old) (held memory.new) }
-    ensures stands { (s : State) → StandsFor (held memory.old).image s
-        → StandsFor (held memory.new).image (record s { done = all_yet s.done }) }
-    ensures pieces { memory.new.slots.room ≡ memory.old.slots.room }
-{
-    memory.begin_done();
 }
 
 /// Begins the done section.
@@ -84,20 +50,9 @@ pub(crate) fn begin_done(memory: &mut Memory<Place>, run: Run) -> Seen
     ensures goes { Goes (λ s. begin_done s run) (held memory.old).image (held memory.new).image (Some result) }
     ensures pieces { memory.new.slots.room ≡ memory.old.slots.room }
 {
-    end_all_yet(memory);
+    memory.begin_done();
     stand_in(memory, run, Stage::Done);
     Seen::Section(Phase::Done)
-}
-
-/// The time is refreshed, and the requests that are done are yet to call back.
-fn refresh_and_end(memory: &mut Memory<Place>)
-    requires empty { members (held memory.old).image.arena DoneYet ≡ [] }
-    ensures recorded { Recorded memory.new.step_record (held memory.old) (held memory.new) }
-    ensures stands { (s : State) → StandsFor (held memory.old).image s
-        → StandsFor (held memory.new).image (record (refreshed s) { done = all_yet s.done }) }
-    ensures pieces { memory.new.slots.room ≡ memory.old.slots.room }
-{
-    memory.leave_poll();
 }
 
 /// Leaves the poll: the time is refreshed, and the done section begins.
@@ -107,7 +62,7 @@ pub fn leave_poll(memory: &mut Memory<Place>, run: Run) -> Seen
     ensures goes { Goes (λ s. begin_done (refreshed s) run) (held memory.old).image (held memory.new).image (Some result) }
     ensures pieces { memory.new.slots.room ≡ memory.old.slots.room }
 {
-    refresh_and_end(memory);
+    memory.leave_poll();
     stand_in(memory, run, Stage::Done);
     Seen::Section(Phase::Done)
 }

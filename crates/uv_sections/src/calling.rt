@@ -5,23 +5,23 @@ ghost use Rattle.uv_ids.specs.declared.seen.Seen.TheVariants.{Io as io};
 ghost use Rattle.uv_model.specs.State.{State};
 ghost use Rattle.uv_model.specs.Next.{Moves, calls, stage_polled, time_polled};
 ghost use Rattle.uv_ids.specs.declared.seen.Callback.TheVariants as callback;
-ghost use Rattle.uv_step.specs.declared.record.Naming.TheVariants.{Same as same};
-ghost use Rattle.uv_step.specs.Image.{held};
+ghost use Rattle.uv_memory.specs.declared.record.Naming.TheVariants.{Same as same};
+ghost use Rattle.uv_memory.specs.Image.{held};
 ghost use Rattle.uv_records.specs.Names.{named, count_of};
-ghost use Rattle.uv_step.specs.Undo.{CanUnwind, Extended};
+ghost use Rattle.uv_memory.specs.Undo.{CanUnwind, Extended};
 ghost use Rattle.uv_stands.specs.Doing.{Returns, Goes};
 ghost use Rattle.uv_stands.specs.Ready.{IsReady};
 ghost use Rattle.uv_stands.specs.Stands.{StandsFor};
 
 use crate::polling::polled;
 use uv_ids::{Callback, Id, Seen, Var};
+use uv_memory::Memory;
 use uv_model::{Place, Run, body_from};
 use uv_script::Script;
 use uv_stands::call_name;
-use uv_step::Memory;
 
 /// The last step begins a callback of a name as well: one call more, and the body of that call is under way.
-pub fn begin_body(
+pub(crate) fn begin_body(
     memory: &mut Memory<Place>,
     script: &Script,
     run: Run,

@@ -4,18 +4,18 @@ ghost use Rattle.uv_model.specs.State.{State};
 ghost use Rattle.uv_script.specs.Program.{order_of};
 ghost use Rattle.uv_model.specs.declared.place.Way.TheVariants.{ToTimers as to_timers, ToPending as to_pending};
 ghost use Rattle.uv_model.specs.Next.{ends, goes, goes_by, idled_at, idled_then, time_at, turns};
-ghost use Rattle.uv_step.specs.Image.{held};
-ghost use Rattle.uv_step.specs.Undo.{Recorded};
+ghost use Rattle.uv_memory.specs.Image.{held};
+ghost use Rattle.uv_memory.specs.Undo.{Recorded};
 ghost use Rattle.uv_stands.specs.Doing.{OfEach, Returns, Goes};
 ghost use Rattle.uv_stands.specs.Stands.{StandsFor};
 
 use crate::standing::{stand_at, stand_in};
 use uv_ids::{Order, Phase, Seen};
+use uv_memory::Memory;
 use uv_model::{Place, Run, Stage, TimersOf, Timing, Turn, Way, way};
 use uv_records::ListName;
 use uv_script::Script;
 use uv_stands::{has_members, is_alive};
-use uv_step::Memory;
 
 /// Clears the stop flag.
 fn clear_stop(memory: &mut Memory<Place>)
@@ -28,7 +28,7 @@ fn clear_stop(memory: &mut Memory<Place>)
 }
 
 /// The run ends, and says whether the loop is alive; the stop flag is cleared.
-pub fn end_run(memory: &mut Memory<Place>, run: Run) -> Seen
+pub(crate) fn end_run(memory: &mut Memory<Place>, run: Run) -> Seen
     requires line { run.line < 2 ^ 63 }
     ensures returns { Returns memory.new.step_record (held memory.old) (held memory.new) }
     ensures goes { Goes (λ s. ends s run) (held memory.old).image (held memory.new).image (Some result) }

@@ -7,7 +7,6 @@
 mod beginning;
 mod calling;
 mod freeing;
-mod fronts;
 mod iterating;
 mod polling;
 mod sections;
@@ -16,8 +15,8 @@ mod timers;
 mod walking;
 
 pub use beginning::{begin_closing, begin_run, begin_walk, leave_poll};
-pub use calling::{begin_body, call_io};
-pub use iterating::{end_run, turn};
+pub use calling::call_io;
+pub use iterating::turn;
 pub use polling::{begin_poll, begin_unwoken_async, leave_polled};
 pub use sections::{in_closing, in_done, in_walk};
 pub use standing::stand_at;

@@ -9,8 +9,8 @@ ghost use Rattle.uv_model.specs.Limits.{LONGEST_POLL};
 ghost use Rattle.uv_model.specs.State.{State};
 ghost use Rattle.uv_model.specs.Timeout.{deadline_of};
 ghost use Rattle.uv_model.specs.Next.{begins, begin_poll, leave_polled, stage_polled, time_polled};
-ghost use Rattle.uv_step.specs.Image.{held};
-ghost use Rattle.uv_step.specs.Undo.{Recorded};
+ghost use Rattle.uv_memory.specs.Image.{held};
+ghost use Rattle.uv_memory.specs.Undo.{Recorded};
 ghost use Rattle.uv_stands.specs.Doing.{OfEach, Returns, Goes};
 ghost use Rattle.uv_stands.specs.Ready.{IsReady};
 ghost use Rattle.uv_stands.specs.Stands.{StandsFor};
@@ -18,10 +18,10 @@ ghost use Rattle.uv_stands.specs.Stands.{StandsFor};
 use crate::beginning::{begin_done, begin_empty};
 use crate::standing::stand_in;
 use uv_ids::{Phase, Seen};
+use uv_memory::Memory;
 use uv_model::{Place, Run, Stage};
 use uv_records::WatcherKind;
 use uv_stands::{is_woken, poll_timeout};
-use uv_step::Memory;
 
 /// When the poll is over, at the latest, in ms; none is never.
 fn deadline_of(memory: &Memory<Place>, timeout: Option<u64>) -> Option<u64>

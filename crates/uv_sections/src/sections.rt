@@ -5,7 +5,7 @@ ghost use Rattle.uv_records.specs.declared.lists.WatcherKind.TheVariants.{Async 
 ghost use Rattle.uv_arena.specs.Image.{members};
 ghost use Rattle.uv_script.specs.Program.{arena_size};
 ghost use Rattle.uv_model.specs.Next.{collect_request, close_front, after_walk, walk, walk_async, in_walk};
-ghost use Rattle.uv_step.specs.Image.{held};
+ghost use Rattle.uv_memory.specs.Image.{held};
 ghost use Rattle.uv_stands.specs.Doing.{Returns, Goes};
 ghost use Rattle.uv_stands.specs.Ready.{IsReady};
 ghost use Rattle.uv_sections.specs.Behind.{IsClearAfter};
@@ -16,10 +16,10 @@ use crate::iterating::turn;
 use crate::polling::begin_poll;
 use crate::walking::{walk, walk_async};
 use uv_ids::Seen;
+use uv_memory::Memory;
 use uv_model::{Place, Run, Turn};
 use uv_records::WatcherKind;
 use uv_script::Script;
-use uv_step::Memory;
 
 /// Goes on in the done section: the front of the requests that are done calls back, or the async handles begin.
 pub fn in_done(memory: &mut Memory<Place>, script: &Script, run: Run) -> Seen

@@ -2,12 +2,12 @@
 ghost use Rattle.std.specs.Prelude.{◌≡◌};
 ghost use Rattle.uv_model.specs.State.{State};
 ghost use Rattle.uv_model.specs.Next.{at};
-ghost use Rattle.uv_step.specs.Image.{held};
-ghost use Rattle.uv_step.specs.Undo.{CanUnwind, Extended};
+ghost use Rattle.uv_memory.specs.Image.{held};
+ghost use Rattle.uv_memory.specs.Undo.{CanUnwind, Extended};
 ghost use Rattle.uv_stands.specs.Stands.{StandsFor};
 
+use uv_memory::Memory;
 use uv_model::{Place, Run, Stage};
-use uv_step::Memory;
 
 /// After the last step the loop is at this place.
 pub fn stand_at(memory: &mut Memory<Place>, place: Place)

@@ -3,21 +3,22 @@ ghost use Rattle.std.specs.Prelude.{◌≡◌, ◌<◌, ◌^◌, Some, None, IfS
 ghost use Rattle.uv_script.specs.Program.{Program};
 ghost use Rattle.uv_model.specs.declared.place.Timing.TheVariants.{Collecting};
 ghost use Rattle.uv_model.specs.Next.{call_due, fire, collect, timers};
-ghost use Rattle.uv_step.specs.Image.{held};
+ghost use Rattle.uv_memory.specs.Image.{held};
 ghost use Rattle.uv_stands.specs.Doing.{Returns, Goes};
 ghost use Rattle.uv_stands.specs.Ready.{IsReady};
-ghost use Rattle.uv_timing.specs.Section.{CollectsNone, FiresNone};
+ghost use Rattle.uv_sections.specs.Section.{CollectsNone, FiresNone};
 
 use crate::calling::begin_body;
 use crate::iterating::turn;
 use crate::standing::stand_in;
+use uv_handle::handle_at;
 use uv_ids::{Callback, Id, Seen};
+use uv_memory::Memory;
 use uv_model::{Place, Run, Stage, TimersOf, Timing, Turn};
 use uv_script::Script;
-use uv_step::Memory;
-use uv_timing::{call_first, collect_timer, fire_timer};
+use uv_timer::{TimerChange, first_due};
 
-/// Calls the front of the timers that are set aside. None, and nothing changed, where there is none.
+/// Calls the front of the timers that are set aside, which is set again if it repeats. None, and nothing changed, where there is none.
 fn call_timer(memory: &mut Memory<Place>, script: &Script, run: Run, part: TimersOf) -> Option<Seen>
     requires ready { IsReady (held memory.old) }
     ensures returns { IfSome result (λ _. Returns memory.new.step_record (held memory.old) (held memory.new)) }
@@ -27,16 +28,20 @@ fn call_timer(memory: &mut Memory<Place>, script: &Script, run: Run, part: Timer
     ensures none { IfNone result (FiresNone (held memory.old).image) }
     ensures pieces { memory.new.slots.room ≡ memory.old.slots.room }
 {
-    match fire_timer(memory) {
+    memory.is_sound();
+    match memory.fire_timer() {
         None => None,
-        Some((id, name)) => {
-            let firing = Run {
-                stage: Stage::Timers(part, Timing::Firing),
-                ..run
-            };
-            begin_body(memory, script, firing, Callback::Handle, name);
-            Some(Seen::Call(name, id))
-        }
+        Some(id) => match handle_at(memory.slots(), id) {
+            Err(_) => unreachable!(),
+            Ok(handle) => {
+                let firing = Run {
+                    stage: Stage::Timers(part, Timing::Firing),
+                    ..run
+                };
+                begin_body(memory, script, firing, Callback::Handle, handle.name);
+                Some(Seen::Call(handle.name, id))
+            }
+        },
     }
 }
 
@@ -65,7 +70,9 @@ fn set_aside(memory: &mut Memory<Place>, run: Run, part: TimersOf) -> Option<Id>
     ensures none { IfNone result (CollectsNone (held memory.old).image) }
     ensures pieces { memory.new.slots.room ≡ memory.old.slots.room }
 {
-    match collect_timer(memory) {
+    memory.is_fit();
+    memory.is_sound();
+    match memory.collect_timer() {
         None => None,
         Some(id) => {
             let stage = Stage::Timers(part, Timing::Collecting);
@@ -90,7 +97,7 @@ fn collect(memory: &mut Memory<Place>, script: &Script, run: Run, part: TimersOf
     }
 }
 
-/// Calls the first timer, if it is due, straight from the heap. None, and nothing changed, where none is due.
+/// Calls the first timer, if it is due, straight from the heap, and sets it again if it repeats. None, and nothing changed, where none is due.
 fn call_from_heap(
     memory: &mut Memory<Place>,
     script: &Script,
@@ -105,15 +112,19 @@ fn call_from_heap(
     ensures none { IfNone result (CollectsNone (held memory.old).image) }
     ensures pieces { memory.new.slots.room ≡ memory.old.slots.room }
 {
-    match call_first(memory) {
+    memory.is_fit();
+    memory.is_sound();
+    match first_due(memory.slots(), memory.heap(), memory.times().time) {
         None => None,
-        Some((id, name)) => {
+        Some((id, handle)) => {
+            let change = TimerChange::again(memory.times(), handle);
+            memory.reschedule(id, change);
             let calling = Run {
                 stage: Stage::Timers(part, Timing::Collecting),
                 ..run
             };
-            begin_body(memory, script, calling, Callback::Handle, name);
-            Some(Seen::Call(name, id))
+            begin_body(memory, script, calling, Callback::Handle, handle.name);
+            Some(Seen::Call(handle.name, id))
         }
     }
 }

@@ -1,10 +1,10 @@
 //! Sections of watchers call the front of those that they have yet to run.
 ghost use Rattle.std.specs.Prelude.{◌≡◌, ◌≢◌, Option, Some, None, IfSome, IfNone};
 ghost use Rattle.uv_records.specs.declared.lists.WatcherKind.TheVariants.{Async as async};
-ghost use Rattle.uv_model.specs.State.{State, front, watched};
+ghost use Rattle.uv_model.specs.State.{front, watched};
 ghost use Rattle.uv_model.specs.Next.{walk, walk_async};
-ghost use Rattle.uv_step.specs.Image.{held};
-ghost use Rattle.uv_step.specs.Undo.{Recorded};
+ghost use Rattle.uv_memory.specs.Image.{held};
+ghost use Rattle.uv_memory.specs.Undo.{Recorded};
 ghost use Rattle.uv_stands.specs.Doing.{OfEach, Returns, Goes};
 ghost use Rattle.uv_stands.specs.Ready.{IsReady};
 ghost use Rattle.uv_sections.specs.Moved.{NamedMoved};
@@ -12,10 +12,10 @@ ghost use Rattle.uv_sections.specs.Moved.{NamedMoved};
 use crate::calling::begin_body;
 use crate::standing::stand_in;
 use uv_ids::{Callback, Id, Seen, Var};
+use uv_memory::Memory;
 use uv_model::{Place, Run, Stage};
 use uv_records::WatcherKind;
 use uv_script::Script;
-use uv_step::Memory;
 
 /// Moves the front of those that are yet to run to the end of its list: its name, and whether a callback of it was pending, which then
 /// isn't any more. None, and nothing changed, where there is none.

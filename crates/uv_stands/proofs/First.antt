@@ -1,7 +1,6 @@
 -- The first timer: the least entry of the heap.
-use Rattle.uv_stands.proofs.ProofNames.{◌≡◌, ◌-◌, ◌∷◌, [], List, min, map, Option, Some, None, slice_get, refl, sym, ap, subst, ◌∙◌, arith, is_lt, Ordering, Entry, IsInOrder, IsBeforeAll, counts_itself, LONGEST_POLL, Place, State, until_first, IsReached, Before, InOrder, Content, Image, StandsFor, timer_in}
+use Rattle.uv_stands.proofs.ProofNames.{◌≡◌, ◌-◌, ◌∷◌, [], List, min, map, Option, Some, None, slice_get, refl, ap, arith, is_lt, Ordering, Entry, IsInOrder, IsBeforeAll, counts_itself, LONGEST_POLL, Place, State, until_first, IsReached, Before, Content, Image, StandsFor, timer_in}
 use Rattle.uv_arena.specs.Image as arena
-use Rattle.uv_stands.proofs.Single.{time_is}
 
 -- an entry whose timer comes before each of the others comes before their entries
 pub before_all : (a : arena.Image Content) (f : Entry) (fs : List Entry) → Before f.due (map (timer_in a) fs) → IsBeforeAll f fs

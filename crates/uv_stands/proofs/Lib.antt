@@ -1,17 +1,24 @@
 pub mod Absent
 pub mod Edits
+pub mod Entries
 pub mod First
 pub mod Holding
+pub mod Keys
 pub mod Lists
 pub mod Living
 pub mod Loose
-mod ProofNames
 pub mod Naming
 pub mod Onto
+pub mod Ordered
 pub mod Pools
+mod ProofNames
+pub mod Retimed
 pub mod Returning
 pub mod Single
 pub mod Slots
+pub mod Starts
+pub mod Stops
+pub mod TakenOff
 pub mod Values
 pub mod Walked
 pub mod Without

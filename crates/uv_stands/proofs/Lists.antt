@@ -1,6 +1,5 @@
 -- The lists of a state and of the memory that stands for it, where all but one or two of them stay.
-use Rattle.uv_stands.proofs.ProofNames.{◌≡◌, ◌≢◌, ◌⊎◌, inl, inr, ℕ, Bool, List, map, Option, refl, sym, ap, ◌∙◌, subst, eqb_tells, Id, Due, ListName, number, number_apart, id_in, Named, Place, State, members, Content, Image, StandsFor}
-use Rattle.uv_records.specs.declared.lists.ListName.TheVariants as name
+use Rattle.uv_stands.proofs.ProofNames.{◌≡◌, ◌≢◌, ◌⊎◌, inl, inr, ℕ, Bool, List, map, Option, sym, ap, ◌∙◌, subst, eqb_tells, Id, Due, ListName, number, number_apart, id_in, Named, Place, State, members, Content, Image, StandsFor}
 use Rattle.uv_records.specs.Slots as plain
 use Rattle.uv_arena.specs.Image as arena
 use Rattle.uv_stands.proofs.Holding.{map_same}

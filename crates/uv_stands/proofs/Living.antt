@@ -1,5 +1,5 @@
 -- What keeps the loop alive is counted: the active referenced handles, and the open requests.
-use Rattle.uv_stands.proofs.ProofNames.{◌≡◌, ◌⊎◌, inl, inr, ℕ, zero, suc, ◌+◌, ◌||◌, Bool, true, false, if◌then◌else◌, List, [], ◌∷◌, ◌++◌, length, length-append, ◌<◌, ◌≤◌, slice_get, Option, Some, None, option_and_then, eq-eqb, refl, sym, ap, ◌∙◌, arith, list_any, both_ways, Id, Slot, active_count, one_if, keeps_alive, busy, is_open, same_itself, Content, Handle, Asked, Place, Request, handle_of, content_keeps, request_in, open_requests, State, request, is_alive, has_closing, has_id, run_ids, IsReached, Image, StandsFor, IsFit}
+use Rattle.uv_stands.proofs.ProofNames.{◌≡◌, ◌⊎◌, inl, inr, ℕ, zero, suc, ◌+◌, ◌||◌, Bool, true, false, if◌then◌else◌, List, [], ◌∷◌, ◌++◌, length, length-append, ◌<◌, ◌≤◌, slice_get, Option, Some, None, option_and_then, eq-eqb, refl, sym, ap, ◌∙◌, arith, list_any, both_ways, Id, Slot, active_count, one_if, busy, is_open, same_itself, Content, Handle, Asked, Place, Request, handle_of, content_keeps, request_in, open_requests, State, request, is_alive, has_closing, has_id, run_ids, IsReached, Image, StandsFor, IsFit}
 use Rattle.uv_records.specs.Count as counts
 use Rattle.uv_records.specs.Slots as plain
 use Rattle.uv_stands.proofs.Pools.{active_fit, opened_fit}

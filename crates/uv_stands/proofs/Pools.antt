@@ -1,10 +1,10 @@
 -- Requests change, and nothing else does: what the memory stands for then.
-use Rattle.uv_stands.proofs.ProofNames.{◌≡◌, ◌≢◌, ℕ, ◌+◌, ◌++◌, List, [], ◌∷◌, map, slice_get, length, length-append, Option, Some, sym, ap, ◌∙◌, arith, length-map, map-append, Id, ListName, Slot, Walk, active_count, IsFirst, plain_slots, held_slots, slot_at, Entry, busy, Request, Running, id_in, done_in, listed_id, content_is, Place, State, members, Content, Asked, handle_of, request_of, only_request, IsFit, Image, open_requests, StandsFor, timer_in}
+use Rattle.uv_stands.proofs.ProofNames.{◌≡◌, ◌≢◌, ℕ, ◌+◌, ◌++◌, List, [], ◌∷◌, map, slice_get, length, length-append, Option, Some, sym, ap, ◌∙◌, arith, length-map, map-append, Id, ListName, Walk, active_count, IsFirst, plain_slots, Entry, busy, Request, Running, id_in, done_in, listed_id, content_is, Place, State, members, Content, Asked, handle_of, request_of, only_request, IsFit, Image, open_requests, StandsFor, timer_in}
 use Rattle.uv_records.specs.declared.lists.ListName.TheVariants as name
 use Rattle.uv_records.specs.Slots as plain
 use Rattle.uv_arena.specs.Image as arena
 use Rattle.uv_requests.specs.Working as work
-use Rattle.uv_stands.proofs.Holding.{held_there, slot_or, slot_by, map_same}
+use Rattle.uv_stands.proofs.Holding.{held_there, slot_by, map_same}
 use Rattle.uv_stands.proofs.Single.{running_is}
 
 -- ---- what the memory alone says of the counts

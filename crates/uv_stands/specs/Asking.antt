@@ -10,7 +10,7 @@ use Rattle.uv_model.specs.declared.place.Place.{Place}
 use Rattle.uv_model.specs.State.{State, live_handle}
 use Rattle.uv_model.specs.Ops.{Done, on_handle, refuses}
 use Rattle.uv_work.specs.Content.{handle_of}
-use Rattle.uv_step.specs.Image.{Image}
+use Rattle.uv_memory.specs.Image.{Image}
 use Rattle.uv_stands.specs.declared.ask.Ask.{Ask}
 use Rattle.uv_stands.specs.declared.ask.Ask.TheVariants as ask
 use Rattle.uv_stands.specs.Stands.{StandsFor}

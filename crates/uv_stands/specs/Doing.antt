@@ -8,11 +8,11 @@ use Rattle.uv_model.specs.State.{State}
 use Rattle.uv_model.specs.Ops.{Done, do_op}
 use Rattle.uv_model.specs.Next.{Next, Moves}
 use Rattle.uv_order.specs.Reached.{IsReached}
-use Rattle.uv_step.specs.Record.{Record}
-use Rattle.uv_step.specs.Image.{Image, Held}
-use Rattle.uv_step.specs.Undo.{CanUnwind}
-use Rattle.uv_step.specs.Parts.{unwind}
-use Rattle.uv_step.specs.Fit.{IsFit}
+use Rattle.uv_memory.specs.Record.{Record}
+use Rattle.uv_memory.specs.Image.{Image, Held}
+use Rattle.uv_memory.specs.Undo.{CanUnwind}
+use Rattle.uv_memory.specs.Parts.{unwind}
+use Rattle.uv_memory.specs.Fit.{IsFit}
 use Rattle.uv_stands.specs.Stands.{StandsFor}
 
 -- a step was done, and its record gives back the very memory from before

@@ -9,7 +9,7 @@ use Rattle.uv_handle.specs.Counted.{record_at}
 use Rattle.uv_model.specs.declared.place.Place.{Place}
 use Rattle.uv_model.specs.Bounds.{line_of}
 use Rattle.uv_work.specs.Content.{handle_of}
-use Rattle.uv_step.specs.Image.{Held}
+use Rattle.uv_memory.specs.Image.{Held}
 use Rattle.uv_records.specs.Names.{named, count_of}
 
 pub record IsReady (h : Held Place) : Type 0 where

@@ -6,10 +6,12 @@
 
 mod ask;
 mod names;
+mod order;
 mod queries;
 
 pub use ask::Ask;
 pub use names::{allowed, bind_name, bound_id, call_name, is_live, live_handle};
+pub use order::timer_ids;
 pub use queries::{
     backend_timeout, has_members, has_pending, is_alive, is_in_use, is_woken, may_leave,
     poll_timeout,

@@ -1,21 +1,21 @@
 //! The names of a loop: what is live under them, and how they are bound and called.
-ghost use Rattle.std.specs.Prelude.{◌≡◌, ◌+◌, ◌<◌, ◌^◌, ◌-◌, Some, IfOk, length, is_some};
+ghost use Rattle.std.specs.Prelude.{◌≡◌, ◌+◌, ◌<◌, ◌^◌, ◌-◌, Some, IfOk, is_some};
 ghost use Rattle.uv_model.specs.State.{State, live, live_handle};
-ghost use Rattle.uv_step.specs.declared.record.Naming.TheVariants.{Same as same};
+ghost use Rattle.uv_memory.specs.declared.record.Naming.TheVariants.{Same as same};
 ghost use Rattle.uv_handle.specs.Counted.{record_at};
 ghost use Rattle.uv_work.specs.Content.{handle_of};
-ghost use Rattle.uv_step.specs.Image.{held};
+ghost use Rattle.uv_memory.specs.Image.{held};
 ghost use Rattle.uv_records.specs.Names.{named, binding, calling, count_of};
-ghost use Rattle.uv_step.specs.Undo.{CanUnwind, Extended};
+ghost use Rattle.uv_memory.specs.Undo.{CanUnwind, Extended};
 ghost use Rattle.uv_stands.specs.Asking.{Asked};
 ghost use Rattle.uv_stands.specs.Stands.{StandsFor};
 
 use crate::ask::Ask;
 use uv_handle::handle_at;
 use uv_ids::{Callback, Code, Id, Var};
+use uv_memory::Memory;
 use uv_model::Place;
 use uv_records::HandleRecord;
-use uv_step::Memory;
 
 /// What a name is bound to.
 pub fn bound_id(memory: &Memory<Place>, name: Var) -> Option<Id>

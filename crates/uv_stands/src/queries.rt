@@ -5,13 +5,13 @@ ghost use Rattle.uv_model.specs.Ops.{is_in_use};
 ghost use Rattle.uv_model.specs.Queries.{members};
 ghost use Rattle.uv_model.specs.Timeout.{is_alive, has_closing, has_pending, has_idle, has_passed, until_first, backend_timeout, poll_timeout};
 ghost use Rattle.uv_model.specs.Next.{is_woken, may_leave};
-ghost use Rattle.uv_step.specs.Image.{held};
+ghost use Rattle.uv_memory.specs.Image.{held};
 ghost use Rattle.uv_stands.specs.Doing.{OfEach};
 
 use uv_ids::Mode;
+use uv_memory::Memory;
 use uv_model::{LONGEST_POLL, Place};
 use uv_records::ListName;
-use uv_step::Memory;
 
 /// Whether a list has a member.
 pub fn has_members(memory: &Memory<Place>, list: ListName) -> bool

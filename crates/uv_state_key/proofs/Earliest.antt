@@ -1,4 +1,4 @@
--- The bytes of the earliest form of a state tell that form, and those of its bare form tell that one.
+-- The bytes of the earliest form of a state tell that form; and its bare form keeps what a state keeps of which the bytes tell all.
 use Rattle.std.proofs.Common.{◌≡◌, ℕ, List, ◌++◌, ap, sym, subst, ◌∙◌}
 use Rattle.uv_ids.specs.declared.event.Event.{Event}
 use Rattle.uv_script.specs.Program.{Program}
@@ -51,9 +51,6 @@ youngest_told p s young h =
           (ap (λ (x : State). request x (rename (old.surplus s) id)) (sym same) ∙ request_renamed (old.surplus s) (youngest s) id ∙ e);
     }
 
--- equal bytes of two bare forms are equal forms
-pub bare_tells : (p : Program) (s t : State) (x y : List ℕ) → IsTimed p s → IsYoung p s → IsTold s → IsTimed p t → IsYoung p t → IsTold t →
-    state_code (bare s) ++ x ≡ state_code (bare t) ++ y → (bare s ≡ bare t) × (x ≡ y)
-bare_tells p s t x y timed young h timely youth k e =
-    states_tell (bare s) (bare t) x y (youngest_told p (earliest s) (earliest_young p s timed young) (earliest_told s h))
-    (youngest_told p (earliest t) (earliest_young p t timely youth) (earliest_told t k)) e
+-- so does the bare form
+pub bare_told : (p : Program) (s : State) → IsTimed p s → IsYoung p s → IsTold s → IsTold (bare s)
+bare_told p s timed young h = youngest_told p (earliest s) (earliest_young p s timed young) (earliest_told s h)

@@ -1,6 +1,7 @@
 mod Lengths
 pub mod Codes
 mod Timers
+pub mod Inserted
 mod Slots
 pub mod States
 pub mod Earliest

@@ -21,7 +21,9 @@ use Rattle.uv_generations.specs.Renamed.{Renaming, rename, renamed_named, rename
 use Rattle.uv_generations.specs.Youngest.{freed_less, least_bound, least_of, or_bound, surplus}
 use Rattle.uv_names.specs.Counts.{capped_calls, capped_name, capped_place}
 use Rattle.uv_names.specs.Stale.{staled, staled_by, staled_id, staled_name}
-use Rattle.uv_normal.specs.Normal.{normal, reduced}
+use Rattle.uv_normal.specs.Normal.{reduced}
+use Rattle.uv_workers.specs.Workers.{orderly}
+use Rattle.uv_pooled.specs.Pooled.{pooled}
 use Rattle.uv_key.specs.Codes.{number_code, list_code}
 use Rattle.uv_state_key.specs.declared.forms.Form.{Form}
 use Rattle.uv_state_key.specs.Turned.{aged, content_by, id_in, name_in, slot_in, slots_in, surplus_at, timed, turned}
@@ -87,11 +89,6 @@ slots_long (Some f) slots =
 
 -- ---- where it stays as it is
 
-same_runs : (running : List (Option Id)) → map (option_map (id_in None)) running ≡ running
-same_runs [] = refl
-same_runs (None ∷ running) = ap (λ (rest : List (Option Id)). None ∷ rest) (same_runs running)
-same_runs (Some id ∷ running) = ap (λ (rest : List (Option Id)). Some id ∷ rest) (same_runs running)
-
 pub turned_none : (s : State) → turned None s ≡ s
 turned_none s =
     let ids = λ (xs : List Id). map-id xs in
@@ -106,11 +103,10 @@ turned_none s =
       };
       closing = record { list = ids s.closing.list i; yet = ids s.closing.yet i };
       waiting = ids s.waiting i;
-      running = same_runs s.running i;
       done = record { list = ids s.done.list i; yet = ids s.done.yet i };
     }
 
--- ---- the normal form
+-- ---- the pooled form
 
 -- what the code keeps is the surplus of a state
 pub record IsMore (f : Form) (s : State) : Type 0 where
@@ -174,8 +170,8 @@ module _ (f : Form) (s : State) (h : IsMore f s) where
   names_by (x ∷ xs) = ap₂ (λ (id : Option Id) (rest : List Named). record { id = id; calls = capped_calls f.most x.calls } ∷ rest)
       (same_bound x.id) (names_by xs)
 
-  turned_by : turned (Some f) s ≡ renamed (aged f) (retimed (timed f) (reduced f.most s))
-  turned_by = let names = names_by s.names in λ i. record (renamed (aged f) (retimed (timed f) (reduced f.most s))) { names = names i }
+  turned_by : turned (Some f) s ≡ orderly (renamed (aged f) (retimed (timed f) (reduced f.most s)))
+  turned_by = let names = names_by s.names in λ i. orderly (record (renamed (aged f) (retimed (timed f) (reduced f.most s))) { names = names i })
 
 -- counts say nothing of either
 over_capped : (n : ℕ) (place : Place) (at : ℕ) → or_over (capped_place n place) at ≡ or_over place at
@@ -198,13 +194,13 @@ surplus_same n r s slot =
     ap (least_of slot (map (capped_name n) names)) (slice_get-map (retimed_slot r) s.arena.slots slot)
     ∙ surplus_by n r slot names (slice_get s.arena.slots slot)
 
-pub turned_normal : (f : Form) (s : State) → IsMore f s → turned (Some f) s ≡ normal f.most s
-turned_normal f s h =
+pub turned_pooled : (f : Form) (s : State) → IsMore f s → turned (Some f) s ≡ pooled f.most s
+turned_pooled f s h =
     let u = reduced f.most s in
     let kept : By = record { ms = f.ms; starts = f.starts } in
     let times : kept ≡ base u = λ i. record { ms = (h.ms ∙ sym (over_capped f.most s.place _)) i; starts = h.starts i } in
     let frees : (slot : ℕ) → surplus_at f.freed.items slot ≡ surplus (retimed (earlier (base u)) u) slot
     = λ slot. h.surplus slot ∙ sym (surplus_same f.most (earlier (base u)) s slot) in
     turned_by f s h
-    ∙ ap (λ (d : By). renamed (aged f) (retimed (earlier d) u)) times
-    ∙ (λ i. renamed (freed_less (λ slot. frees slot i)) (retimed (earlier (base u)) u))
+    ∙ ap (λ (d : By). orderly (renamed (aged f) (retimed (earlier d) u))) times
+    ∙ (λ i. orderly (renamed (freed_less (λ slot. frees slot i)) (retimed (earlier (base u)) u)))

@@ -15,7 +15,7 @@ pub record IsTold (s : State) : Type 0 where
   pub timers : AreTimers s s.timers
   pub digests : (id : Id) (r : Request) → request s id ≡ Some r → IsDigest r.task r.outcome
 
--- the same, and what the normal form leaves out doesn't matter
+-- the same, and what the pooled form leaves out doesn't matter
 pub record IsPlain (p : Program) (s : State) : Type 0 where
   pub told : IsTold s
   pub timed : IsTimed p s

@@ -16,6 +16,7 @@ use Rattle.uv_shift.specs.Earliest.{earlier}
 use Rattle.uv_generations.specs.Renamed.{Renaming, rename, renamed_named, renamed_slots, renamed_entry}
 use Rattle.uv_generations.specs.Youngest.{freed_less}
 use Rattle.uv_names.specs.Counts.{capped_name, capped_place}
+use Rattle.uv_workers.specs.Workers.{ordered}
 use Rattle.uv_state_key.specs.declared.forms.Form.{Form}
 use Rattle.uv_state_key.specs.declared.forms.Freed.{Freed}
 
@@ -95,6 +96,13 @@ abbrev pub timers_in : Option Form → List (Due × Id) → List (Due × Id)
 timers_in None timers = timers
 timers_in (Some f) timers = map (renamed_entry (aged f)) (map (retimed_entry (timed f)) timers)
 
+-- ---- what workers run
+
+-- where the numbers become less, whichever of them runs which request
+abbrev pub runs_in : Option Form → List (Option Id) → List (Option Id)
+runs_in None running = running
+runs_in (Some f) running = ordered (map (option_map (rename (aged f))) running)
+
 -- ---- the state
 
 abbrev pub turned : Option Form → State → State
@@ -112,7 +120,7 @@ turned o s = record s {
   };
   closing = walk_in o s.closing;
   waiting = map (id_in o) s.waiting;
-  running = map (option_map (id_in o)) s.running;
+  running = runs_in o s.running;
   done = walk_in o s.done;
   time = time_in o s.time;
   clock = time_in o s.clock;

@@ -1,10 +1,10 @@
-//! By how much the numbers of a machine's state are more than those of its normal form.
+//! By how much the numbers of a machine's state are more than those of its pooled form.
 ghost use Rattle.std.specs.Prelude.{◌≡◌, ℕ, IfOk, Some, option_map};
 ghost use Rattle.uv_model.specs.After.{after};
 ghost use Rattle.uv_shift.specs.Earliest.{or_deadline, or_over};
 ghost use Rattle.uv_generations.specs.Youngest.{least_bound, or_bound, surplus};
 ghost use Rattle.uv_names.specs.Stale.{staled};
-ghost use Rattle.uv_normal.specs.Normal.{normal};
+ghost use Rattle.uv_pooled.specs.Pooled.{pooled};
 ghost use Rattle.uv_state_key.specs.Formed.{formed};
 ghost use Rattle.uv_state_key.specs.Turned.{surplus_at, turned};
 ghost use Rattle.uv_state_key.specs.Computed.{due_at, first_at, least_among, fresh_at, all_fresh, marked, times_freed, stale_in};
@@ -144,10 +144,10 @@ fn freed<M: Machine>(machine: &M, alloc: Global) -> Result<Vec<Freed>, AllocErro
     Ok(all)
 }
 
-/// The normal form of a machine's state.
-fn normal_form<M: Machine>(machine: &M, most: u64, alloc: Global) -> Result<Form, AllocError>
+/// The pooled form of a machine's state.
+fn pooled_form<M: Machine>(machine: &M, most: u64, alloc: Global) -> Result<Form, AllocError>
     ensures { IfOk result (λ form. turned (Some form) (after (M.program machine.now) (M.standing machine.now))
-        ≡ normal most (after (M.program machine.now) (M.standing machine.now))) }
+        ≡ pooled most (after (M.program machine.now) (M.standing machine.now))) }
 {
     let Ok(timers) = machine.timers() else {
         return Err(AllocError);
@@ -173,6 +173,6 @@ pub(crate) fn form_of<M: Machine>(
 {
     match most {
         None => Ok(None),
-        Some(most) => Ok(Some(normal_form(machine, most, alloc)?)),
+        Some(most) => Ok(Some(pooled_form(machine, most, alloc)?)),
     }
 }

@@ -67,17 +67,6 @@ pub(crate) fn turn_id(form: &Option<Form>, id: Id) -> Id
     }
 }
 
-/// An id that may be missing.
-#[inline(always)]
-pub(crate) fn turn_id_option(form: &Option<Form>, id: Option<Id>) -> Option<Id>
-    ensures { result ≡ option_map (id_in form.now) id }
-{
-    match id {
-        None => None,
-        Some(id) => Some(turn_id(form, id)),
-    }
-}
-
 /// The generation of a slot.
 #[inline(always)]
 pub(crate) fn turn_generation(form: &Option<Form>, slot: u32, generation: u32) -> u32
@@ -91,7 +80,8 @@ pub(crate) fn turn_generation(form: &Option<Form>, slot: u32, generation: u32) -
 
 // ---- names
 
-fn less_id_option(form: &Form, id: Option<Id>) -> Option<Id>
+/// An id that may be missing.
+pub(crate) fn less_id_option(form: &Form, id: Option<Id>) -> Option<Id>
     ensures { result ≡ option_map (rename (aged form.now)) id }
 {
     match id {

@@ -15,8 +15,8 @@ pub fn keys_tell()
         → (after p es ≡ after p fs) × (x ≡ y) }
 {}
 
-/// The same of the forms of two states, which are equal then, and not the states themselves. It does nothing, and is called for its
-/// clause.
+/// The same of the forms of two states, which are equal then, and not the states themselves: of their pooled forms, where counts go up to a
+/// number. It does nothing, and is called for its clause.
 pub fn forms_tell()
     ensures { (p : Program) (most : Option ℕ) (s t : State) (x y : List ℕ) → IsToldIn most p s → IsToldIn most p t
         → state_code (formed most s) ++ x ≡ state_code (formed most t) ++ y → (formed most s ≡ formed most t) × (x ≡ y) }

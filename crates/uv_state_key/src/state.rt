@@ -11,17 +11,18 @@ ghost use Rattle.uv_state_key.specs.Key.{id_code, named_code, numbers_code, plac
 
 use crate::bases::form_of;
 use crate::contents::{push_named, push_slot};
-use crate::forms::{Form, turn_id_option, turn_name, turn_numbers, turn_place};
+use crate::forms::{Form, turn_name, turn_numbers, turn_place};
 use crate::holds::{Holds, add_content, no_holds};
 use crate::lists::{push_free, push_members_if, push_walk};
 use crate::places::{push_id_option, push_numbers, push_place};
+use crate::runs::{ordered_runs, push_run_list};
 use std::alloc::AllocError;
 use uv_ids::{Id, Var};
 use uv_key::push_number;
 use uv_model::Machine;
 use uv_records::ListName;
 
-/// Appends the bytes that name the state of a machine, or its normal form with counts up to a number. Want of memory may leave a part of
+/// Appends the bytes that name the state of a machine, or its pooled form with counts up to a number. Want of memory may leave a part of
 /// them.
 pub fn push_key<M: Machine>(
     out: &mut Vec<u8>,
@@ -220,6 +221,18 @@ fn push_watchers<M: Machine>(
 
 /// What each worker runs.
 #[tactic(auto, unfolding(uv_key::specs::Codes::list_code))]
+fn push_each_run<M: Machine>(out: &mut Vec<u8>, machine: &M) -> Result<(), AllocError>
+    ensures { OnOk result (out.new.items ≡ out.old.items
+        ++ list_code (option_code id_code) (after (M.program machine.now) (M.standing machine.now)).running) }
+{
+    push_number(out, machine.workers() as u64)?;
+    for worker in 0..machine.workers() {
+        push_id_option(out, machine.run_by(worker))?;
+    }
+    Ok(())
+}
+
+/// The same in a form: in order, whichever worker runs which.
 fn push_runs<M: Machine>(
     out: &mut Vec<u8>,
     machine: &M,
@@ -228,11 +241,13 @@ fn push_runs<M: Machine>(
     ensures { OnOk result (out.new.items ≡ out.old.items
         ++ list_code (option_code id_code) (turned form.now (after (M.program machine.now) (M.standing machine.now))).running) }
 {
-    push_number(out, machine.workers() as u64)?;
-    for worker in 0..machine.workers() {
-        push_id_option(out, turn_id_option(form, machine.run_by(worker)))?;
+    match form {
+        None => push_each_run(out, machine),
+        Some(form) => {
+            let runs = ordered_runs(machine, form, *out.allocator())?;
+            push_run_list(out, runs.as_slice())
+        }
     }
-    Ok(())
 }
 
 /// The requests that wait, that workers run, and that are done.

@@ -16,7 +16,8 @@ The lines behind `begin` (docs/FIND.md has each):
   may differ K                                                    what came in the recording, at most K of it at another place
   takes NAME [@K] MS                                              how long a callback takes
   most clock MS, most NAME CALLS, most states N                   how far it is searched
-  full                                                            each state is kept whole, with its times, counts and generations
+  full                                                            each state is kept whole, with its times, counts and generations, and no
+                                                                  move is held back
   find call NAME [N], find on NAME [N], find after NAME [N], find closed NAME [N], find code CODE [of NAME], find section WORD, find never NAME,
   find stuck, find late NAME MS, find NAME before NAME, find NAME after NAME
 
@@ -246,7 +247,7 @@ def main() -> int:
     reader = argparse.ArgumentParser(description=__doc__, formatter_class=argparse.RawDescriptionHelpFormatter)
     reader.add_argument("file", metavar="FILE", type=Path, help="a script or a recording")
     reader.add_argument("lines", metavar="LINE", nargs="*", help="a line that may stand behind `begin`, in quotes: 'may wait' 'find late beat 30'")
-    reader.add_argument("--full", action="store_true", help="each state is kept whole, as with a line `full`")
+    reader.add_argument("--full", action="store_true", help="each state is kept whole and no move is held back, as with a line `full`")
     reader.add_argument("-j", dest="jobs", metavar="N", type=int, default=1, help="so many questions at a time, where several are asked")
     reader.add_argument("-o", dest="session", metavar="SESSION", type=Path, help="where the session that is found goes")
     asked = reader.parse_args()

@@ -4,11 +4,14 @@ from __future__ import annotations
 
 import bisect
 import collections
+import heapq
 
-from uvt.record.script import Call, End, Finish, Item, Poll
+from uvt.record.script import Call, End, Finish, Item, Op, Poll, Send
 
 # So many items ahead are near.
 FAR = 40
+# So many items ahead a thread may be held up in its send.
+AHEAD = 200
 
 
 class Ahead:
@@ -27,6 +30,11 @@ class Ahead:
         for at, it in enumerate(items):
             if isinstance(it, Call) and it.is_polled():
                 self.calls[it.name].append(at)
+        self.closes: dict[str, list[int]] = collections.defaultdict(list)
+        for at, it in enumerate(items):
+            if isinstance(it, Op) and it.text.startswith("close "):
+                self.closes[it.text.split(" ")[1]].append(at)
+        self.calls_before = calls_before(items, self.calls)
 
     def has_end_near(self, at: int) -> bool:
         """Does a run end within the next items?"""
@@ -39,6 +47,13 @@ class Ahead:
         poll, call = bisect.bisect_left(polls, at), bisect.bisect_left(calls, at)
         return poll < len(polls) and call < len(calls) and polls[poll] < calls[call]
 
+    def last_poll(self, name: str, at: int) -> int:
+        """The last poll from that item on before the handle of that name closes; the item itself where there is none."""
+        closes = self.closes[name]
+        found = bisect.bisect_left(closes, at)
+        before = bisect.bisect_left(self.polls, closes[found] if found < len(closes) else len(self.items))
+        return max(at, self.polls[before - 1]) if before else at
+
     def is_called(self, name: str, first: int, last: int) -> bool:
         """Does a callback of that name come from one item on, up to another one?"""
         calls = self.calls[name]
@@ -50,3 +65,57 @@ class Ahead:
         found = bisect.bisect_left(calls, at)
         item = self.items[calls[found]] if found < len(calls) else None
         return item.number if isinstance(item, Call) else 0
+
+
+def calls_before(items: list[Item], calls: dict[str, list[int]]) -> dict[int, int]:
+    """Of the sends that are for a later callback than the next one: how many come before it. A thread may be held up between a send's line
+    and what libuv does, up to the line of its next send; and the loop between that and the callback's line, from the end of its poll on. So
+    each callback gets one of the sends that may be for it, where there is one."""
+    found: dict[int, int] = {}
+    polls = [at for at, it in enumerate(items) if isinstance(it, Poll)]
+    for name, sends in sends_by_name(items).items():
+        seen = [polls[behind - 1] if (behind := bisect.bisect_left(polls, at)) else at for at in calls[name]]
+        may_be_for = {at: (bisect.bisect_left(calls[name], at), bisect.bisect_left(seen, last)) for at, last in sends}
+        given = given_to(may_be_for, len(calls[name]))
+        found.update({at: number - may_be_for[at][0] for at, number in given.items() if number > may_be_for[at][0]})
+    return found
+
+
+def sends_by_name(items: list[Item]) -> dict[str, list[tuple[int, int]]]:
+    """Of each name the sends to it, in their order, and with each the item up to which it may be held up. The loop's own isn't."""
+    found: dict[str, list[tuple[int, int]]] = collections.defaultdict(list)
+    next_of: dict[str, int] = {}
+    for at in range(len(items) - 1, -1, -1):
+        match items[at]:
+            case Send(name=name, thread=thread):
+                found[name].append((at, min(next_of.get(thread, len(items)), at + AHEAD)))
+                next_of[thread] = at
+            case Op(text=text) if text.startswith("send "):
+                found[text.split(" ")[1]].append((at, at))
+    return {name: sends[::-1] for name, sends in found.items()}
+
+
+def given_to(may_be_for: dict[int, tuple[int, int]], count: int) -> dict[int, int]:
+    """Which of so many callbacks each send is for, of those sends that some callback needs. Each may be for one of a row of them, from its
+    first one to its last one; a callback gets the one that can wait least."""
+    coming, waiting = collections.deque(may_be_for.items()), list[tuple[int, int]]()
+    needed: list[int | None] = []
+    for number in range(count):
+        while coming and coming[0][1][0] <= number:
+            at, (_, last) = coming.popleft()
+            heapq.heappush(waiting, (last, at))
+        while waiting and waiting[0][0] < number:
+            heapq.heappop(waiting)
+        needed.append(heapq.heappop(waiting)[1] if waiting else None)
+    # (none is put off where the callback has a send of its own that no other one needs)
+    spare: dict[int, list[int]] = collections.defaultdict(list)
+    for at in may_be_for.keys() - set(needed):
+        spare[may_be_for[at][0]].append(at)
+    given: dict[int, int] = {}
+    for number, at in reversed(list(enumerate(needed))):
+        if at is not None and may_be_for[at][0] < number and spare[number]:
+            spare[may_be_for[at][0]].append(at)
+            at = spare[number].pop()
+        if at is not None:
+            given[at] = number
+    return given

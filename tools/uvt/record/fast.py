@@ -200,13 +200,11 @@ class Ways:
         return at
 
     def known(self, at: int) -> list[tuple[int, Way]]:
-        if self.follower.uncalled:
-            return []
         where, late = self.follower.where, self.follower.sent_late.keys()
         units: list[tuple[int, Way]] = []
         while len(units) < self.many and (end := self.end_of(at)) and (way := self.ways.get(self.key(at, end, where))):
-            # (where a send waits for its call, that is the one that comes)
-            if not way.sends.isdisjoint(late):
+            # (where a send waits for its call, that is the one that comes; and one that nothing is called for comes behind a callback's begin)
+            if not way.sends.isdisjoint(late) or any(poll < end for poll, _ in self.follower.uncalled):
                 break
             units.append((end, way))
             at, where = end, way.where

@@ -36,8 +36,6 @@ POLLED = "polled"
 BEHIND = (POLLED, "done", "async")
 # So many sends and finishes may be put off; and what is kept before each.
 CHECKS = 16
-# How many lines about a send are looked at for others of its handle, and for its calls.
-AHEAD = 200
 KEPT = (
     "where",
     "clock",
@@ -155,7 +153,8 @@ class Follower:
         # how many of these have come
         self.came_late = 0
         # sends that nothing is called for any more, and that came when the poll was left already: so behind the begin of the next callback
-        self.uncalled: tuple[tuple[str, int, str], ...] = ()
+        # behind that poll, which is the last one before the handle closes
+        self.uncalled: tuple[tuple[int, Send], ...] = ()
 
     # ---- the conversation
 
@@ -342,17 +341,17 @@ class Follower:
         """The send comes later: before the next call, or so many behind that one."""
         number = self.ahead.number_of_call(item.name, at) + calls
         if not number:
-            self.uncalled = (*self.uncalled, (item.name, item.clock, item.by))
+            self.uncalled = (*self.uncalled, (self.ahead.last_poll(item.name, at), item))
             return
         self.sent_late[item.name] = (*self.sent_late.get(item.name, ()), (number, item.clock, item.by))
 
-    def send_uncalled(self) -> None:
-        """A callback has begun."""
-        for name, clock, by in self.uncalled:
-            self.later(f"send {name}", f"out send {name} = ok")
-            self.know(self.talk.length + len(self.queue), clock, by)
+    def send_uncalled(self, at: int) -> None:
+        """A callback has begun, or a handle closes."""
+        for item in (item for poll, item in self.uncalled if poll < at):
+            self.later(f"send {item.name}", f"out send {item.name} = ok")
+            self.know(self.talk.length + len(self.queue), item.clock, item.by)
             self.came_late += 1
-        self.uncalled = ()
+        self.uncalled = tuple(it for it in self.uncalled if it[0] >= at)
 
     def send_late(self, item: Call) -> bool:
         """The sends that were put off until this call come. False where there are none."""
@@ -453,6 +452,8 @@ class Follower:
         word = item.text.split(" ")[0]
         if word == "updatetime":
             self.tick(item.now)
+        elif word == "close":
+            self.send_uncalled(self.at)
         elif word == "cancel":
             self.flush()
             self.before_cancel(item)
@@ -582,10 +583,10 @@ class Follower:
                 raise Stopped("hasn't polled there")
             case Call() if item.is_io():
                 self.do_io(item, at)
-                self.send_uncalled()
+                self.send_uncalled(at)
             case Call():
                 self.do_call(item, at)
-                self.send_uncalled()
+                self.send_uncalled(at)
             case Done():
                 self.tick_to(at, END)
                 self.in_call = False
@@ -604,7 +605,7 @@ class Follower:
     def do_send(self, item: Send, at: int) -> None:
         self.senders.add(item.name)
         is_next = at in self.lazy or self.is_for_later(item.name, at)
-        behind = 0 if is_next else self.calls_before(item, at)
+        behind = self.ahead.calls_before.get(at, 0)
         if is_next or behind:
             self.put_off(item, at, behind)
             return
@@ -629,36 +630,6 @@ class Follower:
     def is_for_later(self, name: str, at: int) -> bool:
         """Is what was sent to or is through called by a later poll than this one, which wasn't left yet? Then it has come behind its end."""
         return self.where == "poll" and self.ahead.is_behind_poll(name, at)
-
-    def calls_before(self, sent: Send, at: int) -> int:
-        """How many callbacks come before the one that this send is for, where that isn't the next one. A thread may be held up between a
-        send's line and what libuv does, up to its next line. So where somebody has sent before, and a later callback comes for which nobody
-        has, it is for that."""
-        if not self.is_sent(sent.name, at):
-            return 0
-        # (is somebody waiting to be called; how many later sends have come while somebody was)
-        waits, calls, others = True, 0, 0
-        for item in itertools.islice(self.items, at + 1, at + 1 + AHEAD):
-            if isinstance(item, Send) and item.thread == sent.thread:
-                return 0
-            if isinstance(item, Call) and item.callback == "on" and item.name == sent.name:
-                if not waits and not others:
-                    return calls
-                others -= not waits
-                waits, calls = False, calls + 1
-            elif sends_to(item, sent.name):
-                others += waits
-                waits = True
-        return 0
-
-    def is_sent(self, name: str, at: int) -> bool:
-        """Did another send to it come since it was called?"""
-        for item in (self.items[it] for it in range(at - 1, max(-1, at - 1 - AHEAD), -1)):
-            if isinstance(item, Call) and item.callback == "on" and item.name == name:
-                return False
-            if sends_to(item, name):
-                return True
-        return False
 
     def check(self, name: str, at: int) -> None:
         """All as it is before a send or a finish."""

@@ -1,4 +1,4 @@
-use Rattle.uv_step.specs.Image.{image_of}
+use Rattle.uv_memory.specs.Image.{image_of}
 use Rattle.uv_sections.proofs.Calls.{calls_begun}
 use Rattle.uv_sections.proofs.calling.begin_body.Goals as goal
 

@@ -1,5 +1,5 @@
 use Rattle.std.proofs.Common.{refl}
-use Rattle.uv_step.specs.Image.{image_of}
+use Rattle.uv_memory.specs.Image.{image_of}
 use Rattle.uv_sections.proofs.Moves.{handle_moved, none_moves}
 use Rattle.uv_sections.proofs.walking.move_on.Goals as goal
 
@@ -10,7 +10,7 @@ returns-in-Some-clause-moved c s h reached =
       handle = c.in-Some.handle;
       name = refl;
       moved = handle_moved (image_of c.args.memory.now) (image_of c.walk.new.self) e.frame c.args.kind _
-          c.in-Some.pending _ e.does.does c.in-Some.id c.in-Some.handle e.front s h;
+          c.in-Some.pending _ e.does.does c.in-Some.handle e.front.handle s h;
     }
 
 pub returns-in-None-clause-none : goal.returns-in-None-clause-none

@@ -1,4 +1,5 @@
-use Rattle.uv_loop.proofs.Names.{refl, subst, ShowsAll, IsWhole, lies_for, Course}
+use Rattle.uv_loop.proofs.Names.{refl, subst, ShowsAll, Course}
+use Rattle.uv_loop.proofs.Lies.{IsWhole, lies_for}
 use Rattle.uv_model.specs.After.{after}
 use Rattle.uv_loop.proofs.machine.ArenaLoopMachine.layout.Goals as goal
 

@@ -1,4 +1,5 @@
-use Rattle.uv_loop.proofs.Names.{◌≡◌, ◌∙◌, length, slots_long, held, image_of}
+use Rattle.uv_loop.proofs.Names.{◌≡◌, ◌∙◌, length, held, image_of}
+use Rattle.uv_loop.proofs.Same.{slots_long}
 use Rattle.uv_loop.proofs.Courses.{asked}
 use Rattle.uv_loop.proofs.machine.ArenaLoopMachine.used.Goals as goal
 

@@ -1,5 +1,5 @@
 use Rattle.std.proofs.Common.{length, refl, sym, ap, ◌∙◌, arith}
-use Rattle.uv_step.specs.Record.{at_place}
+use Rattle.uv_memory.specs.Record.{at_place}
 use Rattle.uv_loop.specs.KeptPlaces.{records_of}
 use Rattle.uv_loop.proofs.KeptRecords.{popped}
 use Rattle.uv_loop.proofs.record_row.RecordRow.pop.Goals as goal

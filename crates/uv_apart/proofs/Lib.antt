@@ -1,0 +1,7 @@
+pub mod Cases
+pub mod Changed
+pub mod Walk
+pub mod Kept
+pub mod Held
+pub mod Pool
+pub mod Taken

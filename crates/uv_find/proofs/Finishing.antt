@@ -1,0 +1,241 @@
+-- Each worker that runs a request may finish it.
+use Rattle.std.proofs.Common.{◌≡◌, ℕ, zero, suc, ◌<◌, ◌==◌, ◌||◌, ◌⊎◌, inl, inr, Bool, true, false, List, [], ◌∷◌, ◌++◌, length, nat_lt, slice_get, slice_set, option_and_then, refl, sym, ap, subst, ◌∙◌, Option, Some, None, if◌then◌else◌, true≢false, append_assoc, length-append, arith}
+use Rattle.std.specs.Prelude.{option_map}
+use Rattle.std.proofs.lemmas.Option.{same_Some, none-some, slice_get-map}
+use Rattle.uv_ids.specs.declared.event.Event.{Event}
+use Rattle.uv_ids.specs.declared.event.Event.TheVariants as event
+use Rattle.uv_ids.specs.declared.id.Id.{Id}
+use Rattle.uv_work.specs.declared.content.Content.{Content}
+use Rattle.uv_work.specs.declared.request.Request.{Request}
+use Rattle.uv_records.specs.Slots.{held}
+use Rattle.uv_script.specs.Program.{Program, worker_count}
+use Rattle.uv_model.specs.After.{after}
+use Rattle.uv_model.specs.Content.{request_in}
+use Rattle.uv_model.specs.Next.{Moves, next}
+use Rattle.uv_model.specs.Queries.{run_by}
+use Rattle.uv_model.specs.State.{State, request}
+use Rattle.uv_model.proofs.Runs.{after-nil, after-moves}
+use Rattle.uv_order.specs.Active.{has_id, run_ids, AreDistinct, AreOpened}
+use Rattle.uv_order.proofs.Reaching.{reached}
+use Rattle.uv_generations.specs.Youngest.{IsInSlot}
+use Rattle.uv_pooled.proofs.Given.{has_at, one_in_slot}
+use Rattle.uv_asking.specs.Asked.{Asked}
+use Rattle.uv_asking.specs.declared.asking.Offer.TheVariants.{Step}
+use Rattle.uv_asking.specs.declared.asking.Offered.{Offered}
+use Rattle.uv_find.specs.declared.left.Left.{Left}
+use Rattle.uv_find.specs.declared.left.Left.TheVariants as left
+use Rattle.uv_find.specs.declared.kept.Kept.{Kept}
+use Rattle.uv_find.specs.Courses.{Course, LeadsOn}
+use Rattle.uv_find.specs.Found.{IsFinished, EachFinishes}
+use Rattle.uv_find.specs.Orders.{Rules, Place, Choice, Led, at_will, finishes, every_offer, times_left, less, lessened, lessened_by, chosen, choice_at, offered_by, beginning, first_left, timed, brief, is_brief, keeps_clock, move_count, move_count_by}
+use Rattle.uv_find.specs.Ranks.{rank_of, runner, finish_by, ranked}
+use Rattle.uv_find.specs.Spots.{rules_of}
+use Rattle.uv_find.proofs.Led.{choice_is, event_at}
+use Rattle.uv_find.proofs.Meeting.{get_within}
+use Rattle.uv_find.proofs.Ranking.{Run, rank_one, rank_within}
+use Rattle.uv_find.proofs.Runners.{after_long, rank_slot, slot_rank}
+
+-- ---- what is left
+
+at_will_kept : (xs : List Left) (i k : ℕ) → slice_get xs i ≡ Some left.AtWill → slice_get (lessened xs k) i ≡ Some left.AtWill
+at_will_kept [] i k e = absurd (none-some left.AtWill e)
+at_will_kept (x ∷ xs) zero zero e = ap (λ (o : Left). Some (less o)) (same_Some x left.AtWill e)
+at_will_kept (x ∷ xs) (suc i) zero e = e
+at_will_kept (x ∷ xs) zero (suc k) e = by (slice_get xs k) where
+  by : (o : Option Left) → slice_get (lessened_by (x ∷ xs) (suc k) o) zero ≡ Some left.AtWill
+  by None = e
+  by (Some y) = e
+at_will_kept (x ∷ xs) (suc i) (suc k) e = by (slice_get xs k) (at_will_kept xs i k e) where
+  by : (o : Option Left) → slice_get (lessened_by xs k o) i ≡ Some left.AtWill → slice_get (lessened_by (x ∷ xs) (suc k) o) (suc i) ≡ Some left.AtWill
+  by None more = more
+  by (Some y) more = more
+
+chosen_left : (xs : List Left) (kept : Kept) (o : Option Event) (c : Choice) → chosen xs kept o ≡ Some c → c.left ≡ xs
+chosen_left xs kept None c h = absurd (none-some c h)
+chosen_left xs kept (Some e) c h = sym (ap (λ (x : Choice). x.left) (same_Some (record { event = e; left = xs; kept = kept }) c h))
+
+module _ (r : Rules) (differ : r.differ ≡ None) where
+  leads_left : (p : Place) (l : Led) (i : ℕ) → LeadsOn r p l → slice_get p.left i ≡ Some left.AtWill → slice_get l.place.left i ≡ Some left.AtWill
+  leads_left p l i on e =
+      let choice : on.choice.left ≡ lessened p.left on.number =
+      chosen_left (lessened p.left on.number) p.kept (event_at r p on.number) on.choice (sym (choice_is r differ p on.number) ∙ on.offered) in
+      let place : l.place.left ≡ lessened p.left on.number = ap (λ (x : Place). x.left) on.taken ∙ choice in
+      ap (λ xs. slice_get xs i) place ∙ at_will_kept p.left i on.number e
+
+  course_left : (p : Place) (es : List Event) (q : Place) (i : ℕ) → Course r p es q → slice_get p.left i ≡ Some left.AtWill
+      → slice_get q.left i ≡ Some left.AtWill
+  course_left p [] q i same e = ap (λ (x : Place). slice_get x.left i) same ∙ e
+  course_left p (f ∷ es) q i (l, is, on, rest) e = course_left l.place es q i rest (leads_left p l i on e)
+
+  course_state : (p : Place) (es : List Event) (q : Place) (fs : List Event) → p.state ≡ after r.program fs → Course r p es q
+      → (gs : List Event) × (q.state ≡ after r.program gs)
+  course_state p [] q fs here same = (fs, ap (λ (x : Place). x.state) same ∙ here)
+  course_state p (f ∷ es) q fs here (l, is, on, rest) =
+      let goes : next r.program (after r.program fs) l.event ≡ Moves l.place.state l.line =
+      subst (λ x. next r.program x l.event ≡ Moves l.place.state l.line) here on.accepted in
+      course_state l.place es q (fs ++ l.event ∷ []) (sym (after-moves r.program fs l.event l.place.state l.line goes)) rest
+
+-- ---- what is offered
+
+or_last : (k n : ℕ) → k < suc n → (k ≡ n) ⊎ (k < n)
+or_last zero zero l = inl refl
+or_last zero (suc n) l = inr (omega arith)
+or_last (suc k) zero l = absurd (omega arith)
+or_last (suc k) (suc n) l = elim (or_last k n (omega arith)) [ inl e ↦ inl (ap suc e) | inr m ↦ inr (omega arith) ]
+
+at_length : (xs ys : List Offered) (x : Offered) → slice_get (xs ++ x ∷ ys) (length xs) ≡ Some x
+at_length [] ys x = refl
+at_length (y ∷ xs) ys x = at_length xs ys x
+
+finishes_long : (n : ℕ) → length (finishes n) ≡ n
+finishes_long zero = refl
+finishes_long (suc n) = let more = finishes_long n in omega (arith, more, length-append (finishes n) (at_will (Step (event.Finish n)) ∷ []))
+
+finish_in : (n k : ℕ) (ys : List Offered) → k < n → slice_get (finishes n ++ ys) k ≡ Some (at_will (Step (event.Finish k)))
+finish_in zero k ys below = absurd (omega (arith, below))
+finish_in (suc n) k ys below = ap (λ xs. slice_get xs k) (append_assoc (finishes n) (at_will (Step (event.Finish n)) ∷ []) ys)
+    ∙ by (or_last k n below) (λ less. finish_in n k (at_will (Step (event.Finish n)) ∷ ys) less)
+  where
+    by : ((k ≡ n) ⊎ (k < n)) → (k < n → slice_get (finishes n ++ at_will (Step (event.Finish n)) ∷ ys) k ≡ Some (at_will (Step (event.Finish k))))
+        → slice_get (finishes n ++ at_will (Step (event.Finish n)) ∷ ys) k ≡ Some (at_will (Step (event.Finish k)))
+    by (inl e) rest =
+        let at : slice_get (finishes n ++ at_will (Step (event.Finish n)) ∷ ys) n ≡ Some (at_will (Step (event.Finish n))) =
+        ap (slice_get (finishes n ++ at_will (Step (event.Finish n)) ∷ ys)) (sym (finishes_long n))
+        ∙ at_length (finishes n) ys (at_will (Step (event.Finish n))) in
+        subst (λ m. slice_get (finishes n ++ at_will (Step (event.Finish n)) ∷ ys) m ≡ Some (at_will (Step (event.Finish m)))) (sym e) at
+    by (inr less) rest = rest less
+
+-- ---- who runs it
+
+request_held : (s : State) (id : Id) (q : Request) → request s id ≡ Some q → IsInSlot s id
+request_held s id q e = by (held s.arena.slots id) refl e where
+  by : (o : Option Content) → held s.arena.slots id ≡ o → request_in o ≡ Some q → IsInSlot s id
+  by None f g = cc g
+  by (Some x) f g = record { its = x; holds = f }
+
+distinct_behind : (xs ys : List Id) → AreDistinct (xs ++ ys) → AreDistinct ys
+distinct_behind [] ys d = d
+distinct_behind (x ∷ xs) ys d = distinct_behind xs ys d.1
+
+-- no request is run twice
+one_runner : (xs : List Run) (i j : ℕ) (id : Id) → AreDistinct (run_ids xs) → slice_get xs i ≡ Some (Some id) → slice_get xs j ≡ Some (Some id)
+    → i ≡ j
+one_runner [] i j id d e f = absurd (none-some (Some id) e)
+one_runner (x ∷ xs) zero zero id d e f = refl
+one_runner (None ∷ xs) zero (suc j) id d e f = absurd (let g : ⊥ = cc in g)
+one_runner (None ∷ xs) (suc i) zero id d e f = absurd (let g : ⊥ = cc in g)
+one_runner (None ∷ xs) (suc i) (suc j) id d e f = ap suc (one_runner xs i j id d e f)
+one_runner (Some x ∷ xs) zero (suc j) id d e f =
+    let same : x ≡ id = same_Some x id (same_Some (Some x) (Some id) e) in
+    absurd (true≢false (sym (has_at [] xs j id f) ∙ ap (has_id (run_ids xs)) (sym same) ∙ d.0))
+one_runner (Some x ∷ xs) (suc i) zero id d e f =
+    let same : x ≡ id = same_Some x id (same_Some (Some x) (Some id) f) in
+    absurd (true≢false (sym (has_at [] xs i id e) ∙ ap (has_id (run_ids xs)) (sym same) ∙ d.0))
+one_runner (Some x ∷ xs) (suc i) (suc j) id d e f = ap suc (one_runner xs i j id d.1 e f)
+
+run_there : (xs : List Run) (k : ℕ) (id : Id) → option_and_then (λ run. run) (slice_get xs k) ≡ Some id → slice_get xs k ≡ Some (Some id)
+run_there [] k id e = absurd (none-some id e)
+run_there (x ∷ xs) zero id e = ap Some e
+run_there (x ∷ xs) (suc k) id e = run_there xs k id e
+
+runs_within : (xs : List Run) (k : ℕ) (id : Id) → slice_get xs k ≡ Some (Some id) → k < length xs
+runs_within [] k id e = absurd (none-some (Some id) e)
+runs_within (x ∷ xs) zero id e = omega arith
+runs_within (x ∷ xs) (suc k) id e = let more = runs_within xs k id e in omega (arith, more)
+
+module _ (p : Program) (gs : List Event) (s : State) (is : s ≡ after p gs) (worker : ℕ) (id : Id)
+    (runs : slice_get s.running worker ≡ Some (Some id)) where
+  opened : AreOpened s (s.waiting ++ run_ids s.running)
+  opened = subst (λ u. AreOpened u (u.waiting ++ run_ids u.running)) (sym is) (reached p gs).opened
+
+  in_slot : (k : ℕ) (x : Id) → slice_get s.running k ≡ Some (Some x) → IsInSlot s x
+  in_slot k x there = let its = opened.each x (has_at s.waiting s.running k x there) in request_held s x its.its its.holds
+
+  -- it is the worker of the rank of its request
+  its_rank : runner s (rank_of s id.slot) ≡ Some worker
+  its_rank =
+      let first = slot_rank s worker id (rank_of s id.slot) runs refl in
+      let found = rank_slot s (rank_of s id.slot) first.0 first.1 in
+      let other = found.0 in
+      let slot : other.slot ≡ id.slot = rank_one s.running first.0 worker other id found.1 runs found.2 in
+      let one : other ≡ id = one_in_slot s other id slot (in_slot first.0 other found.1) (in_slot worker id runs) in
+      let same : first.0 ≡ worker = one_runner s.running first.0 worker id (distinct_behind s.waiting (run_ids s.running) opened.distinct)
+      (found.1 ∙ ap (λ x. Some (Some x)) one) runs in
+      first.1 ∙ ap Some same
+
+  long : length s.running ≡ worker_count p
+  long = ap (λ (u : State). length u.running) is ∙ after_long p gs
+
+-- ---- and so the move
+
+finish_brief : (forget : Option ℕ) (worker : ℕ) → brief forget (Some (event.Finish worker)) ≡ Some (event.Finish worker)
+finish_brief None worker = refl
+finish_brief (Some n) worker = refl
+
+finish_timed : (most : Option ℕ) (clock number : ℕ) → timed most clock (Some (event.Finish number)) ≡ Some (event.Finish number)
+finish_timed None clock number = refl
+finish_timed (Some most) clock number = refl
+
+module _ (p : Program) (asked : Asked) (q : Place) (differ : asked.differ ≡ None) (worker : ℕ) where
+  abbrev r : Rules
+  r = rules_of p asked
+
+  -- the offer of this number is that worker's finish
+  finish_offered : (number : ℕ) → number < worker_count p → slice_get q.left (suc (suc number)) ≡ Some left.AtWill
+      → ranked r.forget q.state (Some (event.Finish number)) ≡ Some (event.Finish worker) → IsFinished r q worker
+  finish_offered number below will of_rank =
+      let here : slice_get r.offers (suc (suc number)) ≡ Some (at_will (Step (event.Finish number))) =
+      finish_in (worker_count p) number asked.offers below in
+      let count : move_count r q ≡ length r.offers = ap (λ d. move_count_by d (length r.offers) (length q.left)) differ in
+      let within : nat_lt (suc (suc number)) (move_count r q) ≡ true =
+      ap (nat_lt (suc (suc number))) count ∙ get_within r.offers (suc (suc number)) (at_will (Step (event.Finish number))) here in
+      let comes : offered_by r q (Some (at_will (Step (event.Finish number)))) (Some left.AtWill) ≡ Some (event.Finish worker) =
+      ap (λ o. brief r.forget (ranked r.forget q.state o)) (finish_timed r.clock q.state.clock number)
+      ∙ ap (brief r.forget) of_rank ∙ finish_brief r.forget worker in
+      let choice : Choice = record { event = event.Finish worker; left = lessened q.left (suc (suc number)); kept = q.kept } in
+      record {
+        number = suc (suc number);
+        choice = choice;
+        offered = choice_is r differ q (suc (suc number))
+            ∙ ap (λ b. chosen (lessened q.left (suc (suc number))) q.kept
+            (if b then offered_by r q (slice_get r.offers (suc (suc number))) (slice_get q.left (suc (suc number))) else None)) within
+            ∙ (λ i. chosen (lessened q.left (suc (suc number))) q.kept (offered_by r q (here i) (will i)))
+            ∙ ap (chosen (lessened q.left (suc (suc number))) q.kept) comes;
+        event = refl;
+      }
+
+module _ (p : Program) (asked : Asked) (es : List Event) (q : Place) (worker : ℕ) (id : Id) (differ : asked.differ ≡ None)
+    (course : Course (rules_of p asked) (beginning (rules_of p asked)) es q) (runs : run_by q.state worker ≡ Some id) where
+  abbrev all : Rules
+  all = rules_of p asked
+
+  state : (gs : List Event) × (q.state ≡ after p gs)
+  state = course_state all differ (beginning all) es q [] (sym (after-nil p)) course
+
+  there : slice_get q.state.running worker ≡ Some (Some id)
+  there = run_there q.state.running worker id runs
+
+  count : length q.state.running ≡ worker_count p
+  count = long p state.0 q.state state.1 worker id there
+
+  begins : (number : ℕ) → number < worker_count p → slice_get (beginning all).left (suc (suc number)) ≡ Some left.AtWill
+  begins number below =
+      let times = λ (o : Offered). times_left o.times in
+      ap (λ d. slice_get (first_left d all.offers all.recorded) (suc (suc number))) differ ∙ slice_get-map times all.offers (suc (suc number))
+      ∙ ap (option_map times) (finish_in (worker_count p) number asked.offers below)
+
+  will : (number : ℕ) → number < worker_count p → slice_get q.left (suc (suc number)) ≡ Some left.AtWill
+  will number below = course_left all differ (beginning all) es q (suc (suc number)) course (begins number below)
+
+  finished : (o : Option ℕ) → all.forget ≡ o → IsFinished all q worker
+  finished None whole =
+      let below : worker < worker_count p = subst (λ n. worker < n) count (runs_within q.state.running worker id there) in
+      finish_offered p asked q differ worker worker below (will worker below) (ap (λ o. ranked o q.state (Some (event.Finish worker))) whole)
+  finished (Some n) some =
+      let rank = rank_of q.state id.slot in
+      let below : rank < worker_count p = subst (λ m. rank < m) count (rank_within q.state.running worker id there) in
+      finish_offered p asked q differ worker rank below (will rank below)
+      (ap (λ o. ranked o q.state (Some (event.Finish rank))) some ∙ ap finish_by (its_rank p state.0 q.state state.1 worker id there))
+
+pub each_finishes : EachFinishes
+each_finishes p asked es q worker id differ course runs = finished p asked es q worker id differ course runs (rules_of p asked).forget refl

@@ -1,0 +1,232 @@
+-- Workers of two states that have the same pooled form: of each rank they run the same.
+use Rattle.std.proofs.Common.{◌≡◌, ℕ, zero, suc, ◌==◌, ◌⊎◌, inl, inr, List, [], ◌∷◌, Bool, true, false, length, replicate, is_none, slice_get, slice_set, option_and_then, refl, ap, sym, subst, ◌∙◌, Option, Some, None, Result, Ok, Err, arith}
+use Rattle.std.specs.Prelude.{map, option_map}
+use Rattle.std.specs.List.{position_from}
+use Rattle.std.proofs.lemmas.Bool.{eqb-true}
+use Rattle.std.proofs.lemmas.List.{length-replicate}
+use Rattle.std.proofs.lemmas.Option.{same_Some, none-some, slice_get-map}
+use Rattle.uv_ids.specs.declared.event.Event.{Event}
+use Rattle.uv_ids.specs.declared.event.Event.TheVariants.{Loop, Take, Finish, Cancel, Send, Io, Tick}
+use Rattle.uv_ids.specs.declared.fault.Why.{Why}
+use Rattle.uv_ids.specs.declared.id.Id.{Id}
+use Rattle.uv_script.specs.Program.{Program, worker_count}
+use Rattle.uv_work.specs.declared.request.Request.{Request}
+use Rattle.uv_model.specs.After.{after, goes_on, state_of}
+use Rattle.uv_model.specs.Next as steps
+use Rattle.uv_model.specs.Next.{Next, Moves, Refuses, next}
+use Rattle.uv_model.specs.State.{State, fresh}
+use Rattle.uv_order.specs.Active.{has_id, run_ids}
+use Rattle.uv_shift.specs.Earliest.{IsTimed}
+use Rattle.uv_generations.specs.Renamed.{rename}
+use Rattle.uv_generations.specs.Youngest.{IsYoung, IsInSlot}
+use Rattle.uv_normal.specs.Normal.{normal}
+use Rattle.uv_workers.specs.Workers.{is_of_worker, ordered}
+use Rattle.uv_workers.proofs.Frame.{put_next, next_same}
+use Rattle.uv_workers.proofs.Steps.{workers_alike}
+use Rattle.uv_pooled.specs.Pooled.{pooled}
+use Rattle.uv_pooled.proofs.Given.{has_at, one_in_slot}
+use Rattle.uv_pooled.proofs.Steps.{renaming}
+use Rattle.uv_find.specs.Orders.{take_by}
+use Rattle.uv_find.specs.Ranks.{idle_worker, rank_in, rank_of, is_of_rank, runner, finish_by}
+use Rattle.uv_find.proofs.Ranking.{Run, equal_is, first_at, first_some, rank_renamed, rank_ordered, rank_one}
+
+-- ---- how many they are
+
+set_long : (xs : List Run) (k : ℕ) (x : Run) → length (slice_set xs k x) ≡ length xs
+set_long [] k x = refl
+set_long (y ∷ ys) zero x = refl
+set_long (y ∷ ys) (suc k) x = ap suc (set_long ys k x)
+
+abbrev workers_in : ℕ → Next → ℕ
+workers_in n (Moves s line) = length s.running
+workers_in n (Refuses why) = n
+
+take_long : (s : State) (k : ℕ) (r : Result (Id × Request) Why) → workers_in (length s.running) (steps.take s k r) ≡ length s.running
+take_long s k (Err why) = refl
+take_long s k (Ok t) = set_long s.running k (Some t.0)
+
+finish_long : (s : State) (k : ℕ) (r : Result (Id × Request) Why) → workers_in (length s.running) (steps.finish s k r) ≡ length s.running
+finish_long s k (Err why) = refl
+finish_long s k (Ok t) = set_long s.running k None
+
+other_long : (p : Program) (s : State) (e : Event) → is_of_worker e ≡ false → workers_in (length s.running) (next p s e) ≡ length s.running
+other_long p s e other = ap (workers_in (length s.running)) (next_same s.running p s e other) ∙ put_long (next p s e) where
+  put_long : (x : Next) → workers_in (length s.running) (put_next s.running x) ≡ length s.running
+  put_long (Moves a line) = refl
+  put_long (Refuses why) = refl
+
+next_long : (p : Program) (s : State) (e : Event) → workers_in (length s.running) (next p s e) ≡ length s.running
+unfolding next
+next_long p s (Take k) = take_long s k (steps.next_work s (slice_get s.running k))
+next_long p s (Finish k) = finish_long s k (steps.work_of s (slice_get s.running k))
+next_long p s Loop = other_long p s Loop refl
+next_long p s (Cancel v) = other_long p s (Cancel v) refl
+next_long p s (Send v) = other_long p s (Send v) refl
+next_long p s (Io v) = other_long p s (Io v) refl
+next_long p s (Tick ms) = other_long p s (Tick ms) refl
+
+goes_long : (p : Program) (s : State) (es : List Event) → length (goes_on p s es).running ≡ length s.running
+goes_long p s [] = refl
+goes_long p s (e ∷ es) = goes_long p (state_of s (next p s e)) es ∙ by (next p s e) (next_long p s e) where
+  by : (x : Next) → workers_in (length s.running) x ≡ length s.running → length (state_of s x).running ≡ length s.running
+  by (Moves a line) same = same
+  by (Refuses why) same = refl
+
+pub after_long : (p : Program) (es : List Event) → length (after p es).running ≡ worker_count p
+unfolding after
+after_long p es = goes_long p (fresh p) es ∙ length-replicate (worker_count p) None
+
+-- what holds of the state of a place
+pub record IsRegular (p : Program) (s : State) : Type 0 where
+  pub timed : IsTimed p s
+  pub young : IsYoung p s
+
+-- ---- events that do alike
+
+-- two workers run the same in the normal forms, nothing or one request
+abbrev pub RunAlike : ℕ → State → State → ℕ → ℕ → Type 0
+RunAlike n a b k j = slice_get (normal n a).running k ≡ slice_get (normal n b).running j
+
+-- such workers take requests
+pub record BothTake (n : ℕ) (a b : State) (e f : Event) : Type 0 where
+  pub worker : ℕ
+  pub other : ℕ
+  pub one : e ≡ Take worker
+  pub two : f ≡ Take other
+  pub same : RunAlike n a b worker other
+
+-- or finish what they run
+pub record BothFinish (n : ℕ) (a b : State) (e f : Event) : Type 0 where
+  pub worker : ℕ
+  pub other : ℕ
+  pub one : e ≡ Finish worker
+  pub two : f ≡ Finish other
+  pub same : RunAlike n a b worker other
+
+-- or it is one event, and no worker's
+abbrev pub EventsAlike : ℕ → State → State → Event → Event → Type 0
+EventsAlike n a b e f = ((e ≡ f) × (is_of_worker e ≡ false)) ⊎ (BothTake n a b e f ⊎ BothFinish n a b e f)
+
+abbrev pub OffersAlike : ℕ → State → State → Option Event → Option Event → Type 0
+OffersAlike n a b None None = Unit {0}
+OffersAlike n a b (Some e) (Some f) = EventsAlike n a b e f
+OffersAlike n a b x y = ⊥
+
+-- ---- what workers run, in normal forms
+
+was_run : (f : Id → Id) (xs : List Run) (j : ℕ) (z : Id) → slice_get (map (option_map f) xs) j ≡ Some (Some z)
+    → (c : Id) × (slice_get xs j ≡ Some (Some c)) × (f c ≡ z)
+was_run f [] j z e = absurd (none-some (Some z) e)
+was_run f (None ∷ xs) zero z e = absurd (let g : ⊥ = cc in g)
+was_run f (Some c ∷ xs) zero z e = (c, refl, let same : f c ≡ z = cc in same)
+was_run f (x ∷ xs) (suc j) z e = was_run f xs j z e
+
+was_none : (f : Id → Id) (xs : List Run) (j : ℕ) → slice_get (map (option_map f) xs) j ≡ Some None → slice_get xs j ≡ Some None
+was_none f [] j e = absurd (none-some None e)
+was_none f (None ∷ xs) zero e = refl
+was_none f (Some c ∷ xs) zero e = absurd (let g : ⊥ = cc in g)
+was_none f (x ∷ xs) (suc j) e = was_none f xs j e
+
+run_at : (n : ℕ) (s : State) (k : ℕ) (run : Run) → slice_get s.running k ≡ Some run
+    → slice_get (normal n s).running k ≡ Some (option_map (rename (renaming n s)) run)
+run_at n s k run there =
+    let f = option_map (rename (renaming n s)) in
+    slice_get-map f s.running k ∙ ap (option_map f) there
+
+-- the requests of one slot are one
+same_request : (p : Program) (s : State) (i j : ℕ) (x y : Id) → IsYoung p s → slice_get s.running i ≡ Some (Some x)
+    → slice_get s.running j ≡ Some (Some y) → x.slot ≡ y.slot → x ≡ y
+same_request p s i j x y young one two slots = one_in_slot s x y slots (young.opened x (has_at s.waiting s.running i x one))
+    (young.opened y (has_at s.waiting s.running j y two))
+
+pub rank_slot : (s : State) (rank k : ℕ) → runner s rank ≡ Some k
+    → (id : Id) × (slice_get s.running k ≡ Some (Some id)) × (rank_of s id.slot ≡ rank)
+rank_slot s rank k e =
+    let first = first_at (is_of_rank s rank) s.running k e in
+    by first.0 first.1 first.2
+  where
+    by : (run : Run) → slice_get s.running k ≡ Some run → is_of_rank s rank run ≡ true
+        → (id : Id) × (slice_get s.running k ≡ Some (Some id)) × (rank_of s id.slot ≡ rank)
+    by None there is = absurd (let f : false ≡ true = is in cc)
+    by (Some id) there is = (id, there, eqb-true (rank_of s id.slot) rank is)
+
+-- where a worker runs a request of this rank, there is a first that does
+pub slot_rank : (s : State) (j : ℕ) (id : Id) (rank : ℕ) → slice_get s.running j ≡ Some (Some id) → rank_of s id.slot ≡ rank
+    → (k : ℕ) × (runner s rank ≡ Some k)
+slot_rank s j id rank there is = first_some (is_of_rank s rank) s.running 0 j (Some id) there (equal_is (rank_of s id.slot) rank is)
+
+module _ (n : ℕ) (p : Program) where
+  -- what is said of the one is said of the other
+  module _ (a b : State) (young : IsYoung p b) (same : pooled n a ≡ pooled n b) where
+    rank_same : (slot : ℕ) → rank_in a.running slot ≡ rank_in b.running slot
+    rank_same slot =
+        sym (rank_renamed (renaming n a) a.running slot)
+        ∙ sym (rank_ordered (map (option_map (rename (renaming n a))) a.running) slot)
+        ∙ ap (λ (u : State). rank_in u.running slot) same
+        ∙ rank_ordered (map (option_map (rename (renaming n b))) b.running) slot
+        ∙ rank_renamed (renaming n b) b.running slot
+
+    runner_there : (rank k : ℕ) → runner a rank ≡ Some k → (j : ℕ) × (runner b rank ≡ Some j) × RunAlike n a b k j
+    runner_there rank k e =
+        let here = rank_slot a rank k e in
+        let id = here.0 in
+        let turned = run_at n a k (Some id) here.1 in
+        let there = workers_alike (normal n a) (normal n b) k (Some (rename (renaming n a) id)) same turned in
+        let was = was_run (rename (renaming n b)) b.running there.0 (rename (renaming n a) id) there.1 in
+        let c = was.0 in
+        let slots : c.slot ≡ id.slot = ap (λ (x : Id). x.slot) was.2 in
+        let rank_is : rank_of b c.slot ≡ rank = ap (rank_of b) slots ∙ sym (rank_same id.slot) ∙ here.2 in
+        let first = slot_rank b there.0 c rank was.1 rank_is in
+        let found = rank_slot b rank first.0 first.1 in
+        let d = found.0 in
+        let slot : d.slot ≡ c.slot = rank_one b.running first.0 there.0 d c found.1 was.1 (found.2 ∙ sym rank_is) in
+        let one : d ≡ c = same_request p b first.0 there.0 d c young found.1 was.1 slot in (
+          first.0,
+          first.1,
+          turned ∙ ap (λ x. Some (Some x)) (sym was.2) ∙ ap (λ x. Some (Some (rename (renaming n b) x))) (sym one)
+              ∙ sym (run_at n b first.0 (Some d) found.1),
+        )
+
+    idle_there : (k : ℕ) → idle_worker a ≡ Some k → (j : ℕ) × (idle_worker b ≡ Some j) × RunAlike n a b k j
+    idle_there k e =
+        let none = λ (run : Run). is_none run in
+        let here = first_at none a.running k e in
+        let idle : slice_get a.running k ≡ Some None = here.1 ∙ ap Some (is_idle here.0 here.2) in
+        let turned = run_at n a k None idle in
+        let there = workers_alike (normal n a) (normal n b) k None same turned in
+        let was = was_none (rename (renaming n b)) b.running there.0 there.1 in
+        let first = first_some none b.running 0 there.0 None was refl in
+        let found = first_at none b.running first.0 first.1 in
+        let free : slice_get b.running first.0 ≡ Some None = found.1 ∙ ap Some (is_idle found.0 found.2) in
+        (first.0, first.1, turned ∙ sym (run_at n b first.0 None free))
+      where
+        is_idle : (run : Run) → is_none run ≡ true → run ≡ None
+        is_idle None is = refl
+        is_idle (Some id) is = absurd (let f : false ≡ true = is in cc)
+
+  module _ (a b : State) (one : IsYoung p a) (two : IsYoung p b) (same : pooled n a ≡ pooled n b) where
+    -- of each rank a worker of the one and a worker of the other finish alike
+    pub finishes_alike : (rank : ℕ) → OffersAlike n a b (finish_by (runner a rank)) (finish_by (runner b rank))
+    finishes_alike rank = by (runner a rank) (runner b rank) refl refl where
+      by : (x y : Option ℕ) → runner a rank ≡ x → runner b rank ≡ y → OffersAlike n a b (finish_by x) (finish_by y)
+      by None None e f = tt
+      by (Some k) y e f =
+          let there = runner_there a b two same rank k e in
+          subst (λ o. OffersAlike n a b (Some (Finish k)) (finish_by o)) (sym there.1 ∙ f)
+          (inr (inr (record { worker = k; other = there.0; one = refl; two = refl; same = there.2 })))
+      by None (Some j) e f =
+          let there = runner_there b a one (sym same) rank j f in
+          absurd (none-some there.0 (sym e ∙ there.1))
+
+    -- and so do the first that are idle take
+    pub takes_alike : OffersAlike n a b (take_by (idle_worker a)) (take_by (idle_worker b))
+    takes_alike = by (idle_worker a) (idle_worker b) refl refl where
+      by : (x y : Option ℕ) → idle_worker a ≡ x → idle_worker b ≡ y → OffersAlike n a b (take_by x) (take_by y)
+      by None None e f = tt
+      by (Some k) y e f =
+          let there = idle_there a b two same k e in
+          subst (λ o. OffersAlike n a b (Some (Take k)) (take_by o)) (sym there.1 ∙ f)
+          (inr (inl (record { worker = k; other = there.0; one = refl; two = refl; same = there.2 })))
+      by None (Some j) e f =
+          let there = idle_there b a one (sym same) j f in
+          absurd (none-some there.0 (sym e ∙ there.1))

@@ -1,5 +1,0 @@
-pub mod Lies
-mod Names
-pub mod Same
-pub mod Walked
-pub mod Workers

@@ -1,0 +1,111 @@
+-- Where the first move is apart from all others these may be held back: an answer behind them is one behind the first.
+use Rattle.std.proofs.Common.{◌≡◌, ℕ, zero, suc, ◌+◌, ◌-◌, ◌<◌, ◌≤◌, Bool, true, false, ◌||◌, ◌⊎◌, inl, inr, List, [], ◌∷◌, ◌++◌, length, refl, sym, ap, subst, ◌∙◌, Option, Some, None, arith}
+use Rattle.uv_search.specs.Ways.{LeadTo, CoversMoves, CoversStep, Meet, IsApart}
+
+module _ {P : Type 0} (moves : P → ℕ) (next : P → ℕ → Option (P × Bool)) where
+  -- these moves lead on from here, and the last of them answers
+  abbrev pub Ends : P → List ℕ → Type 0
+  Ends p [] = ⊥
+  Ends p (i ∷ []) = (m : P) × (i < moves p) × (next p i ≡ Some (m, true))
+  Ends p (i ∷ j ∷ js) = (m : P) × (b : Bool) × (i < moves p) × (next p i ≡ Some (m, b)) × Ends m (j ∷ js)
+
+  ends_more : (p : P) (i : ℕ) (m : P) (b : Bool) (is : List ℕ) → i < moves p → next p i ≡ Some (m, b) → Ends m is → Ends p (i ∷ is)
+  ends_more p i m b [] offered goes ends = absurd ends
+  ends_more p i m b (j ∷ js) offered goes ends = (m, b, offered, goes, ends)
+
+  pub ends_by : (p : P) (is : List ℕ) (s : P) (i : ℕ) (q : P) → LeadTo moves next p is s → i < moves s → next s i ≡ Some (q, true)
+      → Ends p (is ++ i ∷ [])
+  ends_by p [] s i q led offered goes =
+      (q, subst (λ x. i < moves x) led offered, subst (λ x. next x i ≡ Some (q, true)) led goes)
+  ends_by p (j ∷ js) s i q (m, b, o, g, rest) offered goes = ends_more p j m b (js ++ i ∷ []) o g (ends_by m js s i q rest offered goes)
+
+  same_next : (p m n : P) (i : ℕ) (b c : Bool) → next p i ≡ Some (m, b) → next p i ≡ Some (n, c) → (m ≡ n) × (b ≡ c)
+  same_next p m n i b c e f =
+      let one : ◌≡◌ {A = Option (P × Bool)} (Some (m, b)) (Some (n, c)) = sym e ∙ f in
+      let pair : ◌≡◌ {A = P × Bool} (m, b) (n, c) = cc in
+      (ap (λ x. x.0) pair, ap (λ x. x.1) pair)
+
+  module _ (key : P → List ℕ) where
+    -- a step that does the same as one that leads somewhere
+    pub same_step : (m : P) (b : Bool) (o : Option (P × Bool)) → CoversStep key (Some (m, b)) o
+        → (n : P) × (c : Bool) × (o ≡ Some (n, c)) × (key m ≡ key n) × (b ≡ c)
+    same_step m b (Some (n, c)) s = (n, c, refl, s.0, s.1)
+    same_step m b None s = elim s [ ]
+
+    module _ (apart : P → Bool) (HasRoom : ℕ → P → Type 0) (fewer : (n : ℕ) (p : P) → HasRoom (suc n) p → HasRoom n p)
+        (follows : (n : ℕ) (p : P) (i : ℕ) (q : P) (b : Bool) → HasRoom (suc n) p → i < moves p → next p i ≡ Some (q, b) → HasRoom n q)
+        (same : (n : ℕ) (p q : P) → HasRoom (suc n) p → HasRoom (suc n) q → key p ≡ key q → CoversMoves moves next key p q)
+        (meet : (n : ℕ) (p : P) (i : ℕ) → HasRoom (suc (suc n)) p → apart p ≡ true → i < moves p → 0 < i → IsApart moves next key apart p i) where
+      pub room_for : (k n : ℕ) (p : P) → HasRoom (k + n) p → HasRoom n p
+      room_for zero n p room = let none : 0 + n ≡ n = omega arith in subst (λ k. HasRoom k p) none room
+      room_for (suc k) n p room = let one : suc k + n ≡ suc (k + n) = omega arith in room_for k n p
+          (fewer (k + n) p (subst (λ m. HasRoom m p) one room))
+
+      -- what moves do at a place, they do at one that has the same key
+      pub ends_alike : (is : List ℕ) (p q : P) → HasRoom (length is) p → HasRoom (length is) q → key p ≡ key q → Ends p is → Ends q is
+      ends_alike [] p q rp rq e ends = ends
+      ends_alike (i ∷ []) p q rp rq e (m, offered, goes) =
+          let c = same 0 p q rp rq e in
+          let s = same_step m true (next q i) (subst (λ o. CoversStep key o (next q i)) goes (c.1 i offered)) in
+          (s.0, subst (λ x. i < x) c.0 offered, s.2 ∙ ap (λ b. Some (s.0, b)) (sym s.4))
+      ends_alike (i ∷ j ∷ js) p q rp rq e (m, b, offered, goes, rest) =
+          let n = length js in
+          let c = same (suc n) p q rp rq e in
+          let s = same_step m b (next q i) (subst (λ o. CoversStep key o (next q i)) goes (c.1 i offered)) in
+          let there = subst (λ x. i < x) c.0 offered in (
+            s.0,
+            s.1,
+            there,
+            s.2,
+            ends_alike (j ∷ js) m s.0 (follows (suc n) p i m b rp offered goes) (follows (suc n) q i s.0 s.1 rq there s.2) s.3
+                rest,
+          )
+
+      -- the first move answers, or the other one does behind it
+      or_behind : (i : ℕ) (m q : P) (b c : Bool) (x : Meet moves next key apart i m b q c) → (c || x.d) ≡ true → (n : ℕ)
+          → (b ≡ true) ⊎ ((js : List ℕ) × (length js ≤ suc n) × Ends m js)
+      or_behind i m q true c x some n = inl refl
+      or_behind i m q false c x some n =
+          inr (i ∷ [], omega arith, (x.end, x.stays, x.comes ∙ ap (λ e. Some (x.end, e)) (x.answers some)))
+
+      true_or : (b : Bool) → (b || true) ≡ true
+      true_or true = refl
+      true_or false = refl
+
+      -- the first move answers, or behind it as many moves do
+      pub ends_behind : (is : List ℕ) (p m : P) (b : Bool) → HasRoom (suc (length is)) p → apart p ≡ true → 0 < moves p → next p 0 ≡ Some (m, b)
+          → Ends p is → (b ≡ true) ⊎ ((js : List ℕ) × (length js ≤ length is) × Ends m js)
+      ends_behind [] p m b room first offered goes ends = absurd ends
+      ends_behind (zero ∷ []) p m b room first offered goes (q, o, g) = inl (same_next p m q 0 b true goes g).1
+      ends_behind (zero ∷ j ∷ js) p m b room first offered goes (q, c, o, g, rest) =
+          inr (j ∷ js, omega arith, subst (λ x. Ends x (j ∷ js)) (sym (same_next p m q 0 b c goes g).0) rest)
+      ends_behind (suc i ∷ []) p m b room first offered goes (q, o, g) =
+          let x = meet 0 p (suc i) room first o (omega arith) m q b true goes g in
+          or_behind (suc i) m q b true x refl 0
+      ends_behind (suc i ∷ j ∷ js) p m b room first offered goes (q, c, o, g, rest) =
+          let n = length js in
+          let x = meet (suc n) p (suc i) room first o (omega arith) m q b c goes g in
+          let there = follows (suc (suc n)) p (suc i) q c room o g in
+          let here = follows (suc (suc n)) p 0 m b room offered goes in
+          by x there here (ends_behind (j ∷ js) q x.last x.d there x.still x.offered x.goes rest)
+        where
+          by : (x : Meet moves next key apart (suc i) m b q c) → HasRoom (suc (suc (length js))) q → HasRoom (suc (suc (length js))) m
+              → ((x.d ≡ true) ⊎ ((ks : List ℕ) × (length ks ≤ suc (length js)) × Ends x.last ks))
+              → (b ≡ true) ⊎ ((ks : List ℕ) × (length ks ≤ suc (suc (length js))) × Ends m ks)
+          by x there here (inl last) = or_behind (suc i) m q b c x (ap (λ d. c || d) last ∙ true_or c) (suc (length js))
+          by x there here (inr (ks, few, ends)) =
+              let n = length js in
+              let k = suc n in
+              let behind_other : HasRoom k x.last = follows k q 0 x.last x.d there x.offered x.goes in
+              let behind_first : HasRoom k x.end = follows k m (suc i) x.end x.e here x.stays x.comes in
+              inr (
+                suc i ∷ ks,
+                omega (arith, few),
+                ends_more m (suc i) x.end x.e ks x.stays x.comes
+                    (ends_alike ks x.last x.end (less k ks x.last few behind_other) (less k ks x.end few behind_first) x.same ends),
+              )
+            where
+              less : (k : ℕ) (ks : List ℕ) (w : P) → length ks ≤ k → HasRoom k w → HasRoom (length ks) w
+              less k ks w few room =
+                  let more : (k - length ks) + length ks ≡ k = omega (arith, few) in
+                  room_for (k - length ks) (length ks) w (subst (λ n. HasRoom n w) (sym more) room)

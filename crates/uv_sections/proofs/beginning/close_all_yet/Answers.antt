@@ -1,9 +1,0 @@
-use Rattle.uv_step.specs.Image.{image_of}
-use Rattle.uv_sections.proofs.Begins.{closing_begun}
-use Rattle.uv_sections.proofs.beginning.close_all_yet.Goals as goal
-
-pub returns-clause-stands : goal.returns-clause-stands
-returns-clause-stands c =
-    let b = c.begin_closing in
-    closing_begun (image_of c.args.memory.now) (image_of b.new.self) b.ensures.frame _
-    b.ensures.does.does

@@ -1,9 +1,0 @@
-use Rattle.uv_step.proofs.Names.{◌+◌, arith, common_steps, kept, image_of}
-use Rattle.uv_step.proofs.Rows.{called}
-use Rattle.uv_step.proofs.memory.Memory.count_call.Goals as goal
-
-pub returns-clause-extended : goal.returns-clause-extended
-returns-clause-extended g c =
-    rw (← c.self.view_is) (called c.self.inside.step_record _ (image_of (kept c.self.inside)) _ c.args.name c.args.callback (c.of-count.result + 1)
-    c.of-count.result _ (rw (← c.self.view_is) at c.requires.can) c.self.invariant (rw (← c.self.view_is) at c.requires.unnamed) (rw (←
-    c.self.view_is) at c.requires.name) (grind (arith, common_steps)) (grind (arith, common_steps)) c.rename.ensures)

@@ -1,5 +1,0 @@
-use Rattle.uv_step.proofs.Names.{subst, rules, IsFit}
-use Rattle.uv_step.proofs.memory.Memory.undo_moved.Goals as goal
-
-pub invariant_of-self : goal.invariant_of-self
-invariant_of-self g c = subst (λ k. IsFit k) (search rules) c.requires.fit

@@ -1,2 +1,0 @@
-pub mod Undo
-pub mod Watch

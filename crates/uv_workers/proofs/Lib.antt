@@ -1,0 +1,5 @@
+mod Cases
+pub mod Ops
+pub mod Frame
+pub mod Runs
+pub mod Steps

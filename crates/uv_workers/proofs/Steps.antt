@@ -1,0 +1,162 @@
+-- Steps of states that are the same except for which worker runs which request.
+use Rattle.std.proofs.Common.{◌≡◌, ℕ, ◌+◌, ◌||◌, List, [], ◌∷◌, Bool, true, false, drop, Option, Some, None, Result, Ok, Err, refl, ap, sym, ◌∙◌, slice_get, slice_set, if◌then◌else◌}
+use Rattle.std.specs.Prelude.{is_some}
+use Rattle.std.specs.List.{list_any}
+use Rattle.uv_ids.specs.declared.id.Id.{Id}
+use Rattle.uv_ids.specs.declared.id.Var.{Var}
+use Rattle.uv_ids.specs.declared.event.Event.{Event}
+use Rattle.uv_ids.specs.declared.event.Event.TheVariants.{Take, Finish}
+use Rattle.uv_ids.specs.declared.fault.Why.{Why}
+use Rattle.uv_ids.specs.declared.fault.Why.TheVariants.{NoWork, IdleWorker}
+use Rattle.uv_ids.specs.declared.seen.Seen.{Seen}
+use Rattle.uv_ids.specs.declared.seen.Seen.TheVariants as seen
+use Rattle.uv_script.specs.Program.{Program}
+use Rattle.uv_work.specs.Digests.{digest_of}
+use Rattle.uv_work.specs.Pool.{is_run}
+use Rattle.uv_work.specs.Tasks.{text_of}
+use Rattle.uv_work.specs.declared.outcome.Outcome.TheVariants.{Finished}
+use Rattle.uv_work.specs.declared.request.Request.{Request}
+use Rattle.uv_model.specs.Found.{found_or}
+use Rattle.uv_model.specs.Ops.{ended}
+use Rattle.uv_model.specs.Queries.{worker_of, runner_from}
+use Rattle.uv_model.specs.State.{State, front_request, request, with_id}
+use Rattle.uv_model.specs.Next as steps
+use Rattle.uv_model.specs.Next.{Next, Moves, Refuses, next}
+use Rattle.uv_workers.specs.Workers.{is_of_worker, next_by, ordered, orderly, orderly_next}
+use Rattle.uv_workers.proofs.Frame.{put_next, front_request_same, next_same}
+use Rattle.uv_workers.proofs.Ops.{put}
+use Rattle.uv_workers.proofs.Runs.{any_ordered, found_alike, ordered_again, set_alike}
+
+-- ---- two states that are the same with the workers' requests in order
+
+pub orderly_again : (s : State) → orderly (orderly s) ≡ orderly s
+orderly_again s = ap (λ running. put running s) (ordered_again s.running)
+
+pub runs_alike : (s t : State) → orderly s ≡ orderly t → ordered s.running ≡ ordered t.running
+runs_alike s t same = ap (λ (u : State). u.running) same
+
+-- the one is the other, with what its workers run
+pub whole : (s t : State) → orderly s ≡ orderly t → put t.running s ≡ t
+whole s t same = ap (put t.running) same
+
+-- ---- the steps that are no worker's
+
+put_alike : (x : Next) (xs ys : List (Option Id)) → ordered xs ≡ ordered ys → orderly_next (put_next xs x) ≡ orderly_next (put_next ys x)
+put_alike (Moves s line) xs ys same = ap (λ running. Moves (put running s) line) same
+put_alike (Refuses why) xs ys same = refl
+
+pub others : (p : Program) (s : State) (e : Event) → is_of_worker e ≡ false → orderly_next (next p (orderly s) e) ≡ orderly_next (next p s e)
+others p s e other = ap orderly_next (next_same (ordered s.running) p s e other)
+    ∙ put_alike (next p s e) (ordered s.running) s.running (ordered_again s.running)
+    ∙ ap orderly_next (sym (next_same s.running p s e other))
+
+pub others_alike : (p : Program) (s t : State) (e : Event) → is_of_worker e ≡ false → orderly s ≡ orderly t →
+    orderly_next (next p s e) ≡ orderly_next (next p t e)
+others_alike p s t e other same = sym (others p s e other) ∙ ap (λ u. orderly_next (next p u e)) same ∙ others p t e other
+
+-- ---- a worker takes a request, or finishes its own
+
+-- the other workers run the same, and this one from then on another
+set_same : (s : State) (running : List (Option Id)) (k j : ℕ) (x y : Option Id) → ordered s.running ≡ ordered running →
+    slice_get s.running k ≡ Some x → slice_get running j ≡ Some x → ordered (slice_set running j y) ≡ ordered (slice_set s.running k y)
+set_same s running k j x y same at there = sym (set_alike s.running running k j x y same at there)
+
+take_with : (p : Program) (s : State) (running : List (Option Id)) (k j : ℕ) → ordered s.running ≡ ordered running →
+    slice_get s.running k ≡ slice_get running j → orderly_next (next p (put running s) (Take j)) ≡ orderly_next (next_by j (next p s (Take k)))
+unfolding next
+take_with p s running k j same here =
+    ap (λ o. orderly_next (steps.take (put running s) j (steps.next_work (put running s) o))) (sym here)
+    ∙ by (slice_get s.running k) refl (sym here)
+  where
+    takes : slice_get s.running k ≡ Some None → slice_get running j ≡ Some None → (t : Result (Id × Request) Why) →
+        orderly_next (steps.take (put running s) j t) ≡ orderly_next (next_by j (steps.take s k t))
+    takes at there (Err why) = refl
+    takes at there (Ok t) = ap (λ runs. Moves (record s { waiting = drop 1 s.waiting; running = runs }) (Some (seen.Take j t.1.name t.0)))
+        (set_same s running k j None (Some t.0) same at there)
+
+    by : (o : Option (Option Id)) → slice_get s.running k ≡ o → slice_get running j ≡ o →
+        orderly_next (steps.take (put running s) j (steps.next_work (put running s) o))
+        ≡ orderly_next (next_by j (steps.take s k (steps.next_work s o)))
+    by None at there = refl
+    by (Some (Some id)) at there = refl
+    by (Some None) at there =
+        ap (λ x. orderly_next (steps.take (put running s) j (found_or x Ok (Err NoWork)))) (front_request_same running s s.waiting)
+        ∙ takes at there (found_or (front_request s s.waiting) Ok (Err NoWork))
+
+finish_with : (p : Program) (s : State) (running : List (Option Id)) (k j : ℕ) → ordered s.running ≡ ordered running →
+    slice_get s.running k ≡ slice_get running j → orderly_next (next p (put running s) (Finish j)) ≡ orderly_next (next_by j (next p s (Finish k)))
+unfolding next
+finish_with p s running k j same here =
+    ap (λ o. orderly_next (steps.finish (put running s) j (steps.work_of (put running s) o))) (sym here)
+    ∙ by (slice_get s.running k) refl (sym here)
+  where
+    finishes : (id : Id) → slice_get s.running k ≡ Some (Some id) → slice_get running j ≡ Some (Some id) → (t : Result (Id × Request) Why) →
+        orderly_next (steps.finish (put running s) j t) ≡ orderly_next (next_by j (steps.finish s k t))
+    finishes id at there (Err why) = refl
+    finishes id at there (Ok t) =
+        let outcome = Finished (digest_of t.1.task.rounds (text_of t.1.task)) in
+        ap (λ runs. Moves (ended (record s { running = runs }) t.0 t.1 outcome) (Some (seen.Finish j t.1.name t.0)))
+        (set_same s running k j (Some id) None same at there)
+
+    by : (o : Option (Option Id)) → slice_get s.running k ≡ o → slice_get running j ≡ o →
+        orderly_next (steps.finish (put running s) j (steps.work_of (put running s) o))
+        ≡ orderly_next (next_by j (steps.finish s k (steps.work_of s o)))
+    by None at there = refl
+    by (Some None) at there = refl
+    by (Some (Some id)) at there = finishes id at there (found_or (with_id id (request s id)) Ok (Err IdleWorker))
+
+pub takes : (p : Program) (s : State) (k j : ℕ) → slice_get s.running k ≡ slice_get (orderly s).running j →
+    orderly_next (next p (orderly s) (Take j)) ≡ orderly_next (next_by j (next p s (Take k)))
+takes p s k j here = take_with p s (ordered s.running) k j (sym (ordered_again s.running)) here
+
+pub takes_alike : (p : Program) (s t : State) (k j : ℕ) → orderly s ≡ orderly t → slice_get s.running k ≡ slice_get t.running j →
+    orderly_next (next p t (Take j)) ≡ orderly_next (next_by j (next p s (Take k)))
+takes_alike p s t k j same here = ap (λ u. orderly_next (next p u (Take j))) (sym (whole s t same))
+    ∙ take_with p s t.running k j (runs_alike s t same) here
+
+pub finishes : (p : Program) (s : State) (k j : ℕ) → slice_get s.running k ≡ slice_get (orderly s).running j →
+    orderly_next (next p (orderly s) (Finish j)) ≡ orderly_next (next_by j (next p s (Finish k)))
+finishes p s k j here = finish_with p s (ordered s.running) k j (sym (ordered_again s.running)) here
+
+pub finishes_alike : (p : Program) (s t : State) (k j : ℕ) → orderly s ≡ orderly t → slice_get s.running k ≡ slice_get t.running j →
+    orderly_next (next p t (Finish j)) ≡ orderly_next (next_by j (next p s (Finish k)))
+finishes_alike p s t k j same here = ap (λ u. orderly_next (next p u (Finish j))) (sym (whole s t same))
+    ∙ finish_with p s t.running k j (runs_alike s t same) here
+
+-- ---- their lines
+
+pub take_line : (p : Program) (s t : State) (k : ℕ) (line : Option Seen) → next p s (Take k) ≡ Moves t line →
+    (v : Var) × (id : Id) × (line ≡ Some (seen.Take k v id))
+unfolding next
+take_line p s t k line is = by (steps.next_work s (slice_get s.running k)) is
+  where
+    by : (r : Result (Id × Request) Why) → steps.take s k r ≡ Moves t line → (v : Var) × (id : Id) × (line ≡ Some (seen.Take k v id))
+    by (Err why) e = absurd (let f : ⊥ = cc in f)
+    by (Ok r) e = let says : line ≡ Some (seen.Take k r.1.name r.0) = cc in (r.1.name, r.0, says)
+
+pub finish_line : (p : Program) (s t : State) (k : ℕ) (line : Option Seen) → next p s (Finish k) ≡ Moves t line →
+    (v : Var) × (id : Id) × (line ≡ Some (seen.Finish k v id))
+unfolding next
+finish_line p s t k line is = by (steps.work_of s (slice_get s.running k)) is
+  where
+    by : (r : Result (Id × Request) Why) → steps.finish s k r ≡ Moves t line → (v : Var) × (id : Id) × (line ≡ Some (seen.Finish k v id))
+    by (Err why) e = absurd (let f : ⊥ = cc in f)
+    by (Ok r) e = let says : line ≡ Some (seen.Finish k r.1.name r.0) = cc in (r.1.name, r.0, says)
+
+-- ---- what is asked of workers
+
+runner_any : (n : ℕ) (xs : List (Option Id)) (id : Id) → is_some (runner_from n xs id) ≡ list_any (λ run. is_run run id) xs
+runner_any n [] id = refl
+runner_any n (x ∷ xs) id = by (is_run x id) (runner_any (n + 1) xs id)
+  where
+    by : (b : Bool) → is_some (runner_from (n + 1) xs id) ≡ list_any (λ run. is_run run id) xs →
+        is_some (if b then Some n else runner_from (n + 1) xs id) ≡ b || list_any (λ run. is_run run id) xs
+    by true more = refl
+    by false more = more
+
+pub runs_ordered : (s : State) (id : Id) → is_some (worker_of (orderly s) id) ≡ is_some (worker_of s id)
+runs_ordered s id = runner_any 0 (ordered s.running) id ∙ any_ordered (λ run. is_run run id) s.running ∙ sym (runner_any 0 s.running id)
+
+pub workers_alike : (s t : State) (k : ℕ) (run : Option Id) → orderly s ≡ orderly t → slice_get s.running k ≡ Some run →
+    (j : ℕ) × (slice_get t.running j ≡ Some run)
+workers_alike s t k run same at = found_alike s.running t.running k run (runs_alike s t same) at

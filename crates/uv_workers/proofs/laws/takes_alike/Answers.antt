@@ -1,0 +1,11 @@
+use Rattle.uv_workers.proofs.Steps as steps
+use Rattle.uv_workers.proofs.laws.takes_alike.Goals as goal
+
+pub returns-clause-step : goal.returns-clause-step
+returns-clause-step c = steps.takes
+
+pub returns-clause-alike : goal.returns-clause-alike
+returns-clause-alike c = steps.takes_alike
+
+pub returns-clause-line : goal.returns-clause-line
+returns-clause-line c = steps.take_line
