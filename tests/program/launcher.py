@@ -620,6 +620,32 @@ def try_builds(check: Check, kit: StandIn) -> None:
     same(check, "no copy is left", os.listdir(os.path.join(kit.room, "cache")), [])
 
 
+# Has Python send itself a signal as it begins to take a folder away, where it has a handler for one. (What shutil does then passes over
+# whatever is raised.)
+WITHIN = """
+import os, signal, sys
+real = os.lstat
+def lstat(*words, **named):
+    if sys._getframe(1).f_globals["__name__"] == "shutil" and callable(signal.getsignal(signal.SIGTERM)):
+        os.kill(os.getpid(), signal.SIGTERM)
+    return real(*words, **named)
+os.lstat = lstat
+"""
+
+
+def try_signal_within(check: Check, kit: StandIn) -> None:
+    """A signal ends a build also where it comes within a call that passes over faults."""
+    begin_anew(kit)
+    kit.write("sitecustomize.py", WITHIN)
+    status, output, errors = run([kit.uvt(), "build"], env={**kit.env(), "PYTHONPATH": kit.room})
+    check(
+        "a build that is stopped while it takes a folder away",
+        (status, output) == (70, b"") and b"uvt: stopped; what is proved is kept" in errors,
+        "got %r" % ((status, output, errors),),
+    )
+    os.remove(os.path.join(kit.room, "sitecustomize.py"))
+
+
 def begin_anew(kit: StandIn) -> None:
     for name in os.listdir(kit.room):
         if name.startswith("done-") or name == "log":
@@ -756,6 +782,7 @@ def try_with_stand_in(check: Check, program: str) -> None:
         kit = stand_in(folder, program)
         try_first_call(check, kit)
         try_builds(check, kit)
+        try_signal_within(check, kit)
         try_order(check, kit)
         try_unanswered(check, kit)
         try_typed(check, kit)

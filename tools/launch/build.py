@@ -7,6 +7,7 @@ afterwards, for the next build and for `rt check`. Where the build is stopped or
 goes on from there."""
 import hashlib
 import os
+import queue
 import shutil
 import signal
 import sys
@@ -14,31 +15,13 @@ import tempfile
 from typing import Dict, List, Tuple
 
 from launch import crates
-from launch.lanes import Command, Failed, Lanes, expected
+from launch.lanes import Command, Failed, Lanes, Said, Stopped, expected
 from launch.progress import Progress, clock
 
 # What a check of a crate takes of the memory, in bytes.
 EACH = 1_600_000_000
 # The words that each program is started with, and an input that it answers with status 0.
 STARTED: Dict[str, Tuple[List[str], bytes]] = {"uvt": (["debug"], b"begin\n"), "uvt_find": ([], b"var a\nmain now\nbegin\nfind never a\n")}
-
-
-class Stopped(Exception):
-    pass
-
-
-SIGNALS = (signal.SIGINT, signal.SIGTERM, signal.SIGHUP)
-
-
-def stop(*_: object) -> None:
-    # (at a terminal two of them come)
-    for number in SIGNALS:
-        signal.signal(number, pass_over)
-    raise Stopped
-
-
-def pass_over(*_: object) -> None:
-    """(a signal that is ignored while it waits for its turn would leave a traceback)"""
 
 
 def room_of(root: str) -> str:
@@ -82,7 +65,7 @@ def build_program(root: str, program: str, progress: Progress, lanes: Lanes) -> 
         command.end()
 
 
-def build(root: str, kept: str, names: List[str]) -> None:
+def build(root: str, kept: str, names: List[str], said: Said) -> None:
     of = crates.read(root, names)
     at_once = processors()
     progress = Progress(of, at_once)
@@ -92,7 +75,7 @@ def build(root: str, kept: str, names: List[str]) -> None:
         % (why, len(of), at_once, round(expected(of, at_once) / 60))
     )
     room = room_of(root)
-    lanes = Lanes(root, room, of, at_once, progress)
+    lanes = Lanes(root, room, progress, at_once, said)
     lanes.build(names[:-1])
     build_program(root, names[-1], progress, lanes)
     shutil.rmtree(room, ignore_errors=True)
@@ -100,11 +83,13 @@ def build(root: str, kept: str, names: List[str]) -> None:
 
 
 def main() -> int:
-    for number in SIGNALS:
-        signal.signal(number, stop)
+    said: Said = queue.SimpleQueue()
+    for number in (signal.SIGINT, signal.SIGTERM, signal.SIGHUP):
+        # (at a terminal two of them come, and of what is put behind the first one nothing is heard)
+        signal.signal(number, lambda *_: said.put(None))
     root, kept, names = sys.argv[1], sys.argv[2], sys.argv[3:]
     try:
-        build(root, kept, names)
+        build(root, kept, names, said)
         return 0
     except Stopped:
         print("\nuvt: stopped; what is proved is kept, and the next build goes on from there", file=sys.stderr)

@@ -26,10 +26,15 @@ class Failed(Exception):
     """A crate that isn't proved, and what rt says of it."""
 
 
-class Command:
-    """A command of the kit in a crate's folder. What it says goes into the queue, a line at a time, and then its status."""
+class Stopped(Exception):
+    """A build that a signal ends. It is raised where the build waits, and nowhere else: within a library's call it might be taken for a
+    fault of what that does, and passed over."""
 
-    def __init__(self, name: str, words: List[str], folder: str, said: "queue.Queue", given: bytes = b"") -> None:
+
+class Command:
+    """A command of the kit in a crate's folder. What it says goes into the queue, a line at a time, and None once it has ended."""
+
+    def __init__(self, name: str, words: List[str], folder: str, said: "Said", given: bytes = b"") -> None:
         self.name, self.functions = name, 0
         self.lines: List[str] = []
         self.process = subprocess.Popen(
@@ -40,7 +45,7 @@ class Command:
             self.process.stdin.close()
         threading.Thread(target=self.read, args=(said,), daemon=True).start()
 
-    def read(self, said: "queue.Queue") -> None:
+    def read(self, said: "Said") -> None:
         for line in self.process.stdout:
             said.put((self, line.decode(errors="replace").rstrip("\n")))
         self.process.wait()
@@ -95,11 +100,14 @@ def give(library: str, target: str) -> None:
     shutil.rmtree(target + ".new", ignore_errors=True)
 
 
+# What the commands say, each line with who said it; and None where a signal ends the build. (A signal may come while something is put.)
+Said = queue.SimpleQueue[Optional[Tuple[Command, Optional[str]]]]
+
+
 class Lanes:
-    def __init__(self, root: str, room: str, crates: Dict[str, Crate], processors: int, progress: Progress) -> None:
-        self.root, self.room, self.crates, self.processors, self.progress = root, room, crates, processors, progress
-        self.chains = chains(crates)
-        self.said: "queue.Queue[Tuple[Command, Optional[str]]]" = queue.Queue()
+    def __init__(self, root: str, room: str, progress: Progress, processors: int, said: Said) -> None:
+        self.root, self.room, self.progress, self.processors, self.said = root, room, progress, processors, said
+        self.crates, self.chains = progress.crates, progress.chains
         self.running: Dict[str, Tuple[Command, str, int]] = {}  # each crate's command, lane and processors
         self.free: List[str] = []
         self.lanes: List[str] = []
@@ -150,10 +158,13 @@ class Lanes:
         """Waits until a command has ended well."""
         while True:
             try:
-                command, line = self.said.get(timeout=1)
+                heard = self.said.get(timeout=1)
             except queue.Empty:
                 self.progress.tell()
                 continue
+            if heard is None:
+                raise Stopped
+            command, line = heard
             if line is None:
                 if command.process.returncode:
                     raise Failed(failure(command))
