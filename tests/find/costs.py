@@ -21,7 +21,21 @@ from tests.find.asked import read
 HERE = Path(__file__).resolve().parent
 COUNTED = 100_000
 BUILT = HERE.parent.parent / "crates/uvt_find/out/uvt_find"
-GROWTH = [(1, 2, 0), (1, 4, 0), (1, 6, 0), (2, 2, 0), (2, 4, 0), (2, 6, 0), (4, 4, 0), (4, 6, 0), (2, 2, 1), (2, 2, 2), (2, 2, 4), (2, 2, 8)]
+GROWTH = [
+    (1, 2, 0),
+    (1, 4, 0),
+    (1, 6, 0),
+    (2, 2, 0),
+    (2, 4, 0),
+    (2, 6, 0),
+    (2, 10, 0),
+    (4, 4, 0),
+    (4, 6, 0),
+    (2, 2, 1),
+    (2, 2, 2),
+    (2, 2, 4),
+    (2, 2, 8),
+]
 
 
 def growing(workers: int, requests: int, sends: int) -> str:
@@ -41,7 +55,7 @@ def whole(script: str) -> str:
 def beside_whole(name: str, script: str, is_counted: bool) -> Iterator[tuple[str, str, bool]]:
     yield name, script, is_counted
     asked = read(script)
-    if normal.may_forget(asked) or holding.may_hold(asked):
+    if normal.may_forget(asked) or holding.holds_back(asked):
         yield f"{name}, full", whole(script), is_counted
 
 

@@ -74,7 +74,7 @@ def difference(short: answer.Answer, whole: answer.Answer, fewer: int) -> str:
 def try_script(program: str, states: int, seed: int) -> Tried:
     text = question(seed, states)
     what = asked.read(text)
-    holds = holding.may_hold(what)
+    holds = holding.holds_back(what)
     if not normal.may_forget(what) and not holds:
         return Tried(seed, "nothing to forget", 0)
     try:

@@ -1,8 +1,11 @@
-"""Where a search holds moves back: those of the thread pool, of the clock and of I/O, where the loop's next step is apart from them.
+"""Where a search holds moves back: those of the thread pool, of the clock and of I/O, where the loop's next step is apart from them; and all
+others, where a worker takes a request at once.
 
-It is written from the words of the definitions: `may_hold` and `is_loop_apart` of uv_find, `is_apart` and `reads_clock` of uv_apart."""
+It is written from the words of the definitions: `may_hold`, `may_take_at_once` and `is_loop_apart` of uv_find, `is_apart` and `reads_clock` of
+uv_apart."""
 from typing import Dict, List, Optional
 
+from tests.find import normal
 from tests.find.asked import Asked
 from tests.find.loop import State
 
@@ -11,10 +14,26 @@ LISTS = ("on", "after", "closed")
 OF_IO = ("pending", "poll", "polled", "done", "async")
 
 
+def is_plain(asked: Asked) -> bool:
+    """Whether nothing is kept whole or held to a recording, no time of a callback is said, and lateness isn't asked."""
+    return not (asked.full or asked.differ is not None or asked.takes) and asked.question[:1] != ("late",)
+
+
 def may_hold(asked: Asked) -> bool:
-    """Whether no time of a callback is said, and nothing comes but of the pool, of the clock and of I/O."""
-    is_whole = asked.full or asked.differ is not None or asked.takes
-    return not is_whole and asked.question[:1] != ("late",) and all(offer.word in ("wait", "tick", "io") for offer in asked.offers)
+    """Whether moves may be held back behind the loop's step: no time of a callback is said, and nothing comes but of the pool, of the clock and of
+    I/O."""
+    return is_plain(asked) and all(offer.word in ("wait", "tick", "io") for offer in asked.offers)
+
+
+def takes_at_once(asked: Asked) -> bool:
+    """Whether a worker takes a request at once: workers are alike, no time of a callback is said, and nobody cancels."""
+    is_clear = all(offer.word in ("wait", "tick", "send", "io") and offer.job is None for offer in asked.offers)
+    return is_plain(asked) and normal.may_forget(asked) and is_clear and all(op[0] != "cancel" for _, op in normal.ops(asked))
+
+
+def holds_back(asked: Asked) -> bool:
+    """Whether moves may be held back, behind the loop's step or behind a take."""
+    return may_hold(asked) or takes_at_once(asked)
 
 
 def may_tick(asked: Asked) -> bool:

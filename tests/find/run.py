@@ -147,7 +147,7 @@ def answer_slowly(plan: Plan, path: str) -> int:
         what = asked.read(file.read())
     settled = slow.search(plan.uvt, what, plan.places)
     places = "more than %d states" % plan.places if settled.places is None else "%d states" % settled.places
-    if holding.may_hold(what):
+    if holding.holds_back(what):
         places += ", of which %s are kept" % ("more than %d" % plan.places if settled.kept is None else settled.kept)
     print("never: %s" % places if settled.steps is None else "found in %d steps at least; %s" % (settled.steps, places))
     return 0

@@ -58,22 +58,24 @@ class Settled(NamedTuple):
 
 @dataclass
 class Visit:
-    """A place that is under way: the moves that weren't tried there yet, whether the loop's step is apart from the others, and where it led."""
+    """A place that is under way: the moves that weren't tried there yet, the words of those that are apart from all others, and where the last one
+    led, if it is apart."""
 
     key: object
     steps: Tuple[str, ...]
     place: Place
     moves: Iterator[Move]
-    is_apart: bool
-    behind_loop: object = None
+    apart: Set[str]
+    behind: object = None
 
 
 def every_offer(asked: Asked) -> List[Offer]:
-    """The loop goes on, the idle worker of the least number takes, each worker may finish, and then what may come from outside. The number of a
-    finish is that of the worker; where it is forgotten which of them runs which request, it says whose request that is: of those that are run
-    the first one, by their slots, the second one, and so on."""
+    """The loop goes on, the idle worker of the least number takes (that first, where it takes at once), each worker may finish, and then what may
+    come from outside. The number of a finish is that of the worker; where it is forgotten which of them runs which request, it says whose request
+    that is: of those that are run the first one, by their slots, the second one, and so on."""
     finishes = [Offer("finish", str(worker), None) for worker in range(asked.workers)]
-    return [Offer("loop", "", None), Offer("take", "", None)] + finishes + asked.offers
+    first = [Offer("loop", "", None), Offer("take", "", None)]
+    return (first[::-1] if holding.takes_at_once(asked) else first) + finishes + asked.offers
 
 
 def beginning(asked: Asked, state: State) -> Place:
@@ -252,7 +254,7 @@ def search(program: str, asked: Asked, cap: int) -> Settled:
     try:
         first = beginning(asked, loop.state)
         settled = search_from(loop, asked, first, cap)
-        if holding.may_hold(asked):
+        if holding.holds_back(asked):
             loop.go_back((), first.state)
             return settled._replace(kept=places_kept(loop, asked, first, cap))
         return settled
@@ -294,22 +296,24 @@ def search_from(loop: Loop, asked: Asked, first: Place, cap: int) -> Settled:
 
 
 def places_kept(loop: Loop, asked: Asked, first: Place, cap: int) -> Optional[int]:
-    """How many places a search keeps that goes deep first and holds moves back: where the loop's step is apart and led to a place that is done,
-    the other moves aren't tried. A place is done once no move is left to try there. None where there are more than so many."""
+    """How many places a search keeps that goes deep first and holds moves back: where a move is apart and led to a place that is done, those behind
+    it aren't tried. A place is done once no move is left to try there. None where there are more than so many."""
     calls, ops, ticks = normal.calls_told(asked), holding.Ops(asked.script), holding.may_tick(asked)
+    holds, always = holding.may_hold(asked), {"take"} if holding.takes_at_once(asked) else set()
     is_done: Dict[object, bool] = {}
     way: List[Visit] = []
 
     def visit(steps: Tuple[str, ...], place: Place) -> None:
         key = place.key(calls)
         is_done[key] = False
-        way.append(Visit(key, steps, place, moves(loop, asked, place, []), ops.is_loop_apart(ticks, place.state)))
+        apart = always | ({"loop"} if holds and ops.is_loop_apart(ticks, place.state) else set())
+        way.append(Visit(key, steps, place, moves(loop, asked, place, []), apart))
 
     visit((), first)
     while way:
         here = way[-1]
         # (the moves of a place go on where the last one led to, and take that back)
-        is_held = here.is_apart and is_done.get(here.behind_loop, False)
+        is_held = is_done.get(here.behind, False)
         move = None if is_held else next(here.moves, None)
         if move is None:
             is_done[here.key] = True
@@ -317,8 +321,7 @@ def places_kept(loop: Loop, asked: Asked, first: Place, cap: int) -> Optional[in
             way.pop()
             continue
         key = move.place.key(calls)
-        if move.command == "loop":
-            here.behind_loop = key
+        here.behind = key if move.command.split(" ")[0] in here.apart else None
         if key not in is_done:
             if len(is_done) == cap:
                 return None

@@ -167,7 +167,7 @@ def try_lines(check: Check, folder: str) -> None:
     check("find, without full", ran.stdout == "never: 159 states, every order\n", ran)
     apart = os.path.join(folder, "apart")
     Path(apart).write_text(growing(2, 2, 0), encoding="ascii")
-    for states, word in ((377, ""), (706, "--full")):
+    for states, word in ((272, ""), (706, "--full")):
         ran = run([apart, *word.split()])
         check(f"find, {states} states of a pool", (ran.returncode, ran.stdout) == (NEVER, f"never: {states} states, every order\n"), ran)
     ran = run([str(EXAMPLES / "server.find")])

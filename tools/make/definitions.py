@@ -124,12 +124,14 @@ CLAIMS = (
         ),
     ),
     Claim(
-        "A step of the loop that doesn't read the clock and a tick, and one that is apart and what a worker takes or finishes, can be taken in both "
-        "orders where each is accepted, with the same lines, to the same state.",
+        "A step of the loop that doesn't read the clock and a tick, one that is no cancel and what a worker takes, and one that is apart and what a "
+        "worker finishes, can be taken in both orders where each is accepted, with the same lines, to the same state; and so can what a worker takes "
+        "and a tick, what another one finishes, a send, or a callback of I/O.",
         (
             Clause("uv_apart", "laws", "ticks_apart", ""),
             Clause("uv_apart", "laws", "takes_apart", ""),
             Clause("uv_apart", "laws", "finishes_apart", ""),
+            Clause("uv_apart", "laws", "takes_beside", ""),
         ),
     ),
     Claim(

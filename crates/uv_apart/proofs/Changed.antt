@@ -25,14 +25,14 @@ use Rattle.uv_work.specs.declared.content.Content.{Content}
 use Rattle.uv_work.specs.declared.content.Content.TheVariants as content
 use Rattle.uv_work.specs.declared.request.Request.{Request}
 use Rattle.uv_work.specs.declared.task.Task.{Task}
-use Rattle.uv_model.specs.Content.{content_keeps, is_used, handle_in}
+use Rattle.uv_model.specs.Content.{content_keeps, content_pends, is_used, handle_in}
 use Rattle.uv_model.specs.Ids.{same_id}
 use Rattle.uv_model.specs.State.{State, named, live, live_id, live_handle, live_request, as_handle, handle, with_handle, with_id, with_watched, watched}
 use Rattle.uv_model.specs.Timeout.{is_alive, backend_timeout}
 use Rattle.uv_model.specs.Timers.{due_after, restarted, started, stopped, taken_off}
 use Rattle.uv_model.specs.Ops as ops
 use Rattle.uv_model.specs.Ops.{Coded, do_op}
-use Rattle.uv_apart.specs.Apart.{is_apart_op, op_reads_clock}
+use Rattle.uv_apart.specs.Apart.{cancels_op, op_reads_clock}
 use Rattle.uv_apart.proofs.Cases.{by_found, by_test, found_same}
 
 -- what is changed: the clock, who waits, who runs, who is done, and what the slots hold
@@ -74,6 +74,8 @@ pub record Hides (c : Change) (s : State) : Type 0 where
   pub seen : (id : Id) → seen_in (held (c.slots s.arena.slots) id) ≡ seen_in (held s.arena.slots id)
   pub keeps : list_any (λ (slot : Slot Content). content_keeps slot.content) (c.slots s.arena.slots)
       ≡ list_any (λ (slot : Slot Content). content_keeps slot.content) s.arena.slots
+  pub pends : list_any (λ (slot : Slot Content). content_pends slot.content) (c.slots s.arena.slots)
+      ≡ list_any (λ (slot : Slot Content). content_pends slot.content) s.arena.slots
   pub used : list_any (λ (slot : Slot Content). is_used slot.content) (c.slots s.arena.slots)
       ≡ list_any (λ (slot : Slot Content). is_used slot.content) s.arena.slots
   pub handles : (id : Id) (h : HandleRecord) → handle s id ≡ Some h → c.stays id.slot ≡ true
@@ -81,19 +83,23 @@ pub record Hides (c : Change) (s : State) : Type 0 where
   pub ended : (id : Id) (ids : List Id) → s.done.yet ≡ id ∷ ids → c.stays id.slot ≡ true
   pub waits : (id : Id) → c.waiting s.waiting ++ id ∷ [] ≡ c.waiting (s.waiting ++ id ∷ [])
 
+-- who is done is the same
+abbrev pub SameDone : Change → Type 0
+SameDone c = (ids : List Id) → c.done ids ≡ ids
+
 -- nothing is changed but the clock, and who runs
 pub record SameWork (c : Change) : Type 0 where
   pub waiting : (ids : List Id) → c.waiting ids ≡ ids
-  pub done : (ids : List Id) → c.done ids ≡ ids
+  pub done : SameDone c
   pub slots : (slots : List (Slot Content)) → c.slots slots ≡ slots
 
-abbrev pub clocked : Change → State → State
+abbrev clocked : Change → State → State
 clocked c s = record s { clock = c.clock s.clock; running = c.running s.running }
 
 abbrev clocked_done : Change → ops.Done → ops.Done
 clocked_done c x = record { state = clocked c x.state; answer = x.answer }
 
-pub only_clock : (c : Change) → SameWork c → (u : State) → changed c u ≡ clocked c u
+only_clock : (c : Change) → SameWork c → (u : State) → changed c u ≡ clocked c u
 only_clock c same u =
     let waiting = same.waiting u.waiting in
     let done = same.done u.done.list in
@@ -257,7 +263,7 @@ module _ (c : Change) (leaves : Leaves c) where
 
     -- ---- the ops
 
-    send_changed : (v : Var) → ops.send (changed c s) (live_handle (changed c s) v) ≡ changed_coded (ops.send s (live_handle s v))
+    pub send_changed : (v : Var) → ops.send (changed c s) (live_handle (changed c s) v) ≡ changed_coded (ops.send s (live_handle s v))
     send_changed v = ap (ops.send (changed c s)) (live_handle_changed v) ∙ by (live_handle s v) refl where
       by : (t : Result (Id × HandleRecord) Code) → live_handle s v ≡ t → ops.send (changed c s) t ≡ changed_coded (ops.send s t)
       by (Err code) e = refl
@@ -284,32 +290,32 @@ module _ (c : Change) (leaves : Leaves c) where
         by (Err code) = refl
         by (Ok t) = by_test (clocked_done c) (list_any (same_id t.0) s.waiting) refl refl
 
-    pub op_changed : (o : Op) → (is_apart_op o ≡ false → SameWork c) → (op_reads_clock o ≡ true → c.clock s.clock ≡ s.clock) →
+    pub op_changed : (o : Op) → (cancels_op o ≡ true → SameWork c) → (op_reads_clock o ≡ true → c.clock s.clock ≡ s.clock) →
         do_op (changed c s) o ≡ changed_done (do_op s o)
-    op_changed (op.Init v k) apart time = make_changed v (λ u. ops.with_new u v k) (new_changed v k)
-    op_changed (op.Queue v task) apart time = make_changed v (λ u. ops.with_queued u v task) (queued_changed v task)
-    op_changed (op.Cancel v) apart time = cancel_changed v (apart refl)
-    op_changed (op.Start v timeout repeat) apart time = on_handle_changed v start_timer_refusal (λ u. ops.start u timeout repeat)
+    op_changed (op.Init v k) work time = make_changed v (λ u. ops.with_new u v k) (new_changed v k)
+    op_changed (op.Queue v task) work time = make_changed v (λ u. ops.with_queued u v task) (queued_changed v task)
+    op_changed (op.Cancel v) work time = cancel_changed v (work refl)
+    op_changed (op.Start v timeout repeat) work time = on_handle_changed v start_timer_refusal (λ u. ops.start u timeout repeat)
         (λ id h e. ap ops.succeeds (started_again s id h timeout repeat e))
-    op_changed (op.StartWatcher v) apart time = on_handle_changed v start_watcher_refusal ops.start_watcher watcher_changed
-    op_changed (op.Stop v) apart time = on_handle_changed v stop_refusal ops.stop (λ id h e. ap ops.succeeds (stopped_changed s id h e))
-    op_changed (op.Again v) apart time = on_handle_changed v again_refusal ops.again (λ id h e. ap ops.succeeds (restarted_again s id h e))
-    op_changed (op.SetRepeat v repeat) apart time = on_handle_changed v timer_refusal (λ u. ops.set_repeat u repeat)
+    op_changed (op.StartWatcher v) work time = on_handle_changed v start_watcher_refusal ops.start_watcher watcher_changed
+    op_changed (op.Stop v) work time = on_handle_changed v stop_refusal ops.stop (λ id h e. ap ops.succeeds (stopped_changed s id h e))
+    op_changed (op.Again v) work time = on_handle_changed v again_refusal ops.again (λ id h e. ap ops.succeeds (restarted_again s id h e))
+    op_changed (op.SetRepeat v repeat) work time = on_handle_changed v timer_refusal (λ u. ops.set_repeat u repeat)
         (λ id h e. ap ops.succeeds (put_changed s id (repeating repeat h) e))
-    op_changed (op.DueIn v) apart time =
+    op_changed (op.DueIn v) work time =
         on_handle_changed v timer_refusal (λ u id h. ops.says u (answer.Number (due_in u.time h))) (λ id h e. refl)
-    op_changed (op.Close v) apart time = on_handle_changed v close_refusal ops.close closed_changed
-    op_changed (op.Ref v) apart time = on_handle_changed v no_refusal (λ u. ops.set_referenced u true)
+    op_changed (op.Close v) work time = on_handle_changed v close_refusal ops.close closed_changed
+    op_changed (op.Ref v) work time = on_handle_changed v no_refusal (λ u. ops.set_referenced u true)
         (λ id h e. ap ops.succeeds (put_changed s id (referenced_as true h) e))
-    op_changed (op.Unref v) apart time = on_handle_changed v no_refusal (λ u. ops.set_referenced u false)
+    op_changed (op.Unref v) work time = on_handle_changed v no_refusal (λ u. ops.set_referenced u false)
         (λ id h e. ap ops.succeeds (put_changed s id (referenced_as false h) e))
-    op_changed (op.HasRef v) apart time = on_handle_changed v no_refusal (λ u id h. ops.says u (answer.Flag h.referenced)) (λ id h e. refl)
-    op_changed (op.IsActive v) apart time = on_handle_changed v no_refusal (λ u id h. ops.says u (answer.Flag h.active)) (λ id h e. refl)
-    op_changed (op.IsClosing v) apart time = on_handle_changed v no_refusal (λ u id h. ops.says u (answer.Flag h.closing)) (λ id h e. refl)
-    op_changed (op.Send v) apart time = ap ops.says_code (send_changed v)
-    op_changed op.StopLoop apart time = refl
-    op_changed op.UpdateTime apart time = ap (λ (n : ℕ). ops.succeeds (record (changed c s) { time = n })) (time refl)
-    op_changed op.Now apart time = refl
-    op_changed op.IsAlive apart time = ap (λ b. ops.says (changed c s) (answer.Flag b)) alive_changed
-    op_changed op.Timeout apart time = ap (λ o. ops.says (changed c s) (answer.Timeout o)) backend_changed
-    op_changed op.CloseLoop apart time = rw hides.used (by_test changed_done (ops.is_in_use s) refl refl)
+    op_changed (op.HasRef v) work time = on_handle_changed v no_refusal (λ u id h. ops.says u (answer.Flag h.referenced)) (λ id h e. refl)
+    op_changed (op.IsActive v) work time = on_handle_changed v no_refusal (λ u id h. ops.says u (answer.Flag h.active)) (λ id h e. refl)
+    op_changed (op.IsClosing v) work time = on_handle_changed v no_refusal (λ u id h. ops.says u (answer.Flag h.closing)) (λ id h e. refl)
+    op_changed (op.Send v) work time = ap ops.says_code (send_changed v)
+    op_changed op.StopLoop work time = refl
+    op_changed op.UpdateTime work time = ap (λ (n : ℕ). ops.succeeds (record (changed c s) { time = n })) (time refl)
+    op_changed op.Now work time = refl
+    op_changed op.IsAlive work time = ap (λ b. ops.says (changed c s) (answer.Flag b)) alive_changed
+    op_changed op.Timeout work time = ap (λ o. ops.says (changed c s) (answer.Timeout o)) backend_changed
+    op_changed op.CloseLoop work time = rw hides.used (by_test changed_done (ops.is_in_use s) refl refl)

@@ -15,7 +15,7 @@ use Rattle.uv_work.specs.Requests.{is_open}
 use Rattle.uv_work.specs.declared.content.Content.{Content}
 use Rattle.uv_work.specs.declared.content.Content.TheVariants as content
 use Rattle.uv_work.specs.declared.request.Request.{Request}
-use Rattle.uv_model.specs.Content.{content_keeps, handle_in, is_used, request_in}
+use Rattle.uv_model.specs.Content.{content_keeps, content_pends, handle_in, is_used, request_in}
 use Rattle.uv_model.specs.After.{after}
 use Rattle.uv_model.specs.State.{State, handle, request}
 use Rattle.uv_order.specs.Active.{has_id, IsOpened}
@@ -36,8 +36,8 @@ not_both a b e f = grind arith
 apart_numbers : (n m : ℕ) → not (n == m) ≡ true → m ≡ n → ⊥
 apart_numbers n m e f = grind arith
 
-get_set_other : (slots : List (Slot Content)) (i j : ℕ) (x : Slot Content) → (j ≡ i → ⊥) → slice_get (slice_set slots i x) j ≡ slice_get slots j
-get_set_other slots i j x d = grind (arith, elements)
+pub get_set_other : {A : Type 0} (xs : List A) (i j : ℕ) (x : A) → (j ≡ i → ⊥) → slice_get (slice_set xs i x) j ≡ slice_get xs j
+get_set_other xs i j x d = grind (arith, elements)
 
 pub get_set_same : (slots : List (Slot Content)) (i : ℕ) (x y : Slot Content) → slice_get slots i ≡ Some y →
     slice_get (slice_set slots i x) i ≡ Some x
@@ -102,7 +102,7 @@ no_handle slots i id r h e f g = grind arith
 test_apart : (a b : ℕ) → (a ≡ b → ⊥) → not (a == b) ≡ true
 test_apart a b f = grind arith
 
-same_request : (slots : List (Slot Content)) (i id : Id) (q r : Request) → slice_get slots i.slot ≡ Some (asked i q) →
+pub same_request : (slots : List (Slot Content)) (i id : Id) (q r : Request) → slice_get slots i.slot ≡ Some (asked i q) →
     slice_get slots id.slot ≡ Some (asked id r) → i.slot ≡ id.slot → q ≡ r
 same_request slots i id q r e f g = grind arith
 
@@ -186,6 +186,7 @@ module _ (clock : ℕ → ℕ) (waiting : List Id → List Id) (running : List (
     pushes = λ x. set_pushed s.arena.slots id.slot (asked id q) x (asked id r) k.there;
     seen = λ i. seen_same s.arena.slots id i r q k.there;
     keeps = any_set content_keeps s.arena.slots id.slot (asked id q) (asked id r) k.there refl;
+    pends = any_set content_pends s.arena.slots id.slot (asked id q) (asked id r) k.there refl;
     used = any_set is_used s.arena.slots id.slot (asked id q) (asked id r) k.there refl;
     handles = k.handles;
     free = k.free;

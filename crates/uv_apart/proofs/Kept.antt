@@ -3,6 +3,7 @@ use Rattle.std.proofs.Common.{◌≡◌, ℕ, ◌+◌, List, [], ◌∷◌, ◌+
 use Rattle.uv_ids.specs.declared.id.Id.{Id}
 use Rattle.uv_ids.specs.declared.seen.Seen.{Seen}
 use Rattle.uv_ids.specs.declared.seen.Seen.TheVariants as seen
+use Rattle.uv_ids.specs.declared.event.Event.{Event}
 use Rattle.uv_ids.specs.declared.event.Event.TheVariants.{Loop, Tick}
 use Rattle.uv_ids.specs.declared.fault.Why.TheVariants.{Range}
 use Rattle.uv_script.specs.Program.{Program}
@@ -36,6 +37,7 @@ module _ (clock : ℕ → ℕ) (waiting : List Id → List Id) (running : List (
     pushes = λ x. refl;
     seen = λ id. refl;
     keeps = refl;
+    pends = refl;
     used = refl;
     handles = λ id h e. refl;
     free = λ n ns e. refl;
@@ -54,7 +56,7 @@ module _ (clock : ℕ → ℕ) (running : List (Option Id) → List (Option Id))
   pub next_timed : (p : Program) (s : State) → (reads_clock p s ≡ true → clock s.clock ≡ s.clock) →
       next p (changed (timed clock running) s) Loop ≡ changed_next (timed clock running) (next p s Loop)
   next_timed p s time = next_changed p (timed clock running) (moved_leaves clock (λ ids. ids) running) s
-      (moved_hides clock (λ ids. ids) running s (λ id. refl)) (λ e. timed_work) time
+      (moved_hides clock (λ ids. ids) running s (λ id. refl)) (λ e. timed_work) (λ e ids. refl) time
 
 -- ---- what each step keeps
 
@@ -99,11 +101,11 @@ next_tick : (p : Program) (s : State) (ms : ℕ) → nat_le (s.clock + ms) LATES
 unfolding next
 next_tick p s ms e = tick_ticks s ms e
 
--- a step from the state that a change leads to is the step itself, changed
-pub behind : (c : Change) (p : Program) (s a b : State) (l : Option Seen) → b ≡ changed c s →
-    next p (changed c s) Loop ≡ changed_next c (next p s Loop) →
-    next p s Loop ≡ Moves a l → next p b Loop ≡ Moves (changed c a) l
-behind c p s a b l is same e = ap (λ (u : State). next p u Loop) is ∙ same ∙ ap (changed_next c) e
+-- an event from the state that a change leads to does what it does before, changed
+pub behind : (c : Change) (p : Program) (s a b : State) (e : Event) (l : Option Seen) → b ≡ changed c s →
+    next p (changed c s) e ≡ changed_next c (next p s e) →
+    next p s e ≡ Moves a l → next p b e ≡ Moves (changed c a) l
+behind c p s a b e l is same goes = ap (λ (u : State). next p u e) is ∙ same ∙ ap (changed_next c) goes
 
 pub ticks_apart : (p : Program) (s a b : State) (ms : ℕ) (l m : Option Seen) → reads_clock p s ≡ false → next p s Loop ≡ Moves a l →
     next p s (Tick ms) ≡ Moves b m → Meets p (Tick ms) a b l m
@@ -114,5 +116,5 @@ ticks_apart p s a b ms l m apart e f =
       state = changed (ticked ms) a;
       event_after = next_tick p a ms (ap (λ (n : ℕ). nat_le (n + ms) LATEST) clock ∙ t.fits)
           ∙ ap (λ (o : Option Seen). Moves (changed (ticked ms) a) o) (sym t.says);
-      loop_after = behind (ticked ms) p s a b l t.is (next_timed (λ n. n + ms) (λ ids. ids) p s (λ g. cc (apart, g))) e;
+      loop_after = behind (ticked ms) p s a b Loop l t.is (next_timed (λ n. n + ms) (λ ids. ids) p s (λ g. cc (apart, g))) e;
     }

@@ -5,3 +5,5 @@ pub mod Kept
 pub mod Held
 pub mod Pool
 pub mod Taken
+pub mod Cancels
+pub mod Beside

@@ -1,10 +1,11 @@
 -- What a worker takes and finishes, before or behind a step of the loop.
-use Rattle.std.proofs.Common.{◌≡◌, ℕ, zero, suc, List, [], ◌∷◌, ◌++◌, drop, Bool, true, Option, Some, None, Ok, Err, refl, ap, sym, subst, ◌∙◌, ◌||◌, slice_get, slice_set}
+use Rattle.std.proofs.Common.{◌≡◌, ℕ, zero, suc, List, [], ◌∷◌, ◌++◌, drop, Bool, true, false, Option, Some, None, Ok, Err, refl, ap, sym, subst, ◌∙◌, ◌||◌, slice_get, slice_set}
 use Rattle.std.proofs.lemmas.Bool.{or_right}
 use Rattle.std.proofs.lemmas.Option.{same_Some}
 use Rattle.uv_ids.specs.declared.id.Id.{Id}
 use Rattle.uv_ids.specs.declared.event.Event.{Event}
 use Rattle.uv_ids.specs.declared.event.Event.TheVariants.{Loop, Take, Finish}
+use Rattle.uv_ids.specs.declared.fault.Why.{Why}
 use Rattle.uv_ids.specs.declared.fault.Why.TheVariants.{IdleWorker, NoWork}
 use Rattle.uv_ids.specs.declared.seen.Seen.{Seen}
 use Rattle.uv_ids.specs.declared.seen.Seen.TheVariants as seen
@@ -23,14 +24,15 @@ use Rattle.uv_model.specs.State.{State, front_request, request, with_id}
 use Rattle.uv_model.specs.State.{request as held_request}
 use Rattle.uv_order.specs.Reached.{IsReached}
 use Rattle.uv_model.specs.Ops.{ended}
-use Rattle.uv_model.specs.Next.{Moves, next, next_work, take, work_of, finish}
+use Rattle.uv_model.specs.Next.{Moves, Refuses, next, next_work, take, work_of, finish}
 use Rattle.uv_model.proofs.Runs.{after-moves}
 use Rattle.uv_order.specs.Active.{has_id, run_ids}
 use Rattle.uv_order.proofs.IdLists.{has_both, itself}
 use Rattle.uv_order.proofs.Reaching.{reached}
-use Rattle.uv_apart.specs.Apart.{is_apart, Meets}
+use Rattle.uv_apart.specs.Apart.{cancels, is_apart, Meets}
+use Rattle.uv_apart.proofs.Cancels.{apart_cancels}
 use Rattle.uv_apart.proofs.Changed.{changed}
-use Rattle.uv_apart.proofs.Walk.{next_changed}
+use Rattle.uv_apart.proofs.Walk.{changed_next, next_changed}
 use Rattle.uv_apart.proofs.Held.{asked, get_set_same, set_there, request_there, Holds, holds_open, working, working_leaves, working_hides}
 use Rattle.uv_apart.proofs.Kept.{behind, loop_keeps, moved, moved_hides, moved_leaves, stays_changed}
 
@@ -47,15 +49,15 @@ pub record Keeps (a : State) (waiting : List Id → List Id) (id : Id) (r : Requ
   pub waits : a.waiting ≡ waiting a.waiting
   pub slots : a.arena.slots ≡ slice_set a.arena.slots id.slot (asked id r)
 
-keeps : (p : Program) (s a : State) (l : Option Seen) (waiting : List Id → List Id) (id : Id) (r : Request) → is_apart p s ≡ true →
+keeps : (p : Program) (s a : State) (l : Option Seen) (waiting : List Id → List Id) (id : Id) (r : Request) → cancels p s ≡ false →
     next p s Loop ≡ Moves a l → Holds s id r → waiting s.waiting ≡ s.waiting →
     ((i : Id) → waiting s.waiting ++ i ∷ [] ≡ waiting (s.waiting ++ i ∷ [])) → Keeps a waiting id r
-keeps p s a l waiting id r apart e k same waits =
+keeps p s a l waiting id r no_cancel e k same waits =
     let c = working (λ n. s.clock) waiting (λ ids. s.running) (λ ids. ids) id r in
     let leaves = working_leaves (λ n. s.clock) waiting (λ ids. s.running) (λ ids. ids) id r in
     let hides = working_hides (λ n. s.clock) waiting (λ ids. s.running) (λ ids. ids) id r s r k waits in
     let whole = stays_itself s waiting id r same (set_there s.arena.slots id.slot (asked id r) k.there) in
-    let step = ap (λ (u : State). next p u Loop) (sym whole) ∙ next_changed p c leaves s hides (λ f. cc (apart, f)) (λ f. refl) in
+    let step = ap (λ (u : State). next p u Loop) (sym whole) ∙ next_changed p c leaves s hides (λ f. cc (no_cancel, f)) (λ f ids. refl) (λ f. refl) in
     let is : a ≡ changed c a = stays_changed c (next p s Loop) a l step e in
     record { waits = ap (λ (u : State). u.waiting) is; slots = ap (λ (u : State). u.arena.slots) is }
 
@@ -103,18 +105,18 @@ pub next_takes : (p : Program) (s : State) (k : ℕ) (b : State) (m : Option See
 unfolding next
 next_takes p s k b m e = takes s k b m e
 
-take_next : (p : Program) (s : State) (k : ℕ) (id : Id) (r : Request) → slice_get s.running k ≡ Some None →
+pub take_next : (p : Program) (s : State) (k : ℕ) (id : Id) (r : Request) → slice_get s.running k ≡ Some None →
     front_request s s.waiting ≡ Some (id, r) →
     next p s (Take k) ≡ Moves (record s { waiting = drop 1 s.waiting; running = slice_set s.running k (Some id) }) (Some (seen.Take k r.name id))
 unfolding next
 take_next p s k id r e f = ap (λ o. take s k (next_work s o)) e ∙ ap (λ o. take s k (found_or o Ok (Err NoWork))) f
 
 -- who waits first
-record First (s : State) (id : Id) (r : Request) : Type 0 where
-  waiting : s.waiting ≡ id ∷ drop 1 s.waiting
-  holds : request s id ≡ Some r
+pub record First (s : State) (id : Id) (r : Request) : Type 0 where
+  pub waiting : s.waiting ≡ id ∷ drop 1 s.waiting
+  pub holds : request s id ≡ Some r
 
-first : (s : State) (id : Id) (r : Request) → front_request s s.waiting ≡ Some (id, r) → First s id r
+pub first : (s : State) (id : Id) (r : Request) → front_request s s.waiting ≡ Some (id, r) → First s id r
 first s id r e = by s.waiting refl e where
   at : (i : Id) (is : List Id) (o : Option Request) → s.waiting ≡ i ∷ is → request s i ≡ o → with_id i o ≡ Some (id, r) → First s id r
   at i is None f g e = cc e
@@ -131,7 +133,7 @@ first s id r e = by s.waiting refl e where
   by (i ∷ is) f e = at i is (request s i) f refl e
 
 -- who waits goes on to wait behind the front
-front_stays : (ids rest : List Id) (id i : Id) → ids ≡ id ∷ rest → drop 1 ids ++ i ∷ [] ≡ drop 1 (ids ++ i ∷ [])
+pub front_stays : (ids rest : List Id) (id i : Id) → ids ≡ id ∷ rest → drop 1 ids ++ i ∷ [] ≡ drop 1 (ids ++ i ∷ [])
 front_stays [] rest id i e = cc e
 front_stays (x ∷ xs) rest id i e = refl
 
@@ -146,9 +148,9 @@ waits_on : (s : State) (id : Id) → s.waiting ≡ id ∷ drop 1 s.waiting → h
 waits_on s id e = ap (λ (ids : List Id). has_id (ids ++ run_ids s.running) id) e
     ∙ ap (λ (b : Bool). b || has_id (drop 1 s.waiting ++ run_ids s.running) id) (itself id id refl)
 
-taken_apart : (p : Program) (es : List Event) (a b : State) (k : ℕ) (l m : Option Seen) → is_apart p (after p es) ≡ true →
+taken_apart : (p : Program) (es : List Event) (a b : State) (k : ℕ) (l m : Option Seen) → cancels p (after p es) ≡ false →
     next p (after p es) Loop ≡ Moves a l → next p (after p es) (Take k) ≡ Moves b m → Meets p (Take k) a b l m
-taken_apart p es a b k l m apart e f =
+taken_apart p es a b k l m no_cancel e f =
     let s = after p es in
     let t = next_takes p s k b m f in
     let id = t.id in
@@ -156,7 +158,7 @@ taken_apart p es a b k l m apart e f =
     let holds = holds_open p es id t.request ((reached p es).opened.each id (waits_on s id it.waiting)) it.holds in
     let front = λ (ids : List Id). id ∷ drop 1 ids in
     let stays = λ (i : Id). front_stays s.waiting (drop 1 s.waiting) id i it.waiting in
-    let kept = keeps p s a l front id t.request apart e holds (sym it.waiting) (λ i. ap (λ (ids : List Id). id ∷ ids) (stays i)) in
+    let kept = keeps p s a l front id t.request no_cancel e holds (sym it.waiting) (λ i. ap (λ (ids : List Id). id ∷ ids) (stays i)) in
     let still = still_held p es a l front id t.request e kept (waits_on a id kept.waits) in
     let first_still : front_request a a.waiting ≡ Some (id, t.request) = ap (front_request a) kept.waits ∙ ap (with_id id) still in
     let idle = ap (λ (rs : List (Option Id)). slice_get rs k) (loop_keeps p s a l e).1 ∙ t.idle in
@@ -165,15 +167,30 @@ taken_apart p es a b k l m apart e f =
     record {
       state = changed c a;
       event_after = take_next p a k id t.request idle first_still ∙ ap (λ (o : Option Seen). Moves (changed c a) o) (sym t.says);
-      loop_after = behind c p s a b l t.is
-          (next_changed p c (moved_leaves (λ n. n) (drop 1) take) s (moved_hides (λ n. n) (drop 1) take s stays) (λ g. cc (apart, g)) (λ g. refl)) e;
+      loop_after = behind c p s a b Loop l t.is
+          (next_changed p c (moved_leaves (λ n. n) (drop 1) take) s (moved_hides (λ n. n) (drop 1) take s stays)
+          (λ g. cc (no_cancel, g)) (λ g ids. refl) (λ g. refl)) e;
     }
 
-pub takes_apart : (p : Program) (es : List Event) (s a b : State) (k : ℕ) (l m : Option Seen) → s ≡ after p es → is_apart p s ≡ true →
+pub takes_apart : (p : Program) (es : List Event) (s a b : State) (k : ℕ) (l m : Option Seen) → s ≡ after p es → cancels p s ≡ false →
     next p s Loop ≡ Moves a l → next p s (Take k) ≡ Moves b m → Meets p (Take k) a b l m
 takes_apart p es s a b k l m is = subst
-    (λ (u : State). is_apart p u ≡ true → next p u Loop ≡ Moves a l → next p u (Take k) ≡ Moves b m → Meets p (Take k) a b l m)
+    (λ (u : State). cancels p u ≡ false → next p u Loop ≡ Moves a l → next p u (Take k) ≡ Moves b m → Meets p (Take k) a b l m)
     (sym is) (taken_apart p es a b k l m)
+
+-- what refuses the loop's step refuses it behind the take
+pub take_refuses : (p : Program) (s a : State) (k : ℕ) (l : Option Seen) (why : Why) → cancels p s ≡ false → next p s (Take k) ≡ Moves a l →
+    next p s Loop ≡ Refuses why → next p a Loop ≡ Refuses why
+take_refuses p s a k l why no_cancel e f =
+    let t = next_takes p s k a l e in
+    let it = first s t.id t.request t.front in
+    let take = λ (rs : List (Option Id)). slice_set rs k (Some t.id) in
+    let c = moved (λ n. n) (drop 1) take in
+    ap (λ (u : State). next p u Loop) t.is
+    ∙ next_changed p c (moved_leaves (λ n. n) (drop 1) take) s
+    (moved_hides (λ n. n) (drop 1) take s (λ i. front_stays s.waiting (drop 1 s.waiting) t.id i it.waiting))
+    (λ g. cc (no_cancel, g)) (λ g ids. refl) (λ g. refl)
+    ∙ ap (changed_next c) f
 
 -- ---- finish
 
@@ -212,7 +229,7 @@ pub next_finishes : (p : Program) (s : State) (k : ℕ) (b : State) (m : Option 
 unfolding next
 next_finishes p s k b m e = finishes s k b m e
 
-finish_next : (p : Program) (s : State) (k : ℕ) (id : Id) (r : Request) → slice_get s.running k ≡ Some (Some id) → request s id ≡ Some r →
+pub finish_next : (p : Program) (s : State) (k : ℕ) (id : Id) (r : Request) → slice_get s.running k ≡ Some (Some id) → request s id ≡ Some r →
     next p s (Finish k)
     ≡ Moves (ended (record s { running = slice_set s.running k None }) id r (finished r).outcome) (Some (seen.Finish k r.name id))
 unfolding next
@@ -235,8 +252,9 @@ finished_apart p es a b k l m apart e f =
     let s = after p es in
     let t = next_finishes p s k b m f in
     let id = t.id in
+    let no_cancel = apart_cancels p s apart in
     let holds = holds_open p es id t.request ((reached p es).opened.each id (runs_on s k id t.runs)) t.holds in
-    let kept = keeps p s a l (λ ids. ids) id t.request apart e holds refl (λ i. refl) in
+    let kept = keeps p s a l (λ ids. ids) id t.request no_cancel e holds refl (λ i. refl) in
     let runs = ap (λ (rs : List (Option Id)). slice_get rs k) (loop_keeps p s a l e).1 ∙ t.runs in
     let still = still_held p es a l (λ ids. ids) id t.request e kept (runs_on a k id runs) in
     let off = λ (rs : List (Option Id)). slice_set rs k None in
@@ -246,9 +264,10 @@ finished_apart p es a b k l m apart e f =
     record {
       state = changed c a;
       event_after = finish_next p a k id t.request runs still ∙ ap (λ (o : Option Seen). Moves (changed c a) o) (sym t.says);
-      loop_after = behind c p s a b l t.is
+      loop_after = behind c p s a b Loop l t.is
           (next_changed p c (working_leaves (λ n. n) (λ ids. ids) off done id r) s
-          (working_hides (λ n. n) (λ ids. ids) off done id r s t.request holds (λ i. refl)) (λ g. cc (apart, g)) (λ g. refl)) e;
+          (working_hides (λ n. n) (λ ids. ids) off done id r s t.request holds (λ i. refl))
+          (λ g. cc (no_cancel, g)) (λ g. cc (apart, g)) (λ g. refl)) e;
     }
 
 pub finishes_apart : (p : Program) (es : List Event) (s a b : State) (k : ℕ) (l m : Option Seen) → s ≡ after p es → is_apart p s ≡ true →

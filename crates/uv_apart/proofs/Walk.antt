@@ -13,6 +13,7 @@ use Rattle.uv_ids.specs.declared.seen.Seen.TheVariants as seen
 use Rattle.uv_ids.specs.declared.seen.Callback.TheVariants as callback
 use Rattle.uv_ids.specs.declared.seen.Site.TheVariants as site
 use Rattle.uv_ids.specs.declared.event.Event.TheVariants.{Loop}
+use Rattle.uv_ids.specs.declared.fault.Why.TheVariants.{Blocked}
 use Rattle.uv_script.specs.declared.op.MainOp.{MainOp}
 use Rattle.uv_script.specs.declared.op.MainOp.TheVariants as main
 use Rattle.uv_script.specs.declared.op.CallbackLine.{CallbackLine}
@@ -22,7 +23,6 @@ use Rattle.uv_records.specs.declared.lists.WatcherKind.{WatcherKind}
 use Rattle.uv_records.specs.declared.lists.WatcherKind.TheVariants as watcher
 use Rattle.uv_records.specs.Handles as records
 use Rattle.uv_records.specs.Slots.{freed}
-use Rattle.uv_records.specs.Walks.{all_yet}
 use Rattle.uv_work.specs.declared.request.Request.{Request}
 use Rattle.uv_work.specs.Requests.{digest_in}
 use Rattle.uv_model.specs.declared.place.Body.{Body}
@@ -46,9 +46,9 @@ use Rattle.uv_model.specs.Ops as ops
 use Rattle.uv_model.specs.Ops.{do_op}
 use Rattle.uv_model.specs.Next as steps
 use Rattle.uv_model.specs.Next.{Next, Moves, Refuses, next}
-use Rattle.uv_apart.specs.Apart.{is_apart, is_apart_at, is_apart_line, is_apart_main, is_apart_run, is_apart_stage, reads_clock, place_reads_clock, line_reads_clock, main_reads_clock, run_reads_clock, stage_reads_clock}
+use Rattle.uv_apart.specs.Apart.{cancels, cancels_at, cancels_line, cancels_main, cancels_run, is_apart, is_apart_at, is_apart_run, is_apart_stage, reads_clock, place_reads_clock, line_reads_clock, main_reads_clock, run_reads_clock, stage_reads_clock}
 use Rattle.uv_apart.proofs.Cases.{by_test, found_same}
-use Rattle.uv_apart.proofs.Changed.{Change, changed, changed_arena, Leaves, Hides, SameWork, clocked, only_clock, alive_changed, backend_changed, handle_changed, put_changed, restarted_changed, restarted_again, op_changed}
+use Rattle.uv_apart.proofs.Changed.{Change, changed, changed_arena, Leaves, Hides, SameDone, SameWork, alive_changed, backend_changed, handle_changed, put_changed, restarted_changed, restarted_again, op_changed}
 
 -- the state after a step, changed
 abbrev pub changed_next : Change → Next → Next
@@ -232,58 +232,60 @@ module _ (p : Program) (c : Change) (leaves : Leaves c) (s : State) (hides : Hid
 
   -- ---- the loop's own steps
 
-  -- the requests that are done are set aside, where nothing of the work is changed
-  begin_done_changed : (u : State) (run : Run) → SameWork c → steps.begin_done (changed c u) run ≡ changed_next c (steps.begin_done u run)
-  begin_done_changed u run same = ap (λ x. steps.begin_done x run) (only_clock c same u)
-      ∙ ap (λ x. Moves x (Some (seen.Section phase.Done)))
-      (sym (only_clock c same (steps.at (record u { done = all_yet u.done }) run Done)))
+  -- the requests that are done are set aside, where they are the same
+  begin_done_changed : (u : State) (run : Run) → SameDone c → steps.begin_done (changed c u) run ≡ changed_next c (steps.begin_done u run)
+  begin_done_changed u run same =
+      let none = sym (same []) in
+      let yet = same u.done.list in
+      λ i. Moves (record (changed c (steps.at u run Done)) { done = record { list = none i; yet = yet i } }) (Some (seen.Section phase.Done))
 
-  poll_changed : (run : Run) (deadline : Option ℕ) → SameWork c → c.clock s.clock ≡ s.clock →
+  leave_changed : (deadline : Option ℕ) → SameDone c → c.clock s.clock ≡ s.clock → steps.may_leave (changed c s) deadline ≡ steps.may_leave s deadline
+  leave_changed deadline same time = rw time (rw (same s.done.list) (rw hides.pends refl))
+
+  poll_changed : (run : Run) (deadline : Option ℕ) → SameDone c → c.clock s.clock ≡ s.clock →
       steps.poll (changed c s) run deadline ≡ changed_next c (steps.poll s run deadline)
-  poll_changed run deadline same time = ap (λ x. steps.poll x run deadline) (only_clock c same s)
-      ∙ ap (λ n. steps.poll (record (clocked c s) { clock = n }) run deadline) time
+  poll_changed run deadline same time =
+      ap (λ b. if b then steps.begin_done (refreshed (changed c s)) run else Refuses Blocked) (leave_changed deadline same time)
       ∙ by_test (changed_next c) (steps.may_leave s deadline)
-      (ap (λ n. steps.begin_done (record (clocked c (refreshed s)) { clock = n }) run) (sym time)
-      ∙ ap (λ x. steps.begin_done x run) (sym (only_clock c same (refreshed s)))
-      ∙ begin_done_changed (refreshed s) run same)
+      (ap (λ n. steps.begin_done (record (changed c s) { time = n }) run) time ∙ begin_done_changed (refreshed s) run same)
       refl
 
-  stage_changed : (run : Run) (stage : Stage) → (is_apart_stage stage ≡ false → SameWork c) →
+  stage_changed : (run : Run) (stage : Stage) → (is_apart_stage stage ≡ false → SameDone c) →
       (stage_reads_clock stage (order_of p) ≡ true → c.clock s.clock ≡ s.clock) →
       steps.stage_step p (changed c s) run stage ≡ changed_next c (steps.stage_step p s run stage)
-  stage_changed run Entry apart time = turn_changed run AtEntry (λ e. time (by (order_of p) e)) where
+  stage_changed run Entry done time = turn_changed run AtEntry (λ e. time (by (order_of p) e)) where
     by : (o : Order) → turn_reads AtEntry o ≡ true → stage_reads_clock Entry o ≡ true
     by V144 e = e
     by V145 e = e
-  stage_changed run Pending apart time = refl
-  stage_changed run (Walking kind) apart time = in_walk_changed run kind
-  stage_changed run (Poll deadline) apart time = poll_changed run deadline (apart refl) (time refl)
-  stage_changed run (Polled true) apart time = begin_done_changed s run (apart refl)
-  stage_changed run (Polled false) apart time = refl
-  stage_changed run Done apart time = collect_request_changed run
-  stage_changed run DoneUnwoken apart time = refl
-  stage_changed run Closing apart time = close_changed run (time refl)
-  stage_changed run (Timers part when) apart time = timers_changed run part when
+  stage_changed run Pending done time = refl
+  stage_changed run (Walking kind) done time = in_walk_changed run kind
+  stage_changed run (Poll deadline) done time = poll_changed run deadline (done refl) (time refl)
+  stage_changed run (Polled true) done time = begin_done_changed s run (done refl)
+  stage_changed run (Polled false) done time = refl
+  stage_changed run Done done time = collect_request_changed run
+  stage_changed run DoneUnwoken done time = refl
+  stage_changed run Closing done time = close_changed run (time refl)
+  stage_changed run (Timers part when) done time = timers_changed run part when
 
-  body_changed : (run : Run) (body : Body) (line : Option CallbackLine) → (is_apart_line line ≡ false → SameWork c) →
+  body_changed : (run : Run) (body : Body) (line : Option CallbackLine) → (cancels_line line ≡ true → SameWork c) →
       (line_reads_clock line ≡ true → c.clock s.clock ≡ s.clock) →
       steps.body_step p (changed c s) run body line ≡ changed_next c (steps.body_step p s run body line)
-  body_changed run body None apart time = refl
-  body_changed run body (Some line) apart time = ap (λ (x : ops.Done). Moves
+  body_changed run body None work time = refl
+  body_changed run body (Some line) work time = ap (λ (x : ops.Done). Moves
       (record x.state { place = Running (record run { body = steps.body_from p body.callback body.name body.call (body.next + 1) }) })
-      (Some (seen.Op (site.In body.callback body.name body.next) x.answer))) (op_changed c leaves s hides line.op apart time)
+      (Some (seen.Op (site.In body.callback body.name body.next) x.answer))) (op_changed c leaves s hides line.op work time)
 
-  run_changed : (run : Run) (body : Option Body) → (is_apart_run p run body ≡ false → SameWork c) →
+  run_changed : (run : Run) (body : Option Body) → (cancels_run p body ≡ true → SameWork c) → (is_apart_run p run body ≡ false → SameDone c) →
       (run_reads_clock p run body ≡ true → c.clock s.clock ≡ s.clock) →
       steps.run_step p (changed c s) run body ≡ changed_next c (steps.run_step p s run body)
-  run_changed run None apart time = stage_changed run run.stage apart time
-  run_changed run (Some body) apart time = body_changed run body (slice_get (lines_in p body.callback body.name) body.next) apart time
+  run_changed run None work done time = stage_changed run run.stage done time
+  run_changed run (Some body) work done time = body_changed run body (slice_get (lines_in p body.callback body.name) body.next) work time
 
-  main_changed : (line : ℕ) (o : Option MainOp) → (is_apart_main o ≡ false → SameWork c) →
+  main_changed : (line : ℕ) (o : Option MainOp) → (cancels_main o ≡ true → SameWork c) →
       (main_reads_clock (order_of p) o ≡ true → c.clock s.clock ≡ s.clock) →
       steps.main_step (order_of p) (changed c s) line o ≡ changed_next c (steps.main_step (order_of p) s line o)
-  main_changed line None apart time = refl
-  main_changed line (Some (main.Run mode)) apart time = by (steps.refreshes (order_of p) mode) time where
+  main_changed line None work time = refl
+  main_changed line (Some (main.Run mode)) work time = by (steps.refreshes (order_of p) mode) time where
     place : Place
     place = Running (record { mode = mode; line = line; stage = Entry; body = None })
 
@@ -292,15 +294,16 @@ module _ (p : Program) (c : Change) (leaves : Leaves c) (s : State) (hides : Hid
         ≡ changed_next c (Moves (record (if b then refreshed s else s) { place = place }) (Some (seen.Run mode)))
     by true time = ap (λ n. Moves (record (changed c s) { place = place; time = n }) (Some (seen.Run mode))) (time refl)
     by false time = refl
-  main_changed line (Some (main.Op o)) apart time = ap (λ (x : ops.Done). Moves
-      (record x.state { place = Main (line + 1) }) (Some (seen.Op (site.Main line) x.answer))) (op_changed c leaves s hides o apart time)
+  main_changed line (Some (main.Op o)) work time = ap (λ (x : ops.Done). Moves
+      (record x.state { place = Main (line + 1) }) (Some (seen.Op (site.Main line) x.answer))) (op_changed c leaves s hides o work time)
 
-  loop_changed : (place : Place) → (is_apart_at p place ≡ false → SameWork c) → (place_reads_clock p place ≡ true → c.clock s.clock ≡ s.clock) →
+  loop_changed : (place : Place) → (cancels_at p place ≡ true → SameWork c) → (is_apart_at p place ≡ false → SameDone c) →
+      (place_reads_clock p place ≡ true → c.clock s.clock ≡ s.clock) →
       steps.loop_step p (changed c s) place ≡ changed_next c (steps.loop_step p s place)
-  loop_changed (Main line) apart time = main_changed line (slice_get p.main line) apart time
-  loop_changed (Running run) apart time = run_changed run run.body apart time
+  loop_changed (Main line) work done time = main_changed line (slice_get p.main line) work time
+  loop_changed (Running run) work done time = run_changed run run.body work done time
 
-  pub next_changed : (is_apart p s ≡ false → SameWork c) → (reads_clock p s ≡ true → c.clock s.clock ≡ s.clock) →
+  pub next_changed : (cancels p s ≡ true → SameWork c) → (is_apart p s ≡ false → SameDone c) → (reads_clock p s ≡ true → c.clock s.clock ≡ s.clock) →
       next p (changed c s) Loop ≡ changed_next c (next p s Loop)
   unfolding next
-  next_changed apart time = loop_changed s.place apart time
+  next_changed work done time = loop_changed s.place work done time

@@ -56,6 +56,35 @@ is_apart_at p (Running run) = is_apart_run p run run.body
 abbrev pub is_apart : Program → State → Bool
 is_apart p s = is_apart_at p s.place
 
+-- ---- who waits for a worker
+
+-- an op asks who waits: only a cancel does
+abbrev pub cancels_op : Op → Bool
+cancels_op (op.Cancel v) = true
+cancels_op _ = false
+
+abbrev pub cancels_line : Option CallbackLine → Bool
+cancels_line None = false
+cancels_line (Some line) = cancels_op line.op
+
+abbrev pub cancels_main : Option MainOp → Bool
+cancels_main None = false
+cancels_main (Some (main.Run mode)) = false
+cancels_main (Some (main.Op o)) = cancels_op o
+
+-- where no body is under way, no section asks it
+abbrev pub cancels_run : Program → Option Body → Bool
+cancels_run p None = false
+cancels_run p (Some body) = cancels_line (slice_get (lines_in p body.callback body.name) body.next)
+
+abbrev pub cancels_at : Program → Place → Bool
+cancels_at p (Main line) = cancels_main (slice_get p.main line)
+cancels_at p (Running run) = cancels_run p run.body
+
+-- the loop's next step is a cancel (uv_cancel); any other one is apart from what workers take
+abbrev pub cancels : Program → State → Bool
+cancels p s = cancels_at p s.place
+
 -- ---- the clock
 
 -- an op reads the clock: only an update of the loop's time does
@@ -98,6 +127,12 @@ pub record Meets (p : Program) (e : Event) (by_loop by_event : State) (said told
   pub state : State
   pub event_after : next p by_loop e ≡ Moves state told
   pub loop_after : next p by_event Loop ≡ Moves state said
+
+-- two events from outside led to two states: each is taken behind the other as well, with the same line, to one state
+pub record Crosses (p : Program) (one other : Event) (by_one by_other : State) (said told : Option Seen) : Type 0 where
+  pub state : State
+  pub one_after : next p by_other one ≡ Moves state said
+  pub other_after : next p by_one other ≡ Moves state told
 
 -- a step leaves where the loop stands and what is named; so the loop's next step is apart, or reads the clock, just as before
 pub record LeavesPlace (p : Program) (s b : State) : Type 0 where

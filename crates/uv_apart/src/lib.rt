@@ -5,4 +5,7 @@
 
 mod laws;
 
-pub use laws::{apart_goes, finishes_apart, loop_leaves, outside_leaves, takes_apart, ticks_apart};
+pub use laws::{
+    apart_cancels, apart_goes, finishes_apart, loop_leaves, outside_leaves, takes_apart,
+    takes_beside, ticks_apart,
+};

@@ -1,6 +1,7 @@
 -- A move that is held back does behind the loop's step what it does before it.
-use Rattle.std.proofs.Common.{◌≡◌, ℕ, zero, suc, ◌+◌, ◌<◌, ◌==◌, ◌&&◌, not, Bool, true, false, List, [], ◌∷◌, length, nat_lt, nat_le, is_none, slice_get, option_and_then, refl, sym, ap, ap₂, subst, ◌∙◌, Option, Some, None, Ok, Err, Result, if◌then◌else◌, arith}
+use Rattle.std.proofs.Common.{◌≡◌, ℕ, zero, suc, ◌+◌, ◌==◌, ◌&&◌, not, Bool, true, false, List, [], ◌∷◌, length, nat_lt, nat_le, is_none, slice_get, slice_set, refl, sym, ap, ap₂, subst, ◌∙◌, Option, Some, None, Ok, Err, Result, if◌then◌else◌, arith}
 use Rattle.std.specs.List.{position_from}
+use Rattle.std.proofs.lemmas.Grind.{elements}
 use Rattle.std.proofs.lemmas.Option.{same_Some, none-some}
 use Rattle.uv_ids.specs.declared.event.Event.{Event}
 use Rattle.uv_ids.specs.declared.event.Event.TheVariants as event
@@ -42,7 +43,7 @@ use Rattle.uv_find.specs.declared.left.Left.TheVariants as left
 use Rattle.uv_asking.specs.declared.asking.Most.{Most}
 use Rattle.uv_find.specs.Holding.{can_meet, asks_late, is_at_will, is_of_io, run_takes_io, may_take_io}
 use Rattle.uv_find.specs.Kept.{kept_after, kept_due, owed_after, owed_by, owed_in, along_after, owes, caller, time_at_end, takes_time, is_over}
-use Rattle.uv_find.specs.Orders.{Rules, Place, is_made, is_free, is_within, take_by, event_of, step_of, wait_until, deadline_at, lessened, lessened_by}
+use Rattle.uv_find.specs.Orders.{Rules, Place, is_made, is_free, is_within, take_by, event_of, step_of, wait_until, deadline_at, less, lessened, lessened_by}
 use Rattle.uv_find.specs.Ranks.{idle_worker, runner, finish_by, by_rank, ranked}
 use Rattle.uv_find.specs.Questions.{begun, is_call, is_which, line_answers, has_ended, place_answers, is_uncalled}
 
@@ -363,7 +364,7 @@ owes_none k idle = by k.owed idle where
   by zero f = refl
   by (suc n) f = grind (arith, f)
 
--- what is kept behind any step but the loop's is what was kept, and behind the loop's it has gone along
+-- what is kept behind a step from outside is what was kept, and behind any step it is the same whatever state that led to
 pub kept_outside : (recorded : List Recorded) (q : Question) (k : Kept) (ticks : Bool) (e : Event) (s : State) (line : Option Seen)
     → asks_late q ≡ false → owes k ≡ false → is_outside ticks e ≡ true → kept_after recorded [] q k e s line ≡ k
 kept_outside recorded q k ticks e s line prompt idle out =
@@ -373,14 +374,14 @@ kept_outside recorded q k ticks e s line prompt idle out =
     let along = along_same recorded k.along ticks e line out in
     λ i. record { due = due i; owed = owed i; along = along i }
 
-pub kept_loop : (recorded : List Recorded) (q : Question) (k : Kept) (s t : State) (line : Option Seen) → asks_late q ≡ false → owes k ≡ false
-    → kept_after recorded [] q k event.Loop s line ≡ kept_after recorded [] q k event.Loop t line
-kept_loop recorded q k s t line prompt idle =
+pub kept_same : (recorded : List Recorded) (q : Question) (k : Kept) (e : Event) (s t : State) (line : Option Seen) → asks_late q ≡ false
+    → owes k ≡ false → kept_after recorded [] q k e s line ≡ kept_after recorded [] q k e t line
+kept_same recorded q k e s t line prompt idle =
     let none = owes_none k idle in
     let due = due_same q s k.due prompt ∙ sym (due_same q t k.due prompt) in
     let owed : owed_after [] k.owed s line ≡ owed_after [] k.owed t line =
     ap (λ n. owed_after [] n s line) none ∙ owed_none s line ∙ sym (ap (λ n. owed_after [] n t line) none ∙ owed_none t line) in
-    λ i. record { due = due i; owed = owed i; along = along_after recorded k.along event.Loop line }
+    λ i. record { due = due i; owed = owed i; along = along_after recorded k.along e line }
 
 pub still_idle : (recorded : List Recorded) (q : Question) (k : Kept) (e : Event) (s : State) (line : Option Seen) → owes k ≡ false
     → owes (kept_after recorded [] q k e s line) ≡ false
@@ -389,20 +390,29 @@ still_idle recorded q k e s line idle =
 
 -- ---- what is left
 
-pub at_will_stays : (xs : List Left) → is_at_will (slice_get xs 0) ≡ true → lessened xs 0 ≡ xs
-at_will_stays [] at = refl
-at_will_stays (left.AtWill ∷ xs) at = refl
-at_will_stays (left.Times n ∷ xs) at = absurd (let f : false ≡ true = at in cc)
-at_will_stays (left.Ahead n ∷ xs) at = absurd (let f : false ≡ true = at in cc)
-at_will_stays (left.Held n ∷ xs) at = absurd (let f : false ≡ true = at in cc)
-at_will_stays (left.Over ∷ xs) at = absurd (let f : false ≡ true = at in cc)
+set_other : (xs : List Left) (i n : ℕ) (y : Left) → (i ≡ n → ⊥) → slice_get (slice_set xs i y) n ≡ slice_get xs n
+set_other xs i n y other = grind (arith, elements)
 
-pub first_stays : (xs : List Left) (i : ℕ) → 0 < i → slice_get (lessened xs i) 0 ≡ slice_get xs 0
-first_stays [] i more = by i where
-  by : (j : ℕ) → slice_get (lessened [] j) 0 ≡ None
-  by j = refl
-first_stays (x ∷ xs) zero more = absurd (omega (arith, more))
-first_stays (x ∷ xs) (suc i) more = by (slice_get xs i) where
-  by : (o : Option Left) → slice_get (lessened_by (x ∷ xs) (suc i) o) 0 ≡ Some x
+pub will_is : (x : Option Left) → is_at_will x ≡ true → x ≡ Some left.AtWill
+will_is (Some left.AtWill) e = refl
+will_is (Some (left.Times n)) e = absurd (let f : false ≡ true = e in cc)
+will_is (Some (left.Ahead n)) e = absurd (let f : false ≡ true = e in cc)
+will_is (Some (left.Held n)) e = absurd (let f : false ≡ true = e in cc)
+will_is (Some left.Over) e = absurd (let f : false ≡ true = e in cc)
+will_is None e = absurd (let f : false ≡ true = e in cc)
+
+set_same : (xs : List Left) (n : ℕ) (x : Left) → slice_get xs n ≡ Some x → slice_set xs n x ≡ xs
+set_same [] n x e = refl
+set_same (y ∷ ys) zero x e = ap (λ z. z ∷ ys) (sym (same_Some y x e))
+set_same (y ∷ ys) (suc n) x e = ap (λ zs. y ∷ zs) (set_same ys n x e)
+
+-- an offer that may be taken as often as one likes leaves what is left as it was
+pub at_will_stays : (xs : List Left) (n : ℕ) → is_at_will (slice_get xs n) ≡ true → lessened xs n ≡ xs
+at_will_stays xs n at = let is = will_is (slice_get xs n) at in ap (lessened_by xs n) is ∙ set_same xs n left.AtWill is
+
+-- and another one leaves what is left of this one
+pub others_stay : (xs : List Left) (i n : ℕ) → (i ≡ n → ⊥) → slice_get (lessened xs i) n ≡ slice_get xs n
+others_stay xs i n other = by (slice_get xs i) where
+  by : (o : Option Left) → slice_get (lessened_by xs i o) n ≡ slice_get xs n
   by None = refl
-  by (Some y) = refl
+  by (Some y) = set_other xs i n (less y) other

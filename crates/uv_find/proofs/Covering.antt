@@ -3,6 +3,7 @@ use Rattle.std.proofs.Common.{◌≡◌, inl, inr, ℕ, zero, suc, ◌+◌, ◌-
 use Rattle.std.proofs.lemmas.Bool.{ltb-true}
 use Rattle.std.proofs.lemmas.Option.{none-some}
 use Rattle.uv_ids.specs.declared.event.Event.{Event}
+use Rattle.uv_ids.specs.declared.event.Event.TheVariants.{Take}
 use Rattle.uv_ids.specs.declared.seen.Seen.{Seen}
 use Rattle.uv_model.specs.State.{State}
 use Rattle.uv_model.specs.Next.{Next, Moves, Refuses, next}
@@ -24,8 +25,17 @@ use Rattle.uv_find.proofs.Led.{each, event_at, choice_is, length_more, led_leads
 use Rattle.uv_find.proofs.Onward.{owed_alike, along_alike, uncalled_alike, line_alike}
 use Rattle.uv_find.proofs.Lines.{LinesAlike}
 use Rattle.uv_find.proofs.Readings.{reads_ended}
-use Rattle.uv_find.proofs.Runners.{IsRegular, EventsAlike, OffersAlike}
+use Rattle.uv_find.proofs.Runners.{IsRegular, RunAlike, EventsAlike, OffersAlike}
+use Rattle.uv_find.proofs.Moving.{after_event}
 use Rattle.uv_find.proofs.Telling.{places_tell}
+
+-- a worker took a request by the offer of this number
+abbrev pub led_take : Rules → Place → ℕ → ℕ → State → Option Seen → Led
+led_take r p number worker u line = record {
+  event = Take worker;
+  place = taken r (record { event = Take worker; left = lessened p.left number; kept = p.kept }) u line;
+  line = line;
+}
 
 module _ (r : Rules) (n : ℕ) (forget : r.forget ≡ Some n) (can : CanForget r n) where
   -- ---- what is offered
@@ -270,6 +280,24 @@ module _ (r : Rules) (n : ℕ) (forget : r.forget ≡ Some n) (can : CanForget r
           ap told_code (told_alike x.place y.place h.places),
           ap₂ (λ one two. if one then true else two) line place,
         )
+
+    -- two workers that run alike take a request, by this offer: they lead to places of one key, and answer alike
+    pub takes_cover : (number worker other : ℕ) (u v : State) (line says : Option Seen)
+        → RunAlike n s.place.state t.place.state worker other
+        → next r.program s.place.state (Take worker) ≡ Moves u line → next r.program t.place.state (Take other) ≡ Moves v says
+        → IsSpot r (after_event s (led_take r s.place number worker u line)) → IsSpot r (after_event t (led_take r t.place number other v says))
+        → (spot_code r (after_event s (led_take r s.place number worker u line))
+        ≡ spot_code r (after_event t (led_take r t.place number other v says)))
+        × (answers r s.place (led_take r s.place number worker u line) ≡ answers r t.place (led_take r t.place number other v says))
+    takes_cover number worker other u v line says runs goes comes here there =
+        let both : EventsAlike n s.place.state t.place.state (Take worker) (Take other) =
+        inr (inl (record { worker = worker; other = other; one = refl; two = refl; same = runs })) in
+        let next_both = goes_alike r n forget can s t hs ht alike (Take worker) (Take other) both refl in
+        let moved : GoesAlike r.program n s.place.state t.place.state u v line says =
+        subst (λ y. NextGoes r.program n s.place.state t.place.state (Moves u line) y) comes
+        (subst (λ x. NextGoes r.program n s.place.state t.place.state x (next r.program t.place.state (Take other))) goes next_both) in
+        step_covers (led_take r s.place number worker u line) (led_take r t.place number other v says)
+        (taken_alike s t hs ht alike number (Take worker) (Take other) both refl u v line says goes comes moved) here there
 
     module _ (number : ℕ) where
       covers_by : (x y : Option Led) → led r s.place number ≡ x → led r t.place number ≡ y → LedAlike s t x y →

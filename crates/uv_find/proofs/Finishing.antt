@@ -1,5 +1,5 @@
 -- Each worker that runs a request may finish it.
-use Rattle.std.proofs.Common.{◌≡◌, ℕ, zero, suc, ◌<◌, ◌==◌, ◌||◌, ◌⊎◌, inl, inr, Bool, true, false, List, [], ◌∷◌, ◌++◌, length, nat_lt, slice_get, slice_set, option_and_then, refl, sym, ap, subst, ◌∙◌, Option, Some, None, if◌then◌else◌, true≢false, append_assoc, length-append, arith}
+use Rattle.std.proofs.Common.{◌≡◌, ℕ, zero, suc, ◌<◌, true, List, [], ◌∷◌, ◌++◌, length, nat_lt, slice_get, option_and_then, refl, sym, ap, subst, ◌∙◌, Option, Some, None, if◌then◌else◌, true≢false, arith}
 use Rattle.std.specs.Prelude.{option_map}
 use Rattle.std.proofs.lemmas.Option.{same_Some, none-some, slice_get-map}
 use Rattle.uv_ids.specs.declared.event.Event.{Event}
@@ -25,19 +25,21 @@ use Rattle.uv_asking.specs.declared.asking.Offered.{Offered}
 use Rattle.uv_find.specs.declared.left.Left.{Left}
 use Rattle.uv_find.specs.declared.left.Left.TheVariants as left
 use Rattle.uv_find.specs.declared.kept.Kept.{Kept}
+use Rattle.uv_find.specs.Holding.{may_take_at_once}
 use Rattle.uv_find.specs.Courses.{Course, LeadsOn}
 use Rattle.uv_find.specs.Found.{IsFinished, EachFinishes}
-use Rattle.uv_find.specs.Orders.{Rules, Place, Choice, Led, at_will, finishes, every_offer, times_left, less, lessened, lessened_by, chosen, choice_at, offered_by, beginning, first_left, timed, brief, is_brief, keeps_clock, move_count, move_count_by}
+use Rattle.uv_find.specs.Orders.{Rules, Place, Choice, Led, at_will, finishes, times_left, less, lessened, lessened_by, chosen, offered_by, beginning, first_left, timed, brief, move_count, move_count_by}
 use Rattle.uv_find.specs.Ranks.{rank_of, runner, finish_by, ranked}
 use Rattle.uv_find.specs.Spots.{rules_of}
 use Rattle.uv_find.proofs.Led.{choice_is, event_at}
 use Rattle.uv_find.proofs.Meeting.{get_within}
+use Rattle.uv_find.proofs.Offers.{behind_first, finish_in}
 use Rattle.uv_find.proofs.Ranking.{Run, rank_one, rank_within}
 use Rattle.uv_find.proofs.Runners.{after_long, rank_slot, slot_rank}
 
 -- ---- what is left
 
-at_will_kept : (xs : List Left) (i k : ℕ) → slice_get xs i ≡ Some left.AtWill → slice_get (lessened xs k) i ≡ Some left.AtWill
+pub at_will_kept : (xs : List Left) (i k : ℕ) → slice_get xs i ≡ Some left.AtWill → slice_get (lessened xs k) i ≡ Some left.AtWill
 at_will_kept [] i k e = absurd (none-some left.AtWill e)
 at_will_kept (x ∷ xs) zero zero e = ap (λ (o : Left). Some (less o)) (same_Some x left.AtWill e)
 at_will_kept (x ∷ xs) (suc i) zero e = e
@@ -74,36 +76,6 @@ module _ (r : Rules) (differ : r.differ ≡ None) where
       let goes : next r.program (after r.program fs) l.event ≡ Moves l.place.state l.line =
       subst (λ x. next r.program x l.event ≡ Moves l.place.state l.line) here on.accepted in
       course_state l.place es q (fs ++ l.event ∷ []) (sym (after-moves r.program fs l.event l.place.state l.line goes)) rest
-
--- ---- what is offered
-
-or_last : (k n : ℕ) → k < suc n → (k ≡ n) ⊎ (k < n)
-or_last zero zero l = inl refl
-or_last zero (suc n) l = inr (omega arith)
-or_last (suc k) zero l = absurd (omega arith)
-or_last (suc k) (suc n) l = elim (or_last k n (omega arith)) [ inl e ↦ inl (ap suc e) | inr m ↦ inr (omega arith) ]
-
-at_length : (xs ys : List Offered) (x : Offered) → slice_get (xs ++ x ∷ ys) (length xs) ≡ Some x
-at_length [] ys x = refl
-at_length (y ∷ xs) ys x = at_length xs ys x
-
-finishes_long : (n : ℕ) → length (finishes n) ≡ n
-finishes_long zero = refl
-finishes_long (suc n) = let more = finishes_long n in omega (arith, more, length-append (finishes n) (at_will (Step (event.Finish n)) ∷ []))
-
-finish_in : (n k : ℕ) (ys : List Offered) → k < n → slice_get (finishes n ++ ys) k ≡ Some (at_will (Step (event.Finish k)))
-finish_in zero k ys below = absurd (omega (arith, below))
-finish_in (suc n) k ys below = ap (λ xs. slice_get xs k) (append_assoc (finishes n) (at_will (Step (event.Finish n)) ∷ []) ys)
-    ∙ by (or_last k n below) (λ less. finish_in n k (at_will (Step (event.Finish n)) ∷ ys) less)
-  where
-    by : ((k ≡ n) ⊎ (k < n)) → (k < n → slice_get (finishes n ++ at_will (Step (event.Finish n)) ∷ ys) k ≡ Some (at_will (Step (event.Finish k))))
-        → slice_get (finishes n ++ at_will (Step (event.Finish n)) ∷ ys) k ≡ Some (at_will (Step (event.Finish k)))
-    by (inl e) rest =
-        let at : slice_get (finishes n ++ at_will (Step (event.Finish n)) ∷ ys) n ≡ Some (at_will (Step (event.Finish n))) =
-        ap (slice_get (finishes n ++ at_will (Step (event.Finish n)) ∷ ys)) (sym (finishes_long n))
-        ∙ at_length (finishes n) ys (at_will (Step (event.Finish n))) in
-        subst (λ m. slice_get (finishes n ++ at_will (Step (event.Finish n)) ∷ ys) m ≡ Some (at_will (Step (event.Finish m)))) (sym e) at
-    by (inr less) rest = rest less
 
 -- ---- who runs it
 
@@ -152,7 +124,7 @@ module _ (p : Program) (gs : List Event) (s : State) (is : s ≡ after p gs) (wo
   in_slot k x there = let its = opened.each x (has_at s.waiting s.running k x there) in request_held s x its.its its.holds
 
   -- it is the worker of the rank of its request
-  its_rank : runner s (rank_of s id.slot) ≡ Some worker
+  pub its_rank : runner s (rank_of s id.slot) ≡ Some worker
   its_rank =
       let first = slot_rank s worker id (rank_of s id.slot) runs refl in
       let found = rank_slot s (rank_of s id.slot) first.0 first.1 in
@@ -185,7 +157,8 @@ module _ (p : Program) (asked : Asked) (q : Place) (differ : asked.differ ≡ No
       → ranked r.forget q.state (Some (event.Finish number)) ≡ Some (event.Finish worker) → IsFinished r q worker
   finish_offered number below will of_rank =
       let here : slice_get r.offers (suc (suc number)) ≡ Some (at_will (Step (event.Finish number))) =
-      finish_in (worker_count p) number asked.offers below in
+      behind_first (may_take_at_once p asked) (finishes (worker_count p)) asked.offers number
+      ∙ finish_in (worker_count p) number asked.offers below in
       let count : move_count r q ≡ length r.offers = ap (λ d. move_count_by d (length r.offers) (length q.left)) differ in
       let within : nat_lt (suc (suc number)) (move_count r q) ≡ true =
       ap (nat_lt (suc (suc number))) count ∙ get_within r.offers (suc (suc number)) (at_will (Step (event.Finish number))) here in
@@ -222,7 +195,8 @@ module _ (p : Program) (asked : Asked) (es : List Event) (q : Place) (worker : �
   begins number below =
       let times = λ (o : Offered). times_left o.times in
       ap (λ d. slice_get (first_left d all.offers all.recorded) (suc (suc number))) differ ∙ slice_get-map times all.offers (suc (suc number))
-      ∙ ap (option_map times) (finish_in (worker_count p) number asked.offers below)
+      ∙ ap (option_map times) (behind_first (may_take_at_once p asked) (finishes (worker_count p)) asked.offers number
+      ∙ finish_in (worker_count p) number asked.offers below)
 
   will : (number : ℕ) → number < worker_count p → slice_get q.left (suc (suc number)) ≡ Some left.AtWill
   will number below = course_left all differ (beginning all) es q (suc (suc number)) course (begins number below)

@@ -23,6 +23,7 @@ use Rattle.uv_ids.specs.declared.event.Event.TheVariants as event
 use Rattle.uv_asking.specs.declared.asking.Offered.{Offered}
 use Rattle.uv_asking.specs.declared.asking.Offer.{Offer}
 use Rattle.uv_asking.specs.declared.asking.Offer.TheVariants.{Step}
+use Rattle.uv_find.specs.Holding.{may_take_at_once}
 use Rattle.uv_find.specs.Orders.{at_will, finishes, every_offer}
 use Rattle.uv_find.proofs.Led.{each}
 use Rattle.uv_find.specs.Spots.{CanForget, MayForget, rules_of}
@@ -98,8 +99,10 @@ asked_common (o ∷ os) h =
     let both = and_parts (is_aside o.offer) (are_aside os) h in
     rw (aside_common o.offer both.0, asked_common os both.1) refl
 
-every_common : (workers : ℕ) (asked : List Offered) → are_aside asked ≡ true → are_common (every_offer workers asked) ≡ true
-every_common workers asked h = all_front _ (finishes workers) asked (finishes_common workers) (asked_common asked h)
+every_common : (at_once : Bool) (workers : ℕ) (asked : List Offered) → are_aside asked ≡ true
+    → are_common (every_offer at_once workers asked) ≡ true
+every_common true workers asked h = all_front _ (finishes workers) asked (finishes_common workers) (asked_common asked h)
+every_common false workers asked h = all_front _ (finishes workers) asked (finishes_common workers) (asked_common asked h)
 
 forgetting : (p : Program) (asked : Asked) (n : ℕ) → may_forget p asked ≡ true → calls_end p asked ≡ n → CanForget (rules_of p asked) n
 forgetting p asked n may end =
@@ -121,7 +124,7 @@ forgetting p asked n may end =
       lasts = ltb-true LONGEST (arena_size p).last_generation lasts.1;
       clock = is_absent asked.clock clock.1;
       differ = is_absent asked.differ differ.1;
-      aside = every_common (worker_count p) asked.offers aside.1;
+      aside = every_common (may_take_at_once p asked) (worker_count p) asked.offers aside.1;
     }
 
 pub forgets : (p : Program) (asked : Asked) → MayForget (rules_of p asked)

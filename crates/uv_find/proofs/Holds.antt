@@ -1,5 +1,5 @@
 -- What holds where moves are held back.
-use Rattle.std.proofs.Common.{◌≡◌, ℕ, zero, suc, ◌<◌, Bool, true, false, not, List, [], ◌∷◌, ◌++◌, Some, None, slice_get, refl, subst, if◌then◌else◌, arith}
+use Rattle.std.proofs.Common.{◌≡◌, ℕ, zero, suc, ◌+◌, ◌-◌, ◌≤◌, Bool, true, false, not, List, [], ◌∷◌, ◌++◌, Some, None, slice_get, refl, sym, ap, subst, ◌∙◌, append_assoc, if◌then◌else◌, arith}
 use Rattle.std.proofs.lemmas.Bool.{and_parts}
 use Rattle.std.proofs.lemmas.Option.{same_Some, none-some}
 use Rattle.uv_ids.specs.declared.event.Event.TheVariants as event
@@ -7,11 +7,13 @@ use Rattle.uv_script.specs.Program.{Program, worker_count}
 use Rattle.uv_asking.specs.Asked.{Asked}
 use Rattle.uv_asking.specs.declared.asking.Offer.TheVariants.{Step, Take}
 use Rattle.uv_asking.specs.declared.asking.Offered.{Offered}
-use Rattle.uv_find.specs.Holding.{can_meet, can_all_meet, asks_late, is_empty, may_hold}
-use Rattle.uv_find.specs.Orders.{at_will, finishes}
-use Rattle.uv_find.specs.Spots.{CanHold, MayHold, rules_of}
+use Rattle.uv_find.specs.Forgetting.{calls_end}
+use Rattle.uv_find.specs.Holding.{can_meet, can_all_meet, asks_late, is_empty, may_hold, hold_of, is_clear_of_takes, are_clear_of_takes, may_take_at_once, loop_number}
+use Rattle.uv_find.specs.Orders.{at_will, finishes, first_offers, every_offer}
+use Rattle.uv_find.specs.Spots.{CanHold, CanTakeAtOnce, MayHold, rules_of}
 use Rattle.uv_find.proofs.Forgets.{all_front, is_absent}
 use Rattle.uv_find.proofs.Led.{each}
+use Rattle.uv_find.proofs.Offers.{offers_are, finish_in}
 
 none_in : {A : Type 0} (xs : List A) → is_empty xs ≡ true → xs ≡ []
 none_in [] e = refl
@@ -26,30 +28,60 @@ finishes_of_pool ticks zero = refl
 finishes_of_pool ticks (suc n) =
     all_front (λ (o : Offered). can_meet ticks o.offer) (finishes n) (at_will (Step (event.Finish n)) ∷ []) (finishes_of_pool ticks n) refl
 
-behind_first : (ticks : Bool) (xs : List Offered) (x : Offered) → can_all_meet ticks xs ≡ true → (i : ℕ) (o : Offered) → 0 < i
-    → slice_get (x ∷ xs) i ≡ Some o → can_meet ticks o.offer ≡ true
-behind_first ticks xs x all zero o more at = absurd (omega (arith, more))
-behind_first ticks xs x all (suc i) o more at = each (λ (y : Offered). can_meet ticks y.offer) xs i o all at
+-- in either order of the first two
+others_meet : (ticks at_once : Bool) (xs : List Offered) → can_all_meet ticks xs ≡ true → (i : ℕ) (o : Offered) → (i ≡ loop_number at_once → ⊥)
+    → slice_get (first_offers at_once ++ xs) i ≡ Some o → can_meet ticks o.offer ≡ true
+others_meet ticks true xs all zero o other at = subst (λ (y : Offered). can_meet ticks y.offer ≡ true) (same_Some (at_will Take) o at) refl
+others_meet ticks true xs all (suc zero) o other at = absurd (other refl)
+others_meet ticks true xs all (suc (suc i)) o other at = each (λ (y : Offered). can_meet ticks y.offer) xs i o all at
+others_meet ticks false xs all zero o other at = absurd (other refl)
+others_meet ticks false xs all (suc zero) o other at = subst (λ (y : Offered). can_meet ticks y.offer ≡ true) (same_Some (at_will Take) o at) refl
+others_meet ticks false xs all (suc (suc i)) o other at = each (λ (y : Offered). can_meet ticks y.offer) xs i o all at
 
-holding : (p : Program) (asked : Asked) (ticks : Bool) → may_hold asked ≡ true → can_all_meet ticks asked.offers ≡ true
-    → CanHold (rules_of p asked) ticks
-holding p asked ticks may pool =
+loop_there : (at_once : Bool) (xs : List Offered) → slice_get (first_offers at_once ++ xs) (loop_number at_once) ≡ Some (at_will (Step event.Loop))
+loop_there true xs = refl
+loop_there false xs = refl
+
+-- what else is asked for allows it
+record Allowed (asked : Asked) : Type 0 where
+  differ : asked.differ ≡ None
+  takes : asked.takes ≡ []
+  question : asks_late asked.question ≡ false
+  pool : can_all_meet true asked.offers ≡ true
+
+allowed : (asked : Asked) → may_hold asked ≡ true → Allowed asked
+allowed asked may =
     let offers = and_parts _ _ may in
     let question = and_parts _ _ offers.0 in
     let takes = and_parts _ _ question.0 in
     let differ = and_parts _ _ takes.0 in
-    let all : can_all_meet ticks (at_will Take ∷ (finishes (worker_count p) ++ asked.offers)) ≡ true =
-    all_front (λ (o : Offered). can_meet ticks o.offer) (finishes (worker_count p)) asked.offers (finishes_of_pool ticks (worker_count p)) pool in
     record {
-      first = refl;
-      others = behind_first ticks (at_will Take ∷ (finishes (worker_count p) ++ asked.offers)) (at_will (Step event.Loop)) all;
       differ = is_absent asked.differ differ.1;
       takes = none_in asked.takes takes.1;
       question = not_true (asks_late asked.question) question.1;
+      pool = offers.1;
     }
 
-pub holds : (p : Program) (asked : Asked) → MayHold (rules_of p asked)
-holds p asked ticks e = by (may_hold asked) refl e where
+holding : (p : Program) (asked : Asked) (ticks : Bool) → may_hold asked ≡ true → can_all_meet ticks asked.offers ≡ true
+    → CanHold (rules_of p asked) ticks
+holding p asked ticks may pool =
+    let may_be = allowed asked may in
+    let workers = worker_count p in
+    let all : can_all_meet ticks (finishes workers ++ asked.offers) ≡ true =
+    all_front (λ (o : Offered). can_meet ticks o.offer) (finishes workers) asked.offers (finishes_of_pool ticks workers) pool in
+    let at_once = may_take_at_once p asked in
+    let offers = offers_are at_once (finishes workers) asked.offers in
+    record {
+      loop = ap (λ xs. slice_get xs (loop_number at_once)) offers ∙ loop_there at_once (finishes workers ++ asked.offers);
+      others = λ i o other at. others_meet ticks at_once (finishes workers ++ asked.offers) all i o other
+          (ap (λ xs. slice_get xs i) (sym offers) ∙ at);
+      differ = may_be.differ;
+      takes = may_be.takes;
+      question = may_be.question;
+    }
+
+behind_loop : (p : Program) (asked : Asked) (ticks : Bool) → hold_of asked ≡ Some ticks → CanHold (rules_of p asked) ticks
+behind_loop p asked ticks e = by (may_hold asked) refl e where
   of_pool : may_hold asked ≡ true → (b : Bool) → can_all_meet false asked.offers ≡ b → not b ≡ ticks → can_all_meet ticks asked.offers ≡ true
   of_pool may true none is = subst (λ t. can_all_meet t asked.offers ≡ true) is none
   of_pool may false some is = subst (λ t. can_all_meet t asked.offers ≡ true) is (and_parts _ _ may).1
@@ -59,3 +91,52 @@ holds p asked ticks e = by (may_hold asked) refl e where
   by true may is =
       holding p asked ticks may (of_pool may (can_all_meet false asked.offers) refl (same_Some (not (can_all_meet false asked.offers)) ticks is))
   by false may is = absurd (none-some ticks is)
+
+-- ---- a take at once
+
+-- behind the finishes stands what is asked for
+behind_finishes : (n : ℕ) (ys : List Offered) (i : ℕ) → n ≤ i → slice_get (finishes n ++ ys) i ≡ slice_get ys (i - n)
+behind_finishes zero ys i l = let same : i ≡ i - 0 = omega arith in ap (slice_get ys) same
+behind_finishes (suc n) ys i l =
+    let rest = append_assoc (finishes n) (at_will (Step (event.Finish n)) ∷ []) ys in
+    let more = behind_finishes n (at_will (Step (event.Finish n)) ∷ ys) i (omega (arith, l)) in
+    let one : i - n ≡ suc (i - suc n) = omega (arith, l) in
+    ap (λ xs. slice_get xs i) rest ∙ more ∙ ap (slice_get (at_will (Step (event.Finish n)) ∷ ys)) one
+
+asked_clear : (workers : ℕ) (asked : List Offered) → are_clear_of_takes asked ≡ true → (i : ℕ) (o : Offered) → workers + 2 ≤ i
+    → slice_get (first_offers true ++ (finishes workers ++ asked)) i ≡ Some o → is_clear_of_takes o.offer ≡ true
+asked_clear workers asked all zero o l at = absurd (omega (arith, l))
+asked_clear workers asked all (suc zero) o l at = absurd (omega (arith, l))
+asked_clear workers asked all (suc (suc i)) o l at =
+    each (λ (y : Offered). is_clear_of_takes y.offer) asked (i - workers) o all (sym (behind_finishes workers asked i (omega (arith, l))) ∙ at)
+
+-- where a worker may take a request at once, that is the first offer
+taking : (p : Program) (asked : Asked) (at_once : Bool) → may_take_at_once p asked ≡ at_once → at_once ≡ true → CanTakeAtOnce (rules_of p asked)
+taking p asked at_once is may =
+    let here : may_take_at_once p asked ≡ true = is ∙ may in
+    let cancels = and_parts _ _ here in
+    let clear = and_parts _ _ cancels.0 in
+    let question = and_parts _ _ clear.0 in
+    let takes = and_parts _ _ question.0 in
+    let differ = and_parts _ _ takes.0 in
+    let workers = worker_count p in
+    let offers : (rules_of p asked).offers ≡ first_offers true ++ (finishes workers ++ asked.offers) =
+    ap (λ b. every_offer b workers asked.offers) here ∙ offers_are true (finishes workers) asked.offers in
+    record {
+      counted = calls_end p asked;
+      forgets = ap (λ b. if b then Some (calls_end p asked) else None) differ.0;
+      take = ap (λ xs. slice_get xs 0) offers;
+      loop = ap (λ xs. slice_get xs 1) offers;
+      finishes = λ k below. ap (λ xs. slice_get xs (suc (suc k))) offers ∙ finish_in workers k asked.offers below;
+      others = λ i o l at. asked_clear workers asked.offers clear.1 i o l (ap (λ xs. slice_get xs i) (sym offers) ∙ at);
+      cancels = cancels.1;
+      differ = is_absent asked.differ differ.1;
+      takes = none_in asked.takes takes.1;
+      question = not_true (asks_late asked.question) question.1;
+    }
+
+pub holds : (p : Program) (asked : Asked) → MayHold (rules_of p asked)
+holds p asked = record {
+  behind_loop = behind_loop p asked;
+  behind_take = λ may. taking p asked (may_take_at_once p asked) refl may;
+}

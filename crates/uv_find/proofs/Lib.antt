@@ -18,5 +18,8 @@ pub mod Finishing
 mod Scans
 pub mod Forgets
 mod Apart
+mod Offers
 mod Meeting
+mod Cancelling
+mod AtOnce
 mod Holds

@@ -1,6 +1,6 @@
 -- Two moves from a place where the first is apart: made in either order they meet.
-use Rattle.std.proofs.Common.{◌≡◌, ℕ, zero, suc, ◌+◌, ◌<◌, ◌&&◌, ◌||◌, not, Bool, true, false, List, [], ◌∷◌, ◌++◌, length, length-append, nat_lt, slice_get, refl, sym, ap, ap₂, subst, ◌∙◌, Option, Some, None, if◌then◌else◌, arith}
-use Rattle.std.proofs.lemmas.Bool.{and_parts}
+use Rattle.std.proofs.Common.{◌≡◌, ℕ, zero, suc, ◌+◌, ◌<◌, ◌==◌, ◌&&◌, ◌||◌, not, Bool, true, false, List, [], ◌∷◌, ◌++◌, length, length-append, nat_lt, slice_get, refl, sym, ap, ap₂, subst, ◌∙◌, Option, Some, None, if◌then◌else◌, arith}
+use Rattle.std.proofs.lemmas.Bool.{and_parts, eq-eqb, ltb-true}
 use Rattle.std.proofs.lemmas.Option.{same_Some, none-some}
 use Rattle.uv_ids.specs.declared.event.Event.{Event}
 use Rattle.uv_ids.specs.declared.event.Event.TheVariants as event
@@ -10,6 +10,7 @@ use Rattle.uv_model.specs.After.{STEPS}
 use Rattle.uv_model.specs.State.{State}
 use Rattle.uv_model.specs.Next.{Next, Moves, Refuses, next}
 use Rattle.uv_apart.specs.Apart.{is_apart, reads_clock, Meets, LeavesPlace}
+use Rattle.uv_apart.proofs.Cancels.{apart_cancels}
 use Rattle.uv_apart.proofs.Kept.{loop_keeps, ticks_apart}
 use Rattle.uv_apart.proofs.Pool.{takes_apart, finishes_apart}
 use Rattle.uv_apart.proofs.Taken.{tick_leaves, take_leaves, finish_leaves}
@@ -19,29 +20,29 @@ use Rattle.uv_asking.specs.declared.asking.Offered.{Offered}
 use Rattle.uv_find.specs.declared.kept.Kept.{Kept}
 use Rattle.uv_find.specs.declared.left.Left.{Left}
 use Rattle.uv_find.specs.declared.left.Left.TheVariants as left
-use Rattle.uv_find.specs.Holding.{can_meet, is_loop_apart, is_at_will, may_take_io}
+use Rattle.uv_find.specs.Holding.{can_meet, is_loop_apart, is_at_will, loop_number, may_take_io}
 use Rattle.uv_find.specs.Kept.{kept_after, owes}
 use Rattle.uv_find.specs.Orders.{Rules, Place, Choice, Led, led, led_by, placed, chosen, offered_by, may_take, event_of, timed, keeps_clock, brief, is_brief, at_will, taken, reached, is_within, lessened, move_count, move_count_by}
 use Rattle.uv_find.specs.Ranks.{ranked}
 use Rattle.uv_find.specs.Questions.{answers, line_answers, place_answers}
-use Rattle.uv_find.specs.Spots.{Spot, CanHold, next_spot, spot_of, spot_code, apart, apart_by, is_few, IsSpot, IsStanding, HasRoom, IsTold}
+use Rattle.uv_find.specs.Spots.{Spot, CanHold, next_spot, spot_of, spot_code, apart, apart_by, is_loop_first, is_take_first, is_few, IsSpot, IsStanding, HasRoom, IsTold}
 use Rattle.uv_find.proofs.Led.{event_at, choice_is, spots_lead}
 use Rattle.uv_find.proofs.Covering.{spots_alike}
 use Rattle.uv_find.proofs.Moving.{after_event, move_is, fewer}
-use Rattle.uv_find.proofs.Apart.{is_outside, may_come, comes_outside, IsRanked, ranked_outside, ranked_same, event_stays, outside_mute, line_same, within_same, place_mute, kept_outside, kept_loop, still_idle, at_will_stays, first_stays}
+use Rattle.uv_find.proofs.Apart.{is_outside, may_come, comes_outside, ranked_outside, ranked_same, event_stays, outside_mute, line_same, within_same, place_mute, kept_outside, kept_same, still_idle, will_is, at_will_stays, others_stay}
 
 -- ---- what a move is made of
 
 -- the event of an offer, and where the loop's answer leads
 pub record IsLed (r : Rules) (p : Place) (n : ℕ) (l : Led) : Type 0 where
-  event : Event
-  state : State
-  line : Option Seen
-  offered : event_at r p n ≡ Some event
-  goes : next r.program p.state event ≡ Moves state line
+  pub event : Event
+  pub state : State
+  pub line : Option Seen
+  pub offered : event_at r p n ≡ Some event
+  pub goes : next r.program p.state event ≡ Moves state line
   -- within the bounds
-  within : is_within r.most state ≡ true
-  is : l ≡ record { event = event; place = taken r (record { event = event; left = lessened p.left n; kept = p.kept }) state line; line = line }
+  pub within : is_within r.most state ≡ true
+  pub is : l ≡ record { event = event; place = taken r (record { event = event; left = lessened p.left n; kept = p.kept }) state line; line = line }
 
 module _ (r : Rules) (differ : r.differ ≡ None) (p : Place) (n : ℕ) where
   abbrev choice : Event → Choice
@@ -72,10 +73,28 @@ module _ (r : Rules) (differ : r.differ ≡ None) (p : Place) (n : ℕ) where
     by None at g = absurd (let f : ⊥ = cc in f)
     by (Some e) at g = to e (next r.program p.state e) at refl g
 
-  led_is : (e : Event) (t : State) (line : Option Seen) → is_within r.most t ≡ true → event_at r p n ≡ Some e
+  pub led_is : (e : Event) (t : State) (line : Option Seen) → is_within r.most t ≡ true → event_at r p n ≡ Some e
       → next r.program p.state e ≡ Moves t line → led r p n ≡ Some (record { event = e; place = taken r (choice e) t line; line = line })
   led_is e t line within at goes =
       ap (led_by r p) (choice_is r differ p n) ∙ rw (at, goes, within) refl
+
+-- the same of two moves, by what they are told to lead to
+pub meet_by : (r : Rules) (s m q : Spot) (b c : Bool) (x y : Led) → m ≡ after_event s x → b ≡ answers r s.place x → q ≡ after_event s y
+    → c ≡ answers r s.place y
+    → Meet (λ (w : Spot). move_count r w.place) (next_spot r) (spot_code r) (apart r) (after_event s x) (answers r s.place x) (after_event s y)
+    (answers r s.place y)
+    → Meet (λ (w : Spot). move_count r w.place) (next_spot r) (spot_code r) (apart r) m b q c
+meet_by r s m q b c x y first says second tells met =
+    let M = Meet (λ (w : Spot). move_count r w.place) (next_spot r) (spot_code r) (apart r) in
+    subst (λ w. M w b q c) (sym first) (subst (λ w. M (after_event s x) w q c) (sym says)
+    (subst (λ w. M (after_event s x) (answers r s.place x) w c) (sym second)
+    (subst (λ w. M (after_event s x) (answers r s.place x) (after_event s y) w) (sym tells) met)))
+
+-- the loop's move is apart where its step is
+pub loop_apart : (r : Rules) (s : Spot) → is_loop_first r s.place ≡ true → apart r s (loop_number r.at_once) ≡ true
+loop_apart r s is =
+    ap (λ c. if c then is_loop_first r s.place else ((loop_number r.at_once == 0) && is_take_first r s.place))
+    (eq-eqb (loop_number r.at_once) (loop_number r.at_once) refl) ∙ is
 
 -- ---- what is offered
 
@@ -96,15 +115,7 @@ get_within [] n x e = absurd (none-some x e)
 get_within (y ∷ ys) zero x e = grind arith
 get_within (y ∷ ys) (suc n) x e = let more = get_within ys n x e in grind (arith, more)
 
-will_is : (x : Option Left) → is_at_will x ≡ true → x ≡ Some left.AtWill
-will_is (Some left.AtWill) e = refl
-will_is (Some (left.Times n)) e = absurd (let f : false ≡ true = e in cc)
-will_is (Some (left.Ahead n)) e = absurd (let f : false ≡ true = e in cc)
-will_is (Some (left.Held n)) e = absurd (let f : false ≡ true = e in cc)
-will_is (Some left.Over) e = absurd (let f : false ≡ true = e in cc)
-will_is None e = absurd (let f : false ≡ true = e in cc)
-
-not_true : (x : Bool) → not x ≡ true → x ≡ false
+pub not_true : (x : Bool) → not x ≡ true → x ≡ false
 not_true true g = absurd (let h : false ≡ true = g in cc)
 not_true false g = refl
 
@@ -112,25 +123,34 @@ module _ (r : Rules) (ticks : Bool) (can : CanHold r ticks) where
   count_is : (p : Place) → move_count r p ≡ length r.offers
   count_is p = ap (λ d. move_count_by d (length r.offers) (length p.left)) can.differ
 
-  -- the first move is the loop's
-  loop_offered : (p : Place) → is_at_will (slice_get p.left 0) ≡ true → owes p.kept ≡ false → event_at r p 0 ≡ Some Loop
+  abbrev loop_move : ℕ
+  loop_move = loop_number r.at_once
+
+  loop_within : (p : Place) → nat_lt loop_move (move_count r p) ≡ true
+  loop_within p = ap (nat_lt loop_move) (count_is p) ∙ get_within r.offers loop_move (at_will (Step Loop)) can.loop
+
+  -- the loop's move
+  loop_offered : (p : Place) → is_at_will (slice_get p.left loop_move) ≡ true → owes p.kept ≡ false → event_at r p loop_move ≡ Some Loop
   loop_offered p at idle =
-      let below : nat_lt 0 (move_count r p) ≡ true = ap (nat_lt 0) (count_is p) ∙ get_within r.offers 0 (at_will (Step Loop)) can.first in
+      let below = loop_within p in
       let step : event_of r.program p.state p.kept (Step Loop) ≡ Some Loop = ap (λ b. Some (if b then event.Tick p.kept.owed else Loop)) idle in
       let here : offered_by r p (Some (at_will (Step Loop))) (Some left.AtWill) ≡ Some Loop =
       ap (λ o. brief r.forget (ranked r.forget p.state (timed r.clock p.state.clock o))) step
       ∙ ap (λ o. brief r.forget (ranked r.forget p.state o)) (loop_timed r.clock p.state.clock)
       ∙ ap (brief r.forget) (loop_ranked r.forget p.state) ∙ loop_brief r.forget in
-      ap (λ b. if b then offered_by r p (slice_get r.offers 0) (slice_get p.left 0) else None) below
-      ∙ ap₂ (offered_by r p) can.first (will_is (slice_get p.left 0) at) ∙ here
+      ap (λ b. if b then offered_by r p (slice_get r.offers loop_move) (slice_get p.left loop_move) else None) below
+      ∙ ap₂ (offered_by r p) can.loop (will_is (slice_get p.left loop_move) at) ∙ here
+
+  loop_below : (p : Place) → loop_move < move_count r p
+  loop_below p = ltb-true loop_move (move_count r p) (loop_within p)
 
   -- another one that is taken is of the pool or a tick, and stays behind the loop's step
   record Stays (p q : Place) (i : ℕ) (e : Event) : Type 0 where
     outside : is_outside ticks e ≡ true
     offered : event_at r q i ≡ Some e
 
-  stays : (p q : Place) (i : ℕ) (e : Event) (a : State) (l : Option Seen) → 0 < i → next r.program p.state Loop ≡ Moves a l → q.state ≡ a
-      → slice_get q.left i ≡ slice_get p.left i → owes p.kept ≡ false → owes q.kept ≡ false → (b : State) (m : Option Seen)
+  stays : (p q : Place) (i : ℕ) (e : Event) (a : State) (l : Option Seen) → (i ≡ loop_move → ⊥) → next r.program p.state Loop ≡ Moves a l
+      → q.state ≡ a → slice_get q.left i ≡ slice_get p.left i → owes p.kept ≡ false → owes q.kept ≡ false → (b : State) (m : Option Seen)
       → may_take_io r.program p.state.place ≡ false → next r.program p.state e ≡ Moves b m → event_at r p i ≡ Some e → Stays p q i e
   stays p q i e a l more goes there same idle still b m none comes h =
       let here : (if nat_lt i (length r.offers) then offered_by r p (slice_get r.offers i) (slice_get p.left i) else None) ≡ Some e =
@@ -211,7 +231,8 @@ module _ (r : Rules) (ticks : Bool) (can : CanHold r ticks) where
       → next r.program s.place.state e ≡ Moves b m
       → Meets r.program e a b l m
   meets_by s is (event.Take k) a b l m out first goes comes =
-      takes_apart r.program s.steps s.place.state a b k l m is.state (and_parts (is_apart r.program s.place.state) _ first).0 goes comes
+      takes_apart r.program s.steps s.place.state a b k l m is.state
+      (apart_cancels r.program s.place.state (and_parts (is_apart r.program s.place.state) _ first).0) goes comes
   meets_by s is (event.Finish k) a b l m out first goes comes =
       finishes_apart r.program s.steps s.place.state a b k l m is.state (and_parts (is_apart r.program s.place.state) _ first).0 goes comes
   meets_by s is (event.Tick ms) a b l m out first goes comes =
@@ -257,13 +278,17 @@ module _ (r : Rules) (ticks : Bool) (can : CanHold r ticks) where
   -- ---- both moves, in both orders
 
   module _ (hold : r.hold ≡ Some ticks) (s : Spot) (is : IsSpot r s) (few : is_few r.forget (length s.steps + 2) ≡ true)
-      (i : ℕ) (more : 0 < i) (below : i < move_count r s.place)
-      (loop_first : is_loop_apart r.program ticks s.place.state ≡ true) (at : is_at_will (slice_get s.place.left 0) ≡ true)
+      (i : ℕ) (more : i ≡ loop_move → ⊥) (below : i < move_count r s.place)
+      (loop_first : is_loop_apart r.program ticks s.place.state ≡ true) (at : is_at_will (slice_get s.place.left loop_move) ≡ true)
       (idle : owes s.place.kept ≡ false) (e : Event) (a b : State) (l m : Option Seen) (offered : event_at r s.place i ≡ Some e)
       (goes : next r.program s.place.state Loop ≡ Moves a l) (comes : next r.program s.place.state e ≡ Moves b m)
       (bound : is_within r.most a ≡ true) where
     abbrev by_loop : Led
-    by_loop = record { event = Loop; place = taken r (record { event = Loop; left = lessened s.place.left 0; kept = s.place.kept }) a l; line = l }
+    by_loop = record {
+      event = Loop;
+      place = taken r (record { event = Loop; left = lessened s.place.left loop_move; kept = s.place.kept }) a l;
+      line = l;
+    }
 
     abbrev by_other : Led
     by_other = record { event = e; place = taken r (record { event = e; left = lessened s.place.left i; kept = s.place.kept }) b m; line = m }
@@ -274,8 +299,8 @@ module _ (r : Rules) (ticks : Bool) (can : CanHold r ticks) where
         subst (λ ts. owes (kept_after r.recorded ts r.question k f t line) ≡ false) (sym can.takes)
         (still_idle r.recorded r.question k f t line none)
 
-    left_is : lessened s.place.left 0 ≡ s.place.left
-    left_is = at_will_stays s.place.left at
+    left_is : lessened s.place.left loop_move ≡ s.place.left
+    left_is = at_will_stays s.place.left loop_move at
 
     no_io_here : may_take_io r.program s.place.state.place ≡ false
     no_io_here = not_true (may_take_io r.program s.place.state.place)
@@ -291,8 +316,8 @@ module _ (r : Rules) (ticks : Bool) (can : CanHold r ticks) where
     left_behind : Leaves s.place.state b
     left_behind = leaves_by e s.place.state b m there.outside comes
 
-    at_behind : is_at_will (slice_get by_other.place.left 0) ≡ true
-    at_behind = ap is_at_will (first_stays s.place.left i more) ∙ at
+    at_behind : is_at_will (slice_get by_other.place.left loop_move) ≡ true
+    at_behind = ap is_at_will (others_stay s.place.left i loop_move more) ∙ at
 
     idle_behind : owes by_other.place.kept ≡ false
     idle_behind = idle_kept e b m s.place.kept idle
@@ -301,7 +326,7 @@ module _ (r : Rules) (ticks : Bool) (can : CanHold r ticks) where
     abbrev loop_last : Led
     loop_last = record {
       event = Loop;
-      place = taken r (record { event = Loop; left = lessened by_other.place.left 0; kept = by_other.place.kept }) meets.state l;
+      place = taken r (record { event = Loop; left = lessened by_other.place.left loop_move; kept = by_other.place.kept }) meets.state l;
       line = l;
     }
 
@@ -314,8 +339,8 @@ module _ (r : Rules) (ticks : Bool) (can : CanHold r ticks) where
 
     one_place : loop_last.place ≡ other_last.place
     one_place =
-        let left : lessened by_other.place.left 0 ≡ lessened by_loop.place.left i =
-        at_will_stays by_other.place.left at_behind ∙ ap (λ xs. lessened xs i) (sym left_is) in
+        let left : lessened by_other.place.left loop_move ≡ lessened by_loop.place.left i =
+        at_will_stays by_other.place.left loop_move at_behind ∙ ap (λ xs. lessened xs i) (sym left_is) in
         let k = s.place.kept in
         let q = r.question in
         let out = there.outside in
@@ -324,7 +349,7 @@ module _ (r : Rules) (ticks : Bool) (can : CanHold r ticks) where
         subst (λ ts. kept_after r.recorded ts q (kept_after r.recorded ts q k e b m) Loop meets.state l
         ≡ kept_after r.recorded ts q (kept_after r.recorded ts q k Loop a l) e meets.state m) (sym can.takes)
         (ap (λ x. kept_after r.recorded [] q x Loop meets.state l) (kept_outside r.recorded q k ticks e b m can.question idle out)
-        ∙ kept_loop r.recorded q k meets.state a l can.question idle
+        ∙ kept_same r.recorded q k Loop meets.state a l can.question idle
         ∙ sym (kept_outside r.recorded q (kept_after r.recorded [] q k Loop a l) ticks e meets.state m can.question
         (still_idle r.recorded q k Loop a l idle) out)) in
         λ j. record { state = meets.state; left = left j; kept = kept j }
@@ -370,7 +395,7 @@ module _ (r : Rules) (ticks : Bool) (can : CanHold r ticks) where
     spot_is : (q : Spot) (f : Led) → is_few r.forget (length q.steps + 1) ≡ true → spot_of r q (Some f) ≡ Some (after_event q f, answers r q.place f)
     spot_is q f short = ap (λ c. if◌then◌else◌ {A = Option (Spot × Bool)} c (Some (after_event q f, answers r q.place f)) None) short
 
-    pub meeting : Meet (λ (x : Spot). move_count r x.place) (next_spot r) (spot_code r) (apart r) i (after_event s by_loop)
+    pub meeting : Meet (λ (x : Spot). move_count r x.place) (next_spot r) (spot_code r) (apart r) (after_event s by_loop)
         (answers r s.place by_loop)
         (after_event s by_other) (answers r s.place by_other)
     meeting = record {
@@ -378,26 +403,30 @@ module _ (r : Rules) (ticks : Bool) (can : CanHold r ticks) where
       end = after_event (after_event s by_loop) other_last;
       d = answers r by_other.place loop_last;
       e = answers r by_loop.place other_last;
-      offered = omega (arith, below, count_is s.place, count_is by_other.place);
+      late = loop_move;
+      offered = loop_below by_other.place;
       goes = ap (spot_of r (after_event s by_other))
-          (led_is r can.differ by_other.place 0 Loop meets.state l bound_there (loop_offered by_other.place at_behind idle_behind) meets.loop_after)
+          (led_is r can.differ by_other.place loop_move Loop meets.state l bound_there
+          (loop_offered by_other.place at_behind idle_behind) meets.loop_after)
           ∙ spot_is (after_event s by_other) loop_last (few_by by_other);
+      behind = i;
       stays = omega (arith, below, count_is s.place, count_is by_loop.place);
       comes = ap (spot_of r (after_event s by_loop))
           (led_is r can.differ by_loop.place i e meets.state m bound_there there.offered meets.event_after)
           ∙ spot_is (after_event s by_loop) other_last (few_by by_loop);
       same = ap (λ p. spot_code r (record { place = p; steps = [] })) one_place;
       answers = answers_meet;
-      still = ap (λ h. apart_by h r.program by_other.place) hold
-          ∙ ap₂ (λ x y. x && y) (left_behind.first ∙ loop_first) (ap₂ (λ x y. x && not y) at_behind idle_behind);
+      still = loop_apart r (after_event s by_other)
+          (ap (λ h. apart_by h r.program loop_move by_other.place) hold
+          ∙ ap₂ (λ x y. x && y) (left_behind.first ∙ loop_first) (ap₂ (λ x y. x && not y) at_behind idle_behind));
     }
 
   -- the same of two moves, by what they are made of
-  meeting_led : r.hold ≡ Some ticks → (s : Spot) → IsSpot r s → is_few r.forget (length s.steps + 2) ≡ true → (i : ℕ) → 0 < i
+  meeting_led : r.hold ≡ Some ticks → (s : Spot) → IsSpot r s → is_few r.forget (length s.steps + 2) ≡ true → (i : ℕ) → (i ≡ loop_move → ⊥)
       → i < move_count r s.place
-      → is_loop_apart r.program ticks s.place.state ≡ true → is_at_will (slice_get s.place.left 0) ≡ true → owes s.place.kept ≡ false
-      → (x y : Led) → IsLed r s.place 0 x → IsLed r s.place i y
-      → Meet (λ (q : Spot). move_count r q.place) (next_spot r) (spot_code r) (apart r) i (after_event s x) (answers r s.place x) (after_event s y)
+      → is_loop_apart r.program ticks s.place.state ≡ true → is_at_will (slice_get s.place.left loop_move) ≡ true → owes s.place.kept ≡ false
+      → (x y : Led) → IsLed r s.place loop_move x → IsLed r s.place i y
+      → Meet (λ (q : Spot). move_count r q.place) (next_spot r) (spot_code r) (apart r) (after_event s x) (answers r s.place x) (after_event s y)
       (answers r s.place y)
   meeting_led hold s is few i more below first at idle x y one two =
       let loop : one.event ≡ Loop = same_Some one.event Loop (sym one.offered ∙ loop_offered s.place at idle) in
@@ -407,36 +436,35 @@ module _ (r : Rules) (ticks : Bool) (can : CanHold r ticks) where
       let x_is : x ≡ looped =
       one.is ∙ (λ j. record {
         event = loop j;
-        place = taken r (record { event = loop j; left = lessened s.place.left 0; kept = s.place.kept }) one.state one.line;
+        place = taken r (record { event = loop j; left = lessened s.place.left loop_move; kept = s.place.kept }) one.state one.line;
         line = one.line;
       }) in
-      subst (λ z. Meet (λ (q : Spot). move_count r q.place) (next_spot r) (spot_code r) (apart r) i (after_event s z) (answers r s.place z)
+      subst (λ z. Meet (λ (q : Spot). move_count r q.place) (next_spot r) (spot_code r) (apart r) (after_event s z) (answers r s.place z)
       (after_event s y) (answers r s.place y)) (sym x_is)
-      (subst (λ z. Meet (λ (q : Spot). move_count r q.place) (next_spot r) (spot_code r) (apart r) i
+      (subst (λ z. Meet (λ (q : Spot). move_count r q.place) (next_spot r) (spot_code r) (apart r)
       (after_event s looped) (answers r s.place looped)
       (after_event s z) (answers r s.place z)) (sym two.is)
       (meeting hold s is few i more below first at idle two.event one.state two.state one.line two.line two.offered goes two.goes one.within))
 
 -- where the loop's step is apart, each other move meets it
-pub apart_meets : (r : Rules) (n : ℕ) (s : Spot) (i : ℕ) → HasRoom r (suc (suc n)) s → apart r s ≡ true → i < move_count r s.place → 0 < i
-    → IsApart (λ (q : Spot). move_count r q.place) (next_spot r) (spot_code r) (apart r) s i
-apart_meets r n s i room first below more m q b c goes comes = by r.hold refl first where
-  by : (o : Option Bool) → r.hold ≡ o → apart_by o r.program s.place ≡ true
-      → Meet (λ (x : Spot). move_count r x.place) (next_spot r) (spot_code r) (apart r) i m b q c
+pub loop_meets : (r : Rules) (n : ℕ) (s : Spot) (i : ℕ) → HasRoom r (suc (suc n)) s → is_loop_first r s.place ≡ true
+    → i < move_count r s.place → (i ≡ loop_number r.at_once → ⊥)
+    → IsApart (λ (q : Spot). move_count r q.place) (next_spot r) (spot_code r) (apart r) s (loop_number r.at_once) i
+loop_meets r n s i room first below other m q b c goes comes = by r.hold refl first where
+  by : (o : Option Bool) → r.hold ≡ o → apart_by o r.program (loop_number r.at_once) s.place ≡ true
+      → Meet (λ (x : Spot). move_count r x.place) (next_spot r) (spot_code r) (apart r) m b q c
   by None hold f = absurd (let g : false ≡ true = f in cc)
   by (Some ticks) hold f =
-      let can = room.holds ticks hold in
+      let can = room.holds.behind_loop ticks hold in
       let parts = and_parts (is_loop_apart r.program ticks s.place.state) _ f in
-      let more_parts = and_parts (is_at_will (slice_get s.place.left 0)) _ parts.1 in
+      let more_parts = and_parts (is_at_will (slice_get s.place.left (loop_number r.at_once))) _ parts.1 in
       let few = fewer r r.forget (length s.steps + 2) (length s.steps + suc (suc n)) (omega arith) room.few in
-      let one = move_is r s m 0 b goes in
+      let one = move_is r s m (loop_number r.at_once) b goes in
       let two = move_is r s q i c comes in
-      let met = meeting_led r ticks can hold s room.spot few i more below parts.0 more_parts.0 (not_true (owes s.place.kept) more_parts.1) one.0 two.0
-      (is_led r can.differ s.place 0 one.0 one.1.0) (is_led r can.differ s.place i two.0 two.1.0) in
-      let M = Meet (λ (x : Spot). move_count r x.place) (next_spot r) (spot_code r) (apart r) i in
-      subst (λ x. M x b q c) (sym one.1.1) (subst (λ x. M (after_event s one.0) x q c) (sym one.1.2)
-      (subst (λ x. M (after_event s one.0) (answers r s.place one.0) x c) (sym two.1.1)
-      (subst (λ x. M (after_event s one.0) (answers r s.place one.0) (after_event s two.0) x) (sym two.1.2) met)))
+      let met = meeting_led r ticks can hold s room.spot few i other below parts.0 more_parts.0 (not_true (owes s.place.kept) more_parts.1)
+      one.0 two.0
+      (is_led r can.differ s.place (loop_number r.at_once) one.0 one.1.0) (is_led r can.differ s.place i two.0 two.1.0) in
+      meet_by r s m q b c one.0 two.0 one.1.1 one.1.2 two.1.1 two.1.2 met
 
 -- ---- room
 

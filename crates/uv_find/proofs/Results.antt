@@ -1,20 +1,32 @@
 -- What a search of spots says of orders.
-use Rattle.std.proofs.Common.{◌≡◌, ℕ, suc, ◌+◌, ◌≤◌, length, length-append, Option, Some, None, ap, true, false, Bool, is_some, if◌then◌else◌, inl, inr, List, [], ◌∷◌, ◌++◌, refl, sym, subst, ◌∙◌, arith, append-nil}
+use Rattle.std.proofs.Common.{◌≡◌, ℕ, suc, ◌+◌, ◌≤◌, ◌==◌, ◌&&◌, ◌||◌, not, length, length-append, Option, Some, None, ap, true, false, Bool, is_some, if◌then◌else◌, inl, inr, List, [], ◌∷◌, ◌++◌, refl, sym, subst, ◌∙◌, arith, append-nil}
 use Rattle.std.specs.List.{IsDistinct}
 use Rattle.uv_ids.specs.declared.event.Event.{Event}
 use Rattle.uv_model.specs.After.{STEPS}
 use Rattle.uv_model.proofs.Runs.{after-nil}
 use Rattle.uv_search.specs.Settled as settled
 use Rattle.uv_find.specs.declared.finding.Answer.TheVariants as answer
+use Rattle.uv_script.specs.Program.{worker_count}
+use Rattle.uv_find.specs.Holding.{are_at_will, loop_number}
+use Rattle.uv_find.specs.Kept.{owes}
 use Rattle.uv_find.specs.Orders.{Rules, Place, Led, move_count}
 use Rattle.uv_find.specs.Courses as courses
 use Rattle.uv_find.specs.Courses.{Course}
 use Rattle.uv_find.specs.Questions.{place_answers}
-use Rattle.uv_find.specs.Spots.{Spot, next_spot, spot_code, first_spot, is_few, is_told, apart, apart_by, IsTold, MayForget, IsSpot, IsDeep}
+use Rattle.uv_find.specs.Spots.{Spot, next_spot, spot_code, first_spot, is_few, is_told, holds_back, apart, apart_by, is_loop_first, is_take_first, IsTold, MayForget, IsSpot, IsDeep}
 use Rattle.uv_find.specs.Found.{AreReached, Finds, KeysTell}
 use Rattle.uv_find.proofs.Led.{leads_spot}
 use Rattle.uv_find.proofs.Telling.{places_tell}
 use Rattle.uv_find.proofs.Moving.{fewer, after_event, moves_course, course_moves, moves_answer, course_answers}
+
+neither_one : (b c : Bool) → (b || c) ≡ false → (b ≡ false) × (c ≡ false)
+neither_one true c e = absurd (let f : true ≡ false = e in cc)
+neither_one false true e = absurd (let f : true ≡ false = e in cc)
+neither_one false false e = (refl, refl)
+
+neither : (b : Bool) → (b && false) ≡ false
+neither true = refl
+neither false = refl
 
 module _ (r : Rules) (s : Spot) where
   abbrev AreKeys : ℕ → List (List ℕ) → Type 0
@@ -55,18 +67,25 @@ module _ (r : Rules) (s : Spot) where
   IsNone number = settled.Never (λ (a : Spot). move_count r a.place) (next_spot r) (spot_code r) IsDeep (apart r) (IsTold r) s number
 
   -- where moves aren't held back, none is apart
-  holds_none : r.hold ≡ None → settled.HoldsNone (λ (a : Spot). move_count r a.place) (next_spot r) (spot_code r) IsDeep (apart r) (IsTold r) s
-  holds_none none is q led = ap (λ h. apart_by h r.program q.place) none
+  holds_none : holds_back r ≡ false → settled.HoldsNone (λ (a : Spot). move_count r a.place) (next_spot r) (spot_code r) IsDeep (apart r) (IsTold r) s
+  holds_none none is q k led = by (k == loop_number r.at_once) where
+    by : (b : Bool) → (if b then is_loop_first r q.place else ((k == 0) && is_take_first r q.place)) ≡ false
+    by true = loop_none r.hold (neither_one (is_some r.hold) r.at_once none).0 where
+      loop_none : (o : Option Bool) → is_some o ≡ false → apart_by o r.program (loop_number r.at_once) q.place ≡ false
+      loop_none None e = refl
+      loop_none (Some ticks) e = absurd (let f : true ≡ false = e in cc)
+    by false = ap (λ b. (k == 0) && (b && (are_at_will (worker_count r.program + 2) q.place.left && not (owes q.place.kept))))
+        (neither_one (is_some r.hold) r.at_once none).1 ∙ neither (k == 0)
 
   mute : (number : ℕ) → IsNone number → (es : List Event) (l : Led) → is_told r (length s.steps + length es + 1) ≡ true
       → courses.Answers r s.place es l → ⊥
-  mute number n es l told a = by r.hold refl told where
-    by : (o : Option Bool) → r.hold ≡ o
-        → is_few r.forget (if is_some o then length s.steps + length es + 1 + STEPS + 1 else length s.steps + length es + 1) ≡ true → ⊥
-    by None none few =
+  mute number n es l told a = by (holds_back r) refl told where
+    by : (b : Bool) → holds_back r ≡ b
+        → is_few r.forget (if b then length s.steps + length es + 1 + STEPS + 1 else length s.steps + length es + 1) ≡ true → ⊥
+    by false none few =
         let w = course_answers r s es l few a in
         (n.whole (holds_none none)).none w.0 w.1 w.2 w.3
-    by (Some ticks) some few =
+    by true some few =
         let short = fewer r r.forget (length s.steps + length es + 1) (length s.steps + length es + 1 + STEPS + 1) (omega arith) few in
         let w = course_answers r s es l short a in
         n.none w.0 w.1 w.2 (fewer r r.forget (STEPS + (length w.0 + 2)) (length s.steps + length es + 1 + STEPS + 1) (omega (arith, w.4)) few) w.3

@@ -1,10 +1,9 @@
 -- Workers of two states that have the same pooled form: of each rank they run the same.
-use Rattle.std.proofs.Common.{◌≡◌, ℕ, zero, suc, ◌==◌, ◌⊎◌, inl, inr, List, [], ◌∷◌, Bool, true, false, length, replicate, is_none, slice_get, slice_set, option_and_then, refl, ap, sym, subst, ◌∙◌, Option, Some, None, Result, Ok, Err, arith}
+use Rattle.std.proofs.Common.{◌≡◌, ℕ, zero, suc, ◌⊎◌, inl, inr, List, [], ◌∷◌, true, false, length, is_none, slice_get, slice_set, refl, ap, sym, subst, ◌∙◌, Option, Some, None, Result, Ok, Err}
 use Rattle.std.specs.Prelude.{map, option_map}
-use Rattle.std.specs.List.{position_from}
 use Rattle.std.proofs.lemmas.Bool.{eqb-true}
 use Rattle.std.proofs.lemmas.List.{length-replicate}
-use Rattle.std.proofs.lemmas.Option.{same_Some, none-some, slice_get-map}
+use Rattle.std.proofs.lemmas.Option.{none-some, slice_get-map}
 use Rattle.uv_ids.specs.declared.event.Event.{Event}
 use Rattle.uv_ids.specs.declared.event.Event.TheVariants.{Loop, Take, Finish, Cancel, Send, Io, Tick}
 use Rattle.uv_ids.specs.declared.fault.Why.{Why}
@@ -15,12 +14,11 @@ use Rattle.uv_model.specs.After.{after, goes_on, state_of}
 use Rattle.uv_model.specs.Next as steps
 use Rattle.uv_model.specs.Next.{Next, Moves, Refuses, next}
 use Rattle.uv_model.specs.State.{State, fresh}
-use Rattle.uv_order.specs.Active.{has_id, run_ids}
 use Rattle.uv_shift.specs.Earliest.{IsTimed}
 use Rattle.uv_generations.specs.Renamed.{rename}
-use Rattle.uv_generations.specs.Youngest.{IsYoung, IsInSlot}
+use Rattle.uv_generations.specs.Youngest.{IsYoung}
 use Rattle.uv_normal.specs.Normal.{normal}
-use Rattle.uv_workers.specs.Workers.{is_of_worker, ordered}
+use Rattle.uv_workers.specs.Workers.{is_of_worker}
 use Rattle.uv_workers.proofs.Frame.{put_next, next_same}
 use Rattle.uv_workers.proofs.Steps.{workers_alike}
 use Rattle.uv_pooled.specs.Pooled.{pooled}
@@ -127,7 +125,7 @@ was_none f (None ∷ xs) zero e = refl
 was_none f (Some c ∷ xs) zero e = absurd (let g : ⊥ = cc in g)
 was_none f (x ∷ xs) (suc j) e = was_none f xs j e
 
-run_at : (n : ℕ) (s : State) (k : ℕ) (run : Run) → slice_get s.running k ≡ Some run
+pub run_at : (n : ℕ) (s : State) (k : ℕ) (run : Run) → slice_get s.running k ≡ Some run
     → slice_get (normal n s).running k ≡ Some (option_map (rename (renaming n s)) run)
 run_at n s k run there =
     let f = option_map (rename (renaming n s)) in

@@ -1,5 +1,5 @@
 -- What a search of orders finds.
-use Rattle.std.specs.Prelude.{◌≡◌, true, Some, None, ℕ, ◌+◌, ◌≤◌, List, ◌++◌, length, nat_eq}
+use Rattle.std.specs.Prelude.{◌≡◌, true, Some, None, ℕ, ◌+◌, ◌≤◌, List, ◌++◌, length, nat_eq, false}
 use Rattle.std.specs.List.{IsDistinct}
 use Rattle.std.specs.Cmp.Lexicographic.{pointwise}
 use Rattle.uv_ids.specs.declared.event.Event.{Event}
@@ -14,7 +14,7 @@ use Rattle.uv_find.specs.declared.finding.Answer.TheVariants as answer
 use Rattle.uv_asking.specs.Asked.{Asked}
 use Rattle.uv_find.specs.Orders.{Rules, Place, Choice, choice_at, beginning}
 use Rattle.uv_find.specs.Courses.{Course, NeverAnswered, IsAnswer}
-use Rattle.uv_find.specs.Spots.{Spot, told, place_code, is_few, MayForget, IsDeep, rules_of}
+use Rattle.uv_find.specs.Spots.{Spot, told, place_code, is_few, holds_back, MayForget, IsDeep, rules_of}
 
 -- these are the keys of places that events lead to, so many, no two of them the same
 pub record AreReached (r : Rules) (p : Place) (number : ℕ) (keys : List (List ℕ)) : Type 0 where
@@ -28,7 +28,7 @@ pub record IsNever (r : Rules) (s : Spot) (number : ℕ) : Type 0 where
   pub never : NeverAnswered r s
   pub keys : List (List ℕ)
   pub are : AreReached r s.place number keys
-  pub all : r.hold ≡ None → (es : List Event) (q : Place) → is_few r.forget (length s.steps + length es) ≡ true → Course r s.place es q
+  pub all : holds_back r ≡ false → (es : List Event) (q : Place) → is_few r.forget (length s.steps + length es) ≡ true → Course r s.place es q
       → Has keys (place_code r q)
 
 -- events lead to more places than so many

@@ -1,8 +1,11 @@
 -- Where moves are held back: only the thread pool, the clock and I/O come from outside, and the loop's next step is apart from them.
-use Rattle.std.specs.Prelude.{Bool, true, false, ◌&&◌, not, List, [], ◌∷◌, Option, Some, None, is_none, if◌then◌else◌}
+use Rattle.std.specs.Prelude.{ℕ, length, nat_le, take, Bool, true, false, ◌&&◌, not, List, [], ◌∷◌, Option, Some, None, is_none, if◌then◌else◌}
 use Rattle.std.specs.List.{list_all}
 use Rattle.uv_ids.specs.declared.event.Event.TheVariants as event
-use Rattle.uv_script.specs.Program.{Program, has_io}
+use Rattle.uv_script.specs.declared.op.MainOp.{MainOp}
+use Rattle.uv_script.specs.declared.op.MainOp.TheVariants as main
+use Rattle.uv_script.specs.declared.op.CallbackLine.{CallbackLine}
+use Rattle.uv_script.specs.Program.{Program, Callbacks, has_io}
 use Rattle.uv_records.specs.declared.lists.WatcherKind.TheVariants as watcher
 use Rattle.uv_model.specs.declared.place.Body.{Body}
 use Rattle.uv_model.specs.declared.place.Run.{Run}
@@ -11,13 +14,14 @@ use Rattle.uv_model.specs.declared.place.Stage.TheVariants as stage
 use Rattle.uv_model.specs.declared.place.Place.{Place}
 use Rattle.uv_model.specs.declared.place.Place.TheVariants.{Main, Running}
 use Rattle.uv_model.specs.State.{State}
-use Rattle.uv_apart.specs.Apart.{is_apart, reads_clock}
+use Rattle.uv_apart.specs.Apart.{is_apart, is_apart_op, reads_clock}
 use Rattle.uv_asking.specs.Asked.{Asked}
 use Rattle.uv_asking.specs.declared.asking.Offer.{Offer}
 use Rattle.uv_asking.specs.declared.asking.Offer.TheVariants.{Step, Take, Wait}
 use Rattle.uv_asking.specs.declared.asking.Offered.{Offered}
 use Rattle.uv_asking.specs.declared.asking.Question.{Question}
 use Rattle.uv_asking.specs.declared.asking.Question.TheVariants as asks
+use Rattle.uv_find.specs.Forgetting.{may_forget}
 use Rattle.uv_find.specs.declared.left.Left.{Left}
 use Rattle.uv_find.specs.declared.left.Left.TheVariants as left
 
@@ -54,6 +58,44 @@ may_hold asked =
 abbrev pub hold_of : Asked → Option Bool
 hold_of asked = if may_hold asked then Some (not (can_all_meet false asked.offers)) else None
 
+-- ---- a take at once
+
+-- beside what is offered a worker may take a request at once: it is a time that goes by, a send, or a callback of I/O
+abbrev pub is_clear_of_takes : Offer → Bool
+is_clear_of_takes Wait = true
+is_clear_of_takes (Step (event.Tick ms)) = true
+is_clear_of_takes (Step (event.Send v)) = true
+is_clear_of_takes (Step (event.Io v)) = true
+is_clear_of_takes offer = false
+
+abbrev pub are_clear_of_takes : List Offered → Bool
+are_clear_of_takes offers = list_all (λ (offered : Offered). is_clear_of_takes offered.offer) offers
+
+-- no line of a script cancels a request
+abbrev pub is_apart_main_op : MainOp → Bool
+is_apart_main_op (main.Run mode) = true
+is_apart_main_op (main.Op o) = is_apart_op o
+
+abbrev pub are_apart_lines : List CallbackLine → Bool
+are_apart_lines lines = list_all (λ (line : CallbackLine). is_apart_op line.op) lines
+
+abbrev pub are_apart_callbacks : Callbacks → Bool
+are_apart_callbacks c = are_apart_lines c.handle && are_apart_lines c.after && are_apart_lines c.close
+
+abbrev pub cancels_none : Program → Bool
+cancels_none p = list_all is_apart_main_op p.main && list_all are_apart_callbacks p.callbacks
+
+-- a worker may take a request at once: workers are alike, no time of a callback is said, and nobody cancels
+abbrev pub may_take_at_once : Program → Asked → Bool
+may_take_at_once p asked =
+    may_forget p asked && is_none asked.differ && is_empty asked.takes && not (asks_late asked.question) && are_clear_of_takes asked.offers
+    && cancels_none p
+
+-- the number of the loop's step among the moves
+abbrev pub loop_number : Bool → ℕ
+loop_number true = 1
+loop_number false = 0
+
 -- ---- by where the loop stands
 
 -- a callback of I/O may begin in this stage: in the one before the poll, in the poll, and behind it up to the end of the async section
@@ -83,3 +125,10 @@ is_loop_apart p ticks s = is_apart p s && (not (ticks && reads_clock p s) && not
 abbrev pub is_at_will : Option Left → Bool
 is_at_will (Some left.AtWill) = true
 is_at_will x = false
+
+-- so may each of these, and each of the first ones
+abbrev pub are_all_at_will : List Left → Bool
+are_all_at_will xs = list_all (λ (x : Left). is_at_will (Some x)) xs
+
+abbrev pub are_at_will : ℕ → List Left → Bool
+are_at_will n xs = nat_le n (length xs) && are_all_at_will (take n xs)

@@ -1,5 +1,5 @@
 -- The orders of what may come from outside of a loop: what is offered where a search stands, and where it leads.
-use Rattle.std.specs.Prelude.{ℕ, zero, suc, ◌+◌, ◌-◌, ◌&&◌, not, ◌==◌, length, Bool, true, false, nat_lt, nat_le, is_none, is_some, option_map, map, List, [], ◌∷◌, ◌++◌, Option, Some, None, slice_get, slice_set, drop, if◌then◌else◌}
+use Rattle.std.specs.Prelude.{ℕ, zero, suc, ◌+◌, ◌-◌, ◌&&◌, not, ◌==◌, length, Bool, true, false, nat_lt, nat_le, is_some, option_map, map, List, [], ◌∷◌, ◌++◌, Option, Some, None, slice_get, slice_set, drop, if◌then◌else◌}
 use Rattle.std.specs.List.{list_all}
 use Rattle.uv_ids.specs.declared.event.Event.{Event}
 use Rattle.uv_ids.specs.declared.event.Event.TheVariants as event
@@ -50,6 +50,8 @@ pub record Rules : Type 0 where
   pub forget : Option ℕ
   -- where moves are held back: whether a time may go by at any step
   pub hold : Option Bool
+  -- a worker takes a request at once: what else may come can't tell when it does
+  pub at_once : Bool
 
 -- where a search stands
 pub record Place : Type 0 where
@@ -69,9 +71,14 @@ abbrev pub finishes : ℕ → List Offered
 finishes zero = []
 finishes (suc n) = finishes n ++ at_will (Step (event.Finish n)) ∷ []
 
--- the loop goes on, a worker takes a request or finishes its own, and then what is asked for
-abbrev pub every_offer : ℕ → List Offered → List Offered
-every_offer workers asked = (at_will (Step event.Loop) ∷ at_will Take ∷ []) ++ finishes workers ++ asked
+-- the loop goes on and a worker takes a request, or that first where it is taken at once
+abbrev pub first_offers : Bool → List Offered
+first_offers true = at_will Take ∷ at_will (Step event.Loop) ∷ []
+first_offers false = at_will (Step event.Loop) ∷ at_will Take ∷ []
+
+-- then a worker finishes its own, and what is asked for
+abbrev pub every_offer : Bool → ℕ → List Offered → List Offered
+every_offer at_once workers asked = first_offers at_once ++ finishes workers ++ asked
 
 abbrev pub times_left : Option ℕ → Left
 times_left None = left.AtWill

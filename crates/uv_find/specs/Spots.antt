@@ -1,7 +1,7 @@
 -- What a search goes through: places, each with the steps that led there, what is told of it, and its key.
-use Rattle.std.specs.Prelude.{◌≡◌, ℕ, ◌+◌, ◌-◌, ◌≤◌, ◌<◌, ◌&&◌, not, nat_lt, if◌then◌else◌, take, Bool, true, false, is_some, slice_get, List, [], ◌∷◌, ◌++◌, length, reverse, slice_set, Option, Some, None}
+use Rattle.std.specs.Prelude.{◌≡◌, ℕ, suc, ◌+◌, ◌-◌, ◌≤◌, ◌<◌, ◌==◌, ◌&&◌, ◌||◌, not, nat_lt, if◌then◌else◌, take, Bool, true, false, is_some, slice_get, List, [], ◌∷◌, ◌++◌, length, reverse, slice_set, Option, Some, None}
 use Rattle.uv_ids.specs.declared.event.Event.{Event}
-use Rattle.uv_ids.specs.declared.event.Event.TheVariants.{Loop}
+use Rattle.uv_ids.specs.declared.event.Event.TheVariants.{Loop, Finish}
 use Rattle.uv_key.specs.Codes.{number_code}
 use Rattle.uv_model.specs.After.{after, STEPS}
 use Rattle.uv_model.specs.State.{State}
@@ -10,9 +10,9 @@ use Rattle.uv_names.specs.Counts.{AreBefore}
 use Rattle.uv_state_key.specs.Key.{state_code}
 use Rattle.uv_state_key.specs.Formed.{formed}
 use Rattle.uv_find.specs.Forgetting.{LONG, LONGEST, are_common, most_end, takes_end, question_end, forget_of}
-use Rattle.uv_asking.specs.declared.asking.Offer.TheVariants.{Step}
+use Rattle.uv_asking.specs.declared.asking.Offer.TheVariants.{Step, Take}
 use Rattle.uv_asking.specs.declared.asking.Offered.{Offered}
-use Rattle.uv_find.specs.Holding.{can_meet, asks_late, hold_of, is_loop_apart, is_at_will}
+use Rattle.uv_find.specs.Holding.{can_meet, asks_late, hold_of, is_loop_apart, is_at_will, are_at_will, is_clear_of_takes, cancels_none, may_take_at_once, loop_number}
 use Rattle.uv_find.specs.Kept.{owes}
 use Rattle.uv_find.specs.Orders.{at_will, Rules, Place, Led, led, is_brief, every_offer, beginning}
 use Rattle.uv_find.specs.Questions.{answers}
@@ -51,17 +51,34 @@ pub record CanForget (r : Rules) (n : ℕ) : Type 0 where
   pub differ : r.differ ≡ None
   pub aside : are_common r.offers ≡ true
 
--- moves may be held back behind the loop's step, the first offer
+-- moves may be held back behind the loop's step
 pub record CanHold (r : Rules) (ticks : Bool) : Type 0 where
-  pub first : slice_get r.offers 0 ≡ Some (at_will (Step Loop))
-  pub others : (i : ℕ) (offered : Offered) → 0 < i → slice_get r.offers i ≡ Some offered → can_meet ticks offered.offer ≡ true
+  pub loop : slice_get r.offers (loop_number r.at_once) ≡ Some (at_will (Step Loop))
+  pub others : (i : ℕ) (offered : Offered) → (i ≡ loop_number r.at_once → ⊥) → slice_get r.offers i ≡ Some offered
+      → can_meet ticks offered.offer ≡ true
+  pub differ : r.differ ≡ None
+  pub takes : r.takes ≡ []
+  pub question : asks_late r.question ≡ false
+
+-- moves may be held back behind a take, the first offer: behind the loop's step and the finishes by their ranks only times, sends and callbacks of
+-- I/O are offered, no line cancels, and workers are alike
+pub record CanTakeAtOnce (r : Rules) : Type 0 where
+  pub counted : ℕ
+  pub forgets : r.forget ≡ Some counted
+  pub take : slice_get r.offers 0 ≡ Some (at_will Take)
+  pub loop : slice_get r.offers 1 ≡ Some (at_will (Step Loop))
+  pub finishes : (k : ℕ) → k < worker_count r.program → slice_get r.offers (suc (suc k)) ≡ Some (at_will (Step (Finish k)))
+  pub others : (i : ℕ) (offered : Offered) → worker_count r.program + 2 ≤ i → slice_get r.offers i ≡ Some offered
+      → is_clear_of_takes offered.offer ≡ true
+  pub cancels : cancels_none r.program ≡ true
   pub differ : r.differ ≡ None
   pub takes : r.takes ≡ []
   pub question : asks_late r.question ≡ false
 
 -- where moves are held back, they may be
-abbrev pub MayHold : Rules → Type 0
-MayHold r = (ticks : Bool) → r.hold ≡ Some ticks → CanHold r ticks
+pub record MayHold (r : Rules) : Type 0 where
+  pub behind_loop : (ticks : Bool) → r.hold ≡ Some ticks → CanHold r ticks
+  pub behind_take : r.at_once ≡ true → CanTakeAtOnce r
 
 pub record Spot : Type 0 where
   pub place : Place
@@ -143,18 +160,30 @@ AreBrief forget (e ∷ es) = (is_brief forget e ≡ true) × AreBrief forget es
 abbrev pub MayForget : Rules → Type 0
 MayForget r = (n : ℕ) → r.forget ≡ Some n → CanForget r n
 
--- the loop's step is apart from each other move
-abbrev pub apart_by : Option Bool → Program → Place → Bool
-apart_by None p q = false
-apart_by (Some ticks) p q = is_loop_apart p ticks q.state && (is_at_will (slice_get q.left 0) && not (owes q.kept))
+-- the loop's step, the move of this number, is apart from each other one
+abbrev pub apart_by : Option Bool → Program → ℕ → Place → Bool
+apart_by None p number q = false
+apart_by (Some ticks) p number q = is_loop_apart p ticks q.state && (is_at_will (slice_get q.left number) && not (owes q.kept))
 
-abbrev pub apart : Rules → Spot → Bool
-apart r s = apart_by r.hold r.program s.place
+abbrev pub is_loop_first : Rules → Place → Bool
+is_loop_first r q = apart_by r.hold r.program (loop_number r.at_once) q
+
+-- a take is, which the first move is where it comes at once
+abbrev pub is_take_first : Rules → Place → Bool
+is_take_first r q = r.at_once && (are_at_will (worker_count r.program + 2) q.left && not (owes q.kept))
+
+-- the move of this number is
+abbrev pub apart : Rules → Spot → ℕ → Bool
+apart r s number = if number == loop_number r.at_once then is_loop_first r s.place else ((number == 0) && is_take_first r s.place)
+
+-- moves may be held back, behind the loop's step or behind a take
+abbrev pub holds_back : Rules → Bool
+holds_back r = is_some r.hold || r.at_once
 
 -- so many steps an order has at most of which it is told what it does: where a search forgets, fewer than a slot has generations, and less
 -- those that a session may have taken where moves are held back
 abbrev pub is_told : Rules → ℕ → Bool
-is_told r steps = is_few r.forget (if is_some r.hold then steps + STEPS + 1 else steps)
+is_told r steps = is_few r.forget (if holds_back r then steps + STEPS + 1 else steps)
 
 -- the steps led to the state
 pub record IsSpot (r : Rules) (s : Spot) : Type 0 where
@@ -202,7 +231,7 @@ pub record Searched : Type 0 where
 abbrev pub rules_of : Program → Asked → Rules
 rules_of p asked = record {
   program = p;
-  offers = every_offer (worker_count p) asked.offers;
+  offers = every_offer (may_take_at_once p asked) (worker_count p) asked.offers;
   differ = asked.differ;
   recorded = asked.recorded;
   takes = asked.takes;
@@ -211,6 +240,7 @@ rules_of p asked = record {
   question = asked.question;
   forget = forget_of p asked;
   hold = hold_of asked;
+  at_once = may_take_at_once p asked;
 }
 
 abbrev pub first_spot : Rules → Spot
@@ -229,6 +259,7 @@ rules_by p t = record {
   question = t.question;
   forget = t.forget;
   hold = t.hold;
+  at_once = t.at_once;
 }
 
 -- where a session stands

@@ -1,6 +1,6 @@
 //! Where a search of orders begins.
 ghost use Rattle.std.specs.Prelude.{◌≡◌, IfOk};
-ghost use Rattle.uv_find.specs.Orders.{at_will, every_offer, times_left, times_of, first_left};
+ghost use Rattle.uv_find.specs.Orders.{at_will, first_offers, every_offer, times_left, times_of, first_left};
 
 use crate::left::Left;
 use crate::sources::sources;
@@ -15,17 +15,31 @@ fn at_will(offer: Offer) -> Offered
     Offered { offer, times: None }
 }
 
+/// The offers that the others stand behind: the loop's step and a take, or that first where it comes at once.
+fn first_offers(alloc: Global, at_once: bool) -> Result<Vec<Offered>, AllocError>
+    ensures { IfOk result (λ offers. offers.items ≡ first_offers at_once) }
+{
+    let mut offers = Vec::new(alloc);
+    if at_once {
+        offers.push(at_will(Offer::Take))?;
+        offers.push(at_will(Offer::Step(Event::Loop)))?;
+    } else {
+        offers.push(at_will(Offer::Step(Event::Loop)))?;
+        offers.push(at_will(Offer::Take))?;
+    }
+    Ok(offers)
+}
+
 /// Every offer of a script with so many workers, with those that are asked for.
 pub(crate) fn every_offer(
     alloc: Global,
+    at_once: bool,
     workers: u16,
     asked: &[Offered],
 ) -> Result<Vec<Offered>, AllocError>
-    ensures { IfOk result (λ offers. offers.items ≡ every_offer workers asked.now) }
+    ensures { IfOk result (λ offers. offers.items ≡ every_offer at_once workers asked.now) }
 {
-    let mut offers = Vec::new(alloc);
-    offers.push(at_will(Offer::Step(Event::Loop)))?;
-    offers.push(at_will(Offer::Take))?;
+    let mut offers = first_offers(alloc, at_once)?;
     'workers: for worker in 0..workers {
         offers.push(at_will(Offer::Step(Event::Finish(worker))))?;
     }

@@ -35,7 +35,7 @@ fn can_all_meet(ticks: bool, offers: &[Offered]) -> bool
 }
 
 /// Whether it is asked how late a timer is called.
-fn asks_late(question: Question) -> bool
+pub(crate) fn asks_late(question: Question) -> bool
     ensures { result ≡ asks_late question }
 {
     match question {
@@ -67,7 +67,7 @@ pub(crate) fn hold_of(asking: &Asking) -> Option<bool>
 }
 
 /// Whether an op is apart from what workers take and finish.
-fn is_apart_op(op: Op) -> bool
+pub(crate) fn is_apart_op(op: Op) -> bool
     ensures { result ≡ is_apart_op op }
 {
     match op {

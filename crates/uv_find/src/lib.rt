@@ -4,6 +4,7 @@
 //! `Found.antt` (`IsNever`). Where a search needs no whole states says `Forgetting.antt`, and what it tells apart then `Spots.antt` (`told`).
 #![tactic(auto)]
 
+mod at_once;
 mod beginning;
 mod choices;
 mod finding;

@@ -5,13 +5,14 @@ ghost use Rattle.uv_key.specs.Codes.{number_code};
 ghost use Rattle.uv_asking.specs.Asked.{asked_in};
 ghost use Rattle.uv_asking.specs.declared.asking.Question.TheVariants.{Stuck};
 ghost use Rattle.std.specs.Prelude.{slice_get};
-ghost use Rattle.uv_find.specs.Holding.{is_at_will};
+ghost use Rattle.uv_find.specs.Holding.{is_at_will, are_all_at_will, are_at_will};
 ghost use Rattle.uv_find.specs.Kept.{kept_after};
 ghost use Rattle.uv_find.specs.Orders.{is_blocked, led, move_count};
 ghost use Rattle.uv_find.specs.Questions.{none_leads, line_answers, place_answers, step_answers};
-ghost use Rattle.uv_find.specs.Spots.{Searched, IsSearched, IsStanding, searched, rules_of, first_spot, kind_code, event_code, each_code, left_code, along_code, told_due, kept_code, next_spot, spot_code, left_before, IsDeep};
+ghost use Rattle.uv_find.specs.Spots.{Searched, IsSearched, IsStanding, is_loop_first, is_take_first, searched, rules_of, first_spot, kind_code, event_code, each_code, left_code, along_code, told_due, kept_code, next_spot, spot_code, left_before, IsDeep};
 ghost use Rattle.uv_find.specs.Steps.{Takes as TakesOne};
 
+use crate::at_once::loop_number;
 use crate::beginning::first_left;
 use crate::choices::{Moved, is_idle, lessen, make_move, make_offer};
 use crate::holding::is_loop_apart;
@@ -62,14 +63,28 @@ fn put_back(left: &mut Vec<Left>, was: Was)
     }
 }
 
-/// Whether the first offer may be taken as often as one likes.
-fn is_first_at_will(left: &[Left]) -> bool
-    ensures { result ≡ is_at_will (slice_get left.now 0) }
+/// Whether an offer may be taken as often as one likes.
+fn is_at_will(left: Option<Left>) -> bool
+    ensures { result ≡ is_at_will left }
 {
-    match left.first() {
+    match left {
         Some(Left::AtWill) => true,
         _ => false,
     }
+}
+
+/// Whether each of these may.
+fn are_all_at_will(left: &[Left]) -> bool
+    ensures { result ≡ are_all_at_will left.now }
+{
+    left.iter().all(|one| is_at_will(Some(*one)))
+}
+
+/// Whether each of the first offers may.
+fn are_at_will(count: usize, left: &[Left]) -> bool
+    ensures { result ≡ are_at_will count left.now }
+{
+    count <= left.len() && are_all_at_will(&left[..count])
 }
 
 /// The orders of what may come: a session that goes on by one choice after another, and exactly back.
@@ -276,6 +291,33 @@ impl<M: Machine> Orders<M> {
         }
     }
 
+    /// Whether the loop's step is apart from each other move.
+    fn is_loop_first(&self) -> bool
+        ensures { result ≡ is_loop_first self.now.rules self.now.spot.place }
+    {
+        match self.terms.hold {
+            None => false,
+            Some(ticks) => {
+                let number = loop_number(self.terms.at_once);
+                is_loop_apart(self.session.machine(), ticks)
+                    && is_at_will(self.left.get(number).copied())
+                    && !owes(self.kept)
+            }
+        }
+    }
+
+    /// Whether a take is, which the first move is where it comes at once.
+    fn is_take_first(&self) -> bool
+        ensures { result ≡ is_take_first self.now.rules self.now.spot.place }
+    {
+        self.terms.at_once
+            && are_at_will(
+                self.session.machine().script().workers() as usize + 2,
+                &self.left,
+            )
+            && !owes(self.kept)
+    }
+
     /// What is kept of a timer's due time.
     fn due(&self) -> u64
         ensures { result ≡ self.now.spot.place.kept.due }
@@ -447,14 +489,11 @@ impl<M: Machine> Maze for Orders<M> {
         self.move_count()
     }
 
-    fn is_apart(&self) -> bool {
-        match self.terms.hold {
-            None => false,
-            Some(ticks) => {
-                is_loop_apart(self.session.machine(), ticks)
-                    && is_first_at_will(&self.left)
-                    && !owes(self.kept)
-            }
+    fn is_apart(&self, number: usize) -> bool {
+        if number == loop_number(self.terms.at_once) {
+            self.is_loop_first()
+        } else {
+            number == 0 && self.is_take_first()
         }
     }
 

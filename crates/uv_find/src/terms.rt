@@ -4,6 +4,7 @@ ghost use Rattle.uv_asking.specs.Asked.{asked_in};
 ghost use Rattle.uv_find.specs.Orders.{move_count_by};
 ghost use Rattle.uv_find.specs.Spots.{rules_by, rules_of};
 
+use crate::at_once::may_take_at_once;
 use crate::beginning::every_offer;
 use crate::forgetting::forget_of;
 use crate::holding::hold_of;
@@ -27,13 +28,16 @@ pub struct Terms {
     pub forget: Option<u64>,
     /// Where moves are held back: whether a time may go by at any step.
     pub hold: Option<bool>,
+    /// Whether a worker takes a request at once, since what else may come can't tell when it does.
+    pub at_once: bool,
 }
 
 /// The terms of what is asked of a script.
 pub(crate) fn terms_of(alloc: Global, script: &Script, asking: &Asking) -> Result<Terms, AllocError>
     ensures { IfOk result (λ terms. rules_by script.now terms ≡ rules_of script.now (asked_in asking.now)) }
 {
-    let offers = every_offer(alloc, script.workers(), &asking.offers)?;
+    let at_once = may_take_at_once(script, asking);
+    let offers = every_offer(alloc, at_once, script.workers(), &asking.offers)?;
     let mut recorded = Vec::new(alloc);
     recorded.extend_from_slice(&asking.recorded)?;
     let mut takes = Vec::new(alloc);
@@ -50,6 +54,7 @@ pub(crate) fn terms_of(alloc: Global, script: &Script, asking: &Asking) -> Resul
         question: asking.question,
         forget: forget_of(script, asking),
         hold: hold_of(asking),
+        at_once,
     })
 }
 

@@ -9,7 +9,7 @@ use Rattle.uv_search.proofs.KeyLists.{number_of}
 use Rattle.uv_search.proofs.Held.{Ends, ends_by, same_step, room_for, ends_alike, ends_behind}
 use Rattle.uv_search.proofs.Standing.{Tried, Done, IsDone, Keeps, here_done, none_made, are_keys}
 
-module _ {P : Type 0} (moves : P → ℕ) (next : P → ℕ → Option (P × Bool)) (key : P → List ℕ) (IsPlace IsDeep : P → Type 0) (apart : P → Bool)
+module _ {P : Type 0} (moves : P → ℕ) (next : P → ℕ → Option (P × Bool)) (key : P → List ℕ) (IsPlace IsDeep : P → Type 0) (apart : P → ℕ → Bool)
     (begin : P) (first : List P) (seen : List (List ℕ)) where
   -- the place of a key that was seen, at which all is done
   record IsClosed (k : List ℕ) : Type 0 where
@@ -54,7 +54,8 @@ module _ {P : Type 0} (moves : P → ℕ) (next : P → ℕ → Option (P × Boo
       (fewer : (n : ℕ) (p : P) → HasRoom (suc n) p → HasRoom n p)
       (follows : (n : ℕ) (p : P) (i : ℕ) (q : P) (b : Bool) → HasRoom (suc n) p → i < moves p → next p i ≡ Some (q, b) → HasRoom n q)
       (same : (n : ℕ) (p q : P) → HasRoom (suc n) p → HasRoom (suc n) q → key p ≡ key q → CoversMoves moves next key p q)
-      (meet : (n : ℕ) (p : P) (i : ℕ) → HasRoom (suc (suc n)) p → apart p ≡ true → i < moves p → 0 < i → IsApart moves next key apart p i)
+      (meet : (n : ℕ) (p : P) (k i : ℕ) → HasRoom (suc (suc n)) p → apart p k ≡ true → k < moves p → i < moves p → (i ≡ k → ⊥)
+      → IsApart moves next key apart p k i)
       (closed : (k : List ℕ) → Has seen k → IsClosed k) (most : ℕ) (told : IsTold (suc most)) where
     abbrev AreDone : ℕ → P → Type 0
     AreDone h p = Done moves next key IsPlace IsDeep apart begin first seen h p
@@ -86,13 +87,13 @@ module _ {P : Type 0} (moves : P → ℕ) (next : P → ℕ → Option (P × Boo
         let here : HasRoom (suc k) w.place = less (suc n) (suc k) w.place (omega (arith, l)) (room_at n w.place w.good few) in
         before w.done.0 w.place (j ∷ js) (omega (arith, l)) w.good w.done.1
         (ends_alike moves next key apart HasRoom fewer follows same meet (j ∷ js) q w.place there here (sym w.is) rest)
-    by n few before (suc h) p is l good (m, w, first_apart, offered, goes, alike, fine, d) ends =
+    by n few before (suc h) p is l good (number, m, w, first_apart, offered, goes, alike, fine, d) ends =
         let k = length is in
         let from : HasRoom (suc k) p = less (suc n) (suc k) p (omega (arith, l)) (room_at n p good few) in
-        let there : HasRoom k m = follows k p 0 m false from offered goes in
+        let there : HasRoom k m = follows k p number m false from offered goes in
         let here : HasRoom k w = less (suc n) k w (omega (arith, l)) (room_at n w fine few) in
-        behind (by n few before h) k l there here alike fine d (ends_behind moves next key apart HasRoom fewer follows same meet is p m false from
-        first_apart offered goes ends)
+        behind (by n few before h) k l there here alike fine d
+        (ends_behind moves next key apart HasRoom fewer follows same meet is p m number false from first_apart offered goes ends)
       where
         behind : ((v : P) (js : List ℕ) → length js ≤ n → IsPlace v → AreDone h v → Ends moves next v js → ⊥) → (k : ℕ) → k ≤ n → HasRoom k m →
             HasRoom k w → key m ≡ key w → IsPlace w → AreDone h w
@@ -108,7 +109,7 @@ module _ {P : Type 0} (moves : P → ℕ) (next : P → ℕ → Option (P × Boo
     none_told zero few h p is l = absurd (omega (arith, l))
     none_told (suc n) few h p is l = by n (omega (arith, few)) (none_told n (omega (arith, few))) h p is (omega (arith, l))
 
-module _ {P : Type 0} (moves : P → ℕ) (next : P → ℕ → Option (P × Bool)) (key : P → List ℕ) (IsPlace IsDeep : P → Type 0) (apart : P → Bool)
+module _ {P : Type 0} (moves : P → ℕ) (next : P → ℕ → Option (P × Bool)) (key : P → List ℕ) (IsPlace IsDeep : P → Type 0) (apart : P → ℕ → Bool)
     (begin : P) (first : List P) (IsReached : P → Type 0)
     (alike : (p q : P) → IsReached p → IsPlace q → key p ≡ key q → CoversMoves moves next key p q)
     (stands : (p : P) → IsPlace p → IsReached p)
@@ -117,7 +118,8 @@ module _ {P : Type 0} (moves : P → ℕ) (next : P → ℕ → Option (P × Boo
     (fewer : (n : ℕ) (p : P) → HasRoom (suc n) p → HasRoom n p)
     (follows : (n : ℕ) (p : P) (i : ℕ) (q : P) (b : Bool) → HasRoom (suc n) p → i < moves p → next p i ≡ Some (q, b) → HasRoom n q)
     (same : (n : ℕ) (p q : P) → HasRoom (suc n) p → HasRoom (suc n) q → key p ≡ key q → CoversMoves moves next key p q)
-    (meet : (n : ℕ) (p : P) (i : ℕ) → HasRoom (suc (suc n)) p → apart p ≡ true → i < moves p → 0 < i → IsApart moves next key apart p i) where
+    (meet : (n : ℕ) (p : P) (k i : ℕ) → HasRoom (suc (suc n)) p → apart p k ≡ true → k < moves p → i < moves p → (i ≡ k → ⊥)
+    → IsApart moves next key apart p k i) where
   -- all is done at the beginning, and so at each place that is kept
   pub ended : (seen : List (List ℕ)) (done : List Bool) (cs : List ℕ) (ps : List P) (p : P) (here n : ℕ)
       → Keeps moves next key IsPlace IsDeep apart begin first seen done [] cs ps p here n → moves p ≤ n → IsPlace p
@@ -161,11 +163,13 @@ module _ {P : Type 0} (moves : P → ℕ) (next : P → ℕ → Option (P × Boo
 
       tried : HoldsNone moves next key IsDeep apart IsTold begin → (x : List ℕ) → Has seen x
           → (w : P) × (key w ≡ x) × IsPlace w × Tried moves next key IsPlace IsDeep apart begin first seen w (moves w)
-      tried holds x has = let w = closed x has in (w.place, w.is, w.good, by w.place (holds w.way w.place w.leads) w.done) where
-        by : (w : P) → apart w ≡ false → IsDone moves next key IsPlace IsDeep apart begin first seen w
-            → Tried moves next key IsPlace IsDeep apart begin first seen w (moves w)
-        by w none (zero, d) = d
-        by w none (suc h, (m, v, is, offered, goes, same_key, good, d)) = absurd (let f : true ≡ false = sym is ∙ none in cc)
+      tried holds x has =
+          let w = closed x has in (w.place, w.is, w.good, by w.place (λ number. holds w.way w.place number w.leads) w.done)
+        where
+          by : (w : P) → ((number : ℕ) → apart w number ≡ false) → IsDone moves next key IsPlace IsDeep apart begin first seen w
+              → Tried moves next key IsPlace IsDeep apart begin first seen w (moves w)
+          by w none (zero, d) = d
+          by w none (suc h, (number, m, v, is, offered, goes, same_key, good, d)) = absurd (let f : true ≡ false = sym is ∙ none number in cc)
 
       told : (is : List ℕ) (i : ℕ) (q : P) → IsTold (length is + 2) → Answers moves next begin is i q → ⊥
       told is i q t a =

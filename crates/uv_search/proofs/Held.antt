@@ -1,5 +1,6 @@
--- Where the first move is apart from all others these may be held back: an answer behind them is one behind the first.
-use Rattle.std.proofs.Common.{◌≡◌, ℕ, zero, suc, ◌+◌, ◌-◌, ◌<◌, ◌≤◌, Bool, true, false, ◌||◌, ◌⊎◌, inl, inr, List, [], ◌∷◌, ◌++◌, length, refl, sym, ap, subst, ◌∙◌, Option, Some, None, arith}
+-- Where a move is apart from all others these may be held back: an answer behind them is one behind it.
+use Rattle.std.proofs.Common.{◌≡◌, ℕ, zero, suc, ◌+◌, ◌-◌, ◌==◌, ◌<◌, ◌≤◌, Bool, true, false, ◌||◌, ◌⊎◌, inl, inr, List, [], ◌∷◌, ◌++◌, length, refl, sym, ap, subst, ◌∙◌, Option, Some, None, arith}
+use Rattle.std.proofs.lemmas.Bool.{eq-eqb, eqb-true}
 use Rattle.uv_search.specs.Ways.{LeadTo, CoversMoves, CoversStep, Meet, IsApart}
 
 module _ {P : Type 0} (moves : P → ℕ) (next : P → ℕ → Option (P × Bool)) where
@@ -32,10 +33,11 @@ module _ {P : Type 0} (moves : P → ℕ) (next : P → ℕ → Option (P × Boo
     same_step m b (Some (n, c)) s = (n, c, refl, s.0, s.1)
     same_step m b None s = elim s [ ]
 
-    module _ (apart : P → Bool) (HasRoom : ℕ → P → Type 0) (fewer : (n : ℕ) (p : P) → HasRoom (suc n) p → HasRoom n p)
+    module _ (apart : P → ℕ → Bool) (HasRoom : ℕ → P → Type 0) (fewer : (n : ℕ) (p : P) → HasRoom (suc n) p → HasRoom n p)
         (follows : (n : ℕ) (p : P) (i : ℕ) (q : P) (b : Bool) → HasRoom (suc n) p → i < moves p → next p i ≡ Some (q, b) → HasRoom n q)
         (same : (n : ℕ) (p q : P) → HasRoom (suc n) p → HasRoom (suc n) q → key p ≡ key q → CoversMoves moves next key p q)
-        (meet : (n : ℕ) (p : P) (i : ℕ) → HasRoom (suc (suc n)) p → apart p ≡ true → i < moves p → 0 < i → IsApart moves next key apart p i) where
+        (meet : (n : ℕ) (p : P) (k i : ℕ) → HasRoom (suc (suc n)) p → apart p k ≡ true → k < moves p → i < moves p → (i ≡ k → ⊥)
+        → IsApart moves next key apart p k i) where
       pub room_for : (k n : ℕ) (p : P) → HasRoom (k + n) p → HasRoom n p
       room_for zero n p room = let none : 0 + n ≡ n = omega arith in subst (λ k. HasRoom k p) none room
       room_for (suc k) n p room = let one : suc k + n ≡ suc (k + n) = omega arith in room_for k n p
@@ -62,50 +64,57 @@ module _ {P : Type 0} (moves : P → ℕ) (next : P → ℕ → Option (P × Boo
           )
 
       -- the first move answers, or the other one does behind it
-      or_behind : (i : ℕ) (m q : P) (b c : Bool) (x : Meet moves next key apart i m b q c) → (c || x.d) ≡ true → (n : ℕ)
+      or_behind : (m q : P) (b c : Bool) (x : Meet moves next key apart m b q c) → (c || x.d) ≡ true → (n : ℕ)
           → (b ≡ true) ⊎ ((js : List ℕ) × (length js ≤ suc n) × Ends m js)
-      or_behind i m q true c x some n = inl refl
-      or_behind i m q false c x some n =
-          inr (i ∷ [], omega arith, (x.end, x.stays, x.comes ∙ ap (λ e. Some (x.end, e)) (x.answers some)))
+      or_behind m q true c x some n = inl refl
+      or_behind m q false c x some n =
+          inr (x.behind ∷ [], omega arith, (x.end, x.stays, x.comes ∙ ap (λ e. Some (x.end, e)) (x.answers some)))
 
       true_or : (b : Bool) → (b || true) ≡ true
       true_or true = refl
       true_or false = refl
 
-      -- the first move answers, or behind it as many moves do
-      pub ends_behind : (is : List ℕ) (p m : P) (b : Bool) → HasRoom (suc (length is)) p → apart p ≡ true → 0 < moves p → next p 0 ≡ Some (m, b)
-          → Ends p is → (b ≡ true) ⊎ ((js : List ℕ) × (length js ≤ length is) × Ends m js)
-      ends_behind [] p m b room first offered goes ends = absurd ends
-      ends_behind (zero ∷ []) p m b room first offered goes (q, o, g) = inl (same_next p m q 0 b true goes g).1
-      ends_behind (zero ∷ j ∷ js) p m b room first offered goes (q, c, o, g, rest) =
-          inr (j ∷ js, omega arith, subst (λ x. Ends x (j ∷ js)) (sym (same_next p m q 0 b c goes g).0) rest)
-      ends_behind (suc i ∷ []) p m b room first offered goes (q, o, g) =
-          let x = meet 0 p (suc i) room first o (omega arith) m q b true goes g in
-          or_behind (suc i) m q b true x refl 0
-      ends_behind (suc i ∷ j ∷ js) p m b room first offered goes (q, c, o, g, rest) =
-          let n = length js in
-          let x = meet (suc n) p (suc i) room first o (omega arith) m q b c goes g in
-          let there = follows (suc (suc n)) p (suc i) q c room o g in
-          let here = follows (suc (suc n)) p 0 m b room offered goes in
-          by x there here (ends_behind (j ∷ js) q x.last x.d there x.still x.offered x.goes rest)
+      one_or_other : (i k : ℕ) → (i ≡ k) ⊎ (i ≡ k → ⊥)
+      one_or_other i k = by (i == k) refl where
+        by : (b : Bool) → (i == k) ≡ b → (i ≡ k) ⊎ (i ≡ k → ⊥)
+        by true e = inl (eqb-true i k e)
+        by false e = inr (λ f. (let t : true ≡ false = sym (eq-eqb i k f) ∙ e in cc))
+
+      -- a move that is apart answers, or behind it as many moves do
+      pub ends_behind : (is : List ℕ) (p m : P) (k : ℕ) (b : Bool) → HasRoom (suc (length is)) p → apart p k ≡ true → k < moves p
+          → next p k ≡ Some (m, b) → Ends p is → (b ≡ true) ⊎ ((js : List ℕ) × (length js ≤ length is) × Ends m js)
+      ends_behind [] p m k b room first offered goes ends = absurd ends
+      ends_behind (i ∷ []) p m k b room first offered goes (q, o, g) = elim (one_or_other i k) [
+        | inl one ↦ inl (same_next p m q k b true goes (subst (λ j. next p j ≡ Some (q, true)) one g)).1
+        | inr two ↦ or_behind m q b true (meet 0 p k i room first offered o two m q b true goes g) refl 0
+      ]
+      ends_behind (i ∷ j ∷ js) p m k b room first offered goes (q, c, o, g, rest) = elim (one_or_other i k) [
+        | inl one ↦ (let there = subst (λ x. next p x ≡ Some (q, c)) one g in
+            inr (j ∷ js, omega arith, subst (λ x. Ends x (j ∷ js)) (sym (same_next p m q k b c goes there).0) rest))
+        | inr two ↦ (let n = length js in
+            let x = meet (suc n) p k i room first offered o two m q b c goes g in
+            let there = follows (suc (suc n)) p i q c room o g in
+            let here = follows (suc (suc n)) p k m b room offered goes in
+            by x there here (ends_behind (j ∷ js) q x.last x.late x.d there x.still x.offered x.goes rest))
+      ]
         where
-          by : (x : Meet moves next key apart (suc i) m b q c) → HasRoom (suc (suc (length js))) q → HasRoom (suc (suc (length js))) m
+          by : (x : Meet moves next key apart m b q c) → HasRoom (suc (suc (length js))) q → HasRoom (suc (suc (length js))) m
               → ((x.d ≡ true) ⊎ ((ks : List ℕ) × (length ks ≤ suc (length js)) × Ends x.last ks))
               → (b ≡ true) ⊎ ((ks : List ℕ) × (length ks ≤ suc (suc (length js))) × Ends m ks)
-          by x there here (inl last) = or_behind (suc i) m q b c x (ap (λ d. c || d) last ∙ true_or c) (suc (length js))
+          by x there here (inl last) = or_behind m q b c x (ap (λ d. c || d) last ∙ true_or c) (suc (length js))
           by x there here (inr (ks, few, ends)) =
               let n = length js in
-              let k = suc n in
-              let behind_other : HasRoom k x.last = follows k q 0 x.last x.d there x.offered x.goes in
-              let behind_first : HasRoom k x.end = follows k m (suc i) x.end x.e here x.stays x.comes in
+              let most = suc n in
+              let behind_other : HasRoom most x.last = follows most q x.late x.last x.d there x.offered x.goes in
+              let behind_first : HasRoom most x.end = follows most m x.behind x.end x.e here x.stays x.comes in
               inr (
-                suc i ∷ ks,
+                x.behind ∷ ks,
                 omega (arith, few),
-                ends_more m (suc i) x.end x.e ks x.stays x.comes
-                    (ends_alike ks x.last x.end (less k ks x.last few behind_other) (less k ks x.end few behind_first) x.same ends),
+                ends_more m x.behind x.end x.e ks x.stays x.comes
+                    (ends_alike ks x.last x.end (less most ks x.last few behind_other) (less most ks x.end few behind_first) x.same ends),
               )
             where
-              less : (k : ℕ) (ks : List ℕ) (w : P) → length ks ≤ k → HasRoom k w → HasRoom (length ks) w
-              less k ks w few room =
-                  let more : (k - length ks) + length ks ≡ k = omega (arith, few) in
-                  room_for (k - length ks) (length ks) w (subst (λ n. HasRoom n w) (sym more) room)
+              less : (most : ℕ) (ks : List ℕ) (w : P) → length ks ≤ most → HasRoom most w → HasRoom (length ks) w
+              less most ks w few room =
+                  let more : (most - length ks) + length ks ≡ most = omega (arith, few) in
+                  room_for (most - length ks) (length ks) w (subst (λ n. HasRoom n w) (sym more) room)

@@ -9,4 +9,4 @@ pub returns-clause-same : goal.returns-clause-same
 returns-clause-same c = λ goal n p q u v e. same_stairs goal p q tt tt e
 
 pub returns-clause-meet : goal.returns-clause-meet
-returns-clause-meet c = λ goal n p i room first. absurd (let f : false ≡ true = first in cc)
+returns-clause-meet c = λ goal n p k i room first. absurd (let f : false ≡ true = first in cc)

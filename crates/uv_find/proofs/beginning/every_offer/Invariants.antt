@@ -1,8 +1,6 @@
-use Rattle.std.proofs.Common.{◌≡◌, ◌∷◌, ◌++◌, []}
-use Rattle.uv_ids.specs.declared.event.Event.TheVariants as event
-use Rattle.uv_asking.specs.declared.asking.Offer.TheVariants.{Step, Take}
-use Rattle.uv_find.specs.Orders.{at_will, finishes}
+use Rattle.std.proofs.Common.{◌≡◌, ◌++◌}
+use Rattle.uv_find.specs.Orders.{finishes, first_offers}
 use Rattle.uv_find.proofs.beginning.every_offer.Given as goal
 
 abbrev pub invariant-workers : goal.invariant-workers
-invariant-workers l = l.offers.items ≡ (at_will (Step event.Loop) ∷ at_will Take ∷ []) ++ finishes l.worker
+invariant-workers l = l.offers.items ≡ first_offers l.at_once ++ finishes l.worker

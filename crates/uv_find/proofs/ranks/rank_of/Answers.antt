@@ -1,4 +1,4 @@
-use Rattle.std.proofs.Common.{◌≡◌, ◌<◌, ◌≤◌, ◌∙◌, ◌+◌, length, take, take_all, ap, ap₂, arith}
+use Rattle.std.proofs.Common.{◌<◌, ◌≤◌, ◌∙◌, ◌+◌, length, take, take_all, ap, ap₂, arith}
 use Rattle.std.proofs.lemmas.List.{length-take-le}
 use Rattle.uv_model.specs.After.{after}
 use Rattle.uv_find.specs.Ranks.{count_before, rank_in}

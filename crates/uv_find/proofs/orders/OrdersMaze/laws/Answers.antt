@@ -1,6 +1,7 @@
 use Rattle.uv_find.proofs.Led.{spots_lead}
 use Rattle.uv_find.proofs.Covering.{spots_alike, few_standing}
-use Rattle.uv_find.proofs.Meeting.{apart_meets, room_standing, room_fewer, room_follows, room_same}
+use Rattle.uv_find.proofs.Meeting.{room_standing, room_fewer, room_follows, room_same}
+use Rattle.uv_find.proofs.AtOnce.{apart_meets}
 use Rattle.uv_find.proofs.orders.OrdersMaze.laws.Goals as goal
 
 pub returns-clause-alike : goal.returns-clause-alike

@@ -1,0 +1,5 @@
+use Rattle.uv_slots.proofs.Steps.{next_arranged}
+use Rattle.uv_slots.proofs.laws.slots_arrange.Goals as goal
+
+pub returns : goal.returns
+returns c = λ p o s e order within. next_arranged p o s e (record { order = order; within = within })
