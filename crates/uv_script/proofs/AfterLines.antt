@@ -1,7 +1,5 @@
 -- One more line, and all lines.
-use Rattle.uv_script.proofs.ProofNames.{◌≡◌, ◌≢◌, ◌⊎◌, inl, inr, ℕ, ◌+◌, ◌<◌, ◌≤◌, Bool, true, false, not, ◌&&◌, ◌||◌, ◌==◌, cond, nat_lt, List, [], ◌∷◌, ◌++◌, length, map, Option, Some, None, Err, Contains, refl, ap, sym, subst, ◌∙◌, arith, append_assoc, append-nil, length-append, onto_first, cases_Bool, cond_both, and_parts, and_from, ltb-true, lt-ltb, map-append, length-map, all_pairs_push, Contains-get_or, same_Some, cond_some, none-some, slice_get_within, Fault, Settings, Statement, Declares, InMain, InCallback, Sizes, HasWorkers, Orders, HasIo, FromHeap, InThread, Says, declares, in_main, runs, closes_loop, in_callback, in_call, sizes, sizes_to, has_workers, orders, says_io, says_heap, in_thread, HasRoom, IsNew, asks_io, MayMake, with_statement, with_said, Draft, Reads, skips, says, ReadsAll, none, one, IsBadLineFrom, ParsesFrom, MOST_NAMES, MOST_LINES, lines_of, fields_of, Program, line_count, has_room, is_new, may_make, may_come, has_io, IsSound, IsSaid, ReadsLine, is_line, is_skipped}
-use Rattle.uv_ids.specs.declared.fault.Fault.TheVariants as fault
-use Rattle.uv_ids.specs.declared.seen.Callback.TheVariants as callback
+use Rattle.uv_script.proofs.ProofNames.{◌≡◌, ◌≢◌, ◌⊎◌, inl, inr, ℕ, ◌+◌, ◌<◌, ◌≤◌, Bool, true, false, not, ◌&&◌, ◌==◌, cond, List, [], ◌∷◌, ◌++◌, length, map, Option, Some, None, Err, Contains, refl, ap, sym, subst, arith, append_assoc, append-nil, length-append, cond_both, and_parts, map-append, length-map, all_pairs_push, Contains-get_or, same_Some, cond_some, none-some, slice_get_within, Fault, Statement, Declares, Says, HasRoom, MayMake, with_statement, with_said, Draft, Reads, skips, says, ReadsAll, none, one, ParsesFrom, lines_of, fields_of, Program, has_room, is_new, may_make, may_come, IsSound, IsSaid, ReadsLine, is_line, is_skipped}
 use Rattle.uv_script.specs.Reading.{statement_of, after_line}
 use Rattle.uv_script.proofs.Agrees.{AreDistinct, bound, statement_sound, statement_complete}
 use Rattle.uv_script.proofs.Checks.{is_line_decides, is_skipped_decides}

@@ -1,5 +1,5 @@
 -- The tests decide the rules.
-use Rattle.uv_script.proofs.ProofNames.{◌≡◌, ◌≢◌, ℕ, zero, suc, ◌<◌, ◌≤◌, ◌^◌, ◌⊎◌, inl, inr, true, false, not, ◌&&◌, ◌==◌, cond, nat_le, List, [], ◌∷◌, length, get_or, Option, Some, None, Ok, Err, IfSome, IfNone, All, refl, ap, sym, ◌∙◌, subst, arith, Decides, list_all, all_ascii_digits, IsUtf8, IsAscii, digits_value, ParsesUnsigned, and_parts, and_from, leb-true, le-leb, ltb-true, lt-ltb, eqb-true, eqb-false, ne_eqb, not-true, both_ways, cases_Bool, Decides-by_and, Decides-or, Decides-eqb, decimal-digits_value, digits_decimal, digits_value-decimal, decimal_nonempty, decimal_digit, first_decimal, IsAscii-decimal, parse-decimal, cond_some, IsUtf8-from_ascii, IsNumeralModel, numerals_by_value, tells_all_ascii_digits, parse_plain, IsLine, IsSkipped, empty, comment, IsLetter, IsDigit, IsName, IsNumber, is_printable, is_line, is_skipped, is_name_byte, is_name, is_canonical, is_number}
+use Rattle.uv_script.proofs.ProofNames.{◌≡◌, ◌≢◌, ℕ, ◌<◌, ◌≤◌, ◌^◌, ◌⊎◌, inl, inr, true, false, ◌&&◌, ◌==◌, cond, nat_le, List, [], ◌∷◌, length, get_or, Option, Some, None, Ok, Err, IfSome, IfNone, refl, ap, sym, subst, arith, Decides, list_all, all_ascii_digits, IsUtf8, IsAscii, digits_value, ParsesUnsigned, and_parts, and_from, leb-true, le-leb, ltb-true, lt-ltb, eqb-true, both_ways, cases_Bool, Decides-by_and, Decides-or, Decides-eqb, decimal-digits_value, digits_decimal, digits_value-decimal, decimal_nonempty, decimal_digit, first_decimal, IsAscii-decimal, parse-decimal, cond_some, IsUtf8-from_ascii, IsNumeralModel, numerals_by_value, tells_all_ascii_digits, parse_plain, IsLine, IsSkipped, empty, comment, IsLetter, IsDigit, IsName, IsNumber, is_printable, is_line, is_skipped, is_name_byte, is_name, is_canonical, is_number}
 use Rattle.std.specs.Fmt.{decimal}
 use Rattle.uv_script.specs.Checks.{number_of}
 

@@ -1,5 +1,5 @@
 -- Lines and fields, one at a time.
-use Rattle.uv_script.proofs.ProofNames.{◌≡◌, ℕ, ◌==◌, false, cond, List, [], ◌∷◌, ◌++◌, length, Option, Some, None, option_map, All, refl, ap, sym, ◌∙◌, arith, Bor, onto_first, join_with_byte, All-head, All-tail, slice_split_at, slice_split_none, length-slice_split, join_with_byte-slice_split, fields_left, lines_of, fields_of, rest_of, IsCut}
+use Rattle.uv_script.proofs.ProofNames.{◌≡◌, ℕ, ◌==◌, false, cond, List, [], ◌∷◌, ◌++◌, length, Option, Some, option_map, All, refl, ap, sym, ◌∙◌, arith, Bor, onto_first, join_with_byte, All-head, All-tail, slice_split_at, slice_split_none, length-slice_split, join_with_byte-slice_split, fields_left, lines_of, fields_of, rest_of, IsCut}
 
 abbrev pub AreNot : ℕ → List ℕ → Type 0
 AreNot byte bs = All (λ b. (b == byte) ≡ false) bs

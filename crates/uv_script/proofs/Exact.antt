@@ -1,7 +1,5 @@
 -- A line that says something is the text of what it says, byte for byte.
-use Rattle.uv_script.proofs.ProofNames.{◌≡◌, ◌≢◌, ℕ, ◌<◌, List, [], ◌∷◌, ◌++◌, length, Option, Some, None, refl, ap, sym, ◌∙◌, arith, length-append, append-nil, append_assoc, codes, decimal, join_with_byte, append_snoc, get_or_append_left, join_with_byte-slice_split, same_Some, none-some, slice_get_within, slice_get-get_or, get_or_from_slice_get, Var, Callback, kind_word, Op, CallbackLine, Statement, Declares, InMain, InCallback, Sizes, HasWorkers, Orders, HasIo, FromHeap, InThread, named_word, bare_word, IsOp, init, start, repeat, queue, queue_text, on_name, bare, callback_word, Says, declares, in_main, runs, closes_loop, in_callback, in_call, sizes, sizes_to, has_workers, orders, says_io, says_heap, in_thread, fields_of, text_of, text_or_none, name_text, task_text, op_text, call_text, front_text, callback_line, main_line, var_line, order_line, io_line, heap_line, workers_line, slots_line, thread_line, IsDeclared}
-use Rattle.uv_ids.specs.declared.seen.Callback.TheVariants as callback
-use Rattle.uv_script.specs.declared.op.Op.TheVariants as op
+use Rattle.uv_script.proofs.ProofNames.{◌≡◌, ◌≢◌, ℕ, ◌<◌, List, [], ◌∷◌, ◌++◌, length, Some, None, ap, sym, ◌∙◌, arith, length-append, append-nil, append_assoc, codes, decimal, join_with_byte, append_snoc, get_or_append_left, join_with_byte-slice_split, slice_get_within, slice_get-get_or, get_or_from_slice_get, Var, Callback, Op, CallbackLine, Statement, Declares, InMain, InCallback, Sizes, HasWorkers, Orders, HasIo, FromHeap, InThread, named_word, bare_word, IsOp, init, start, repeat, queue, queue_text, on_name, bare, callback_word, Says, declares, in_main, runs, closes_loop, in_callback, in_call, sizes, sizes_to, has_workers, orders, says_io, says_heap, in_thread, fields_of, text_of, text_or_none, name_text, task_text, op_text, call_text, front_text, callback_line, main_line, var_line, order_line, io_line, heap_line, workers_line, slots_line, thread_line, IsDeclared}
 
 abbrev joined : List (List ℕ) → List ℕ
 joined fields = join_with_byte 32 fields

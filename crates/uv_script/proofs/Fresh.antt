@@ -1,5 +1,5 @@
 -- One more name.
-use Rattle.uv_script.proofs.ProofNames.{if◌then◌else◌, ◌≡◌, ◌≢◌, inl, inr, ℕ, suc, ◌<◌, false, ◌||◌, List, [], ◌∷◌, ◌++◌, length, map, Contains, refl, ap, sym, ◌∙◌, subst, arith, length-append, list_any, bytes_eq, cases_Bool, map-append, All-push, Contains-get_or, all_pairs_push, bytes_eq-Decides, insert_key, MOST_NAMES, AreNames, IsName}
+use Rattle.uv_script.proofs.ProofNames.{if◌then◌else◌, ◌≡◌, ◌≢◌, ℕ, suc, ◌<◌, false, List, [], ◌∷◌, ◌++◌, length, map, Contains, refl, ap, ◌∙◌, subst, arith, length-append, list_any, bytes_eq, cases_Bool, map-append, All-push, Contains-get_or, all_pairs_push, bytes_eq-Decides, insert_key, MOST_NAMES, AreNames, IsName}
 
 -- a name that isn't there is told from each that is
 none_equal : {A : Type 0} (f : A → List ℕ) (ks : List A) (name : List ℕ) → (Contains (map f ks) name → ⊥) →

@@ -1,5 +1,5 @@
 -- The place of a name among names.
-use Rattle.uv_script.proofs.ProofNames.{◌≡◌, ℕ, ◌+◌, ◌≤◌, Bool, true, not, cond, List, [], ◌∷◌, length, map, get_or, Some, None, slice_get, Option, option_map, Contains, refl, ap, sym, ◌∙◌, arith, length-map, position, position_or_len, prefix_len, bytes_eq, Var, IsDeclared, common_steps, position-Some, prefix_len_passes, slice_get-get_or, same_Some, bytes_eq-Decides}
+use Rattle.uv_script.proofs.ProofNames.{◌≡◌, ℕ, ◌+◌, Bool, not, cond, List, [], ◌∷◌, map, get_or, Some, None, slice_get, option_map, Contains, refl, ap, sym, ◌∙◌, arith, length-map, position, prefix_len, bytes_eq, Var, IsDeclared, common_steps, position-Some, prefix_len_passes, slice_get-get_or, bytes_eq-Decides}
 use Rattle.uv_script.specs.Reading.{place_of}
 
 abbrev as_var : ℕ → Var

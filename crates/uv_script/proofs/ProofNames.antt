@@ -58,7 +58,7 @@ pub use Rattle.uv_script.specs.Lines.{IsCut, IsLine, IsSkipped, comment, empty, 
 pub use Rattle.uv_script.specs.Names.{AreNames}
 pub use Rattle.uv_script.specs.Program.{Callbacks, IsSlotCount, IsThreadLine, IsWhole, IsWorkerCount, LAST_GENERATION, Program, arena_size}
 pub use Rattle.uv_script.specs.Program.{callback_count, callbacks_of, from_heap, has_io, is_for, line_count, lines_in, lines_of as lines_in_callbacks}
-pub use Rattle.uv_script.specs.Program.{main_op, makes_io, next_line, no_callbacks, op_at, order_of, with_line, with_workers, worker_count}
+pub use Rattle.uv_script.specs.Program.{main_op, makes_io, next_line, no_callbacks, op_at, op_name, order_of, with_line, with_workers, worker_count}
 pub use Rattle.uv_script.specs.Reading.{IsSaid, IsSound, ReadsLine, filled, first_of, has_room, is_new, marked, may_come, may_make, none_left}
 pub use Rattle.uv_script.specs.Reading.{start_by, text_by}
 pub use Rattle.uv_script.specs.Said.{said}

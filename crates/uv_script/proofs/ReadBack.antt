@@ -1,5 +1,5 @@
 -- A script's text is read back.
-use Rattle.uv_script.proofs.ProofNames.{◌≡◌, ◌⊎◌, inl, inr, ℕ, zero, suc, ◌+◌, ◌<◌, ◌≤◌, ◌^◌, Bool, true, false, ◌&&◌, ◌==◌, nat_le, List, [], ◌∷◌, ◌++◌, length, map, get_or, Ok, Err, Result, slice_get, unwrap_or, Contains, All, refl, ap, sym, subst, ◌∙◌, arith, length-append, append-nil, append_assoc, codes, decimal, slice_set, sum_by, AllByRecursion, list_all, is_ascii_digit, all_ascii_digits, get_or-append_seam, set-append_seam, ne_eqb, Decides-by_and, digits_decimal, length-decimal-le, get_or_append_left, All-append, sum_by-cons, sum_by-append, unwrap_or-slice_get, numerals_by_value, tells_all_ascii_digits, Fault, Var, Order, Callback, MainOp, CallbackLine, ArenaSize, ThreadLine, Declares, InMain, InCallback, Sizes, HasWorkers, Orders, HasIo, FromHeap, InThread, declares, sizes_to, has_workers, orders, says_io, says_heap, Draft, Reads, skips, says, ReadsAll, none, one, unread, WasRead, IsScript, Parses, IsBack, IsReadBack, Settings, MOST_NAMES, MOST_LINES, lines_of, fields_of, IsLine, Program, Callbacks, no_callbacks, callbacks_of, lines_in_callbacks, with_line, callback_count, line_count, IsWorkerCount, order_line, io_line, heap_line, line_if, setting_lines, workers_line, slots_line, var_line, main_line, callback_line, name_lines, callback_lines, thread_line, script_lines, lines_text, IsLetter, IsDigit, IsName, IsNumber}
+use Rattle.uv_script.proofs.ProofNames.{◌≡◌, ℕ, suc, ◌+◌, ◌<◌, ◌≤◌, ◌^◌, Bool, true, false, ◌&&◌, nat_le, List, [], ◌∷◌, ◌++◌, length, map, Ok, Err, Result, slice_get, unwrap_or, Contains, All, refl, ap, sym, subst, ◌∙◌, arith, length-append, append-nil, append_assoc, codes, decimal, slice_set, sum_by, AllByRecursion, list_all, is_ascii_digit, all_ascii_digits, get_or-append_seam, set-append_seam, ne_eqb, Decides-by_and, digits_decimal, length-decimal-le, get_or_append_left, All-append, sum_by-cons, sum_by-append, unwrap_or-slice_get, numerals_by_value, tells_all_ascii_digits, Fault, Var, Order, Callback, MainOp, CallbackLine, ArenaSize, ThreadLine, Declares, InMain, InCallback, Sizes, HasWorkers, Orders, HasIo, FromHeap, InThread, declares, sizes_to, has_workers, orders, says_io, says_heap, Draft, Reads, says, ReadsAll, none, one, unread, WasRead, IsScript, Parses, IsBack, IsReadBack, Settings, MOST_NAMES, MOST_LINES, lines_of, fields_of, IsLine, Program, Callbacks, no_callbacks, callbacks_of, lines_in_callbacks, with_line, callback_count, line_count, IsWorkerCount, order_line, io_line, heap_line, line_if, setting_lines, workers_line, slots_line, var_line, main_line, callback_line, name_lines, callback_lines, thread_line, script_lines, lines_text, IsName, IsNumber}
 use Rattle.uv_ids.specs.declared.fault.Fault.TheVariants as fault
 use Rattle.uv_ids.specs.declared.order.Order.TheVariants as order
 use Rattle.uv_ids.specs.declared.seen.Callback.TheVariants as callback

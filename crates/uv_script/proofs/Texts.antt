@@ -1,5 +1,5 @@
 -- The text of lines, a line at a time.
-use Rattle.uv_script.proofs.ProofNames.{◌≡◌, ℕ, ◌+◌, ◌<◌, List, [], ◌∷◌, ◌++◌, suc, length, map, drop, get_or, refl, ap, sym, ◌∙◌, arith, append_assoc, append-nil, codes, drop-length, drop-cons, slice_get-get_or, Program, text_or_none, name_text, setting_lines, var_line, main_line, name_lines, callback_lines, thread_line, lines_text}
+use Rattle.uv_script.proofs.ProofNames.{◌≡◌, ℕ, ◌+◌, ◌<◌, List, [], ◌∷◌, ◌++◌, suc, length, map, drop, get_or, refl, ap, sym, ◌∙◌, arith, append_assoc, append-nil, codes, drop-length, drop-cons, slice_get-get_or, Program, name_text, setting_lines, var_line, main_line, name_lines, callback_lines, thread_line, lines_text}
 use Rattle.uv_script.specs.Text.{script_text}
 
 pub lines_text-append : (xs ys : List (List ℕ)) → lines_text (xs ++ ys) ≡ lines_text xs ++ lines_text ys

@@ -1,9 +1,9 @@
 -- What every script's parts are: each was written in a line of its own.
-use Rattle.uv_script.proofs.ProofNames.{◌≡◌, ◌⊎◌, inl, inr, ℕ, zero, suc, ◌+◌, ◌<◌, ◌≤◌, ◌^◌, Bool, true, List, [], ◌∷◌, ◌++◌, length, get_or, slice_get, unwrap_or, Contains, refl, ap, sym, subst, ◌∙◌, arith, length-append, length-set, slice_set, cases_order, get_or-set_same, get_or-set_other, Contains-push_cases, sum_by_push, sum_by-set, unwrap_or-slice_get, Var, Order, Callback, MainOp, CallbackLine, ArenaSize, ThreadLine, Statement, Declares, InMain, InCallback, Sizes, HasWorkers, Orders, HasIo, FromHeap, InThread, Says, declares, in_main, runs, closes_loop, in_callback, in_call, sizes, sizes_to, has_workers, orders, says_io, says_heap, in_thread, HasRoom, asks_io, MayMake, with_statement, Draft, Reads, skips, says, ReadsAll, none, one, blank, unread, Makes, MOST_NAMES, MOST_LINES, fields_of, IsLine, Program, Callbacks, no_callbacks, callbacks_of, with_line, lines_in, callback_count, line_count, IsSlotCount, IsWorkerCount, IsSound, var_line, IsName}
+use Rattle.uv_script.proofs.ProofNames.{◌≡◌, ◌⊎◌, inl, inr, ℕ, zero, suc, ◌+◌, ◌<◌, ◌≤◌, ◌^◌, Bool, true, List, [], ◌∷◌, ◌++◌, length, get_or, slice_get, unwrap_or, Contains, refl, ap, sym, subst, ◌∙◌, arith, length-append, length-set, slice_set, cases_order, get_or-set_same, get_or-set_other, Contains-push_cases, sum_by_push, sum_by-set, unwrap_or-slice_get, Var, Order, Callback, MainOp, CallbackLine, ArenaSize, ThreadLine, Statement, Declares, InMain, InCallback, Sizes, HasWorkers, Orders, HasIo, FromHeap, InThread, Says, HasRoom, asks_io, MayMake, with_statement, Draft, Reads, skips, says, ReadsAll, none, one, blank, unread, Makes, MOST_NAMES, MOST_LINES, fields_of, IsLine, Program, Callbacks, no_callbacks, callbacks_of, with_line, lines_in, callback_count, line_count, IsSlotCount, IsWorkerCount, IsSound, var_line, IsName}
 use Rattle.uv_ids.specs.declared.seen.Callback.TheVariants as callback
 use Rattle.uv_script.specs.Program.{lines_of}
 use Rattle.uv_script.proofs.Agrees.{AreDistinct}
-use Rattle.uv_script.proofs.AfterLines.{says_sound, distinct_push, distinct_none}
+use Rattle.uv_script.proofs.AfterLines.{says_sound, distinct_push}
 use Rattle.uv_script.proofs.Exact.{statement_text, IsKept, IsNoName, line_exact, says_more}
 
 -- the text of what a line says is a line that says it; and it makes no handle of I/O, or the line `io` was said

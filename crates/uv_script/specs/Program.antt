@@ -155,21 +155,6 @@ pub record IsThreadLine (names : ℕ) (line : ThreadLine) : Type 0 where
 abbrev pub line_count : Program → ℕ
 line_count p = length p.names + length p.main + sum_by callback_count p.callbacks + length p.threads
 
--- what every script meets, beside what its names do: each name has its callbacks, lines, slots and workers are within their limits, each
--- line of a thread sends a declared name, and only a script that may have handles of I/O makes one
-pub record IsWhole (p : Program) : Type 0 where
-  pub callbacks : length p.callbacks ≡ length p.names
-  pub few : line_count p ≤ MOST_LINES
-  pub slots : IsSlotCount (arena_size p).slots
-  pub workers : IsWorkerCount (worker_count p)
-  pub threads : All (IsThreadLine (length p.names)) p.threads
-  pub io : (at : Site) (o : Op) → op_at p at ≡ Some o → makes_io o ≡ true → has_io p ≡ true
-
--- the script is whole, and this many of its lines count
-pub record IsCounted (lines : ℕ) (p : Program) : Type 0 where
-  pub whole : IsWhole p
-  pub counted : lines ≡ line_count p
-
 -- the name that an op names
 abbrev pub op_name : Op → Option Var
 op_name (op.Init v kind) = Some v
@@ -194,3 +179,19 @@ op_name op.UpdateTime = None
 op_name op.Now = None
 op_name op.IsAlive = None
 op_name op.Timeout = None
+
+-- what every script meets, beside what its names do: each name has its callbacks, lines, slots and workers are within their limits, each
+-- line of a thread sends a declared name, each op names a declared one, and only a script that may have handles of I/O makes one
+pub record IsWhole (p : Program) : Type 0 where
+  pub callbacks : length p.callbacks ≡ length p.names
+  pub few : line_count p ≤ MOST_LINES
+  pub slots : IsSlotCount (arena_size p).slots
+  pub workers : IsWorkerCount (worker_count p)
+  pub threads : All (IsThreadLine (length p.names)) p.threads
+  pub named : (at : Site) (o : Op) (v : Var) → op_at p at ≡ Some o → op_name o ≡ Some v → v.0 < length p.names
+  pub io : (at : Site) (o : Op) → op_at p at ≡ Some o → makes_io o ≡ true → has_io p ≡ true
+
+-- the script is whole, and this many of its lines count
+pub record IsCounted (lines : ℕ) (p : Program) : Type 0 where
+  pub whole : IsWhole p
+  pub counted : lines ≡ line_count p

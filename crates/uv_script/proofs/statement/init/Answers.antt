@@ -1,4 +1,4 @@
-use Rattle.uv_script.proofs.ProofNames.{◌≡◌, Some, None, arith, common_steps}
+use Rattle.uv_script.proofs.ProofNames.{◌≡◌, Some, arith, common_steps}
 use Rattle.uv_script.specs.Reading.{init_of, kind_of}
 use Rattle.uv_script.proofs.KindWords.{kind_of-some, kind_of-none}
 use Rattle.uv_script.proofs.statement.init.Goals as goal

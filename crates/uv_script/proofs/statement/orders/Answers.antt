@@ -1,4 +1,4 @@
-use Rattle.uv_script.proofs.ProofNames.{◌≡◌, Some, None, arith, common_steps}
+use Rattle.uv_script.proofs.ProofNames.{◌≡◌, Some, arith, common_steps}
 use Rattle.uv_script.specs.Reading.{orders_of, version_of}
 use Rattle.uv_script.proofs.KindWords.{version_of-some, version_of-none}
 use Rattle.uv_script.proofs.statement.orders.Goals as goal

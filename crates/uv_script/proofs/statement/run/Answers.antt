@@ -1,4 +1,4 @@
-use Rattle.uv_script.proofs.ProofNames.{◌≡◌, Some, None, arith, common_steps}
+use Rattle.uv_script.proofs.ProofNames.{◌≡◌, Some, arith, common_steps}
 use Rattle.uv_script.specs.Reading.{run_of, mode_of}
 use Rattle.uv_script.proofs.KindWords.{mode_of-some, mode_of-none}
 use Rattle.uv_script.proofs.statement.run.Goals as goal

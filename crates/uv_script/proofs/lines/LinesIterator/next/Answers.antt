@@ -1,4 +1,4 @@
-use Rattle.uv_script.proofs.ProofNames.{◌≡◌, length, ap, sym, ◌∙◌, arith, rules, common_steps}
+use Rattle.uv_script.proofs.ProofNames.{length, ap, arith, rules, common_steps}
 use Rattle.uv_script.proofs.Cuts.{lines-cut, lines-rest}
 use Rattle.uv_script.proofs.lines.LinesIterator.next.Goals as goal
 

@@ -1,4 +1,4 @@
-use Rattle.uv_script.proofs.ProofNames.{◌≡◌, ◌<◌, length, Some, arith, refl, ap, sym, ◌∙◌, subst, slice_get, unwrap_or, slice_set, slice_get-get_or, InCallback, with_statement, IsReadScript, Program, no_callbacks, with_line}
+use Rattle.uv_script.proofs.ProofNames.{◌≡◌, ◌<◌, length, Some, arith, refl, ap, sym, ◌∙◌, subst, slice_get, unwrap_or, slice_get-get_or, InCallback, IsReadScript, Program, no_callbacks, with_line}
 use Rattle.uv_script.proofs.Kept.{counted_more}
 use Rattle.uv_script.proofs.script.Script.push_callback.Goals as goal
 
