@@ -1,7 +1,7 @@
 """Answers of a search that forgets, or holds moves back, beside those of one that doesn't:
 tests/find/forgetting [N] [--seed N] [--jobs N] [--states N] [--find PROGRAM]
 
-Random scripts (scripts.py; their numbers are the seeds) of which a search needs to know no more than pooled forms, or may hold moves back, are
+Random scripts (scripts.py; their numbers are the seeds) of which a search needs to know no more than forms by names, or may hold moves back, are
 searched by the program twice: without the line `full` and with it. The answers must agree, and so must the steps of `found`; of `never`, the
 states with `full` are no fewer. Each third script is one where moves may be held back. Scripts of which one search isn't settled within --states
 are passed over, and the slow search of tests/find/run looks at no state here. Where something is wrong, the input is left in out/find/. Status 1
@@ -84,7 +84,7 @@ def try_script(program: str, states: int, seed: int) -> Tried:
         return Tried(seed, "no answer", 0, str(fault))
     if "not settled" in (short.kind, whole.kind):
         is_settled = short.kind != "not settled"
-        return Tried(seed, "settled of normal forms alone" if is_settled else "not settled", 0)
+        return Tried(seed, "settled of forms alone" if is_settled else "not settled", 0)
     return Tried(seed, short.kind, all_states - some, difference(short, whole, all_states - some), holds)
 
 

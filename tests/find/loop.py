@@ -36,7 +36,7 @@ class State(NamedTuple):
     section: Optional[str]
     # the names that are bound to a handle that closes
     closing: List[str]
-    # the workers that run a request, by the slots of these
+    # the workers that run a request, by the names of these in the order of their declarations
     runners: List[int]
 
 
@@ -58,7 +58,7 @@ def read_state(lines: List[str]) -> State:
     caller = (place[place.index("+") + 1], place[place.index("+") + 2]) if "+" in place else None
     section = None if place[1] == "main" else place[3]
     state = State("\n".join([numbers[1]] + lines[1:]), int(numbers[2]), main, deadline, {}, [], {}, [], [], [], caller, section, [], [])
-    bound, run, closing = {}, [], []
+    bound, run, closing = {}, {}, []
     for line in lines[2:]:
         words = line.split()
         if words[0] == "name":
@@ -71,8 +71,7 @@ def read_state(lines: List[str]) -> State:
             if words[words.index("active") + 1] == "1":
                 state.due[words[3]] = int(words[words.index("due") + 1])
         if words[0] == "slot" and words[2] == "work" and words[4] == "running":
-            run.append(words[1])
-            state.runners.append(int(words[5]))
+            run[words[1]] = int(words[5])
         if words[0] == "slot" and words[8:10] == ["closing", "1"]:
             closing.append(words[1])
         if words[0] == "ready" and len(words) > 1 and section not in TIMERS:
@@ -80,6 +79,7 @@ def read_state(lines: List[str]) -> State:
         if words[0] == "running":
             state.busy.extend(int(word.split(":")[0]) for word in words[1:])
     state.jobs.extend(name for name, slot in bound.items() if slot in run)
+    state.runners.extend(run[slot] for slot in bound.values() if slot in run)
     state.closing.extend(name for name, slot in bound.items() if slot in closing)
     return state
 

@@ -1,10 +1,9 @@
-"""The pooled form of a state, of what `uvt debug` prints of it: what a search keeps where it may forget the rest. It is the normal form, in which
-it is forgotten as well which worker runs which request.
+"""The form of a state by its names, of what `uvt debug` prints of it: what a search keeps where it may forget the rest. Times are as early as
+they can be, and it is forgotten in which slots handles and requests stand, and which worker runs which request.
 
-It is written from the words of the definitions: `pooled` of uv_pooled, `normal` of uv_normal and what that is made of, `may_forget` and
-`calls_end` of uv_find."""
+It is written from the words of the definitions: `by_name` of uv_by_name and what that is made of, `may_forget` and `calls_end` of uv_find."""
 import re
-from typing import Dict, Iterator, List, Optional, Tuple
+from typing import Iterator, List, Optional, Tuple
 
 from tests.find.asked import Asked
 
@@ -34,7 +33,7 @@ def times_of(op: List[str]) -> List[int]:
 
 
 def may_forget(asked: Asked) -> bool:
-    """Whether nothing that is asked tells a state from another one of the same pooled form."""
+    """Whether nothing that is asked tells a state from another one of the same form."""
     if asked.full or asked.clock is not None or asked.differ is not None or any(offer.job is not None for offer in asked.offers):
         return False
     sizes = [line.split() for line in asked.script if line.startswith("slots ")]
@@ -81,48 +80,6 @@ def capped(lines: List[str], calls: int) -> List[str]:
     return out
 
 
-def id_of(word: str) -> Tuple[int, int]:
-    slot, generation = word.split(".")
-    return int(slot), int(generation)
-
-
-def generations(lines: List[str]) -> Dict[int, int]:
-    """The generation of each slot that was ever used."""
-    return dict(id_of(line.split(" ")[1]) for line in lines if line.startswith("slot "))
-
-
-def bound(lines: List[str]) -> List[Tuple[int, int]]:
-    """The ids that names are bound to."""
-    return [id_of(line.split(" ")[2]) for line in lines if line.startswith("name ") and line.split(" ")[2] != "none"]
-
-
-def renamed(lines: List[str], names: Dict[Tuple[int, int], int], slots: Dict[int, int]) -> List[str]:
-    """The lines with these generations: of what names are bound to, and of the slots. Other lines name no id."""
-    out = []
-    for line in lines:
-        words = line.split(" ")
-        if words[0] == "name" and words[2] != "none":
-            words[2] = "%d.%d" % (id_of(words[2])[0], names[id_of(words[2])])
-        if words[0] == "slot":
-            slot = id_of(words[1])[0]
-            words[1] = "%d.%d" % (slot, slots[slot])
-        out.append(" ".join(words))
-    return out
-
-
-def staled(lines: List[str]) -> List[str]:
-    """A name that was bound to an earlier generation of its slot is bound to the last one before."""
-    slots = generations(lines)
-    return renamed(lines, {it: slots[it[0]] - 1 if it[1] < slots[it[0]] else it[1] for it in bound(lines)}, slots)
-
-
-def youngest(lines: List[str]) -> List[str]:
-    """The least generation of each slot, its own and those that names are bound to, is 0."""
-    slots, names = generations(lines), bound(lines)
-    least = {slot: min([own] + [it[1] for it in names if it[0] == slot]) for slot, own in slots.items()}
-    return renamed(lines, {it: it[1] - least[it[0]] for it in names}, {slot: own - least[slot] for slot, own in slots.items()})
-
-
 def is_active_timer(line: str) -> bool:
     words = line.split(" ")
     return words[0] == "slot" and words[2] == "timer" and words[7] == "1"
@@ -147,9 +104,26 @@ def earliest(lines: List[str]) -> List[str]:
 
 def workerless(lines: List[str]) -> List[str]:
     """Of a request that is run, no line says by which worker."""
-    return [re.sub(r"^(slot \S+ work \S+ running) [0-9]+", r"\1", line) for line in lines if line.split(" ")[0] != "running"]
+    return [re.sub(r"^(name \S+ holds work \S+ running) [0-9]+", r"\1", line) for line in lines if line.split(" ")[0] != "running"]
 
 
-def pooled(text: str, calls: int) -> str:
+def by_names(lines: List[str]) -> List[str]:
+    """Each name with what its slot holds, in whichever slot that is; of what is gone, and of slots that are free, no more than that and how many
+    they are."""
+    slots = {line.split(" ")[1]: " ".join(line.split(" ")[2:]) for line in lines if line.startswith("slot ")}
+    out = []
+    for line in lines:
+        words = line.split(" ")
+        if words[0] == "name" and words[2] != "none":
+            held = slots.get(words[2], "empty")
+            words[2] = "gone" if held in ("empty", "retired") else "holds " + held
+        if words[0] == "free":
+            words = ["used", str(len(slots))]
+        if words[0] != "slot":
+            out.append(" ".join(words))
+    return out
+
+
+def formed(text: str, calls: int) -> str:
     """Of what `state` prints, without how many steps stand."""
-    return "\n".join(workerless(youngest(earliest(staled(capped(text.split("\n"), calls))))))
+    return "\n".join(workerless(by_names(earliest(capped(text.split("\n"), calls)))))

@@ -35,7 +35,7 @@ class Place(NamedTuple):
             return self.state.text, self.left, self.due, self.owed, self.along
         # (a due time counts from the clock; where no timer is asked for, none is kept)
         due = self.due - self.state.clock if self.due is not None else None
-        return normal.pooled(self.state.text, calls), self.left, due, self.owed, self.along
+        return normal.formed(self.state.text, calls), self.left, due, self.owed, self.along
 
 
 class Move(NamedTuple):

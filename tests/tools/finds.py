@@ -24,9 +24,17 @@ from launch import reasons
 
 SECONDS = 300
 FOUND, NEVER, BAD, UNSETTLED, INTERRUPTED = 0, 1, 2, 3, 130
-# A pool of eight with nine requests, whose orders no search settles within some seconds.
+# A pool of eight with twelve requests, whose orders no search settles within some seconds.
 ENDLESS = "\n".join(
-    ["workers 8", *(f"var r{at}" for at in range(9)), *(f"main queue r{at} 1" for at in range(9)), "main run default", "begin", "find code EBUSY", ""]
+    [
+        "workers 8",
+        *(f"var r{at}" for at in range(12)),
+        *(f"main queue r{at} 1" for at in range(12)),
+        "main run default",
+        "begin",
+        "find code EBUSY",
+        "",
+    ]
 )
 # So many seconds behind its start a search is interrupted: it has passed a thousand states by then, also before its proofs.
 INTERRUPTED_AFTER = 10
@@ -167,7 +175,7 @@ def try_lines(check: Check, folder: str) -> None:
     check("find, without full", ran.stdout == "never: 159 states, every order\n", ran)
     apart = os.path.join(folder, "apart")
     Path(apart).write_text(growing(2, 2, 0), encoding="ascii")
-    for states, word in ((272, ""), (706, "--full")):
+    for states, word in ((202, ""), (706, "--full")):
         ran = run([apart, *word.split()])
         check(f"find, {states} states of a pool", (ran.returncode, ran.stdout) == (NEVER, f"never: {states} states, every order\n"), ran)
     ran = run([str(EXAMPLES / "server.find")])

@@ -113,14 +113,14 @@ CLAIMS = (
         (Clause("uv_find", "finding", "each_finishes", ""),),
     ),
     Claim(
-        "A search takes two states for one only where they are equal, or, where it may forget, have the same pooled form; and such states go on "
+        "A search takes two states for one only where they are equal, or, where it may forget, have the same form by names; and such states go on "
         "alike.",
         (
             Clause("uv_state_key", "laws", "keys_tell", ""),
             Clause("uv_state_key", "laws", "forms_tell", ""),
-            Clause("uv_pooled", "laws", "others_alike", ""),
-            Clause("uv_pooled", "laws", "takes_alike", ""),
-            Clause("uv_pooled", "laws", "finishes_alike", ""),
+            Clause("uv_by_name", "laws", "others_alike", ""),
+            Clause("uv_by_name", "laws", "takes_alike", ""),
+            Clause("uv_by_name", "laws", "finishes_alike", ""),
         ),
     ),
     Claim(

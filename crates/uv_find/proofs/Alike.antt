@@ -1,5 +1,5 @@
--- Places with the same pooled form, and as much left and kept, go on alike.
-use Rattle.std.proofs.Common.{◌≡◌, ℕ, ◌+◌, ◌<◌, ◌≤◌, ◌&&◌, not, Bool, true, false, List, [], ◌∷◌, length, Option, Some, None, inl, inr, nat_le, nat_lt, refl, ap, ap₂, sym, subst, ◌∙◌, arith, if◌then◌else◌}
+-- Places with the same form by their names, and as much left and kept, go on alike.
+use Rattle.std.proofs.Common.{◌≡◌, ℕ, ◌+◌, ◌<◌, ◌≤◌, ◌&&◌, not, Bool, true, false, List, [], ◌∷◌, ◌++◌, length, Option, Some, None, inl, inr, nat_le, nat_lt, refl, ap, ap₂, sym, subst, ◌∙◌, arith, if◌then◌else◌}
 use Rattle.std.specs.Prelude.{option_map}
 use Rattle.std.proofs.lemmas.Bool.{ltb-true}
 use Rattle.uv_ids.specs.declared.event.Event.{Event}
@@ -13,7 +13,7 @@ use Rattle.uv_ids.specs.declared.seen.Seen.TheVariants as seen
 use Rattle.uv_records.specs.Slots.{held}
 use Rattle.uv_work.specs.declared.content.Content.{Content}
 use Rattle.uv_work.specs.declared.content.Content.TheVariants as content
-use Rattle.uv_script.specs.Program.{Program}
+use Rattle.uv_script.specs.Program.{Program, arena_size}
 use Rattle.uv_model.specs.After.{after}
 use Rattle.uv_model.specs.Limits.{LATEST}
 use Rattle.uv_model.specs.Next.{Next, Moves, Refuses, next}
@@ -25,8 +25,13 @@ use Rattle.uv_generations.specs.Youngest.{IsYoung}
 use Rattle.uv_generations.proofs.Reached.{after_young}
 use Rattle.uv_normal.specs.Normal.{calls_timer}
 use Rattle.uv_workers.specs.Workers.{is_of_worker, line_by, next_by}
-use Rattle.uv_pooled.specs.Pooled.{pooled, NextPooled}
-use Rattle.uv_pooled.proofs.Steps as laws
+use Rattle.uv_slots.specs.Buried.{CanBury}
+use Rattle.uv_slots.specs.NamedForm.{IsTidy}
+use Rattle.uv_slots.proofs.Keeping.{after_can}
+use Rattle.uv_slots.proofs.Reached.{after_tidy}
+use Rattle.uv_by_name.specs.ByName.{by_name, IsRegular, NextByName}
+use Rattle.uv_by_name.proofs.Steps as laws
+use Rattle.uv_by_name.proofs.Reading.{Reads, reads_alike}
 use Rattle.uv_asking.specs.declared.asking.Most.{Most}
 use Rattle.uv_asking.specs.declared.asking.Offer.{Offer}
 use Rattle.uv_asking.specs.declared.asking.Offer.TheVariants as offers
@@ -44,9 +49,10 @@ use Rattle.uv_find.specs.Orders.{is_quiet}
 use Rattle.uv_find.specs.Orders.{event_of, timed, is_brief, brief, may_take, offered_here, offered_by, is_called_within, is_within}
 use Rattle.uv_find.specs.Spots.{Spot, CanForget, IsSpot, AreBrief, is_few}
 use Rattle.uv_find.proofs.Clocks.{after_clock}
-use Rattle.uv_find.proofs.Lines.{LinesAlike, bare_alike, worker_alike}
-use Rattle.uv_find.proofs.Runners.{IsRegular, EventsAlike, OffersAlike, finishes_alike, takes_alike}
-use Rattle.uv_find.proofs.Readings.{Reads, reads_alike, is_bound, reads_bound, is_shut, reads_shut, count, reads_count, within_capped, reads_quiet, reads_timers, until, wait_of, reads_wait, lag_of, lag_under, lag, reads_lag}
+use Rattle.uv_find.proofs.Led.{length_more, state_behind}
+use Rattle.uv_find.proofs.Lines.{LinesAlike, told_alike, worker_alike}
+use Rattle.uv_find.proofs.Runners.{EventsAlike, OffersAlike, finishes_alike, takes_alike}
+use Rattle.uv_find.proofs.Readings.{is_bound, reads_bound, is_shut, reads_shut, count, reads_count, within_capped, reads_quiet, reads_timers, until, wait_of, reads_wait, lag_of, lag_under, lag, reads_lag}
 
 -- of a timer that is asked about it is the same how late the clock is for what is kept of it
 abbrev pub DueAlike : Question → ℕ → ℕ → ℕ → ℕ → Type 0
@@ -54,7 +60,7 @@ DueAlike (asks.Late name ms) clock due other_clock other_due = clock + other_due
 DueAlike question clock due other_clock other_due = due ≡ other_due
 
 pub record AreAlike (r : Rules) (n : ℕ) (p q : Place) : Type 0 where
-  pub state : pooled n p.state ≡ pooled n q.state
+  pub state : by_name r.program n p.state ≡ by_name r.program n q.state
   pub left : p.left ≡ q.left
   pub owed : p.kept.owed ≡ q.kept.owed
   pub along : p.kept.along ≡ q.kept.along
@@ -64,7 +70,7 @@ pub record AreAlike (r : Rules) (n : ℕ) (p q : Place) : Type 0 where
 
 -- two steps, from s and t, led to these states with these lines
 pub record GoesAlike (p : Program) (n : ℕ) (s t a b : State) (line other : Option Seen) : Type 0 where
-  pub same : pooled n a ≡ pooled n b
+  pub same : by_name p n a ≡ by_name p n b
   pub lines : LinesAlike p line other
   -- the clock goes on by as much
   pub clocks : a.clock + t.clock ≡ b.clock + s.clock
@@ -83,23 +89,32 @@ timer_by k s (Some (seen.Take worker v id)) = refl
 timer_by k s (Some (seen.Finish worker v id)) = refl
 timer_by k s (Some l) = refl
 
-others_go : (p : Program) (n : ℕ) (s t : State) (x y : Next) → NextPooled p n s t x y → NextGoes p n s t x y
-others_go p n s t (Moves a line) (Moves b other) h =
-    record { same = h.same; lines = bare_alike p line other h.same_line; clocks = h.clocks; timers = h.timers }
-others_go p n s t (Refuses why) (Refuses other) h = h
-others_go p n s t (Moves a line) (Refuses other) h = absurd h
-others_go p n s t (Refuses why) (Moves b other) h = absurd h
+-- what a step leads to is regular
+abbrev pub GoesRegular : Program → Next → Type 0
+GoesRegular p (Moves a line) = IsRegular p a
+GoesRegular p (Refuses why) = Unit {0}
 
-worker_goes : (p : Program) (n : ℕ) (s t : State) (k : ℕ) (x y : Next) → NextPooled p n s t (next_by k x) y → NextGoes p n s t x y
-worker_goes p n s t k (Moves a line) (Moves b other) h = record {
-  same = h.same;
-  lines = worker_alike p k line other h.same_line;
-  clocks = h.clocks;
-  timers = sym (timer_by k a line) ∙ h.timers;
-}
-worker_goes p n s t k (Refuses why) (Refuses other) h = h
-worker_goes p n s t k (Moves a line) (Refuses other) h = absurd h
-worker_goes p n s t k (Refuses why) (Moves b other) h = absurd h
+others_go : (p : Program) (n : ℕ) (s t : State) (x y : Next) → GoesRegular p x → GoesRegular p y → NextByName p n s t x y → NextGoes p n s t x y
+others_go p n s t (Moves a line) (Moves b other) one two k =
+    let h = k one two in
+    record { same = h.same; lines = told_alike p line other h.same_line; clocks = h.clocks; timers = h.timers }
+others_go p n s t (Refuses why) (Refuses other) one two h = h
+others_go p n s t (Moves a line) (Refuses other) one two h = absurd h
+others_go p n s t (Refuses why) (Moves b other) one two h = absurd h
+
+worker_goes : (p : Program) (n : ℕ) (s t : State) (k : ℕ) (x y : Next) → GoesRegular p x → GoesRegular p y → NextByName p n s t (next_by k x) y
+    → NextGoes p n s t x y
+worker_goes p n s t k (Moves a line) (Moves b other) one two g =
+    let h = g one two in
+    record {
+      same = h.same;
+      lines = worker_alike p k line other h.same_line;
+      clocks = h.clocks;
+      timers = sym (timer_by k a line) ∙ h.timers;
+    }
+worker_goes p n s t k (Refuses why) (Refuses other) one two h = h
+worker_goes p n s t k (Moves a line) (Refuses other) one two h = absurd h
+worker_goes p n s t k (Refuses why) (Moves b other) one two h = absurd h
 
 -- ---- what holds of each spot
 
@@ -111,6 +126,8 @@ module _ (r : Rules) (n : ℕ) (forget : r.forget ≡ Some n) (can : CanForget r
   regular_by s es is few = record {
     timed = subst (IsTimed r.program) (sym is) (after_timed r.program LONG es (omega arith) (omega arith) can.short);
     young = subst (IsYoung r.program) (sym is) (after_young r.program es (omega (arith, few, can.lasts)));
+    tidy = subst IsTidy (sym is) (after_tidy r.program es can.declares (omega (arith, few, can.lasts)));
+    buries = subst (CanBury (arena_size r.program).slots) (sym is) (after_can r.program (arena_size r.program).slots es (omega arith));
   }
 
   pub spot_regular : (s : Spot) → IsSpot r s → IsRegular r.program s.place.state
@@ -140,9 +157,9 @@ module _ (r : Rules) (n : ℕ) (forget : r.forget ≡ Some n) (can : CanForget r
 
   -- ---- what is read
 
-  module _ (a b : State) (ra : IsRegular r.program a) (rb : IsRegular r.program b) (same : pooled n a ≡ pooled n b) where
+  module _ (a b : State) (ra : IsRegular r.program a) (rb : IsRegular r.program b) (same : by_name r.program n a ≡ by_name r.program n b) where
     pub both : {X : Type 0} (R : State → X) → Reads n R → R a ≡ R b
-    both R reads = reads_alike n R reads r.program a b ra.timed ra.young rb.timed rb.young same
+    both R reads = reads_alike n R r.program reads a b ra rb same
 
     made_alike : (o : Option Var) → is_made a o ≡ is_made b o
     made_alike None = refl
@@ -233,30 +250,41 @@ module _ (r : Rules) (n : ℕ) (forget : r.forget ≡ Some n) (can : CanForget r
     blocked_by (Moves u line) (Refuses other) h = absurd h
     blocked_by (Refuses why) (Moves v other) h = absurd h
 
+    -- a step from a place leads to what is regular
+    leads_regular : (w : Spot) → IsSpot r w → (e : Event) → GoesRegular r.program (next r.program w.place.state e)
+    leads_regular w is e = by (next r.program w.place.state e) refl where
+      by : (x : Next) → next r.program w.place.state e ≡ x → GoesRegular r.program x
+      by (Refuses why) goes = tt
+      by (Moves u line) goes =
+          let few = few_steps w is in
+          let long = length_more w.steps e in
+          regular_by u (w.steps ++ e ∷ []) (state_behind r w e u line is goes) (omega (arith, few, long))
+
     -- events that do alike lead on alike
-    pub goes_alike : (e f : Event) → EventsAlike n a b e f → is_brief (Some n) e ≡ true
+    pub goes_alike : (e f : Event) → EventsAlike r.program n a b e f → is_brief (Some n) e ≡ true
         → NextGoes r.program n a b (next r.program a e) (next r.program b f)
     goes_alike e f (inl h) short =
         let ra = spot_regular s hs in
         let rb = spot_regular t ht in
         subst (λ g. NextGoes r.program n a b (next r.program a e) (next r.program b g)) h.0
-        (others_go r.program n a b (next r.program a e) (next r.program b e)
-        (laws.others_alike r.program n a b can.before ra.timed ra.young rb.timed rb.young alike.state e h.1 (spot_fits s e hs short)
-        (spot_fits t e ht short)))
+        (others_go r.program n a b (next r.program a e) (next r.program b e) (leads_regular s hs e) (leads_regular t ht e)
+        (laws.others_alike r.program n a b can.before ra rb alike.state e h.1 (spot_fits s e hs short) (spot_fits t e ht short)))
     goes_alike e f (inr (inl h)) short =
         let ra = spot_regular s hs in
         let rb = spot_regular t ht in
         subst (λ x. NextGoes r.program n a b (next r.program a x) (next r.program b f)) (sym h.one)
         (subst (λ y. NextGoes r.program n a b (next r.program a (Take h.worker)) (next r.program b y)) (sym h.two)
         (worker_goes r.program n a b h.other (next r.program a (Take h.worker)) (next r.program b (Take h.other))
-        (laws.takes_alike r.program n a b can.before ra.timed ra.young rb.timed rb.young alike.state h.worker h.other h.same)))
+        (leads_regular s hs (Take h.worker)) (leads_regular t ht (Take h.other))
+        (laws.takes_alike r.program n a b can.before ra rb alike.state h.worker h.other h.same)))
     goes_alike e f (inr (inr h)) short =
         let ra = spot_regular s hs in
         let rb = spot_regular t ht in
         subst (λ x. NextGoes r.program n a b (next r.program a x) (next r.program b f)) (sym h.one)
         (subst (λ y. NextGoes r.program n a b (next r.program a (Finish h.worker)) (next r.program b y)) (sym h.two)
         (worker_goes r.program n a b h.other (next r.program a (Finish h.worker)) (next r.program b (Finish h.other))
-        (laws.finishes_alike r.program n a b can.before ra.timed ra.young rb.timed rb.young alike.state h.worker h.other h.same)))
+        (leads_regular s hs (Finish h.worker)) (leads_regular t ht (Finish h.other))
+        (laws.finishes_alike r.program n a b can.before ra rb alike.state h.worker h.other h.same)))
 
     pub blocked_alike : is_blocked r.program a ≡ is_blocked r.program b
     blocked_alike = blocked_by (next r.program a Loop) (next r.program b Loop) (goes_alike Loop Loop (inl (refl, refl)) refl)
@@ -301,14 +329,14 @@ module _ (r : Rules) (n : ℕ) (forget : r.forget ≡ Some n) (can : CanForget r
 
     -- ---- ranks
 
-    takes_both : OffersAlike n a b (take_by (idle_worker a)) (take_by (idle_worker b))
-    takes_both = takes_alike n r.program a b (spot_regular s hs).young (spot_regular t ht).young alike.state
+    takes_both : OffersAlike r.program n a b (take_by (idle_worker a)) (take_by (idle_worker b))
+    takes_both = takes_alike n r.program a b (spot_regular s hs) (spot_regular t ht) alike.state
 
     take_same : (u : State) (o : Option ℕ) → ranked (Some n) u (take_by o) ≡ take_by o
     take_same u None = refl
     take_same u (Some worker) = refl
 
-    same_event : (x : Event) → is_of_worker x ≡ false → OffersAlike n a b (by_rank a x) (by_rank b x)
+    same_event : (x : Event) → is_of_worker x ≡ false → OffersAlike r.program n a b (by_rank a x) (by_rank b x)
     same_event Loop other = inl (refl, refl)
     same_event (Take worker) other = absurd (let g : true ≡ false = other in cc)
     same_event (Finish rank) other = absurd (let g : true ≡ false = other in cc)
@@ -329,19 +357,20 @@ module _ (r : Rules) (n : ℕ) (forget : r.forget ≡ Some n) (can : CanForget r
     spends (Io v) other = refl
     spends (Tick ms) other = refl
 
-    other_step : (e : Event) → is_of_worker e ≡ false → OffersAlike n a b (ranked (Some n) a (step_of a k e)) (ranked (Some n) b (step_of b l e))
+    other_step : (e : Event) → is_of_worker e ≡ false
+        → OffersAlike r.program n a b (ranked (Some n) a (step_of a k e)) (ranked (Some n) b (step_of b l e))
     other_step e other =
-        subst (λ o. OffersAlike n a b (ranked (Some n) a (step_of a k e)) (ranked (Some n) b o)) (step_alike e)
+        subst (λ o. OffersAlike r.program n a b (ranked (Some n) a (step_of a k e)) (ranked (Some n) b o)) (step_alike e)
         (by (is_made a (aim e) && is_free a k e))
       where
-        by : (may : Bool) → OffersAlike n a b (ranked (Some n) a (if may then Some (spending k e) else None))
+        by : (may : Bool) → OffersAlike r.program n a b (ranked (Some n) a (if may then Some (spending k e) else None))
             (ranked (Some n) b (if may then Some (spending k e) else None))
         by true = same_event (spending k e) (spends e other)
         by false = tt
 
     stepped : (e : Event) → is_common (offers.Step e) ≡ true
-        → OffersAlike n a b (ranked (Some n) a (step_of a k e)) (ranked (Some n) b (step_of b l e))
-    stepped (Finish rank) h = finishes_alike n r.program a b (spot_regular s hs).young (spot_regular t ht).young alike.state rank
+        → OffersAlike r.program n a b (ranked (Some n) a (step_of a k e)) (ranked (Some n) b (step_of b l e))
+    stepped (Finish rank) h = finishes_alike n r.program a b (spot_regular s hs) (spot_regular t ht) alike.state rank
     stepped (Take worker) h = absurd (let g : false ≡ true = h in cc)
     stepped Loop h = other_step Loop refl
     stepped (Cancel v) h = other_step (Cancel v) refl
@@ -349,38 +378,39 @@ module _ (r : Rules) (n : ℕ) (forget : r.forget ≡ Some n) (can : CanForget r
     stepped (Io v) h = other_step (Io v) refl
     stepped (Tick ms) h = other_step (Tick ms) refl
 
-    waited : (blocked : Bool) (ms : Option ℕ) → OffersAlike n a b (ranked (Some n) a (waits blocked ms)) (ranked (Some n) b (waits blocked ms))
+    waited : (blocked : Bool) (ms : Option ℕ)
+        → OffersAlike r.program n a b (ranked (Some n) a (waits blocked ms)) (ranked (Some n) b (waits blocked ms))
     waited blocked None = tt
     waited true (Some ms) = inl (refl, refl)
     waited false (Some ms) = tt
 
     event_alike : (offer : Offer) → is_common offer ≡ true →
-        OffersAlike n a b (ranked (Some n) a (event_of r.program a k offer)) (ranked (Some n) b (event_of r.program b l offer))
+        OffersAlike r.program n a b (ranked (Some n) a (event_of r.program a k offer)) (ranked (Some n) b (event_of r.program b l offer))
     event_alike (offers.Step e) h = stepped e h
     event_alike (offers.SendDuring v job) h = absurd (let g : false ≡ true = h in cc)
     event_alike offers.Take h =
-        subst (λ x. OffersAlike n a b x (ranked (Some n) b (take_by (idle_worker b)))) (sym (take_same a (idle_worker a)))
-        (subst (λ y. OffersAlike n a b (take_by (idle_worker a)) y) (sym (take_same b (idle_worker b))) takes_both)
+        subst (λ x. OffersAlike r.program n a b x (ranked (Some n) b (take_by (idle_worker b)))) (sym (take_same a (idle_worker a)))
+        (subst (λ y. OffersAlike r.program n a b (take_by (idle_worker a)) y) (sym (take_same b (idle_worker b))) takes_both)
     event_alike offers.Wait h =
         let here = waits_is a (deadline_at a.place) in
         let wait = waits (is_blocked r.program a) (until a.clock (deadline_at a.place)) in
-        subst (λ x. OffersAlike n a b (ranked (Some n) a x) (ranked (Some n) b (wait_until r.program b (deadline_at b.place)))) (sym here)
-        (subst (λ y. OffersAlike n a b (ranked (Some n) a wait) (ranked (Some n) b y))
+        subst (λ x. OffersAlike r.program n a b (ranked (Some n) a x) (ranked (Some n) b (wait_until r.program b (deadline_at b.place)))) (sym here)
+        (subst (λ y. OffersAlike r.program n a b (ranked (Some n) a wait) (ranked (Some n) b y))
         (sym here ∙ wait_alike) (waited (is_blocked r.program a) (until a.clock (deadline_at a.place))))
 
     -- ---- within the bounds
 
-    brief_is : (e f : Event) → EventsAlike n a b e f → is_brief (Some n) e ≡ is_brief (Some n) f
+    brief_is : (e f : Event) → EventsAlike r.program n a b e f → is_brief (Some n) e ≡ is_brief (Some n) f
     brief_is e f (inl h) = ap (is_brief (Some n)) h.0
     brief_is e f (inr (inl h)) = ap (is_brief (Some n)) h.one ∙ sym (ap (is_brief (Some n)) h.two)
     brief_is e f (inr (inr h)) = ap (is_brief (Some n)) h.one ∙ sym (ap (is_brief (Some n)) h.two)
 
-    brief_alike : (x y : Option Event) → OffersAlike n a b x y → OffersAlike n a b (brief (Some n) x) (brief (Some n) y)
+    brief_alike : (x y : Option Event) → OffersAlike r.program n a b x y → OffersAlike r.program n a b (brief (Some n) x) (brief (Some n) y)
     brief_alike None None h = tt
     brief_alike None (Some f) h = absurd h
     brief_alike (Some e) None h = absurd h
     brief_alike (Some e) (Some f) h = by (is_brief (Some n) e) (is_brief (Some n) f) (brief_is e f h) where
-      by : (p q : Bool) → p ≡ q → OffersAlike n a b (if p then Some e else None) (if q then Some f else None)
+      by : (p q : Bool) → p ≡ q → OffersAlike r.program n a b (if p then Some e else None) (if q then Some f else None)
       by true true same = h
       by false false same = tt
       by true false same = absurd cc
@@ -391,22 +421,22 @@ module _ (r : Rules) (n : ℕ) (forget : r.forget ≡ Some n) (can : CanForget r
     unbounded clock (Some e) = refl
 
     pub offered_alike : (offered : Option Offered) (x : Option Left) → ((o : Offered) → offered ≡ Some o → is_common o.offer ≡ true) →
-        OffersAlike n a b (offered_by r s.place offered x) (offered_by r t.place offered x)
+        OffersAlike r.program n a b (offered_by r s.place offered x) (offered_by r t.place offered x)
     offered_alike None x common = tt
     offered_alike (Some o) None common = tt
     offered_alike (Some o) (Some x) common =
         let here = event_of r.program a k o.offer in
         let there = event_of r.program b l o.offer in
         let one = λ (u : State) (e : Option Event). sym (ap (λ m. timed m u.clock e) can.clock ∙ unbounded u.clock e) in
-        subst (λ g. OffersAlike n a b (brief g (ranked g a (offered_here r.program r.clock a k o.offer x)))
+        subst (λ g. OffersAlike r.program n a b (brief g (ranked g a (offered_here r.program r.clock a k o.offer x)))
         (brief g (ranked g b (offered_here r.program r.clock b l o.offer x)))) (sym forget)
-        (subst (λ u. OffersAlike n a b (brief (Some n) (ranked (Some n) a (if may_take x then u else None)))
+        (subst (λ u. OffersAlike r.program n a b (brief (Some n) (ranked (Some n) a (if may_take x then u else None)))
         (brief (Some n) (ranked (Some n) b (offered_here r.program r.clock b l o.offer x)))) (one a here)
-        (subst (λ v. OffersAlike n a b (brief (Some n) (ranked (Some n) a (if may_take x then here else None)))
+        (subst (λ v. OffersAlike r.program n a b (brief (Some n) (ranked (Some n) a (if may_take x then here else None)))
         (brief (Some n) (ranked (Some n) b (if may_take x then v else None)))) (one b there)
         (by (may_take x))))
       where
-        by : (may : Bool) → OffersAlike n a b (brief (Some n) (ranked (Some n) a (if may then event_of r.program a k o.offer else None)))
+        by : (may : Bool) → OffersAlike r.program n a b (brief (Some n) (ranked (Some n) a (if may then event_of r.program a k o.offer else None)))
             (brief (Some n) (ranked (Some n) b (if may then event_of r.program b l o.offer else None)))
         by true = brief_alike (ranked (Some n) a (event_of r.program a k o.offer)) (ranked (Some n) b (event_of r.program b l o.offer))
             (event_alike o.offer (common o refl))

@@ -44,7 +44,8 @@ use Rattle.uv_asking.specs.declared.asking.Most.{Most}
 use Rattle.uv_find.specs.Holding.{can_meet, asks_late, is_at_will, is_of_io, run_takes_io, may_take_io}
 use Rattle.uv_find.specs.Kept.{kept_after, kept_due, owed_after, owed_by, owed_in, along_after, owes, caller, time_at_end, takes_time, is_over}
 use Rattle.uv_find.specs.Orders.{Rules, Place, is_made, is_free, is_within, take_by, event_of, step_of, wait_until, deadline_at, less, lessened, lessened_by}
-use Rattle.uv_find.specs.Ranks.{idle_worker, runner, finish_by, by_rank, ranked}
+use Rattle.uv_find.proofs.Keys.{runner_same}
+use Rattle.uv_find.specs.Ranks.{keys_run, idle_worker, runner, finish_by, by_rank, ranked}
 use Rattle.uv_find.specs.Questions.{begun, is_call, is_which, line_answers, has_ended, place_answers, is_uncalled}
 
 -- ---- what comes from outside
@@ -88,13 +89,12 @@ ranked_outside (Some n) ticks s (Some f) e h = record { event = f; is = refl; co
   outside (event.Finish rank) g out = refl
   outside x g out = subst (λ y. is_outside ticks y ≡ true) (sym (same_Some x e g)) out
 
--- which worker an event is of, what the workers run says
-pub ranked_same : (forget : Option ℕ) (a s : State) → a.running ≡ s.running → (o : Option Event) → ranked forget a o ≡ ranked forget s o
+-- which worker an event is of, the keys of what the workers run say
+pub ranked_same : (forget : Option ℕ) (a s : State) → keys_run a ≡ keys_run s → (o : Option Event) → ranked forget a o ≡ ranked forget s o
 ranked_same None a s same o = refl
 ranked_same (Some n) a s same None = refl
-ranked_same (Some n) a s same (Some e) = ap (λ (running : List (Option Id)). by_rank (record s { running = running }) e) same ∙ by e where
-  by : (x : Event) → by_rank (record s { running = s.running }) x ≡ by_rank s x
-  by x = refl
+ranked_same (Some n) a s same (Some (event.Finish rank)) = ap finish_by (runner_same a s same rank)
+ranked_same (Some n) a s same (Some e) = refl
 
 -- where no callback of I/O may begin, none does
 not_io : (p : Program) (s : State) (v : Var) (handle : Option Id) (run : Option Run) → run ≡ None → (b : State) (m : Option Seen)

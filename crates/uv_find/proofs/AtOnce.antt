@@ -39,8 +39,8 @@ use Rattle.uv_find.proofs.Alike.{AreAlike, DueAlike}
 use Rattle.uv_find.proofs.Covering.{led_take, takes_cover}
 use Rattle.uv_find.proofs.Moving.{after_event, move_is, fewer}
 use Rattle.uv_find.proofs.Meeting.{is_led, led_is, loop_meets, get_within, meet_by, not_true}
-use Rattle.uv_find.proofs.Ranking.{first_at, first_some, rank_within}
-use Rattle.uv_find.proofs.Runners.{run_at, after_long}
+use Rattle.uv_find.proofs.Ranking.{first_at, first_some}
+use Rattle.uv_find.proofs.Runners.{run_at, after_long, rank_below}
 use Rattle.uv_find.proofs.Finishing.{at_will_kept, its_rank}
 use Rattle.uv_find.proofs.Cancelling.{none_cancels}
 use Rattle.uv_find.proofs.Offers.{or_last}
@@ -221,7 +221,7 @@ module _ (r : Rules) (can : CanTakeAtOnce r) (may : CanForget r can.counted) whe
   spot_is q f short = spot_is_in r q f short
 
   count_is : (p : Place) → move_count r p ≡ length r.offers
-  count_is p = ap (λ d. move_count_by d (length r.offers) (length p.left)) can.differ
+  count_is p = ap (λ d. move_count_by d (length r.offers) (length p.left)) may.differ
 
   below_count : (p : Place) (i : ℕ) (o : Offered) → slice_get r.offers i ≡ Some o → nat_lt i (move_count r p) ≡ true
   below_count p i o is = ap (nat_lt i) (count_is p) ∙ get_within r.offers i o is
@@ -414,9 +414,9 @@ module _ (r : Rules) (can : CanTakeAtOnce r) (may : CanForget r can.counted) whe
             let done = next_finishes r.program a j crossed.state m crossed.other_after in
             let there = state_behind r s (Take w) a l is goes in
             let steps = s.steps ++ Take w ∷ [] in
-            let rank = rank_of a done.id.slot in
+            let rank = rank_of a done.id in
             let long : length a.running ≡ worker_count r.program = ap (λ (u : State). length u.running) there ∙ after_long r.program steps in
-            let small : rank < worker_count r.program = subst (λ n. rank < n) long (rank_within a.running j done.id done.runs) in
+            let small : rank < worker_count r.program = subst (λ n. rank < n) long (rank_below a j done.id done.runs) in
             let offer = can.finishes rank small in
             record {
               state = crossed.state;
@@ -512,7 +512,7 @@ module _ (r : Rules) (can : CanTakeAtOnce r) (may : CanForget r can.counted) whe
           ap (is_few r.forget) long ∙ few
 
       led_other : led r s.place i ≡ Some by_other
-      led_other = led_is r can.differ s.place i e b m bound offered comes
+      led_other = led_is r may.differ s.place i e b m bound offered comes
 
       spot_other : IsSpot r behind_other
       spot_other = leads_spot r s by_other is (led_leads r s.place i by_other led_other) few_one
@@ -572,14 +572,14 @@ module _ (r : Rules) (can : CanTakeAtOnce r) (may : CanForget r can.counted) whe
       }
 
       led_last : led r by_other.place 0 ≡ Some last
-      led_last = led_is r can.differ by_other.place 0 (Take v) taken_by said (within_same taken_by b refl r.most ∙ bound)
+      led_last = led_is r may.differ by_other.place 0 (Take v) taken_by said (within_same taken_by b refl r.most ∙ bound)
           (at_will_is by_other.place 0 offers.Take can.take will_other ∙ take_shown by_other.place v first_idle.1) takes_there
 
       names : x.state.names ≡ b.names
       names = (take_leaves r.program b x.state w l x.take_after).names
 
       led_end : led r by_take.place x.number ≡ Some end
-      led_end = led_is r can.differ by_take.place x.number e x.state m (within_same x.state b names r.most ∙ bound) x.again x.after_take
+      led_end = led_is r may.differ by_take.place x.number e x.state m (within_same x.state b names r.most ∙ bound) x.again x.after_take
 
       spot_last : IsSpot r (after_event behind_other last)
       spot_last = leads_spot r behind_other last spot_other (led_leads r by_other.place 0 last led_last) (few_behind by_other)
@@ -605,7 +605,8 @@ module _ (r : Rules) (can : CanTakeAtOnce r) (may : CanForget r can.counted) whe
           × (answers r by_other.place last ≡ answers r by_other.place middle)
       alike = takes_cover r can.counted can.forgets may behind_other behind_other spot_other spot_other (few_behind by_other) itself 0 v w
           taken_by x.state said l
-          (run_at can.counted b v None idle_there ∙ sym (run_at can.counted b w None taking.idle)) takes_there x.take_after spot_last spot_middle
+          (run_at r.program can.counted b v None idle_there ∙ sym (run_at r.program can.counted b w None taking.idle))
+          takes_there x.take_after spot_last spot_middle
 
       one_place : middle.place ≡ end.place
       one_place =
@@ -695,8 +696,8 @@ take_meets r n s i room first below other m q b c goes comes =
     let few = fewer r r.forget (length s.steps + 2) (length s.steps + suc (suc n)) (omega arith) room.few in
     let one = move_is r s m 0 b goes in
     let two = move_is r s q i c comes in
-    let x = is_led r can.differ s.place 0 one.0 one.1.0 in
-    let y = is_led r can.differ s.place i two.0 two.1.0 in
+    let x = is_led r may.differ s.place 0 one.0 one.1.0 in
+    let y = is_led r may.differ s.place i two.0 two.1.0 in
     let will = will_of (worker_count r.program + 2) s.place.left 0 both.0 (omega arith) in
     let take = take_is r can may s.place x.event (sym (at_will_is r can may s.place 0 offers.Take can.take will) ∙ x.offered) in
     let goes_on = subst (λ e. next r.program s.place.state e ≡ Moves x.state x.line) take.2 x.goes in

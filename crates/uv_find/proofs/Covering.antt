@@ -9,8 +9,10 @@ use Rattle.uv_model.specs.State.{State}
 use Rattle.uv_model.specs.Next.{Next, Moves, Refuses, next}
 use Rattle.uv_search.specs.Ways.{CoversMoves, CoversStep}
 use Rattle.uv_state_key.specs.Formed.{formed}
+use Rattle.uv_state_key.specs.TaleKey.{key_code, tale_code}
+use Rattle.uv_tale.proofs.Told.{tales_alike}
 use Rattle.uv_normal.specs.Normal.{calls_timer}
-use Rattle.uv_pooled.specs.Pooled.{pooled}
+use Rattle.uv_by_name.specs.ByName.{by_name, IsRegular}
 use Rattle.uv_asking.specs.declared.asking.Offered.{Offered}
 use Rattle.uv_asking.specs.declared.asking.Question.{Question}
 use Rattle.uv_asking.specs.declared.asking.Question.TheVariants as asks
@@ -19,13 +21,13 @@ use Rattle.uv_find.specs.Forgetting.{LONGEST, is_common}
 use Rattle.uv_find.specs.Kept.{along_after}
 use Rattle.uv_find.specs.Orders.{Rules, Place, Choice, Led, led, led_by, placed, chosen, lessened, offered_by, is_brief, move_count, move_count_by, taken, reached, is_within}
 use Rattle.uv_find.specs.Questions.{answers, place_answers, none_leads, has_ended}
-use Rattle.uv_find.specs.Spots.{Spot, spot_of, next_spot, told_due, told, Told, told_code, spot_code, CanForget, IsSpot, IsStanding, is_few}
+use Rattle.uv_find.specs.Spots.{Spot, spot_of, next_spot, told_due, told, Told, left_code, kept_code, place_code, spot_code, CanForget, IsSpot, IsStanding, is_few}
 use Rattle.uv_find.proofs.Alike.{GoesAlike, NextGoes, regular_by, spot_regular, AreAlike, DueAlike, kept_due_alike, within_alike, goes_alike, blocked_alike, offered_alike, both}
 use Rattle.uv_find.proofs.Led.{each, event_at, choice_is, length_more, led_leads, leads_spot, state_behind, offered_brief}
 use Rattle.uv_find.proofs.Onward.{owed_alike, along_alike, uncalled_alike, line_alike}
 use Rattle.uv_find.proofs.Lines.{LinesAlike}
 use Rattle.uv_find.proofs.Readings.{reads_ended}
-use Rattle.uv_find.proofs.Runners.{IsRegular, RunAlike, EventsAlike, OffersAlike}
+use Rattle.uv_find.proofs.Runners.{RunAlike, EventsAlike, OffersAlike}
 use Rattle.uv_find.proofs.Moving.{after_event}
 use Rattle.uv_find.proofs.Telling.{places_tell}
 
@@ -73,21 +75,21 @@ module _ (r : Rules) (n : ℕ) (forget : r.forget ≡ Some n) (can : CanForget r
   due_goes (asks.Behind name other) a b u v d e h k = h
 
   module _ (s t : Spot) (hs : IsSpot r s) (ht : IsSpot r t) (alike : AreAlike r n s.place t.place) where
-    events_alike : (number : ℕ) → OffersAlike n s.place.state t.place.state (event_at r s.place number) (event_at r t.place number)
+    events_alike : (number : ℕ) → OffersAlike r.program n s.place.state t.place.state (event_at r s.place number) (event_at r t.place number)
     events_alike number =
-        subst (λ (xs : List Left). OffersAlike n s.place.state t.place.state (event_at r s.place number)
+        subst (λ (xs : List Left). OffersAlike r.program n s.place.state t.place.state (event_at r s.place number)
         (if nat_lt number (move_count_by r.differ (length r.offers) (length xs))
         then offered_by r t.place (slice_get r.offers number) (slice_get xs number) else None)) alike.left
         (by (nat_lt number (move_count r s.place)))
       where
-        by : (b : Bool) → OffersAlike n s.place.state t.place.state
+        by : (b : Bool) → OffersAlike r.program n s.place.state t.place.state
             (if b then offered_by r s.place (slice_get r.offers number) (slice_get s.place.left number) else None)
             (if b then offered_by r t.place (slice_get r.offers number) (slice_get s.place.left number) else None)
         by true = offered_alike r n forget can s t hs ht alike (slice_get r.offers number) (slice_get s.place.left number)
             (λ (o : Offered) (is : slice_get r.offers number ≡ Some o). each (λ (x : Offered). is_common x.offer) r.offers number o can.aside is)
         by false = tt
 
-    module _ (number : ℕ) (e f : Event) (does : EventsAlike n s.place.state t.place.state e f) (brief : is_brief (Some n) e ≡ true) where
+    module _ (number : ℕ) (e f : Event) (does : EventsAlike r.program n s.place.state t.place.state e f) (brief : is_brief (Some n) e ≡ true) where
       abbrev c : Choice
       c = record { event = e; left = lessened s.place.left number; kept = s.place.kept }
 
@@ -102,11 +104,12 @@ module _ (r : Rules) (n : ℕ) (forget : r.forget ≡ Some n) (can : CanForget r
           let long = length_more w.steps g in
           regular_by r n forget can u (w.steps ++ g ∷ []) (state_behind r w g u line hw goes) (omega (arith, few, long))
 
-      along_both : (u v : State) (line other : Option Seen) → IsRegular r.program u → IsRegular r.program v → pooled n u ≡ pooled n v
+      along_both : (u v : State) (line other : Option Seen) → IsRegular r.program u → IsRegular r.program v
+          → by_name r.program n u ≡ by_name r.program n v
           → LinesAlike r.program line other
           → along_after r.recorded s.place.kept.along e line ≡ along_after r.recorded t.place.kept.along f other
       along_both u v line other ru rv same lines = by does where
-        by : EventsAlike n s.place.state t.place.state e f
+        by : EventsAlike r.program n s.place.state t.place.state e f
             → along_after r.recorded s.place.kept.along e line ≡ along_after r.recorded t.place.kept.along f other
         by (inl h) =
             subst (λ g. along_after r.recorded s.place.kept.along e line ≡ along_after r.recorded t.place.kept.along g other) h.0
@@ -168,7 +171,8 @@ module _ (r : Rules) (n : ℕ) (forget : r.forget ≡ Some n) (can : CanForget r
         (subst (λ y. LedAlike s t (led_by r s.place (chosen (lessened s.place.left number) s.place.kept (event_at r s.place number))) y) two
         (by (event_at r s.place number) (event_at r t.place number) (event_brief s.place number) (events_alike number)))
       where
-        by : (x y : Option Event) → ((e : Event) → x ≡ Some e → is_brief (Some n) e ≡ true) → OffersAlike n s.place.state t.place.state x y →
+        by : (x y : Option Event) → ((e : Event) → x ≡ Some e → is_brief (Some n) e ≡ true)
+            → OffersAlike r.program n s.place.state t.place.state x y →
             LedAlike s t (led_by r s.place (chosen (lessened s.place.left number) s.place.kept x))
             (led_by r t.place (chosen (lessened t.place.left number) t.place.kept y))
         by None None brief h = tt
@@ -228,14 +232,14 @@ module _ (r : Rules) (n : ℕ) (forget : r.forget ≡ Some n) (can : CanForget r
   due_told (asks.Before name other) a b d e h = ap (λ x. (x, 0)) h
   due_told (asks.Behind name other) a b d e h = ap (λ x. (x, 0)) h
 
-  told_alike : (p q : Place) → AreAlike r n p q → told r p ≡ told r q
-  told_alike p q h =
-      let state : formed r.forget p.state ≡ formed r.forget q.state =
-      subst (λ o. formed o p.state ≡ formed o q.state) (sym forget) h.state in
+  codes_alike : (p q : Place) → IsRegular r.program p.state → IsRegular r.program q.state → AreAlike r n p q → place_code r p ≡ place_code r q
+  codes_alike p q one two h =
+      let key : key_code r.forget p.state ≡ key_code r.forget q.state =
+      subst (λ o. key_code o p.state ≡ key_code o q.state) (sym forget) (ap tale_code (tales_alike r.program n p.state q.state one two h.state)) in
       let due : told_due r.forget r.question p.state.clock p.kept.due ≡ told_due r.forget r.question q.state.clock q.kept.due =
       subst (λ o. told_due o r.question p.state.clock p.kept.due ≡ told_due o r.question q.state.clock q.kept.due) (sym forget)
       (due_told r.question p.state.clock q.state.clock p.kept.due q.kept.due h.due) in
-      λ i. record { state = state i; left = h.left i; due = due i; owed = h.owed i; along = h.along i }
+      λ i. key i ++ left_code (h.left i) ++ kept_code (due i) (h.owed i) (h.along i)
 
   due_by : (q : Question) (a b d e : ℕ) → told_due (Some n) q a d ≡ told_due (Some n) q b e → DueAlike q a d b e
   due_by (asks.Late name ms) a b d e h =
@@ -253,7 +257,7 @@ module _ (r : Rules) (n : ℕ) (forget : r.forget ≡ Some n) (can : CanForget r
 
   alike_by : (p q : Place) → told r p ≡ told r q → AreAlike r n p q
   alike_by p q h = record {
-    state = subst (λ o. formed o p.state ≡ formed o q.state) forget (ap (λ (x : Told). x.state) h);
+    state = subst (λ o. formed r.program o p.state ≡ formed r.program o q.state) forget (ap (λ (x : Told). x.state) h);
     left = ap (λ (x : Told). x.left) h;
     owed = ap (λ (x : Told). x.owed) h;
     along = ap (λ (x : Told). x.along) h;
@@ -277,20 +281,20 @@ module _ (r : Rules) (n : ℕ) (forget : r.forget ≡ Some n) (can : CanForget r
         let place = place_alike (record { place = x.place; steps = s.steps ++ x.event ∷ [] })
         (record { place = y.place; steps = t.steps ++ y.event ∷ [] })
         hx hy h.places r.question in (
-          ap told_code (told_alike x.place y.place h.places),
+          codes_alike x.place y.place h.regular h.other h.places,
           ap₂ (λ one two. if one then true else two) line place,
         )
 
     -- two workers that run alike take a request, by this offer: they lead to places of one key, and answer alike
     pub takes_cover : (number worker other : ℕ) (u v : State) (line says : Option Seen)
-        → RunAlike n s.place.state t.place.state worker other
+        → RunAlike r.program n s.place.state t.place.state worker other
         → next r.program s.place.state (Take worker) ≡ Moves u line → next r.program t.place.state (Take other) ≡ Moves v says
         → IsSpot r (after_event s (led_take r s.place number worker u line)) → IsSpot r (after_event t (led_take r t.place number other v says))
         → (spot_code r (after_event s (led_take r s.place number worker u line))
         ≡ spot_code r (after_event t (led_take r t.place number other v says)))
         × (answers r s.place (led_take r s.place number worker u line) ≡ answers r t.place (led_take r t.place number other v says))
     takes_cover number worker other u v line says runs goes comes here there =
-        let both : EventsAlike n s.place.state t.place.state (Take worker) (Take other) =
+        let both : EventsAlike r.program n s.place.state t.place.state (Take worker) (Take other) =
         inr (inl (record { worker = worker; other = other; one = refl; two = refl; same = runs })) in
         let next_both = goes_alike r n forget can s t hs ht alike (Take worker) (Take other) both refl in
         let moved : GoesAlike r.program n s.place.state t.place.state u v line says =
@@ -341,7 +345,7 @@ same_spots r s t same whole (Some l) = by (is_few r.forget (length s.steps + 1))
 
 whole_place : (r : Rules) (p q : Place) → r.forget ≡ None → told r p ≡ told r q → p ≡ q
 whole_place r p q whole e =
-    let state : p.state ≡ q.state = subst (λ o. formed o p.state ≡ formed o q.state) whole (ap (λ (x : Told). x.state) e) in
+    let state : p.state ≡ q.state = subst (λ o. formed r.program o p.state ≡ formed r.program o q.state) whole (ap (λ (x : Told). x.state) e) in
     let dues = subst (λ o. told_due o r.question p.state.clock p.kept.due ≡ told_due o r.question q.state.clock q.kept.due) whole
     (ap (λ (x : Told). x.due) e) in
     let due : p.kept.due ≡ q.kept.due = ap (λ x. x.0) dues in

@@ -29,13 +29,13 @@ use Rattle.uv_find.specs.Holding.{may_take_at_once}
 use Rattle.uv_find.specs.Courses.{Course, LeadsOn}
 use Rattle.uv_find.specs.Found.{IsFinished, EachFinishes}
 use Rattle.uv_find.specs.Orders.{Rules, Place, Choice, Led, at_will, finishes, times_left, less, lessened, lessened_by, chosen, offered_by, beginning, first_left, timed, brief, move_count, move_count_by}
-use Rattle.uv_find.specs.Ranks.{rank_of, runner, finish_by, ranked}
+use Rattle.uv_find.specs.Ranks.{key_at, keys_run, rank_of, runner, finish_by, ranked}
 use Rattle.uv_find.specs.Spots.{rules_of}
 use Rattle.uv_find.proofs.Led.{choice_is, event_at}
 use Rattle.uv_find.proofs.Meeting.{get_within}
 use Rattle.uv_find.proofs.Offers.{behind_first, finish_in}
-use Rattle.uv_find.proofs.Ranking.{Run, rank_one, rank_within}
-use Rattle.uv_find.proofs.Runners.{after_long, rank_slot, slot_rank}
+use Rattle.uv_find.proofs.Ranking.{Run, rank_one}
+use Rattle.uv_find.proofs.Runners.{after_long, rank_slot, slot_rank, key_there, rank_below}
 
 -- ---- what is left
 
@@ -124,12 +124,15 @@ module _ (p : Program) (gs : List Event) (s : State) (is : s ≡ after p gs) (wo
   in_slot k x there = let its = opened.each x (has_at s.waiting s.running k x there) in request_held s x its.its its.holds
 
   -- it is the worker of the rank of its request
-  pub its_rank : runner s (rank_of s id.slot) ≡ Some worker
+  pub its_rank : runner s (rank_of s id) ≡ Some worker
   its_rank =
-      let first = slot_rank s worker id (rank_of s id.slot) runs refl in
-      let found = rank_slot s (rank_of s id.slot) first.0 first.1 in
+      let first = slot_rank s worker id (rank_of s id) runs refl in
+      let found = rank_slot s (rank_of s id) first.0 first.1 in
       let other = found.0 in
-      let slot : other.slot ≡ id.slot = rank_one s.running first.0 worker other id found.1 runs found.2 in
+      let key : key_at s.arena.slots other ≡ key_at s.arena.slots id =
+      rank_one (keys_run s) first.0 worker (key_at s.arena.slots other) (key_at s.arena.slots id) (key_there s first.0 other found.1)
+      (key_there s worker id runs) found.2 in
+      let slot : other.slot ≡ id.slot = ap (λ (x : Id). x.generation) key in
       let one : other ≡ id = one_in_slot s other id slot (in_slot first.0 other found.1) (in_slot worker id runs) in
       let same : first.0 ≡ worker = one_runner s.running first.0 worker id (distinct_behind s.waiting (run_ids s.running) opened.distinct)
       (found.1 ∙ ap (λ x. Some (Some x)) one) runs in
@@ -206,8 +209,8 @@ module _ (p : Program) (asked : Asked) (es : List Event) (q : Place) (worker : �
       let below : worker < worker_count p = subst (λ n. worker < n) count (runs_within q.state.running worker id there) in
       finish_offered p asked q differ worker worker below (will worker below) (ap (λ o. ranked o q.state (Some (event.Finish worker))) whole)
   finished (Some n) some =
-      let rank = rank_of q.state id.slot in
-      let below : rank < worker_count p = subst (λ m. rank < m) count (rank_within q.state.running worker id there) in
+      let rank = rank_of q.state id in
+      let below : rank < worker_count p = subst (λ m. rank < m) count (rank_below q.state worker id there) in
       finish_offered p asked q differ worker rank below (will rank below)
       (ap (λ o. ranked o q.state (Some (event.Finish rank))) some ∙ ap finish_by (its_rank p state.0 q.state state.1 worker id there))
 

@@ -1,32 +1,26 @@
 -- What holds where a search forgets.
-use Rattle.std.proofs.Common.{◌≡◌, ℕ, zero, suc, ◌≤◌, Bool, true, false, List, [], ◌∷◌, ◌++◌, Option, Some, None, is_none, option_map, slice_get, refl, subst, if◌then◌else◌, arith}
-use Rattle.std.specs.Prelude.{max, unwrap_or}
+use Rattle.std.proofs.Common.{◌≡◌, ℕ, zero, suc, ◌≤◌, Bool, true, false, List, [], ◌∷◌, ◌++◌, Option, Some, None, is_none, if◌then◌else◌, refl, arith}
+use Rattle.std.specs.Prelude.{max}
 use Rattle.std.specs.List.{list_all}
 use Rattle.std.proofs.lemmas.Bool.{and_parts, ltb-true}
 use Rattle.std.proofs.lemmas.Option.{same_Some, none-some}
-use Rattle.uv_ids.specs.declared.seen.Callback.{Callback}
-use Rattle.uv_ids.specs.declared.seen.Callback.TheVariants as callback
-use Rattle.uv_ids.specs.declared.seen.Site.{Site}
-use Rattle.uv_ids.specs.declared.seen.Site.TheVariants as site
+use Rattle.uv_ids.specs.declared.event.Event.TheVariants as event
 use Rattle.uv_script.specs.declared.op.Op.{Op}
 use Rattle.uv_script.specs.declared.op.Op.TheVariants as op
-use Rattle.uv_script.specs.declared.op.MainOp.{MainOp}
-use Rattle.uv_script.specs.declared.op.MainOp.TheVariants as main
-use Rattle.uv_script.specs.declared.op.CallbackLine.{CallbackLine}
-use Rattle.uv_script.specs.Program.{Program, Callbacks, no_callbacks, lines_of, main_op, op_at, arena_size, worker_count}
+use Rattle.uv_script.specs.Program.{Program, arena_size, worker_count}
 use Rattle.uv_names.specs.Counts.{script_end}
 use Rattle.uv_names.proofs.Counted.{script_before}
 use Rattle.uv_shift.specs.Shift.{IsShortOp, IsShort}
 use Rattle.uv_asking.specs.Asked.{Asked}
-use Rattle.uv_find.specs.Forgetting.{LONG, is_small_op, is_small_main, are_small_lines, are_small_callbacks, is_small_script, may_forget, most_end, takes_end, question_end, is_aside, are_aside, is_common, are_common, calls_end, LONGEST}
-use Rattle.uv_ids.specs.declared.event.Event.TheVariants as event
 use Rattle.uv_asking.specs.declared.asking.Offered.{Offered}
 use Rattle.uv_asking.specs.declared.asking.Offer.{Offer}
 use Rattle.uv_asking.specs.declared.asking.Offer.TheVariants.{Step}
+use Rattle.uv_find.specs.Forgetting.{LONG, is_small_op, may_forget, most_end, takes_end, question_end, is_aside, are_aside, is_common, are_common, calls_end, LONGEST}
 use Rattle.uv_find.specs.Holding.{may_take_at_once}
+use Rattle.uv_find.specs.Ops.{each_op}
 use Rattle.uv_find.specs.Orders.{at_will, finishes, every_offer}
-use Rattle.uv_find.proofs.Led.{each}
 use Rattle.uv_find.specs.Spots.{CanForget, MayForget, rules_of}
+use Rattle.uv_find.proofs.Declaring.{each_at, are_declared}
 
 -- ---- small numbers
 
@@ -37,39 +31,8 @@ op_short (op.Start v timeout repeat) h =
 op_short (op.SetRepeat v repeat) h = ltb-true repeat LONG h
 op_short _ h = tt
 
-main_short : (m : Option MainOp) (o : Op) → ((x : MainOp) → m ≡ Some x → is_small_main x ≡ true) → main_op m ≡ Some o → IsShortOp LONG o
-main_short (Some (main.Op q)) o small e = subst (IsShortOp LONG) (same_Some q o e) (op_short q (small (main.Op q) refl))
-main_short (Some (main.Run mode)) o small e = absurd (none-some o e)
-main_short None o small e = absurd (none-some o e)
-
-lines_short : (lines : List CallbackLine) (k : ℕ) (o : Op) → are_small_lines lines ≡ true →
-    option_map (λ (l : CallbackLine). l.op) (slice_get lines k) ≡ Some o → IsShortOp LONG o
-lines_short [] k o small e = absurd (none-some o e)
-lines_short (l ∷ ls) zero o small e =
-    subst (IsShortOp LONG) (same_Some l.op o e) (op_short l.op (and_parts (is_small_op l.op) (are_small_lines ls) small).0)
-lines_short (l ∷ ls) (suc k) o small e = lines_short ls k o (and_parts (is_small_op l.op) (are_small_lines ls) small).1 e
-
-kind_small : (kind : Callback) (c : Callbacks) → are_small_callbacks c ≡ true → are_small_lines (lines_of kind c) ≡ true
-kind_small callback.Handle c small = (and_parts _ _ (and_parts _ _ small).0).0
-kind_small callback.After c small = (and_parts _ _ (and_parts _ _ small).0).1
-kind_small callback.Close c small = (and_parts _ _ small).1
-
-name_small : (cs : List Callbacks) (v : ℕ) → list_all are_small_callbacks cs ≡ true →
-    are_small_callbacks (unwrap_or (slice_get cs v) no_callbacks) ≡ true
-name_small [] v small = refl
-name_small (c ∷ cs) zero small = (and_parts (are_small_callbacks c) (list_all are_small_callbacks cs) small).0
-name_small (c ∷ cs) (suc v) small = name_small cs v (and_parts (are_small_callbacks c) (list_all are_small_callbacks cs) small).1
-
-script_short : (p : Program) → is_small_script p ≡ true → IsShort LONG p
-script_short p small = at where
-  both : (list_all is_small_main p.main ≡ true) × (list_all are_small_callbacks p.callbacks ≡ true)
-  both = and_parts (list_all is_small_main p.main) (list_all are_small_callbacks p.callbacks) small
-
-  at : (s : Site) (o : Op) → op_at p s ≡ Some o → IsShortOp LONG o
-  at (site.Main line) o e = main_short (slice_get p.main line) o (λ x is. each is_small_main p.main line x both.0 is) e
-  at (site.In kind v line) o e =
-      let c = unwrap_or (slice_get p.callbacks v.0) no_callbacks in
-      lines_short (lines_of kind c) line o (kind_small kind c (name_small p.callbacks v.0 both.1)) e
+script_short : (p : Program) → each_op is_small_op p ≡ true → IsShort LONG p
+script_short p small at o e = op_short o (each_at is_small_op p small at o e)
 
 -- ---- the whole
 
@@ -106,7 +69,8 @@ every_common false workers asked h = all_front _ (finishes workers) asked (finis
 
 forgetting : (p : Program) (asked : Asked) (n : ℕ) → may_forget p asked ≡ true → calls_end p asked ≡ n → CanForget (rules_of p asked) n
 forgetting p asked n may end =
-    let takes = and_parts _ _ may in
+    let declared = and_parts _ _ may in
+    let takes = and_parts _ _ declared.0 in
     let aside = and_parts _ _ takes.0 in
     let offers = and_parts _ _ aside.0 in
     let small = and_parts _ _ offers.0 in
@@ -121,6 +85,7 @@ forgetting p asked n may end =
       question = all.3;
       some = all.4;
       short = script_short p small.1;
+      declares = are_declared p declared.1;
       lasts = ltb-true LONGEST (arena_size p).last_generation lasts.1;
       clock = is_absent asked.clock clock.1;
       differ = is_absent asked.differ differ.1;

@@ -13,15 +13,12 @@ use Rattle.uv_find.specs.Orders.{at_will, finishes, first_offers, every_offer}
 use Rattle.uv_find.specs.Spots.{CanHold, CanTakeAtOnce, MayHold, rules_of}
 use Rattle.uv_find.proofs.Forgets.{all_front, is_absent}
 use Rattle.uv_find.proofs.Led.{each}
+use Rattle.uv_find.proofs.Meeting.{not_true}
 use Rattle.uv_find.proofs.Offers.{offers_are, finish_in}
 
 none_in : {A : Type 0} (xs : List A) → is_empty xs ≡ true → xs ≡ []
 none_in [] e = refl
 none_in (x ∷ xs) e = absurd (let f : false ≡ true = e in cc)
-
-not_true : (b : Bool) → not b ≡ true → b ≡ false
-not_true true e = absurd (let f : false ≡ true = e in cc)
-not_true false e = refl
 
 finishes_of_pool : (ticks : Bool) (workers : ℕ) → can_all_meet ticks (finishes workers) ≡ true
 finishes_of_pool ticks zero = refl
@@ -118,19 +115,17 @@ taking p asked at_once is may =
     let clear = and_parts _ _ cancels.0 in
     let question = and_parts _ _ clear.0 in
     let takes = and_parts _ _ question.0 in
-    let differ = and_parts _ _ takes.0 in
     let workers = worker_count p in
     let offers : (rules_of p asked).offers ≡ first_offers true ++ (finishes workers ++ asked.offers) =
     ap (λ b. every_offer b workers asked.offers) here ∙ offers_are true (finishes workers) asked.offers in
     record {
       counted = calls_end p asked;
-      forgets = ap (λ b. if b then Some (calls_end p asked) else None) differ.0;
+      forgets = ap (λ b. if b then Some (calls_end p asked) else None) takes.0;
       take = ap (λ xs. slice_get xs 0) offers;
       loop = ap (λ xs. slice_get xs 1) offers;
       finishes = λ k below. ap (λ xs. slice_get xs (suc (suc k))) offers ∙ finish_in workers k asked.offers below;
       others = λ i o l at. asked_clear workers asked.offers clear.1 i o l (ap (λ xs. slice_get xs i) (sym offers) ∙ at);
       cancels = cancels.1;
-      differ = is_absent asked.differ differ.1;
       takes = none_in asked.takes takes.1;
       question = not_true (asks_late asked.question) question.1;
     }

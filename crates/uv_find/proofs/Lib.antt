@@ -15,7 +15,9 @@ pub mod Moving
 pub mod Results
 pub mod Refusing
 pub mod Finishing
+mod Keys
 mod Scans
+pub mod Declaring
 pub mod Forgets
 mod Apart
 mod Offers

@@ -23,9 +23,10 @@ use Rattle.uv_find.specs.declared.left.Left.TheVariants as left
 use Rattle.uv_find.specs.Holding.{can_meet, is_loop_apart, is_at_will, loop_number, may_take_io}
 use Rattle.uv_find.specs.Kept.{kept_after, owes}
 use Rattle.uv_find.specs.Orders.{Rules, Place, Choice, Led, led, led_by, placed, chosen, offered_by, may_take, event_of, timed, keeps_clock, brief, is_brief, at_will, taken, reached, is_within, lessened, move_count, move_count_by}
-use Rattle.uv_find.specs.Ranks.{ranked}
+use Rattle.uv_find.specs.Ranks.{keys_run, ranked}
 use Rattle.uv_find.specs.Questions.{answers, line_answers, place_answers}
 use Rattle.uv_find.specs.Spots.{Spot, CanHold, next_spot, spot_of, spot_code, apart, apart_by, is_loop_first, is_take_first, is_few, IsSpot, IsStanding, HasRoom, IsTold}
+use Rattle.uv_find.proofs.Keys.{keys_stay}
 use Rattle.uv_find.proofs.Led.{event_at, choice_is, spots_lead}
 use Rattle.uv_find.proofs.Covering.{spots_alike}
 use Rattle.uv_find.proofs.Moving.{after_event, move_is, fewer}
@@ -150,9 +151,10 @@ module _ (r : Rules) (ticks : Bool) (can : CanHold r ticks) where
     offered : event_at r q i ≡ Some e
 
   stays : (p q : Place) (i : ℕ) (e : Event) (a : State) (l : Option Seen) → (i ≡ loop_move → ⊥) → next r.program p.state Loop ≡ Moves a l
+      → keys_run q.state ≡ keys_run p.state
       → q.state ≡ a → slice_get q.left i ≡ slice_get p.left i → owes p.kept ≡ false → owes q.kept ≡ false → (b : State) (m : Option Seen)
       → may_take_io r.program p.state.place ≡ false → next r.program p.state e ≡ Moves b m → event_at r p i ≡ Some e → Stays p q i e
-  stays p q i e a l more goes there same idle still b m none comes h =
+  stays p q i e a l more goes keys there same idle still b m none comes h =
       let here : (if nat_lt i (length r.offers) then offered_by r p (slice_get r.offers i) (slice_get p.left i) else None) ≡ Some e =
       ap (λ n. if nat_lt i n then offered_by r p (slice_get r.offers i) (slice_get p.left i) else None) (sym (count_is p)) ∙ h in
       let found = by (nat_lt i (length r.offers)) (slice_get r.offers i) (slice_get p.left i) refl here in
@@ -213,7 +215,7 @@ module _ (r : Rules) (ticks : Bool) (can : CanHold r ticks) where
           let out = comes_outside r.program p.state ticks e (of_rank.comes both.0) none b m comes in (
             out,
             ap (λ o. brief r.forget (ranked r.forget q.state o)) (both.1 (of_rank.outside out))
-                ∙ ap (brief r.forget) (ranked_same r.forget q.state p.state running here) ∙ g,
+                ∙ ap (brief r.forget) (ranked_same r.forget q.state p.state keys here) ∙ g,
           )
 
       by : (c : Bool) (o : Option Offered) (x : Option Left) → slice_get r.offers i ≡ o → (if c then offered_by r p o x else None) ≡ Some e
@@ -307,7 +309,9 @@ module _ (r : Rules) (ticks : Bool) (can : CanHold r ticks) where
         (and_parts (not (ticks && reads_clock r.program s.place.state)) _ (and_parts (is_apart r.program s.place.state) _ loop_first).1).1
 
     there : Stays s.place by_loop.place i e
-    there = stays s.place by_loop.place i e a l more goes refl (ap (λ xs. slice_get xs i) left_is) idle
+    there = stays s.place by_loop.place i e a l more goes
+        (keys_stay r.program s.steps s.place.state a l is.state (and_parts (is_apart r.program s.place.state) _ loop_first).0 goes)
+        refl (ap (λ xs. slice_get xs i) left_is) idle
         (idle_kept Loop a l s.place.kept idle) b m no_io_here comes offered
 
     meets : Meets r.program e a b l m

@@ -1,21 +1,20 @@
 -- The first worker of which something holds, and the ranks of requests.
-use Rattle.std.proofs.Common.{◌≡◌, ℕ, zero, suc, ◌+◌, ◌<◌, ◌≤◌, ◌==◌, List, [], ◌∷◌, Bool, true, false, cond, length, take, drop, slice_get, nat_lt, option_and_then, refl, ap, sym, subst, ◌∙◌, Option, Some, None, if◌then◌else◌, add-one, arith}
+use Rattle.std.proofs.Common.{◌≡◌, ℕ, zero, suc, ◌+◌, ◌<◌, ◌≤◌, ◌==◌, ◌&&◌, ◌||◌, not, List, [], ◌∷◌, Bool, true, false, cond, length, take, drop, slice_get, nat_lt, nat_le, refl, ap, ap₂, sym, subst, ◌∙◌, Option, Some, None, if◌then◌else◌, add-one, arith}
 use Rattle.std.specs.Prelude.{map, option_map}
 use Rattle.std.specs.List.{position_from}
 use Rattle.std.proofs.lemmas.Bool.Decides.{nat_tests}
 use Rattle.std.proofs.lemmas.List.{drop_all}
 use Rattle.std.proofs.lemmas.Option.{same_Some, none-some}
 use Rattle.uv_ids.specs.declared.id.Id.{Id}
-use Rattle.uv_generations.specs.Renamed.{Renaming, rename}
-use Rattle.uv_workers.specs.Workers.{run_le, with_run, ordered}
-use Rattle.uv_find.specs.Ranks.{runs_before, count_before, rank_in}
+use Rattle.uv_records.specs.declared.slot.Slot.{Slot}
+use Rattle.uv_work.specs.declared.content.Content.{Content}
+use Rattle.uv_model.specs.State.{State}
+use Rattle.uv_workers.specs.Workers.{id_le, run_le, with_run, ordered}
+use Rattle.uv_tale.specs.Tale.{name_at, as_id}
+use Rattle.uv_find.specs.Ranks.{key_at, run_in, runs_before, count_before, rank_in}
 
 abbrev pub Run : Type 0
 Run = Option Id
-
--- what a worker runs
-abbrev pub run_in : List Run → ℕ → Run
-run_in xs k = option_and_then (λ run. run) (slice_get xs k)
 
 -- ---- the first worker of which something holds
 
@@ -88,62 +87,73 @@ module _ (test : Run → Bool) (xs : List Run) (k : ℕ) where
 -- ---- ranks
 
 -- one more
-pub rank_next : (slot : ℕ) (xs : List Run) (k : ℕ) → k < length xs
-    → rank_in (take k xs) slot + count_before slot (run_in xs k) ≡ rank_in (take (k + 1) xs) slot
-rank_next slot xs k within = to xs k within ∙ ap (λ n. rank_in (take n xs) slot) (sym (add-one k)) where
+pub rank_next : (key : Id) (xs : List Run) (k : ℕ) → k < length xs
+    → rank_in (take k xs) key + count_before key (run_in xs k) ≡ rank_in (take (k + 1) xs) key
+rank_next key xs k within = to xs k within ∙ ap (λ n. rank_in (take n xs) key) (sym (add-one k)) where
   none : (c : ℕ) → 0 + c ≡ c + 0
   none c = omega arith
 
   more_by : (a b c d : ℕ) → b + c ≡ d → (a + b) + c ≡ a + d
   more_by a b c d e = omega (arith, e)
 
-  to : (ys : List Run) (j : ℕ) → j < length ys → rank_in (take j ys) slot + count_before slot (run_in ys j) ≡ rank_in (take (suc j) ys) slot
+  to : (ys : List Run) (j : ℕ) → j < length ys → rank_in (take j ys) key + count_before key (run_in ys j) ≡ rank_in (take (suc j) ys) key
   to [] j less = absurd (omega (arith, less))
-  to (y ∷ ys) zero less = none (count_before slot y)
+  to (y ∷ ys) zero less = none (count_before key y)
   to (y ∷ ys) (suc j) less =
-      more_by (count_before slot y) (rank_in (take j ys) slot) (count_before slot (run_in ys j)) (rank_in (take (suc j) ys) slot)
+      more_by (count_before key y) (rank_in (take j ys) key) (count_before key (run_in ys j)) (rank_in (take (suc j) ys) key)
       (to ys j (omega (arith, less)))
 
--- generations say nothing of them
-pub rank_renamed : (f : Renaming) (xs : List Run) (slot : ℕ) → rank_in (map (option_map (rename f)) xs) slot ≡ rank_in xs slot
-rank_renamed f [] slot = refl
-rank_renamed f (None ∷ xs) slot = ap (λ n. 0 + n) (rank_renamed f xs slot)
-rank_renamed f (Some id ∷ xs) slot = ap (λ n. count_before slot (Some id) + n) (rank_renamed f xs slot)
-
--- nor does their order
-rank_with : (x : Run) (xs : List Run) (slot : ℕ) → rank_in (with_run x xs) slot ≡ rank_in (x ∷ xs) slot
-rank_with x [] slot = refl
-rank_with x (y ∷ ys) slot = by (run_le x y) (rank_with x ys slot) where
+-- in which order they are run says nothing of them
+rank_with : (x : Run) (xs : List Run) (key : Id) → rank_in (with_run x xs) key ≡ rank_in (x ∷ xs) key
+rank_with x [] key = refl
+rank_with x (y ∷ ys) key = by (run_le x y) (rank_with x ys key) where
   swaps : (a b c d : ℕ) → d ≡ a + c → b + d ≡ a + (b + c)
   swaps a b c d e = omega (arith, e)
 
-  by : (b : Bool) → rank_in (with_run x ys) slot ≡ rank_in (x ∷ ys) slot
-      → rank_in (if b then x ∷ y ∷ ys else y ∷ with_run x ys) slot ≡ rank_in (x ∷ y ∷ ys) slot
+  by : (b : Bool) → rank_in (with_run x ys) key ≡ rank_in (x ∷ ys) key
+      → rank_in (if b then x ∷ y ∷ ys else y ∷ with_run x ys) key ≡ rank_in (x ∷ y ∷ ys) key
   by true more = refl
-  by false more = swaps (count_before slot x) (count_before slot y) (rank_in ys slot) (rank_in (with_run x ys) slot) more
+  by false more = swaps (count_before key x) (count_before key y) (rank_in ys key) (rank_in (with_run x ys) key) more
 
-pub rank_ordered : (xs : List Run) (slot : ℕ) → rank_in (ordered xs) slot ≡ rank_in xs slot
-rank_ordered [] slot = refl
-rank_ordered (x ∷ xs) slot = rank_with x (ordered xs) slot ∙ ap (λ n. count_before slot x + n) (rank_ordered xs slot)
+pub rank_ordered : (xs : List Run) (key : Id) → rank_in (ordered xs) key ≡ rank_in xs key
+rank_ordered [] key = refl
+rank_ordered (x ∷ xs) key = rank_with x (ordered xs) key ∙ ap (λ n. count_before key x + n) (rank_ordered xs key)
 
--- ---- that of a later slot is no less, and more where a request lies between
+-- ---- that of what comes later is no less, and more where a request comes between
 
-one_later : (x : Run) (m n : ℕ) → m ≤ n → count_before m x ≤ count_before n x
-one_later None m n less = omega arith
-one_later (Some id) m n less = by id.slot where
-  by : (k : ℕ) → if◌then◌else◌ {A = ℕ} (nat_lt k m) 1 0 ≤ if◌then◌else◌ {A = ℕ} (nat_lt k n) 1 0
-  by k = grind (arith, nat_tests)
+id_itself : (a : Id) → id_le a a ≡ true
+id_itself a = by a.slot a.generation where
+  by : (n g : ℕ) → (nat_lt n n || ((n == n) && nat_le g g)) ≡ true
+  by n g = grind (arith, nat_tests)
 
--- a request isn't before its own slot, and it is before a later one
-not_before : (x : Run) (id : Id) → x ≡ Some id → count_before id.slot x ≡ 0
-not_before x id same = ap (λ (y : Run). count_before id.slot y) same ∙ itself id.slot where
-  itself : (n : ℕ) → if◌then◌else◌ {A = ℕ} (nat_lt n n) 1 0 ≡ 0
-  itself n = grind (arith, nat_tests)
+later_by : (a g b h c i : ℕ) → (nat_lt a b || ((a == b) && nat_le g h)) ≡ true → (nat_lt a c || ((a == c) && nat_le g i)) ≡ false
+    → (nat_lt b c || ((b == c) && nat_le h i)) ≡ false
+later_by a g b h c i le less = grind (arith, nat_tests)
 
-is_before : (x : Run) (id : Id) (slot : ℕ) → x ≡ Some id → id.slot < slot → count_before slot x ≡ 1
-is_before x id slot same less = ap (λ (y : Run). count_before slot y) same ∙ by id.slot less where
-  by : (n : ℕ) → n < slot → if◌then◌else◌ {A = ℕ} (nat_lt n slot) 1 0 ≡ 1
-  by n l = grind (arith, nat_tests)
+-- of two one comes first
+total_by : (a g b h : ℕ) → (nat_lt a b || ((a == b) && nat_le g h)) ≡ false → (nat_lt b a || ((b == a) && nat_le h g)) ≡ true
+total_by a g b h less = grind (arith, nat_tests)
+
+both_by : (a g b h : ℕ) → (nat_lt a b || ((a == b) && nat_le g h)) ≡ true → (nat_lt b a || ((b == a) && nat_le h g)) ≡ true → (a ≡ b) × (g ≡ h)
+both_by a g b h le ge = (grind (arith, nat_tests), grind (arith, nat_tests))
+
+one_later : (x : Run) (m n : Id) → id_le m n ≡ true → count_before m x ≤ count_before n x
+one_later None m n le = omega arith
+one_later (Some id) m n le =
+    by (id_le m id) (id_le n id) (λ less. later_by m.slot m.generation n.slot n.generation id.slot id.generation le less)
+  where
+    by : (p q : Bool) → (p ≡ false → q ≡ false) → if◌then◌else◌ {A = ℕ} (not p) 1 0 ≤ if◌then◌else◌ {A = ℕ} (not q) 1 0
+    by true true h = omega arith
+    by true false h = omega arith
+    by false false h = omega arith
+    by false true h = absurd (let f : true ≡ false = h refl in cc)
+
+-- a request isn't before itself, and it is before what it doesn't come behind
+not_before : (x : Run) (id : Id) → x ≡ Some id → count_before id x ≡ 0
+not_before x id same = ap (λ (y : Run). count_before id y) same ∙ ap (λ b. if◌then◌else◌ {A = ℕ} (not b) 1 0) (id_itself id)
+
+is_before : (x : Run) (id key : Id) → x ≡ Some id → id_le key id ≡ false → count_before key x ≡ 1
+is_before x id key same less = ap (λ (y : Run). count_before key y) same ∙ ap (λ b. if◌then◌else◌ {A = ℕ} (not b) 1 0) less
 
 sum_le : (a b c d : ℕ) → a ≤ b → c ≤ d → a + c ≤ b + d
 sum_le a b c d e f = omega (arith, e, f)
@@ -154,40 +164,39 @@ sum_lt a b c d e f = omega (arith, e, f)
 one_lt : (a b c d : ℕ) → a ≡ 0 → b ≡ 1 → c ≤ d → a + c < b + d
 one_lt a b c d e f g = omega (arith, e, f, g)
 
-rank_later : (xs : List Run) (m n : ℕ) → m ≤ n → rank_in xs m ≤ rank_in xs n
-rank_later [] m n less = omega arith
-rank_later (x ∷ xs) m n less =
-    sum_le (count_before m x) (count_before n x) (rank_in xs m) (rank_in xs n) (one_later x m n less) (rank_later xs m n less)
+rank_later : (xs : List Run) (m n : Id) → id_le m n ≡ true → rank_in xs m ≤ rank_in xs n
+rank_later [] m n le = omega arith
+rank_later (x ∷ xs) m n le =
+    sum_le (count_before m x) (count_before n x) (rank_in xs m) (rank_in xs n) (one_later x m n le) (rank_later xs m n le)
 
-rank_more : (xs : List Run) (j : ℕ) (id : Id) (slot : ℕ) → slice_get xs j ≡ Some (Some id) → id.slot < slot → rank_in xs id.slot < rank_in xs slot
-rank_more [] j id slot there less = absurd (none-some (Some id) there)
-rank_more (x ∷ xs) zero id slot there less =
+rank_more : (xs : List Run) (j : ℕ) (id key : Id) → slice_get xs j ≡ Some (Some id) → id_le key id ≡ false → rank_in xs id < rank_in xs key
+rank_more [] j id key there less = absurd (none-some (Some id) there)
+rank_more (x ∷ xs) zero id key there less =
     let same = same_Some x (Some id) there in
-    one_lt (count_before id.slot x) (count_before slot x) (rank_in xs id.slot) (rank_in xs slot) (not_before x id same)
-    (is_before x id slot same less)
-    (rank_later xs id.slot slot (omega (arith, less)))
-rank_more (x ∷ xs) (suc j) id slot there less =
-    sum_lt (count_before id.slot x) (count_before slot x) (rank_in xs id.slot) (rank_in xs slot) (one_later x id.slot slot (omega (arith, less)))
-    (rank_more xs j id slot there less)
+    one_lt (count_before id x) (count_before key x) (rank_in xs id) (rank_in xs key) (not_before x id same) (is_before x id key same less)
+    (rank_later xs id key (total_by key.slot key.generation id.slot id.generation less))
+rank_more (x ∷ xs) (suc j) id key there less =
+    sum_lt (count_before id x) (count_before key x) (rank_in xs id) (rank_in xs key)
+    (one_later x id key (total_by key.slot key.generation id.slot id.generation less)) (rank_more xs j id key there less)
 
--- requests of one rank are of one slot
+-- requests of one rank come at one place
 pub rank_one : (xs : List Run) (i j : ℕ) (a b : Id) → slice_get xs i ≡ Some (Some a) → slice_get xs j ≡ Some (Some b) →
-    rank_in xs a.slot ≡ rank_in xs b.slot → a.slot ≡ b.slot
-rank_one xs i j a b at_a at_b same = by (nat_lt a.slot b.slot) (nat_lt b.slot a.slot) refl refl where
-  by : (p q : Bool) → nat_lt a.slot b.slot ≡ p → nat_lt b.slot a.slot ≡ q → a.slot ≡ b.slot
-  by true q is other =
-      let below : a.slot < b.slot = grind (arith, nat_tests) in
-      let l = rank_more xs i a b.slot at_a below in
+    rank_in xs a ≡ rank_in xs b → a ≡ b
+rank_one xs i j a b at_a at_b same = by (id_le a b) (id_le b a) refl refl where
+  by : (p q : Bool) → id_le a b ≡ p → id_le b a ≡ q → a ≡ b
+  by true true le ge =
+      let both = both_by a.slot a.generation b.slot b.generation le ge in
+      λ i. record { slot = both.0 i; generation = both.1 i }
+  by true false le other =
+      let l = rank_more xs i a b at_a other in
       absurd (omega (arith, l, same))
-  by false true is other =
-      let below : b.slot < a.slot = grind (arith, nat_tests) in
-      let l = rank_more xs j b a.slot at_b below in
+  by false q other ge =
+      let l = rank_more xs j b a at_b other in
       absurd (omega (arith, l, same))
-  by false false is other = grind (arith, nat_tests)
 
 -- a rank is one of as many as there are workers
-pub one_most : (slot : ℕ) (x : Run) → count_before slot x ≤ 1
-one_most slot x = by (runs_before slot x) where
+pub one_most : (key : Id) (x : Run) → count_before key x ≤ 1
+one_most key x = by (runs_before key x) where
   by : (b : Bool) → if◌then◌else◌ {A = ℕ} b 1 0 ≤ 1
   by true = omega arith
   by false = omega arith
@@ -195,9 +204,9 @@ one_most slot x = by (runs_before slot x) where
 most_by : (a b c : ℕ) → a ≤ 1 → b ≤ c → a + b ≤ suc c
 most_by a b c e f = omega (arith, e, f)
 
-pub rank_most : (xs : List Run) (slot : ℕ) → rank_in xs slot ≤ length xs
-rank_most [] slot = omega arith
-rank_most (x ∷ xs) slot = most_by (count_before slot x) (rank_in xs slot) (length xs) (one_most slot x) (rank_most xs slot)
+pub rank_most : (xs : List Run) (key : Id) → rank_in xs key ≤ length xs
+rank_most [] key = omega arith
+rank_most (x ∷ xs) key = most_by (count_before key x) (rank_in xs key) (length xs) (one_most key x) (rank_most xs key)
 
 within_here : (a b c : ℕ) → a ≡ 0 → b ≤ c → a + b < suc c
 within_here a b c e f = omega (arith, e, f)
@@ -205,12 +214,33 @@ within_here a b c e f = omega (arith, e, f)
 within_more : (a b c : ℕ) → a ≤ 1 → b < c → a + b < suc c
 within_more a b c e f = omega (arith, e, f)
 
-pub rank_within : (xs : List Run) (j : ℕ) (id : Id) → slice_get xs j ≡ Some (Some id) → rank_in xs id.slot < length xs
+pub rank_within : (xs : List Run) (j : ℕ) (id : Id) → slice_get xs j ≡ Some (Some id) → rank_in xs id < length xs
 rank_within [] j id there = absurd (none-some (Some id) there)
 rank_within (x ∷ xs) zero id there =
-    within_here (count_before id.slot x) (rank_in xs id.slot) (length xs) (not_before x id (same_Some x (Some id) there)) (rank_most xs id.slot)
+    within_here (count_before id x) (rank_in xs id) (length xs) (not_before x id (same_Some x (Some id) there)) (rank_most xs id)
 rank_within (x ∷ xs) (suc j) id there =
-    within_more (count_before id.slot x) (rank_in xs id.slot) (length xs) (one_most id.slot x) (rank_within xs j id there)
+    within_more (count_before id x) (rank_in xs id) (length xs) (one_most id x) (rank_within xs j id there)
 
 pub equal_is : (m n : ℕ) → m ≡ n → (m == n) ≡ true
 equal_is m n e = grind (arith, nat_tests)
+
+-- ---- ranks by names alone
+
+-- what the workers run, by names
+abbrev pub called : State → List Run
+called s = map (option_map (λ (id : Id). as_id (name_at s.arena.slots id))) s.running
+
+-- where no two of a name are run, its rank is that of the name
+pub rank_by_name : (slots : List (Slot Content)) (xs : List Run) (name slot : ℕ) →
+    ((j : ℕ) (id : Id) → slice_get xs j ≡ Some (Some id) → name_at slots id ≡ name → id.slot ≡ slot) →
+    rank_in (map (option_map (key_at slots)) xs) (record { slot = name; generation = slot })
+    ≡ rank_in (map (option_map (λ (id : Id). as_id (name_at slots id))) xs) (as_id name)
+rank_by_name slots [] name slot each = refl
+rank_by_name slots (None ∷ xs) name slot each = ap (λ n. 0 + n) (rank_by_name slots xs name slot (λ j. each (suc j)))
+rank_by_name slots (Some id ∷ xs) name slot each =
+    ap₂ (λ (b : Bool) (n : ℕ). if◌then◌else◌ {A = ℕ} (not b) 1 0 + n) (by (name_at slots id) id.slot (each 0 id refl))
+    (rank_by_name slots xs name slot (λ j. each (suc j)))
+  where
+    by : (other place : ℕ) → (other ≡ name → place ≡ slot) →
+        (nat_lt name other || ((name == other) && nat_le slot place)) ≡ (nat_lt name other || ((name == other) && nat_le 0 0))
+    by other place one = grind (arith, nat_tests)

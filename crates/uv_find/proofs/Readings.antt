@@ -1,11 +1,13 @@
--- What a search reads of a state is the same of its pooled form.
-use Rattle.std.proofs.Common.{◌≡◌, ℕ, ◌+◌, ◌-◌, ◌<◌, ◌≤◌, ◌==◌, ◌&&◌, Bool, false, List, [], ◌∷◌, Option, Some, None, nat_eq, nat_le, is_none, is_some, refl, ap, ap₂, sym, ◌∙◌, arith, if◌then◌else◌}
-use Rattle.std.specs.Prelude.{min, option_map}
+-- What a search reads of a state is the same of its form by names.
+use Rattle.std.proofs.Common.{◌≡◌, ℕ, ◌+◌, ◌-◌, ◌<◌, ◌≤◌, ◌==◌, ◌&&◌, Bool, false, List, [], ◌∷◌, length, Option, Some, None, nat_eq, nat_le, is_none, is_some, refl, ap, ap₂, sym, ◌∙◌, arith, if◌then◌else◌}
+use Rattle.std.specs.Prelude.{min, map, option_map}
 use Rattle.std.specs.Option.{option_eq}
 use Rattle.uv_ids.specs.declared.id.Id.{Id}
 use Rattle.uv_ids.specs.declared.id.Var.{Var}
 use Rattle.uv_ids.specs.declared.seen.Callback.{Callback}
+use Rattle.uv_records.specs.declared.handle.HandleRecord.{HandleRecord}
 use Rattle.uv_records.specs.declared.named.Named.{Named}
+use Rattle.uv_records.specs.Handles.{is_timer}
 use Rattle.uv_records.specs.Names.{count_of}
 use Rattle.uv_records.specs.Slots.{held}
 use Rattle.uv_script.specs.Program.{Program, is_for}
@@ -18,54 +20,31 @@ use Rattle.uv_model.specs.declared.place.Stage.TheVariants as stage
 use Rattle.uv_model.specs.State.{State, named}
 use Rattle.uv_shift.specs.Retimed.{Retiming, retimed_handle, retimed_content, retimed_stage, retimed_place}
 use Rattle.uv_shift.specs.Shift.{By, later, shift}
-use Rattle.uv_shift.specs.Earliest.{earliest, IsTimed}
-use Rattle.uv_shift.specs.Earliest as early
 use Rattle.uv_shift.proofs.Slots.{held_shift}
-use Rattle.uv_shift.proofs.Base.{earliest_later}
 use Rattle.uv_generations.specs.More.{Frees, more}
-use Rattle.uv_generations.specs.Youngest.{surplus, youngest, IsYoung}
 use Rattle.uv_generations.proofs.More.{rename}
 use Rattle.uv_generations.proofs.Slots.{held_renamed, named_renamed}
-use Rattle.uv_generations.proofs.Base.{youngest_more}
-use Rattle.uv_generations.proofs.Bare.{earliest_young}
 use Rattle.uv_names.specs.Counts.{capped_body, capped_place, call_end}
 use Rattle.uv_names.specs.Stale.{staled, staled_id}
 use Rattle.uv_names.proofs.Counted.{named_capped, bound_capped, count_capped}
 use Rattle.uv_names.proofs.Stales.{bound_staled, calls_staled, held_same, named_staled}
-use Rattle.uv_normal.specs.Normal.{reduced, normal}
-use Rattle.uv_normal.proofs.Reduced.{reduced_timed, reduced_young}
-use Rattle.uv_pooled.specs.Pooled.{pooled}
-use Rattle.uv_workers.specs.Workers.{orderly}
+use Rattle.uv_normal.specs.Normal.{reduced}
+use Rattle.uv_slots.specs.Arranged.{arranged, arranged_id}
+use Rattle.uv_slots.specs.Buried.{buried, buried_id}
+use Rattle.uv_slots.proofs.Buries.{named_buried}
+use Rattle.uv_slots.proofs.Orders.{Fits}
+use Rattle.uv_slots.proofs.Slots.{held_arranged, named_arranged}
+use Rattle.uv_workers.specs.Workers.{ordered}
+use Rattle.uv_workers.proofs.Runs.{map_ordered}
+use Rattle.uv_by_name.proofs.Reading.{Sees, Reads}
+use Rattle.uv_tale.specs.Tale.{number_of, name_at, as_id}
+use Rattle.uv_tale.proofs.Told.{held_buried}
 use Rattle.uv_asking.specs.declared.asking.Takes.{Takes}
 use Rattle.uv_find.specs.Forgetting.{takes_end}
-use Rattle.uv_records.specs.declared.handle.HandleRecord.{HandleRecord}
-use Rattle.uv_records.specs.Handles.{is_timer}
 use Rattle.uv_find.specs.Questions.{has_ended}
 use Rattle.uv_find.specs.Kept.{is_over, is_timers_stage, is_in_timers, said_time, time_taken, or_time}
 use Rattle.uv_find.specs.Orders.{is_quiet, is_behind_poll, is_closing, closes, deadline_in, deadline_at}
-
--- what is read of a state is the same of the state reduced, later, with slots that were freed more often, and with the workers' requests in order
-pub record Reads {X : Type 0} (n : ℕ) (R : State → X) : Type 0 where
-  reduces : (s : State) → R (reduced n s) ≡ R s
-  shifts : (d : By) (s : State) → R (shift d s) ≡ R s
-  frees : (k : Frees) (s : State) → R (more k s) ≡ R s
-  runs : (s : State) → R (orderly s) ≡ R s
-
-module _ {X : Type 0} (n : ℕ) (R : State → X) (reads : Reads n R) (p : Program) where
-  of_normal : (s : State) → IsTimed p s → IsYoung p s → R s ≡ R (normal n s)
-  of_normal s timed young =
-      let r = reduced n s in
-      let old = reduced_timed p n s timed in
-      let fresh = earliest_young p r old (reduced_young p n s young) in
-      sym (reads.reduces s) ∙ ap R (sym (earliest_later r old.timers)) ∙ reads.shifts (early.base r) (earliest r)
-      ∙ ap R (sym (youngest_more p (earliest r) fresh)) ∙ reads.frees (surplus (earliest r)) (youngest (earliest r))
-
-  of_pooled : (s : State) → IsTimed p s → IsYoung p s → R s ≡ R (pooled n s)
-  of_pooled s timed young = of_normal s timed young ∙ sym (reads.runs (normal n s))
-
-  -- so it is the same of states that have the same pooled form
-  pub reads_alike : (s t : State) → IsTimed p s → IsYoung p s → IsTimed p t → IsYoung p t → pooled n s ≡ pooled n t → R s ≡ R t
-  reads_alike s t timed young timely youth same = of_pooled s timed young ∙ ap R same ∙ sym (of_pooled t timely youth)
+use Rattle.uv_find.proofs.Ranking.{called}
 
 -- ---- names
 
@@ -78,9 +57,13 @@ some_map f (Some x) = refl
 
 pub reads_bound : (n : ℕ) (v : Var) → Reads n (is_bound v)
 reads_bound n v = record {
-  reduces = λ s. ap is_some (bound_capped n (staled s) v) ∙ bound_staled s v;
-  shifts = λ d s. refl;
-  frees = λ k s. ap (λ (x : Named). is_some x.id) (named_renamed k s v) ∙ some_map (rename k) (named s v).id;
+  sees = record {
+    reduces = λ s. ap is_some (bound_capped n (staled s) v) ∙ bound_staled s v;
+    shifts = λ d s. refl;
+    frees = λ k s. ap (λ (x : Named). is_some x.id) (named_renamed k s v) ∙ some_map (rename k) (named s v).id;
+    buries = λ dead s below. ap (λ (x : Named). is_some x.id) (named_buried dead s v) ∙ some_map (buried_id dead s.arena.slots) (named s v).id;
+    arranges = λ o s fits. ap (λ (x : Named). is_some x.id) (named_arranged o s v) ∙ some_map (arranged_id o) (named s v).id;
+  };
   runs = λ s. refl;
 }
 
@@ -109,11 +92,26 @@ module _ {Y : Type 0} (f : Option Content → Y) (none : Y) where
   bound_freed k s None = refl
   bound_freed k s (Some id) = ap f (held_renamed k s.arena.slots id)
 
+  bound_buried : (dead : ℕ) (s : State) → length s.arena.slots + s.arena.unused ≤ dead → (o : Option Id)
+      → of_bound (buried dead s) (option_map (buried_id dead s.arena.slots) o) ≡ of_bound s o
+  bound_buried dead s below None = refl
+  bound_buried dead s below (Some id) = ap f (held_buried dead s.arena below id)
+
+  bound_arranged : (o : List ℕ) (s : State) → Fits o s.arena.slots → (x : Option Id)
+      → of_bound (arranged o s) (option_map (arranged_id o) x) ≡ of_bound s x
+  bound_arranged o s fits None = refl
+  bound_arranged o s fits (Some id) = ap f (held_arranged o s.arena.slots id fits)
+
   pub reads_named : ((d : By) (o : Option Content) → f (option_map (retimed_content (later d)) o) ≡ f o) → (n : ℕ) (v : Var) → Reads n (of_named v)
   reads_named same n v = record {
-    reduces = λ s. ap (of_bound (reduced n s)) (id_reduced n s v) ∙ bound_reduced n s (named s v).id;
-    shifts = λ d s. bound_shifted same d s (named s v).id;
-    frees = λ k s. ap (λ (x : Named). of_bound (more k s) x.id) (named_renamed k s v) ∙ bound_freed k s (named s v).id;
+    sees = record {
+      reduces = λ s. ap (of_bound (reduced n s)) (id_reduced n s v) ∙ bound_reduced n s (named s v).id;
+      shifts = λ d s. bound_shifted same d s (named s v).id;
+      frees = λ k s. ap (λ (x : Named). of_bound (more k s) x.id) (named_renamed k s v) ∙ bound_freed k s (named s v).id;
+      buries = λ dead s below. ap (λ (x : Named). of_bound (buried dead s) x.id) (named_buried dead s v)
+          ∙ bound_buried dead s below (named s v).id;
+      arranges = λ o s fits. ap (λ (x : Named). of_bound (arranged o s) x.id) (named_arranged o s v) ∙ bound_arranged o s fits (named s v).id;
+    };
     runs = λ s. refl;
   }
 
@@ -135,9 +133,13 @@ pub reads_shut : (n : ℕ) (v : Var) → Reads n (is_shut v)
 reads_shut n v =
     let r = reads_named is_closing false closing_later n v in
     record {
-      reduces = λ s. shut_is v (reduced n s) ∙ r.reduces s ∙ sym (shut_is v s);
-      shifts = λ d s. shut_is v (shift d s) ∙ r.shifts d s ∙ sym (shut_is v s);
-      frees = λ k s. shut_is v (more k s) ∙ r.frees k s ∙ sym (shut_is v s);
+      sees = record {
+        reduces = λ s. shut_is v (reduced n s) ∙ r.sees.reduces s ∙ sym (shut_is v s);
+        shifts = λ d s. shut_is v (shift d s) ∙ r.sees.shifts d s ∙ sym (shut_is v s);
+        frees = λ k s. shut_is v (more k s) ∙ r.sees.frees k s ∙ sym (shut_is v s);
+        buries = λ dead s below. shut_is v (buried dead s) ∙ r.sees.buries dead s below ∙ sym (shut_is v s);
+        arranges = λ o s fits. shut_is v (arranged o s) ∙ r.sees.arranges o s fits ∙ sym (shut_is v s);
+      };
       runs = λ s. refl;
     }
 
@@ -154,9 +156,13 @@ count_reduced n kind v s =
 -- by a function that tells no numbers from n on
 pub reads_count : {X : Type 0} (f : ℕ → X) (n : ℕ) → ((c : ℕ) → f (min c n) ≡ f c) → (kind : Callback) (v : Var) → Reads n (λ s. f (count kind v s))
 reads_count f n same kind v = record {
-  reduces = λ s. ap f (count_reduced n kind v s) ∙ same (count kind v s);
-  shifts = λ d s. refl;
-  frees = λ k s. ap (λ (x : Named). f (count_of kind x.calls)) (named_renamed k s v);
+  sees = record {
+    reduces = λ s. ap f (count_reduced n kind v s) ∙ same (count kind v s);
+    shifts = λ d s. refl;
+    frees = λ k s. ap (λ (x : Named). f (count_of kind x.calls)) (named_renamed k s v);
+    buries = λ dead s below. ap (λ (x : Named). f (count_of kind x.calls)) (named_buried dead s v);
+    arranges = λ o s fits. ap (λ (x : Named). f (count_of kind x.calls)) (named_arranged o s v);
+  };
   runs = λ s. refl;
 }
 
@@ -190,9 +196,13 @@ taken_capped takes v n below c = ap (λ o. or_time o (said_time takes v None)) (
 pub reads_place : {X : Type 0} (f : Place → X) (n : ℕ) → ((place : Place) → f (capped_place n place) ≡ f place) →
     ((d : By) (place : Place) → f (retimed_place (later d) place) ≡ f place) → Reads n (λ s. f s.place)
 reads_place f n capped timed = record {
-  reduces = λ s. capped s.place;
-  shifts = λ d s. timed d s.place;
-  frees = λ k s. refl;
+  sees = record {
+    reduces = λ s. capped s.place;
+    shifts = λ d s. timed d s.place;
+    frees = λ k s. refl;
+    buries = λ dead s below. refl;
+    arranges = λ o s fits. refl;
+  };
   runs = λ s. refl;
 }
 
@@ -269,9 +279,13 @@ stage_until clock d x = refl
 
 pub reads_wait : (n : ℕ) → Reads n wait_of
 reads_wait n = record {
-  reduces = λ s. ap (until s.clock) (capped s.place);
-  shifts = λ d s. shifted s.clock d s.place;
-  frees = λ k s. refl;
+  sees = record {
+    reduces = λ s. ap (until s.clock) (capped s.place);
+    shifts = λ d s. shifted s.clock d s.place;
+    frees = λ k s. refl;
+    buries = λ dead s below. refl;
+    arranges = λ o s fits. refl;
+  };
   runs = λ s. refl;
 } where
   capped : (place : Place) → deadline_at (capped_place n place) ≡ deadline_at place
@@ -308,11 +322,25 @@ content_lag clock d (Some (content.Request r)) = refl
 
 pub reads_lag : (n : ℕ) (v : Var) → Reads n (lag v)
 reads_lag n v = record {
-  reduces = λ s. ap (lag_under (reduced n s)) (id_reduced n s v) ∙ reduces s (named s v).id;
-  shifts = λ d s. shifts d s (named s v).id;
-  frees = λ k s. ap (λ (x : Named). lag_under (more k s) x.id) (named_renamed k s v) ∙ frees k s (named s v).id;
+  sees = record {
+    reduces = λ s. ap (lag_under (reduced n s)) (id_reduced n s v) ∙ reduces s (named s v).id;
+    shifts = λ d s. shifts d s (named s v).id;
+    frees = λ k s. ap (λ (x : Named). lag_under (more k s) x.id) (named_renamed k s v) ∙ frees k s (named s v).id;
+    buries = λ dead s below. ap (λ (x : Named). lag_under (buried dead s) x.id) (named_buried dead s v) ∙ buries dead s below (named s v).id;
+    arranges = λ o s fits. ap (λ (x : Named). lag_under (arranged o s) x.id) (named_arranged o s v) ∙ arranges o s fits (named s v).id;
+  };
   runs = λ s. refl;
 } where
+  buries : (dead : ℕ) (s : State) → length s.arena.slots + s.arena.unused ≤ dead → (o : Option Id)
+      → lag_under (buried dead s) (option_map (buried_id dead s.arena.slots) o) ≡ lag_under s o
+  buries dead s below None = refl
+  buries dead s below (Some id) = ap (lag_of s.clock) (held_buried dead s.arena below id)
+
+  arranges : (o : List ℕ) (s : State) → Fits o s.arena.slots → (x : Option Id)
+      → lag_under (arranged o s) (option_map (arranged_id o) x) ≡ lag_under s x
+  arranges o s fits None = refl
+  arranges o s fits (Some id) = ap (lag_of s.clock) (held_arranged o s.arena.slots id fits)
+
   reduces : (s : State) (o : Option Id) → lag_under (reduced n s) (option_map (staled_id s.arena.slots) o) ≡ lag_under s o
   reduces s None = refl
   reduces s (Some id) = ap (lag_of s.clock) (held_same s.arena.slots id)
@@ -324,3 +352,48 @@ reads_lag n v = record {
   frees : (k : Frees) (s : State) (o : Option Id) → lag_under (more k s) (option_map (rename k) o) ≡ lag_under s o
   frees k s None = refl
   frees k s (Some id) = ap (lag_of s.clock) (held_renamed k s.arena.slots id)
+
+-- ---- what workers run, by names
+
+runs_map : (f g : Id → Id) (h : Id → Id) → ((id : Id) → g (h id) ≡ f id) → (xs : List (Option Id))
+    → map (option_map g) (map (option_map h) xs) ≡ map (option_map f) xs
+runs_map f g h same [] = refl
+runs_map f g h same (None ∷ xs) = ap (λ ys. None ∷ ys) (runs_map f g h same xs)
+runs_map f g h same (Some id ∷ xs) = ap₂ (λ x ys. Some x ∷ ys) (same id) (runs_map f g h same xs)
+
+runs_same : (f g : Id → Id) → ((id : Id) → g id ≡ f id) → (xs : List (Option Id)) → map (option_map g) xs ≡ map (option_map f) xs
+runs_same f g same [] = refl
+runs_same f g same (None ∷ xs) = ap (λ ys. None ∷ ys) (runs_same f g same xs)
+runs_same f g same (Some id ∷ xs) = ap₂ (λ x ys. Some x ∷ ys) (same id) (runs_same f g same xs)
+
+number_later : (r : Retiming) (o : Option Content) → number_of (option_map (retimed_content r) o) ≡ number_of o
+number_later r None = refl
+number_later r (Some (content.Handle h)) = refl
+number_later r (Some (content.Request q)) = refl
+
+pub sees_called : (n : ℕ) → Sees n called
+sees_called n = record {
+  reduces = λ s. refl;
+  shifts = λ d s. runs_same (λ (id : Id). as_id (name_at s.arena.slots id)) (λ (id : Id). as_id (name_at (shift d s).arena.slots id))
+      (λ id. ap (λ o. as_id (number_of o)) (held_shift d s.arena.slots id) ∙ ap as_id (number_later (later d) (held s.arena.slots id)))
+      s.running;
+  frees = λ k s. runs_map (λ (id : Id). as_id (name_at s.arena.slots id)) (λ (id : Id). as_id (name_at (more k s).arena.slots id)) (rename k)
+      (λ id. ap (λ o. as_id (number_of o)) (held_renamed k s.arena.slots id)) s.running;
+  buries = λ dead s below. refl;
+  arranges = λ o s fits. runs_map (λ (id : Id). as_id (name_at s.arena.slots id)) (λ (id : Id). as_id (name_at (arranged o s).arena.slots id))
+      (arranged_id o) (λ id. ap (λ x. as_id (number_of x)) (held_arranged o s.arena.slots id fits)) s.running;
+}
+
+pub reads_called : (n : ℕ) → Reads n (λ (s : State). ordered (called s))
+reads_called n =
+    let sees = sees_called n in
+    record {
+      sees = record {
+        reduces = λ s. ap ordered (sees.reduces s);
+        shifts = λ d s. ap ordered (sees.shifts d s);
+        frees = λ k s. ap ordered (sees.frees k s);
+        buries = λ dead s below. ap ordered (sees.buries dead s below);
+        arranges = λ o s fits. ap ordered (sees.arranges o s fits);
+      };
+      runs = λ s. map_ordered (option_map (λ (id : Id). as_id (name_at s.arena.slots id))) s.running;
+    }

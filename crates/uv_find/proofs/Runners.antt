@@ -1,32 +1,36 @@
--- Workers of two states that have the same pooled form: of each rank they run the same.
-use Rattle.std.proofs.Common.{◌≡◌, ℕ, zero, suc, ◌⊎◌, inl, inr, List, [], ◌∷◌, true, false, length, is_none, slice_get, slice_set, refl, ap, sym, subst, ◌∙◌, Option, Some, None, Result, Ok, Err}
+-- Workers of two states that have the same form by their names: of each rank they run the same.
+use Rattle.std.proofs.Common.{◌≡◌, ℕ, zero, suc, ◌⊎◌, inl, inr, ◌<◌, List, [], ◌∷◌, true, false, length, is_none, slice_get, slice_set, refl, ap, sym, subst, ◌∙◌, Option, Some, None, Result, Ok, Err}
 use Rattle.std.specs.Prelude.{map, option_map}
 use Rattle.std.proofs.lemmas.Bool.{eqb-true}
-use Rattle.std.proofs.lemmas.List.{length-replicate}
-use Rattle.std.proofs.lemmas.Option.{none-some, slice_get-map}
+use Rattle.std.proofs.lemmas.List.{length-map, length-replicate}
+use Rattle.std.proofs.lemmas.Option.{none-some, same_Some, slice_get-map}
 use Rattle.uv_ids.specs.declared.event.Event.{Event}
 use Rattle.uv_ids.specs.declared.event.Event.TheVariants.{Loop, Take, Finish, Cancel, Send, Io, Tick}
 use Rattle.uv_ids.specs.declared.fault.Why.{Why}
 use Rattle.uv_ids.specs.declared.id.Id.{Id}
-use Rattle.uv_script.specs.Program.{Program, worker_count}
+use Rattle.uv_script.specs.Program.{Program, arena_size, worker_count}
 use Rattle.uv_work.specs.declared.request.Request.{Request}
 use Rattle.uv_model.specs.After.{after, goes_on, state_of}
 use Rattle.uv_model.specs.Next as steps
 use Rattle.uv_model.specs.Next.{Next, Moves, Refuses, next}
-use Rattle.uv_model.specs.State.{State, fresh}
-use Rattle.uv_shift.specs.Earliest.{IsTimed}
+use Rattle.uv_model.specs.State.{State, fresh, named}
 use Rattle.uv_generations.specs.Renamed.{rename}
-use Rattle.uv_generations.specs.Youngest.{IsYoung}
 use Rattle.uv_normal.specs.Normal.{normal}
-use Rattle.uv_workers.specs.Workers.{is_of_worker}
+use Rattle.uv_workers.specs.Workers.{is_of_worker, ordered}
+use Rattle.uv_slots.specs.Arranged.{arranged_id}
+use Rattle.uv_slots.specs.Buried.{buried}
+use Rattle.uv_slots.specs.NamedForm.{name_in, named_order}
 use Rattle.uv_workers.proofs.Frame.{put_next, next_same}
 use Rattle.uv_workers.proofs.Steps.{workers_alike}
-use Rattle.uv_pooled.specs.Pooled.{pooled}
-use Rattle.uv_pooled.proofs.Given.{has_at, one_in_slot}
+use Rattle.uv_pooled.proofs.Given.{has_at}
 use Rattle.uv_pooled.proofs.Steps.{renaming}
+use Rattle.uv_by_name.specs.ByName.{settled, by_name, IsRegular}
+use Rattle.uv_by_name.proofs.Reading.{sees_normal, reads_alike}
+use Rattle.uv_tale.specs.Tale.{number_of, name_at, as_id}
 use Rattle.uv_find.specs.Orders.{take_by}
-use Rattle.uv_find.specs.Ranks.{idle_worker, rank_in, rank_of, is_of_rank, runner, finish_by}
-use Rattle.uv_find.proofs.Ranking.{Run, equal_is, first_at, first_some, rank_renamed, rank_ordered, rank_one}
+use Rattle.uv_find.specs.Ranks.{key_at, keys_run, idle_worker, rank_in, rank_of, is_of_rank, runner, finish_by}
+use Rattle.uv_find.proofs.Ranking.{Run, equal_is, first_at, first_some, rank_ordered, rank_one, rank_within, called, rank_by_name}
+use Rattle.uv_find.proofs.Readings.{sees_called, reads_called}
 
 -- ---- how many they are
 
@@ -74,41 +78,36 @@ pub after_long : (p : Program) (es : List Event) → length (after p es).running
 unfolding after
 after_long p es = goes_long p (fresh p) es ∙ length-replicate (worker_count p) None
 
--- what holds of the state of a place
-pub record IsRegular (p : Program) (s : State) : Type 0 where
-  pub timed : IsTimed p s
-  pub young : IsYoung p s
-
 -- ---- events that do alike
 
--- two workers run the same in the normal forms, nothing or one request
-abbrev pub RunAlike : ℕ → State → State → ℕ → ℕ → Type 0
-RunAlike n a b k j = slice_get (normal n a).running k ≡ slice_get (normal n b).running j
+-- two workers run the same in the forms, nothing or one request
+abbrev pub RunAlike : Program → ℕ → State → State → ℕ → ℕ → Type 0
+RunAlike p n a b k j = slice_get (normal n (settled p a)).running k ≡ slice_get (normal n (settled p b)).running j
 
 -- such workers take requests
-pub record BothTake (n : ℕ) (a b : State) (e f : Event) : Type 0 where
+pub record BothTake (p : Program) (n : ℕ) (a b : State) (e f : Event) : Type 0 where
   pub worker : ℕ
   pub other : ℕ
   pub one : e ≡ Take worker
   pub two : f ≡ Take other
-  pub same : RunAlike n a b worker other
+  pub same : RunAlike p n a b worker other
 
 -- or finish what they run
-pub record BothFinish (n : ℕ) (a b : State) (e f : Event) : Type 0 where
+pub record BothFinish (p : Program) (n : ℕ) (a b : State) (e f : Event) : Type 0 where
   pub worker : ℕ
   pub other : ℕ
   pub one : e ≡ Finish worker
   pub two : f ≡ Finish other
-  pub same : RunAlike n a b worker other
+  pub same : RunAlike p n a b worker other
 
 -- or it is one event, and no worker's
-abbrev pub EventsAlike : ℕ → State → State → Event → Event → Type 0
-EventsAlike n a b e f = ((e ≡ f) × (is_of_worker e ≡ false)) ⊎ (BothTake n a b e f ⊎ BothFinish n a b e f)
+abbrev pub EventsAlike : Program → ℕ → State → State → Event → Event → Type 0
+EventsAlike p n a b e f = ((e ≡ f) × (is_of_worker e ≡ false)) ⊎ (BothTake p n a b e f ⊎ BothFinish p n a b e f)
 
-abbrev pub OffersAlike : ℕ → State → State → Option Event → Option Event → Type 0
-OffersAlike n a b None None = Unit {0}
-OffersAlike n a b (Some e) (Some f) = EventsAlike n a b e f
-OffersAlike n a b x y = ⊥
+abbrev pub OffersAlike : Program → ℕ → State → State → Option Event → Option Event → Type 0
+OffersAlike p n a b None None = Unit {0}
+OffersAlike p n a b (Some e) (Some f) = EventsAlike p n a b e f
+OffersAlike p n a b x y = ⊥
 
 -- ---- what workers run, in normal forms
 
@@ -125,106 +124,179 @@ was_none f (None ∷ xs) zero e = refl
 was_none f (Some c ∷ xs) zero e = absurd (let g : ⊥ = cc in g)
 was_none f (x ∷ xs) (suc j) e = was_none f xs j e
 
-pub run_at : (n : ℕ) (s : State) (k : ℕ) (run : Run) → slice_get s.running k ≡ Some run
-    → slice_get (normal n s).running k ≡ Some (option_map (rename (renaming n s)) run)
-run_at n s k run there =
-    let f = option_map (rename (renaming n s)) in
-    slice_get-map f s.running k ∙ ap (option_map f) there
+-- what becomes of an id in the form
+abbrev pub formed_id : Program → ℕ → State → Id → Id
+formed_id p n s id = rename (renaming n (settled p s)) (arranged_id (named_order (buried (arena_size p).slots s)) id)
 
--- the requests of one slot are one
-same_request : (p : Program) (s : State) (i j : ℕ) (x y : Id) → IsYoung p s → slice_get s.running i ≡ Some (Some x)
-    → slice_get s.running j ≡ Some (Some y) → x.slot ≡ y.slot → x ≡ y
-same_request p s i j x y young one two slots = one_in_slot s x y slots (young.opened x (has_at s.waiting s.running i x one))
-    (young.opened y (has_at s.waiting s.running j y two))
+twice : (f g : Id → Id) (run : Run) → option_map f (option_map g run) ≡ option_map (λ (id : Id). f (g id)) run
+twice f g None = refl
+twice f g (Some id) = refl
+
+pub run_at : (p : Program) (n : ℕ) (s : State) (k : ℕ) (run : Run) → slice_get s.running k ≡ Some run
+    → slice_get (normal n (settled p s)).running k ≡ Some (option_map (formed_id p n s) run)
+run_at p n s k run there =
+    let o = named_order (buried (arena_size p).slots s) in
+    let g = option_map (arranged_id o) in
+    let f = option_map (rename (renaming n (settled p s))) in
+    slice_get-map f (map g s.running) k ∙ ap (option_map f) (slice_get-map g s.running k ∙ ap (option_map g) there)
+    ∙ ap Some (twice (rename (renaming n (settled p s))) (arranged_id o) run)
+
+-- a worker that runs something in the form ran something that became it
+run_was : (p : Program) (n : ℕ) (s : State) (j : ℕ) (z : Id) → slice_get (normal n (settled p s)).running j ≡ Some (Some z)
+    → (c : Id) × (slice_get s.running j ≡ Some (Some c)) × (formed_id p n s c ≡ z)
+run_was p n s j z e =
+    let o = named_order (buried (arena_size p).slots s) in
+    let one = was_run (rename (renaming n (settled p s))) (map (option_map (arranged_id o)) s.running) j z e in
+    let two = was_run (arranged_id o) s.running j one.0 one.1 in
+    (two.0, two.1, ap (rename (renaming n (settled p s))) two.2 ∙ one.2)
+
+none_was : (p : Program) (n : ℕ) (s : State) (j : ℕ) → slice_get (normal n (settled p s)).running j ≡ Some None → slice_get s.running j ≡ Some None
+none_was p n s j e =
+    let o = named_order (buried (arena_size p).slots s) in
+    was_none (arranged_id o) s.running j
+    (was_none (rename (renaming n (settled p s))) (map (option_map (arranged_id o)) s.running) j e)
+
+-- ---- names and ranks
+
+-- requests of one name are one, since it is bound to each
+pub same_request : (p : Program) (s : State) (i j : ℕ) (x y : Id) → IsRegular p s → slice_get s.running i ≡ Some (Some x)
+    → slice_get s.running j ≡ Some (Some y) → name_at s.arena.slots x ≡ name_at s.arena.slots y → x ≡ y
+same_request p s i j x y h one two same =
+    let its = h.young.opened x (has_at s.waiting s.running i x one) in
+    let other = h.young.opened y (has_at s.waiting s.running j y two) in
+    let name : (name_in its.its).0 ≡ (name_in other.its).0 =
+    sym (ap number_of its.holds) ∙ same ∙ ap number_of other.holds in
+    same_Some x y (sym (h.tidy.bound x its.its its.holds) ∙ ap (λ (v : ℕ). (named s (record { 0 = v })).id) name
+    ∙ h.tidy.bound y other.its other.holds)
 
 pub rank_slot : (s : State) (rank k : ℕ) → runner s rank ≡ Some k
-    → (id : Id) × (slice_get s.running k ≡ Some (Some id)) × (rank_of s id.slot ≡ rank)
+    → (id : Id) × (slice_get s.running k ≡ Some (Some id)) × (rank_of s id ≡ rank)
 rank_slot s rank k e =
     let first = first_at (is_of_rank s rank) s.running k e in
     by first.0 first.1 first.2
   where
     by : (run : Run) → slice_get s.running k ≡ Some run → is_of_rank s rank run ≡ true
-        → (id : Id) × (slice_get s.running k ≡ Some (Some id)) × (rank_of s id.slot ≡ rank)
+        → (id : Id) × (slice_get s.running k ≡ Some (Some id)) × (rank_of s id ≡ rank)
     by None there is = absurd (let f : false ≡ true = is in cc)
-    by (Some id) there is = (id, there, eqb-true (rank_of s id.slot) rank is)
+    by (Some id) there is = (id, there, eqb-true (rank_of s id) rank is)
 
 -- where a worker runs a request of this rank, there is a first that does
-pub slot_rank : (s : State) (j : ℕ) (id : Id) (rank : ℕ) → slice_get s.running j ≡ Some (Some id) → rank_of s id.slot ≡ rank
+pub slot_rank : (s : State) (j : ℕ) (id : Id) (rank : ℕ) → slice_get s.running j ≡ Some (Some id) → rank_of s id ≡ rank
     → (k : ℕ) × (runner s rank ≡ Some k)
-slot_rank s j id rank there is = first_some (is_of_rank s rank) s.running 0 j (Some id) there (equal_is (rank_of s id.slot) rank is)
+slot_rank s j id rank there is = first_some (is_of_rank s rank) s.running 0 j (Some id) there (equal_is (rank_of s id) rank is)
+
+-- what a worker runs, by its key
+pub key_there : (s : State) (j : ℕ) (id : Id) → slice_get s.running j ≡ Some (Some id)
+    → slice_get (keys_run s) j ≡ Some (Some (key_at s.arena.slots id))
+key_there s j id there =
+    slice_get-map (option_map (key_at s.arena.slots)) s.running j ∙ ap (option_map (option_map (key_at s.arena.slots))) there
+
+-- there are more workers than its rank
+pub rank_below : (s : State) (j : ℕ) (id : Id) → slice_get s.running j ≡ Some (Some id) → rank_of s id < length s.running
+rank_below s j id there = subst (λ n. rank_of s id < n) (length-map s.running (option_map (key_at s.arena.slots)))
+    (rank_within (keys_run s) j (key_at s.arena.slots id) (key_there s j id there))
+
+-- its rank is that of its name
+rank_named : (p : Program) (s : State) (j : ℕ) (id : Id) → IsRegular p s → slice_get s.running j ≡ Some (Some id)
+    → rank_of s id ≡ rank_in (called s) (as_id (name_at s.arena.slots id))
+rank_named p s j id h there = rank_by_name s.arena.slots s.running (name_at s.arena.slots id) id.slot
+    (λ i other at same. ap (λ (x : Id). x.slot) (same_request p s i j other id h at there same))
 
 module _ (n : ℕ) (p : Program) where
   -- what is said of the one is said of the other
-  module _ (a b : State) (young : IsYoung p b) (same : pooled n a ≡ pooled n b) where
-    rank_same : (slot : ℕ) → rank_in a.running slot ≡ rank_in b.running slot
-    rank_same slot =
-        sym (rank_renamed (renaming n a) a.running slot)
-        ∙ sym (rank_ordered (map (option_map (rename (renaming n a))) a.running) slot)
-        ∙ ap (λ (u : State). rank_in u.running slot) same
-        ∙ rank_ordered (map (option_map (rename (renaming n b))) b.running) slot
-        ∙ rank_renamed (renaming n b) b.running slot
+  module _ (a b : State) (ra : IsRegular p a) (rb : IsRegular p b) (same : by_name p n a ≡ by_name p n b) where
+    rank_same : (name : Id) → rank_in (called a) name ≡ rank_in (called b) name
+    rank_same name =
+        sym (rank_ordered (called a) name)
+        ∙ ap (λ (runs : List Run). rank_in runs name) (reads_alike n (λ (s : State). ordered (called s)) p (reads_called n) a b ra rb same)
+        ∙ rank_ordered (called b) name
 
-    runner_there : (rank k : ℕ) → runner a rank ≡ Some k → (j : ℕ) × (runner b rank ≡ Some j) × RunAlike n a b k j
+    -- where they run the same in the forms, they run requests of one name
+    name_same : (k j : ℕ) (id c : Id) → slice_get a.running k ≡ Some (Some id) → slice_get b.running j ≡ Some (Some c)
+        → slice_get (normal n (settled p a)).running k ≡ slice_get (normal n (settled p b)).running j
+        → name_at a.arena.slots id ≡ name_at b.arena.slots c
+    name_same k j id c here there alike =
+        let f = λ (s : State) (x : Id). as_id (name_at s.arena.slots x) in
+        let u = normal n (settled p a) in
+        let v = normal n (settled p b) in
+        let arena : u.arena ≡ v.arena = ap (λ (s : State). s.arena) same in
+        let one : Some (Some (f a id)) ≡ slice_get (called u) k =
+        ap (option_map (option_map (f a))) (sym here) ∙ sym (slice_get-map (option_map (f a)) a.running k)
+        ∙ ap (λ (runs : List Run). slice_get runs k) (sees_normal n called p (sees_called n) a ra) in
+        let two : slice_get (called v) j ≡ Some (Some (f b c)) =
+        ap (λ (runs : List Run). slice_get runs j) (sym (sees_normal n called p (sees_called n) b rb))
+        ∙ slice_get-map (option_map (f b)) b.running j ∙ ap (option_map (option_map (f b))) there in
+        let across : slice_get (called u) k ≡ slice_get (called v) j =
+        slice_get-map (option_map (f u)) u.running k
+        ∙ (λ i. option_map (option_map (λ (x : Id). as_id (name_at (arena i).slots x))) (alike i))
+        ∙ sym (slice_get-map (option_map (f v)) v.running j) in
+        ap (λ (x : Id). x.slot) (same_Some (f a id) (f b c) (same_Some (Some (f a id)) (Some (f b c)) (one ∙ across ∙ two)))
+
+    runner_there : (rank k : ℕ) → runner a rank ≡ Some k → (j : ℕ) × (runner b rank ≡ Some j) × RunAlike p n a b k j
     runner_there rank k e =
         let here = rank_slot a rank k e in
         let id = here.0 in
-        let turned = run_at n a k (Some id) here.1 in
-        let there = workers_alike (normal n a) (normal n b) k (Some (rename (renaming n a) id)) same turned in
-        let was = was_run (rename (renaming n b)) b.running there.0 (rename (renaming n a) id) there.1 in
+        let turned = run_at p n a k (Some id) here.1 in
+        let there = workers_alike (normal n (settled p a)) (normal n (settled p b)) k (Some (formed_id p n a id)) same turned in
+        let was = run_was p n b there.0 (formed_id p n a id) there.1 in
         let c = was.0 in
-        let slots : c.slot ≡ id.slot = ap (λ (x : Id). x.slot) was.2 in
-        let rank_is : rank_of b c.slot ≡ rank = ap (rank_of b) slots ∙ sym (rank_same id.slot) ∙ here.2 in
+        let named = name_same k there.0 id c here.1 was.1 (turned ∙ sym there.1) in
+        let rank_is : rank_of b c ≡ rank =
+        rank_named p b there.0 c rb was.1 ∙ ap (λ v. rank_in (called b) (as_id v)) (sym named)
+        ∙ sym (rank_same (as_id (name_at a.arena.slots id))) ∙ sym (rank_named p a k id ra here.1) ∙ here.2 in
         let first = slot_rank b there.0 c rank was.1 rank_is in
         let found = rank_slot b rank first.0 first.1 in
         let d = found.0 in
-        let slot : d.slot ≡ c.slot = rank_one b.running first.0 there.0 d c found.1 was.1 (found.2 ∙ sym rank_is) in
-        let one : d ≡ c = same_request p b first.0 there.0 d c young found.1 was.1 slot in (
+        let key : key_at b.arena.slots d ≡ key_at b.arena.slots c =
+        rank_one (keys_run b) first.0 there.0 (key_at b.arena.slots d) (key_at b.arena.slots c) (key_there b first.0 d found.1)
+        (key_there b there.0 c was.1) (found.2 ∙ sym rank_is) in
+        let one : d ≡ c = same_request p b first.0 there.0 d c rb found.1 was.1 (ap (λ (x : Id). x.slot) key) in (
           first.0,
           first.1,
-          turned ∙ ap (λ x. Some (Some x)) (sym was.2) ∙ ap (λ x. Some (Some (rename (renaming n b) x))) (sym one)
-              ∙ sym (run_at n b first.0 (Some d) found.1),
+          turned ∙ ap (λ x. Some (Some x)) (sym was.2) ∙ ap (λ x. Some (Some (formed_id p n b x))) (sym one)
+              ∙ sym (run_at p n b first.0 (Some d) found.1),
         )
 
-    idle_there : (k : ℕ) → idle_worker a ≡ Some k → (j : ℕ) × (idle_worker b ≡ Some j) × RunAlike n a b k j
+    idle_there : (k : ℕ) → idle_worker a ≡ Some k → (j : ℕ) × (idle_worker b ≡ Some j) × RunAlike p n a b k j
     idle_there k e =
         let none = λ (run : Run). is_none run in
         let here = first_at none a.running k e in
         let idle : slice_get a.running k ≡ Some None = here.1 ∙ ap Some (is_idle here.0 here.2) in
-        let turned = run_at n a k None idle in
-        let there = workers_alike (normal n a) (normal n b) k None same turned in
-        let was = was_none (rename (renaming n b)) b.running there.0 there.1 in
+        let turned = run_at p n a k None idle in
+        let there = workers_alike (normal n (settled p a)) (normal n (settled p b)) k None same turned in
+        let was = none_was p n b there.0 there.1 in
         let first = first_some none b.running 0 there.0 None was refl in
         let found = first_at none b.running first.0 first.1 in
         let free : slice_get b.running first.0 ≡ Some None = found.1 ∙ ap Some (is_idle found.0 found.2) in
-        (first.0, first.1, turned ∙ sym (run_at n b first.0 None free))
+        (first.0, first.1, turned ∙ sym (run_at p n b first.0 None free))
       where
         is_idle : (run : Run) → is_none run ≡ true → run ≡ None
         is_idle None is = refl
         is_idle (Some id) is = absurd (let f : false ≡ true = is in cc)
 
-  module _ (a b : State) (one : IsYoung p a) (two : IsYoung p b) (same : pooled n a ≡ pooled n b) where
+  module _ (a b : State) (one : IsRegular p a) (two : IsRegular p b) (same : by_name p n a ≡ by_name p n b) where
     -- of each rank a worker of the one and a worker of the other finish alike
-    pub finishes_alike : (rank : ℕ) → OffersAlike n a b (finish_by (runner a rank)) (finish_by (runner b rank))
+    pub finishes_alike : (rank : ℕ) → OffersAlike p n a b (finish_by (runner a rank)) (finish_by (runner b rank))
     finishes_alike rank = by (runner a rank) (runner b rank) refl refl where
-      by : (x y : Option ℕ) → runner a rank ≡ x → runner b rank ≡ y → OffersAlike n a b (finish_by x) (finish_by y)
+      by : (x y : Option ℕ) → runner a rank ≡ x → runner b rank ≡ y → OffersAlike p n a b (finish_by x) (finish_by y)
       by None None e f = tt
       by (Some k) y e f =
-          let there = runner_there a b two same rank k e in
-          subst (λ o. OffersAlike n a b (Some (Finish k)) (finish_by o)) (sym there.1 ∙ f)
+          let there = runner_there a b one two same rank k e in
+          subst (λ o. OffersAlike p n a b (Some (Finish k)) (finish_by o)) (sym there.1 ∙ f)
           (inr (inr (record { worker = k; other = there.0; one = refl; two = refl; same = there.2 })))
       by None (Some j) e f =
-          let there = runner_there b a one (sym same) rank j f in
+          let there = runner_there b a two one (sym same) rank j f in
           absurd (none-some there.0 (sym e ∙ there.1))
 
     -- and so do the first that are idle take
-    pub takes_alike : OffersAlike n a b (take_by (idle_worker a)) (take_by (idle_worker b))
+    pub takes_alike : OffersAlike p n a b (take_by (idle_worker a)) (take_by (idle_worker b))
     takes_alike = by (idle_worker a) (idle_worker b) refl refl where
-      by : (x y : Option ℕ) → idle_worker a ≡ x → idle_worker b ≡ y → OffersAlike n a b (take_by x) (take_by y)
+      by : (x y : Option ℕ) → idle_worker a ≡ x → idle_worker b ≡ y → OffersAlike p n a b (take_by x) (take_by y)
       by None None e f = tt
       by (Some k) y e f =
-          let there = idle_there a b two same k e in
-          subst (λ o. OffersAlike n a b (Some (Take k)) (take_by o)) (sym there.1 ∙ f)
+          let there = idle_there a b one two same k e in
+          subst (λ o. OffersAlike p n a b (Some (Take k)) (take_by o)) (sym there.1 ∙ f)
           (inr (inl (record { worker = k; other = there.0; one = refl; two = refl; same = there.2 })))
       by None (Some j) e f =
-          let there = idle_there b a one (sym same) j f in
+          let there = idle_there b a two one (sym same) j f in
           absurd (none-some there.0 (sym e ∙ there.1))

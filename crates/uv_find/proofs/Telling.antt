@@ -2,7 +2,7 @@
 use Rattle.std.proofs.Common.{◌≡◌, ℕ, List, [], ◌∷◌, ◌++◌, length, refl, sym, ap, ap₂, subst, ◌∙◌, Option, Some, None, append_assoc, arith}
 use Rattle.uv_key.specs.Codes.{number_code}
 use Rattle.uv_key.proofs.Telling.{numbers_tell}
-use Rattle.uv_state_key.specs.Key.{state_code}
+use Rattle.uv_state_key.specs.TaleKey.{key_code}
 use Rattle.uv_state_key.specs.Told.{IsTold, IsToldIn}
 use Rattle.uv_state_key.proofs.States.{after_told}
 use Rattle.uv_state_key.proofs.FormsTell.{forms_tell}
@@ -71,8 +71,7 @@ told_in r s is = by r.forget refl where
   by : (o : Option ℕ) → r.forget ≡ o → IsToldIn o r.program s.place.state
   by None e = told_after
   by (Some n) e =
-      let regular = spot_regular r n e (is.forgets n e) s is in
-      record { told = told_after; timed = regular.timed; young = regular.young }
+      record { told = told_after; regular = spot_regular r n e (is.forgets n e) s is }
 
 -- a place is told by its key
 pub places_tell : (r : Rules) (s t : Spot) → IsSpot r s → IsSpot r t → spot_code r s ≡ spot_code r t → told r s.place ≡ told r t.place
@@ -81,8 +80,10 @@ places_tell r s t is js e =
     let b : Told = told r t.place in
     let x = kept_code a.due a.owed a.along in
     let y = kept_code b.due b.owed b.along in
-    let one : state_code a.state ++ (left_code a.left ++ x) ≡ state_code b.state ++ (left_code b.left ++ y) =
-    sym (append_assoc (state_code a.state) (left_code a.left) x) ∙ e ∙ append_assoc (state_code b.state) (left_code b.left) y in
+    let front = key_code r.forget s.place.state in
+    let other = key_code r.forget t.place.state in
+    let one : front ++ (left_code a.left ++ x) ≡ other ++ (left_code b.left ++ y) =
+    sym (append_assoc front (left_code a.left) x) ∙ e ∙ append_assoc other (left_code b.left) y in
     let state = forms_tell r.program r.forget s.place.state t.place.state (left_code a.left ++ x) (left_code b.left ++ y) (told_in r s is)
     (told_in r t js) one in
     let lefts = lefts_tell a.left b.left x y state.1 in

@@ -1,14 +1,12 @@
--- Where a search needs to know no more of a state than its pooled form: no bound names the clock, no offer a worker, nothing is held to a
--- recording, and all numbers of ms are small.
-use Rattle.std.specs.Prelude.{ℕ, ◌+◌, ◌^◌, ◌&&◌, not, Bool, true, false, List, [], ◌∷◌, Option, Some, None, is_none, max, nat_lt, if◌then◌else◌}
+-- Where a search needs to know no more of a state than its form by names: no bound names the clock, no offer a worker, nothing is held to
+-- a recording, and all numbers of ms are small.
+use Rattle.std.specs.Prelude.{ℕ, ◌+◌, ◌^◌, ◌&&◌, not, Bool, true, false, List, [], ◌∷◌, length, Option, Some, None, is_none, max, nat_lt, if◌then◌else◌}
 use Rattle.std.specs.List.{list_all}
 use Rattle.uv_ids.specs.declared.event.Event.TheVariants as event
 use Rattle.uv_script.specs.declared.op.Op.{Op}
 use Rattle.uv_script.specs.declared.op.Op.TheVariants as op
-use Rattle.uv_script.specs.declared.op.MainOp.{MainOp}
-use Rattle.uv_script.specs.declared.op.MainOp.TheVariants as main
-use Rattle.uv_script.specs.declared.op.CallbackLine.{CallbackLine}
-use Rattle.uv_script.specs.Program.{Program, Callbacks, arena_size}
+use Rattle.uv_ids.specs.declared.id.Var.{Var}
+use Rattle.uv_script.specs.Program.{Program, arena_size, op_name}
 use Rattle.uv_names.specs.Counts.{call_end, script_end}
 use Rattle.uv_asking.specs.Asked.{Asked}
 use Rattle.uv_asking.specs.declared.asking.Most.{Most}
@@ -18,6 +16,7 @@ use Rattle.uv_asking.specs.declared.asking.Offered.{Offered}
 use Rattle.uv_asking.specs.declared.asking.Takes.{Takes}
 use Rattle.uv_asking.specs.declared.asking.Question.{Question}
 use Rattle.uv_asking.specs.declared.asking.Question.TheVariants as asks
+use Rattle.uv_find.specs.Ops.{each_op}
 
 -- so many ms are a long time: twelve days
 abbrev pub LONG : ℕ
@@ -32,18 +31,13 @@ is_small_op (op.Start v timeout repeat) = nat_lt timeout LONG && nat_lt repeat L
 is_small_op (op.SetRepeat v repeat) = nat_lt repeat LONG
 is_small_op o = true
 
-abbrev pub is_small_main : MainOp → Bool
-is_small_main (main.Op o) = is_small_op o
-is_small_main o = true
+-- each op names a declared name, as those of each script that was read
+abbrev pub is_declared : ℕ → Option Var → Bool
+is_declared names None = true
+is_declared names (Some v) = nat_lt v.0 names
 
-abbrev pub are_small_lines : List CallbackLine → Bool
-are_small_lines lines = list_all (λ (line : CallbackLine). is_small_op line.op) lines
-
-abbrev pub are_small_callbacks : Callbacks → Bool
-are_small_callbacks c = are_small_lines c.handle && are_small_lines c.after && are_small_lines c.close
-
-abbrev pub is_small_script : Program → Bool
-is_small_script p = list_all is_small_main p.main && list_all are_small_callbacks p.callbacks
+abbrev pub declares : Program → Bool
+declares p = each_op (λ (o : Op). is_declared (length p.callbacks) (op_name o)) p
 
 abbrev pub is_small_offer : Offer → Bool
 is_small_offer (Step (event.Tick ms)) = nat_lt ms LONG
@@ -73,11 +67,15 @@ is_common offer = is_aside offer
 abbrev pub are_common : List Offered → Bool
 are_common offers = list_all (λ (offered : Offered). is_common offered.offer) offers
 
--- a search needs to know no more of a state than its pooled form
-abbrev pub may_forget : Program → Asked → Bool
-may_forget p asked =
+-- nothing that is asked tells more of a state than its form by names, and no number is large
+abbrev pub asks_no_more : Program → Asked → Bool
+asks_no_more p asked =
     not asked.full && is_none asked.clock && is_none asked.differ && nat_lt LONGEST (arena_size p).last_generation
-    && is_small_script p && are_small_offers asked.offers && are_aside asked.offers && are_small_takes asked.takes
+    && each_op is_small_op p && are_small_offers asked.offers && are_aside asked.offers && are_small_takes asked.takes
+
+-- a search needs to know no more of a state than its form by names
+abbrev pub may_forget : Program → Asked → Bool
+may_forget p asked = asks_no_more p asked && declares p
 
 -- ---- the calls that a script or a question tells from later ones
 

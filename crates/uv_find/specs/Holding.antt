@@ -1,11 +1,10 @@
--- Where moves are held back: only the thread pool, the clock and I/O come from outside, and the loop's next step is apart from them.
+-- Where moves are held back: behind the loop's step, where only the thread pool, the clock and I/O come from outside and the step is apart
+-- from them; and behind a worker's take, where no line cancels and workers are alike.
 use Rattle.std.specs.Prelude.{ℕ, length, nat_le, take, Bool, true, false, ◌&&◌, not, List, [], ◌∷◌, Option, Some, None, is_none, if◌then◌else◌}
 use Rattle.std.specs.List.{list_all}
 use Rattle.uv_ids.specs.declared.event.Event.TheVariants as event
-use Rattle.uv_script.specs.declared.op.MainOp.{MainOp}
-use Rattle.uv_script.specs.declared.op.MainOp.TheVariants as main
-use Rattle.uv_script.specs.declared.op.CallbackLine.{CallbackLine}
-use Rattle.uv_script.specs.Program.{Program, Callbacks, has_io}
+use Rattle.uv_script.specs.declared.op.Op.{Op}
+use Rattle.uv_script.specs.Program.{Program, has_io}
 use Rattle.uv_records.specs.declared.lists.WatcherKind.TheVariants as watcher
 use Rattle.uv_model.specs.declared.place.Body.{Body}
 use Rattle.uv_model.specs.declared.place.Run.{Run}
@@ -14,14 +13,17 @@ use Rattle.uv_model.specs.declared.place.Stage.TheVariants as stage
 use Rattle.uv_model.specs.declared.place.Place.{Place}
 use Rattle.uv_model.specs.declared.place.Place.TheVariants.{Main, Running}
 use Rattle.uv_model.specs.State.{State}
-use Rattle.uv_apart.specs.Apart.{is_apart, is_apart_op, reads_clock}
+use Rattle.uv_apart.specs.Apart.{is_apart, cancels_op, reads_clock}
 use Rattle.uv_asking.specs.Asked.{Asked}
 use Rattle.uv_asking.specs.declared.asking.Offer.{Offer}
 use Rattle.uv_asking.specs.declared.asking.Offer.TheVariants.{Step, Take, Wait}
 use Rattle.uv_asking.specs.declared.asking.Offered.{Offered}
 use Rattle.uv_asking.specs.declared.asking.Question.{Question}
 use Rattle.uv_asking.specs.declared.asking.Question.TheVariants as asks
-use Rattle.uv_find.specs.Forgetting.{may_forget}
+use Rattle.uv_find.specs.Forgetting.{is_small_op, may_forget}
+use Rattle.uv_find.specs.Ops.{each_op}
+use Rattle.uv_find.specs.declared.ops.OpTest.{OpTest}
+use Rattle.uv_find.specs.declared.ops.OpTest.TheVariants as tests
 use Rattle.uv_find.specs.declared.left.Left.{Left}
 use Rattle.uv_find.specs.declared.left.Left.TheVariants as left
 
@@ -71,25 +73,19 @@ is_clear_of_takes offer = false
 abbrev pub are_clear_of_takes : List Offered → Bool
 are_clear_of_takes offers = list_all (λ (offered : Offered). is_clear_of_takes offered.offer) offers
 
--- no line of a script cancels a request
-abbrev pub is_apart_main_op : MainOp → Bool
-is_apart_main_op (main.Run mode) = true
-is_apart_main_op (main.Op o) = is_apart_op o
+-- an op cancels no request
+abbrev pub is_no_cancel : Op → Bool
+is_no_cancel o = not (cancels_op o)
 
-abbrev pub are_apart_lines : List CallbackLine → Bool
-are_apart_lines lines = list_all (λ (line : CallbackLine). is_apart_op line.op) lines
-
-abbrev pub are_apart_callbacks : Callbacks → Bool
-are_apart_callbacks c = are_apart_lines c.handle && are_apart_lines c.after && are_apart_lines c.close
-
-abbrev pub cancels_none : Program → Bool
-cancels_none p = list_all is_apart_main_op p.main && list_all are_apart_callbacks p.callbacks
+-- what is asked of an op
+abbrev pub test_of : OpTest → Op → Bool
+test_of tests.IsShort = is_small_op
+test_of tests.IsNoCancel = is_no_cancel
 
 -- a worker may take a request at once: workers are alike, no time of a callback is said, and nobody cancels
 abbrev pub may_take_at_once : Program → Asked → Bool
 may_take_at_once p asked =
-    may_forget p asked && is_none asked.differ && is_empty asked.takes && not (asks_late asked.question) && are_clear_of_takes asked.offers
-    && cancels_none p
+    may_forget p asked && is_empty asked.takes && not (asks_late asked.question) && are_clear_of_takes asked.offers && each_op is_no_cancel p
 
 -- the number of the loop's step among the moves
 abbrev pub loop_number : Bool → ℕ

@@ -1,4 +1,5 @@
 -- a reader of `never` begins with Orders and Questions, and comes to Found
+pub mod Ops
 pub mod Forgetting
 pub mod Holding
 pub mod Ranks

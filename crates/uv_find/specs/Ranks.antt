@@ -1,10 +1,14 @@
 -- Which worker an event is of, by what the workers run.
-use Rattle.std.specs.Prelude.{ℕ, ◌+◌, ◌==◌, Bool, false, List, [], ◌∷◌, Option, Some, None, is_none, nat_lt, if◌then◌else◌}
+use Rattle.std.specs.Prelude.{ℕ, ◌+◌, ◌==◌, Bool, false, not, List, [], ◌∷◌, map, Option, Some, None, option_map, option_and_then, slice_get, is_none, if◌then◌else◌}
 use Rattle.std.specs.List.{position_from}
 use Rattle.uv_ids.specs.declared.event.Event.{Event}
 use Rattle.uv_ids.specs.declared.event.Event.TheVariants as event
 use Rattle.uv_ids.specs.declared.id.Id.{Id}
+use Rattle.uv_records.specs.declared.slot.Slot.{Slot}
+use Rattle.uv_work.specs.declared.content.Content.{Content}
 use Rattle.uv_model.specs.State.{State}
+use Rattle.uv_workers.specs.Workers.{id_le}
+use Rattle.uv_tale.specs.Tale.{name_at}
 
 -- the first worker of which this holds of what it runs
 abbrev pub first_with : (Option Id → Bool) → State → Option ℕ
@@ -16,26 +20,39 @@ idle_worker s = first_with (λ (run : Option Id). is_none run) s
 
 -- ---- ranks
 
--- a worker runs a request of a slot before this one
-abbrev pub runs_before : ℕ → Option Id → Bool
-runs_before slot None = false
-runs_before slot (Some id) = nat_lt id.slot slot
+-- where a request comes among others: by its name, and of one name by its slot. In a script that was read no two of one name are run
+abbrev pub key_at : List (Slot Content) → Id → Id
+key_at slots id = record { slot = name_at slots id; generation = id.slot }
+
+-- what the workers run, by these
+abbrev pub keys_run : State → List (Option Id)
+keys_run s = map (option_map (key_at s.arena.slots)) s.running
+
+-- what a worker runs
+abbrev pub run_in : List (Option Id) → ℕ → Option Id
+run_in running worker = option_and_then (λ (run : Option Id). run) (slice_get running worker)
+
+-- a worker runs what comes before this
+abbrev pub runs_before : Id → Option Id → Bool
+runs_before key None = false
+runs_before key (Some other) = not (id_le key other)
 
 -- how many do, of one
-abbrev pub count_before : ℕ → Option Id → ℕ
-count_before slot run = if runs_before slot run then 1 else 0
+abbrev pub count_before : Id → Option Id → ℕ
+count_before key run = if runs_before key run then 1 else 0
 
--- of these: the rank of the request in that slot
-abbrev pub rank_in : List (Option Id) → ℕ → ℕ
-rank_in [] slot = 0
-rank_in (run ∷ running) slot = count_before slot run + rank_in running slot
+-- of these
+abbrev pub rank_in : List (Option Id) → Id → ℕ
+rank_in [] key = 0
+rank_in (run ∷ running) key = count_before key run + rank_in running key
 
-abbrev pub rank_of : State → ℕ → ℕ
-rank_of s slot = rank_in s.running slot
+-- the rank of a request: so many that are run come before it
+abbrev pub rank_of : State → Id → ℕ
+rank_of s id = rank_in (keys_run s) (key_at s.arena.slots id)
 
 abbrev pub is_of_rank : State → ℕ → Option Id → Bool
 is_of_rank s rank None = false
-is_of_rank s rank (Some id) = rank_of s id.slot == rank
+is_of_rank s rank (Some id) = rank_of s id == rank
 
 -- the worker that runs the request of this rank
 abbrev pub runner : State → ℕ → Option ℕ

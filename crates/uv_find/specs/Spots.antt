@@ -7,12 +7,14 @@ use Rattle.uv_model.specs.After.{after, STEPS}
 use Rattle.uv_model.specs.State.{State}
 use Rattle.uv_shift.specs.Shift.{IsShort}
 use Rattle.uv_names.specs.Counts.{AreBefore}
-use Rattle.uv_state_key.specs.Key.{state_code}
+use Rattle.uv_slots.specs.NamedForm.{AreDeclared}
+use Rattle.uv_state_key.specs.TaleKey.{key_code}
 use Rattle.uv_state_key.specs.Formed.{formed}
 use Rattle.uv_find.specs.Forgetting.{LONG, LONGEST, are_common, most_end, takes_end, question_end, forget_of}
 use Rattle.uv_asking.specs.declared.asking.Offer.TheVariants.{Step, Take}
 use Rattle.uv_asking.specs.declared.asking.Offered.{Offered}
-use Rattle.uv_find.specs.Holding.{can_meet, asks_late, hold_of, is_loop_apart, is_at_will, are_at_will, is_clear_of_takes, cancels_none, may_take_at_once, loop_number}
+use Rattle.uv_find.specs.Holding.{can_meet, asks_late, hold_of, is_loop_apart, is_at_will, are_at_will, is_clear_of_takes, is_no_cancel, may_take_at_once, loop_number}
+use Rattle.uv_find.specs.Ops.{each_op}
 use Rattle.uv_find.specs.Kept.{owes}
 use Rattle.uv_find.specs.Orders.{at_will, Rules, Place, Led, led, is_brief, every_offer, beginning}
 use Rattle.uv_find.specs.Questions.{answers}
@@ -35,7 +37,7 @@ abbrev pub is_few : Option ℕ → ℕ → Bool
 is_few (Some n) steps = nat_lt steps LONGEST
 is_few None steps = true
 
--- no more of a state need be known than its pooled form, with calls counted so far
+-- no more of a state need be known than its form by names, with calls counted so far
 pub record CanForget (r : Rules) (n : ℕ) : Type 0 where
   -- no number of a call that the script, a bound or the question says is as large, and whether there was one is told
   pub before : AreBefore n r.program
@@ -46,6 +48,8 @@ pub record CanForget (r : Rules) (n : ℕ) : Type 0 where
   -- no time of the script is long, and no slot's generations run out
   pub short : IsShort LONG r.program
   pub lasts : LONGEST < (arena_size r.program).last_generation
+  -- each op names a declared name
+  pub declares : AreDeclared r.program
   -- nothing names the clock, a place in a recording, the request that a worker runs, or a worker
   pub clock : r.clock ≡ None
   pub differ : r.differ ≡ None
@@ -70,8 +74,7 @@ pub record CanTakeAtOnce (r : Rules) : Type 0 where
   pub finishes : (k : ℕ) → k < worker_count r.program → slice_get r.offers (suc (suc k)) ≡ Some (at_will (Step (Finish k)))
   pub others : (i : ℕ) (offered : Offered) → worker_count r.program + 2 ≤ i → slice_get r.offers i ≡ Some offered
       → is_clear_of_takes offered.offer ≡ true
-  pub cancels : cancels_none r.program ≡ true
-  pub differ : r.differ ≡ None
+  pub cancels : each_op is_no_cancel r.program ≡ true
   pub takes : r.takes ≡ []
   pub question : asks_late r.question ≡ false
 
@@ -131,7 +134,7 @@ pub record Told : Type 0 where
 
 abbrev pub told : Rules → Place → Told
 told r p = record {
-  state = formed r.forget p.state;
+  state = formed r.program r.forget p.state;
   left = p.left;
   due = told_due r.forget r.question p.state.clock p.kept.due;
   owed = p.kept.owed;
@@ -141,12 +144,11 @@ told r p = record {
 abbrev pub kept_code : ℕ × ℕ → ℕ → Along → List ℕ
 kept_code due owed along = number_code due.0 ++ (number_code due.1 ++ (number_code owed ++ along_code along))
 
-abbrev pub told_code : Told → List ℕ
-told_code t = state_code t.state ++ left_code t.left ++ kept_code t.due t.owed t.along
-
 -- the key of a place
 abbrev pub place_code : Rules → Place → List ℕ
-place_code r p = told_code (told r p)
+place_code r p =
+    key_code r.forget p.state ++ left_code p.left
+    ++ kept_code (told_due r.forget r.question p.state.clock p.kept.due) p.kept.owed p.kept.along
 
 abbrev pub spot_code : Rules → Spot → List ℕ
 spot_code r s = place_code r s.place

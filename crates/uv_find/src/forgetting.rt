@@ -1,19 +1,16 @@
-//! Where a search needs to know no more of a state than its pooled form.
+//! Where a search needs to know no more of a state than its form by names.
 ghost use Rattle.std.specs.Prelude.{◌≡◌, length};
-ghost use Rattle.std.specs.List.{list_all};
 ghost use Rattle.uv_script.specs.Program.{IsWhole, callbacks_of};
 ghost use Rattle.uv_names.specs.Counts.{call_end, lines_end, callbacks_end, script_end};
 ghost use Rattle.uv_asking.specs.Asked.{asked_in};
-ghost use Rattle.uv_find.specs.Forgetting.{is_small_op, is_small_main, are_small_lines, are_small_callbacks, is_small_script};
-ghost use Rattle.uv_find.specs.Forgetting.{is_small_offer, are_small_offers, is_aside, are_aside, are_small_takes, may_forget};
+ghost use Rattle.uv_find.specs.Forgetting.{is_small_op};
+ghost use Rattle.uv_find.specs.Forgetting.{is_small_offer, are_small_offers, is_aside, are_aside, are_small_takes, asks_no_more, may_forget};
 ghost use Rattle.uv_find.specs.Forgetting.{most_end, takes_end, question_end, calls_end, forget_of};
 
+use crate::ops::{OpTest, each_op};
 use uv_asking::{Asking, Most, Offer, Offered, Question, Takes};
 use uv_ids::{Callback, Event, Var};
-use uv_script::{CallbackLine, MainOp, Op, Script};
-
-/// The most lines of a script that count.
-const MOST_LINES: usize = 1_048_575;
+use uv_script::{CallbackLine, Op, Script};
 
 /// So many ms are a long time: twelve days.
 pub(crate) const LONG: u64 = 1_073_741_824;
@@ -32,21 +29,32 @@ pub(crate) fn forget_of(script: &Script, asking: &Asking) -> Option<u64>
     }
 }
 
-/// Whether a search needs to know no more of a state than its pooled form. Then the states of a script that repeats may come round again.
+/// Whether a search needs to know no more of a state than its form by names. Then the states of a script that repeats may come round again.
+/// Each op of a script that was read names a declared name, so that isn't tested.
 pub fn may_forget(script: &Script, asking: &Asking) -> bool
     ensures { result ≡ may_forget script.now (asked_in asking.now) }
+{
+    asks_no_more(script, asking, script.names().len())
+}
+
+/// Whether nothing that is asked tells more of a state than its form by names, and no number is large.
+fn asks_no_more(script: &Script, asking: &Asking, names: usize) -> bool
+    requires whole { IsWhole script.now }
+    requires names { names ≡ length script.now.names }
+    ensures { result ≡ asks_no_more script.now (asked_in asking.now) }
 {
     !asking.full
         && asking.clock.is_none()
         && asking.differ.is_none()
         && script.arena_size().last_generation > LONGEST
-        && is_small_script(script)
+        && each_op(script, names, OpTest::IsShort)
         && are_small_offers(&asking.offers)
         && are_aside(&asking.offers)
         && are_small_takes(&asking.takes)
 }
 
-fn is_small_op(op: Op) -> bool
+/// Whether the times of an op are short.
+pub(crate) fn is_small_op(op: Op) -> bool
     ensures { result ≡ is_small_op op }
 {
     match op {
@@ -54,66 +62,6 @@ fn is_small_op(op: Op) -> bool
         Op::SetRepeat(_, repeat) => repeat < LONG,
         _ => true,
     }
-}
-
-fn is_small_main(line: MainOp) -> bool
-    ensures { result ≡ is_small_main line }
-{
-    match line {
-        MainOp::Op(op) => is_small_op(op),
-        MainOp::Run(_) => true,
-    }
-}
-
-fn is_small_script(script: &Script) -> bool
-    ensures { result ≡ is_small_script script.now }
-{
-    let names = script.names().len();
-    has_small_main(script) && has_small_callbacks(script, names)
-}
-
-#[tactic(auto, using(crate::proofs::Scans::scanning))]
-fn has_small_main(script: &Script) -> bool
-    requires whole { IsWhole script.now }
-    ensures { result ≡ list_all is_small_main script.now.main }
-{
-    'lines: for line in 0..MOST_LINES {
-        let Some(op) = script.main_op(line) else {
-            return true;
-        };
-        if !is_small_main(op) {
-            return false;
-        }
-    }
-    true
-}
-
-#[tactic(auto, using(crate::proofs::Scans::scanning))]
-fn has_small_callbacks(script: &Script, names: usize) -> bool
-    requires whole { IsWhole script.now }
-    requires names { names ≡ length script.now.names }
-    ensures { result ≡ list_all are_small_callbacks script.now.callbacks }
-{
-    'names: for name in 0..names {
-        if !are_small_callbacks(script, Var(name as u32)) {
-            return false;
-        }
-    }
-    true
-}
-
-fn are_small_callbacks(script: &Script, name: Var) -> bool
-    ensures { result ≡ are_small_callbacks (callbacks_of script.now name) }
-{
-    are_small_lines(script.lines_in(Callback::Handle, name))
-        && are_small_lines(script.lines_in(Callback::After, name))
-        && are_small_lines(script.lines_in(Callback::Close, name))
-}
-
-fn are_small_lines(lines: &[CallbackLine]) -> bool
-    ensures { result ≡ are_small_lines lines.now }
-{
-    lines.iter().all(|line| is_small_op(line.op))
 }
 
 fn is_small_offer(offer: Offer) -> bool

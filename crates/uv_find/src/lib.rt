@@ -13,6 +13,7 @@ mod holding;
 mod jobs;
 mod kept;
 mod left;
+mod ops;
 mod orders;
 mod questions;
 mod ranks;

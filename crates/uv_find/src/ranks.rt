@@ -1,10 +1,13 @@
 //! Which worker an event is of, by what the workers run.
 ghost use Rattle.std.specs.Prelude.{◌≡◌};
 ghost use Rattle.uv_model.specs.After.{after};
-ghost use Rattle.uv_find.specs.Ranks.{idle_worker, runs_before, count_before, rank_of, is_of_rank, runner, finish_by, by_rank, ranked};
+ghost use Rattle.uv_workers.specs.Workers.{id_le};
+ghost use Rattle.uv_tale.specs.Tale.{name_at};
+ghost use Rattle.uv_find.specs.Ranks.{idle_worker, key_at, keys_run, run_in, runs_before, count_before, rank_in, is_of_rank, runner, finish_by, by_rank, ranked};
 
 use uv_ids::{Event, Id};
 use uv_model::Machine;
+use uv_work::Content;
 
 /// The first worker that runs no request.
 pub(crate) fn idle_worker<M: Machine>(machine: &M) -> Option<u16>
@@ -18,30 +21,67 @@ pub(crate) fn idle_worker<M: Machine>(machine: &M) -> Option<u16>
     None
 }
 
-/// Whether a worker runs a request of a slot before this one.
-fn runs_before(slot: u32, run: Option<Id>) -> bool
-    ensures { result ≡ runs_before slot run }
+/// The number of the name of what is held under an id; 0 of nothing.
+fn name_at<M: Machine>(machine: &M, id: Id) -> u32
+    ensures { result ≡ name_at (after (M.program machine.now) (M.standing machine.now)).arena.slots id }
+{
+    match machine.held(id) {
+        None => 0,
+        Some(Content::Handle(handle)) => handle.name.0,
+        Some(Content::Request(request)) => request.name.0,
+    }
+}
+
+/// Where a request comes among others: by its name, and of one name by its slot.
+fn key_at<M: Machine>(machine: &M, id: Id) -> Id
+    ensures { result ≡ key_at (after (M.program machine.now) (M.standing machine.now)).arena.slots id }
+{
+    Id {
+        slot: name_at(machine, id),
+        generation: id.slot,
+    }
+}
+
+/// The same of what a worker runs.
+fn key_run<M: Machine>(machine: &M, worker: usize) -> Option<Id>
+    ensures { result ≡ run_in (keys_run (after (M.program machine.now) (M.standing machine.now))) worker }
+{
+    match machine.run_by(worker) {
+        None => None,
+        Some(id) => Some(key_at(machine, id)),
+    }
+}
+
+fn id_le(a: Id, b: Id) -> bool
+    ensures { result ≡ id_le a b }
+{
+    a.slot < b.slot || (a.slot == b.slot && a.generation <= b.generation)
+}
+
+/// Whether a worker runs what comes before this.
+fn runs_before(key: Id, run: Option<Id>) -> bool
+    ensures { result ≡ runs_before key run }
 {
     match run {
         None => false,
-        Some(id) => id.slot < slot,
+        Some(other) => !id_le(key, other),
     }
 }
 
 /// How many do, of one.
-fn count_before(slot: u32, run: Option<Id>) -> usize
-    ensures { result ≡ count_before slot run }
+fn count_before(key: Id, run: Option<Id>) -> usize
+    ensures { result ≡ count_before key run }
 {
-    if runs_before(slot, run) { 1 } else { 0 }
+    if runs_before(key, run) { 1 } else { 0 }
 }
 
-/// The rank of the request in this slot: so many workers run one of a slot before it.
-fn rank_of<M: Machine>(machine: &M, slot: u32) -> usize
-    ensures { result ≡ rank_of (after (M.program machine.now) (M.standing machine.now)) slot }
+/// So many that are run come before this.
+fn rank_in<M: Machine>(machine: &M, key: Id) -> usize
+    ensures { result ≡ rank_in (keys_run (after (M.program machine.now) (M.standing machine.now))) key }
 {
     let mut rank = 0;
     'workers: for worker in 0..machine.workers() {
-        rank += count_before(slot, machine.run_by(worker));
+        rank += count_before(key, key_run(machine, worker));
     }
     rank
 }
@@ -51,7 +91,7 @@ fn is_of_rank<M: Machine>(machine: &M, rank: u16, run: Option<Id>) -> bool
 {
     match run {
         None => false,
-        Some(id) => rank_of(machine, id.slot) == rank as usize,
+        Some(id) => rank_in(machine, key_at(machine, id)) == rank as usize,
     }
 }
 

@@ -1,20 +1,20 @@
 mod Names
-mod Orders
+pub mod Orders
 mod Lists
-mod Slots
-mod Timers
+pub mod Slots
+pub mod Timers
 mod Ops
-mod Steps
-mod Whole
-mod Twice
-mod Kept
-mod Grows
-mod Moved
+pub mod Steps
+pub mod Whole
+pub mod Twice
+pub mod Kept
+pub mod Grows
+pub mod Moved
 mod Alike
 mod Named
-mod Reached
+pub mod Reached
 mod ReboundOps
 mod ReboundSteps
 mod Walked
-mod Buries
-mod Keeping
+pub mod Buries
+pub mod Keeping

@@ -15,16 +15,16 @@ stands [] m n e none = grind arith
 stands (k ∷ ks) zero n e none = grind arith
 stands (k ∷ ks) (suc m) n e none = grind (arith, stands ks m n)
 
-placed_once : (o : List ℕ) (m n : ℕ) → slice_get o m ≡ Some n → times o n ≡ 1 → place_in o n ≡ Some m
+pub placed_once : (o : List ℕ) (m n : ℕ) → slice_get o m ≡ Some n → times o n ≡ 1 → place_in o n ≡ Some m
 placed_once [] m n e once = grind arith
 placed_once (k ∷ ks) zero n e once = grind arith
 placed_once (k ∷ ks) (suc m) n e once = grind (arith, stands ks m n, placed_once ks m n)
 
-number_within : (o : List ℕ) (m n : ℕ) → IsOrder o → slice_get o m ≡ Some n → n < length o
+pub number_within : (o : List ℕ) (m n : ℕ) → IsOrder o → slice_get o m ≡ Some n → n < length o
 number_within o m n h e = grind (arith, stands o m n e, h.no_other n)
 
 -- its place is that place
-place_number : (o : List ℕ) (m : ℕ) → IsOrder o → place_of o (number_at o m) ≡ m
+pub place_number : (o : List ℕ) (m : ℕ) → IsOrder o → place_of o (number_at o m) ≡ m
 place_number o m h = by (slice_get o m) refl where
   by : (x : Option ℕ) → slice_get o m ≡ x → place_of o (unwrap_or x m) ≡ m
   by (Some n) e = ap (λ (y : Option ℕ). unwrap_or y n) (placed_once o m n e (h.once n (number_within o m n h e)))

@@ -71,12 +71,12 @@ callback_back callback.Close = refl
 callback_tells : Tells (λ c. byte_code (callback_number c))
 callback_tells = part_tells _ callback_number (settled_back callback_number callback_of callback_back) byte_tells
 
-kind_of : ℕ → Kind
+pub kind_of : ℕ → Kind
 kind_of n =
     if n == 0 then kind.Timer else if n == 1 then kind.Idle else if n == 2 then kind.Prepare else if n == 3 then kind.Check
     else if n == 4 then kind.Async else kind.Io
 
-kind_back : (k : Kind) → kind_of (kind_number k) ≡ k
+pub kind_back : (k : Kind) → kind_of (kind_number k) ≡ k
 unfolding kind_of
 kind_back kind.Timer = refl
 kind_back each = refl
@@ -171,7 +171,7 @@ calls_part c = ((c.handle, c.after), c.close)
 abbrev calls_of : (ℕ × ℕ) × ℕ → Calls
 calls_of p = record { handle = p.0.0; after = p.0.1; close = p.1 }
 
-calls_tell : Tells calls_code
+pub calls_tell : Tells calls_code
 unfolding calls_code
 calls_tell = part_tells _ calls_part (settled_back calls_part calls_of (λ c. refl))
     (pair_tells _ _ (pair_tells _ _ numbers_tell numbers_tell) numbers_tell)
@@ -188,17 +188,17 @@ named_tells = part_tells _ named_part (settled_back named_part named_of (λ n. r
 
 -- ---- handles
 
-abbrev Flags : Type 0
+abbrev pub Flags : Type 0
 Flags = Bool × Bool × Bool × Bool × Bool
 
-abbrev flags_number : Flags → ℕ
+abbrev pub flags_number : Flags → ℕ
 flags_number f = bit f.0 + 2 * bit f.1 + 4 * bit f.2 + 8 * bit f.3 + 16 * bit f.4
 
-bit_small : (b : Bool) → bit b ≤ 1
+pub bit_small : (b : Bool) → bit b ≤ 1
 bit_small true = omega arith
 bit_small false = omega arith
 
-same_flags : (f g : Flags) → flags_number f ≡ flags_number g → f ≡ g
+pub same_flags : (f g : Flags) → flags_number f ≡ flags_number g → f ≡ g
 same_flags f g e =
     let a : bit f.0 ≡ bit g.0 = grind (arith, bit_small) in
     let b : bit f.1 ≡ bit g.1 = grind (arith, bit_small) in

@@ -4,8 +4,8 @@ mod Timers
 pub mod Inserted
 mod Slots
 pub mod States
-pub mod Earliest
-mod TurnedLemmas
 mod ComputedLemmas
+mod TaleCodes
+pub mod TaleTells
 pub mod FormsTell
 pub mod Listed

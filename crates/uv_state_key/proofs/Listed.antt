@@ -26,7 +26,6 @@ use Rattle.uv_order.specs.Reached.{IsReached}
 use Rattle.uv_order.proofs.Reaching.{reached}
 use Rattle.uv_key.specs.Codes.{list_code}
 use Rattle.uv_key.proofs.Numbers.{number_small}
-use Rattle.uv_state_key.specs.Key.{id_code, ids_code}
 use Rattle.uv_state_key.specs.declared.holds.Holds.{Holds}
 use Rattle.uv_state_key.specs.declared.holds.Few.{Few}
 use Rattle.uv_state_key.specs.declared.holds.Few.TheVariants as few
@@ -458,6 +457,6 @@ none_before (x ∷ xs) (y ∷ ys) id l e = absurd (later xs (let rest : xs ++ y 
   later [] e = cc e
   later (z ∷ zs) e = cc e
 
-pub one_code : (id : Id) → ids_code (id ∷ []) ++ ids_code [] ≡ (1 ∷ []) ++ id_code id ++ (0 ∷ [])
+pub one_code : (code : Id → List ℕ) (id : Id) → list_code code (id ∷ []) ++ list_code code [] ≡ (1 ∷ []) ++ code id ++ (0 ∷ [])
 unfolding list_code
-one_code id = rw (number_small 1 (omega arith), number_small 0 (omega arith), append-nil (id_code id)) refl
+one_code code id = rw (number_small 1 (omega arith), number_small 0 (omega arith), append-nil (code id)) refl

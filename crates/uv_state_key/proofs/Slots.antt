@@ -26,19 +26,19 @@ same_outcome task (Finished a) (Finished b) h k e = ap Finished (h ∙ sym k)
 same_outcome task Cancelled Cancelled h k e = refl
 same_outcome task o q h k e = absurd (let f : ⊥ = omega (arith, e) in f)
 
-abbrev Told : Request → Type 0
+abbrev pub Told : Request → Type 0
 Told r = IsDigest r.task r.outcome
 
-abbrev RequestPart : Type 0
+abbrev pub RequestPart : Type 0
 RequestPart = ((ℕ × ℕ) × ℕ) × List ℕ
 
-abbrev request_part : Request → RequestPart
+abbrev pub request_part : Request → RequestPart
 request_part r = (((outcome_number r.outcome, r.name.0), r.task.rounds), text_of r.task)
 
 parts_tell : Tells {X = RequestPart} (λ p. byte_code p.0.0.0 ++ number_code p.0.0.1 ++ number_code p.0.1 ++ bytes_code p.1)
 parts_tell = pair_tells _ _ (pair_tells _ _ (pair_tells _ _ byte_tells numbers_tell) numbers_tell) bytes_tell
 
-same_request : (a b : Request) → Told a → Told b → request_part a ≡ request_part b → a ≡ b
+pub same_request : (a b : Request) → Told a → Told b → request_part a ≡ request_part b → a ≡ b
 same_request a b h k e =
     let task = same_task a.task b.task (ap (λ (p : RequestPart). p.0.1) e) (ap (λ (p : RequestPart). p.1) e) in
     let told = subst (λ (t : Task). IsDigest t b.outcome) (sym task) k in

@@ -1,6 +1,7 @@
 pub mod Key
+pub mod TaleKey
 pub mod Formed
 pub mod Told
-pub mod Turned
 pub mod Computed
+pub mod Listing
 pub mod Holding

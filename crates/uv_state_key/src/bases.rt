@@ -1,22 +1,15 @@
-//! By how much the numbers of a machine's state are more than those of its pooled form.
-ghost use Rattle.std.specs.Prelude.{◌≡◌, ℕ, IfOk, Some, option_map};
+//! By how much the times of a machine's state are later than they have to be.
+ghost use Rattle.std.specs.Prelude.{◌≡◌, IfOk};
 ghost use Rattle.uv_model.specs.After.{after};
-ghost use Rattle.uv_shift.specs.Earliest.{or_deadline, or_over};
-ghost use Rattle.uv_generations.specs.Youngest.{least_bound, or_bound, surplus};
-ghost use Rattle.uv_names.specs.Stale.{staled};
-ghost use Rattle.uv_pooled.specs.Pooled.{pooled};
-ghost use Rattle.uv_state_key.specs.Formed.{formed};
-ghost use Rattle.uv_state_key.specs.Turned.{surplus_at, turned};
-ghost use Rattle.uv_state_key.specs.Computed.{due_at, first_at, least_among, fresh_at, all_fresh, marked, times_freed, stale_in};
+ghost use Rattle.uv_shift.specs.Earliest.{base, or_deadline, or_over};
+ghost use Rattle.uv_state_key.specs.Computed.{by_of, due_at, first_at, least_among};
 
-use crate::forms::{Form, Freed};
+use crate::forms::Form;
 use crate::places::stage_deadline;
-use std::alloc::{AllocError, Global};
-use uv_ids::{Due, Id, Var};
+use std::alloc::AllocError;
+use uv_ids::{Due, Id};
 use uv_model::{Machine, Place, Stage};
 use uv_work::Content;
-
-// ---- times
 
 /// When an active timer is due.
 fn due_at<M: Machine>(machine: &M, id: Id) -> Due
@@ -69,85 +62,10 @@ fn or_over(place: Place, at: u64) -> u64
     }
 }
 
-// ---- generations
-
-/// How often a slot was freed, where no name is known to be bound to an earlier generation of it.
-fn fresh<M: Machine>(machine: &M, number: u32) -> Freed
-    ensures { result ≡ fresh_at (after (M.program machine.now) (M.standing machine.now)).arena.slots number }
-{
-    let generation = match machine.slot(number) {
-        None => 0,
-        Some(slot) => slot.generation,
-    };
-    Freed {
-        generation,
-        stale: false,
-    }
-}
-
-/// The same of each slot that was used.
-fn all_fresh<M: Machine>(machine: &M, alloc: Global) -> Result<Vec<Freed>, AllocError>
-    ensures { IfOk result (λ all. all.items ≡ all_fresh (after (M.program machine.now) (M.standing machine.now)).arena.slots) }
-{
-    let mut all = Vec::with_capacity(alloc, machine.used() as usize)?;
-    for number in 0..machine.used() {
-        all.push(fresh(machine, number))?;
-    }
-    Ok(all)
-}
-
-/// A name is bound to this generation of the slot.
-fn marked(freed: Freed, generation: u32) -> Freed
-    ensures { result ≡ marked generation freed }
-{
-    if generation < freed.generation {
-        Freed {
-            stale: true,
-            ..freed
-        }
-    } else {
-        freed
-    }
-}
-
-/// A name is bound to this id.
-fn mark(all: &mut Vec<Freed>, id: Option<Id>)
-    ensures generations { (slot : ℕ) → times_freed all.new.items slot ≡ times_freed all.old.items slot }
-    ensures surplus { (slot : ℕ) → surplus_at all.new.items slot
-        ≡ or_bound slot (option_map (stale_in all.old.items) id) (surplus_at all.old.items slot) }
-{
-    if let Some(id) = id {
-        if let Some(freed) = all.get_mut(id.slot as usize) {
-            *freed = marked(*freed, id.generation);
-        }
-    }
-}
-
-/// The same of each name.
-fn mark_bound<M: Machine>(all: &mut Vec<Freed>, machine: &M)
-    requires { all.old.items ≡ all_fresh (after (M.program machine.now) (M.standing machine.now)).arena.slots }
-    ensures { (slot : ℕ) → surplus_at all.new.items slot
-        ≡ least_bound slot (staled (after (M.program machine.now) (M.standing machine.now))).names (surplus_at all.old.items slot) }
-{
-    for number in 0..machine.script().names().len() {
-        mark(all, machine.named(Var(number as u32)).id);
-    }
-}
-
-/// How often each slot was freed, and whether a name is bound to an earlier generation of it.
-fn freed<M: Machine>(machine: &M, alloc: Global) -> Result<Vec<Freed>, AllocError>
-    ensures { IfOk result (λ all. (slot : ℕ) → surplus_at all.items slot
-        ≡ surplus (staled (after (M.program machine.now) (M.standing machine.now))) slot) }
-{
-    let mut all = all_fresh(machine, alloc)?;
-    mark_bound(&mut all, machine);
-    Ok(all)
-}
-
-/// The pooled form of a machine's state.
-fn pooled_form<M: Machine>(machine: &M, most: u64, alloc: Global) -> Result<Form, AllocError>
-    ensures { IfOk result (λ form. turned (Some form) (after (M.program machine.now) (M.standing machine.now))
-        ≡ pooled most (after (M.program machine.now) (M.standing machine.now))) }
+/// How much earlier the times of a machine's state may be, with calls counted up to a number.
+pub(crate) fn form_of<M: Machine>(machine: &M, most: u64) -> Result<Form, AllocError>
+    ensures by { IfOk result (λ form. by_of form ≡ base (after (M.program machine.now) (M.standing machine.now))) }
+    ensures most { IfOk result (λ form. form.most ≡ most) }
 {
     let Ok(timers) = machine.timers() else {
         return Err(AllocError);
@@ -158,21 +76,5 @@ fn pooled_form<M: Machine>(machine: &M, most: u64, alloc: Global) -> Result<Form
         most,
         ms: or_over(machine.place(), at),
         starts: least_among(machine, timers.as_slice(), numbers.next_start),
-        freed: freed(machine, alloc)?,
     })
-}
-
-/// That form, with counts up to a number, or none: then the numbers stay as they are.
-pub(crate) fn form_of<M: Machine>(
-    machine: &M,
-    most: Option<u64>,
-    alloc: Global,
-) -> Result<Option<Form>, AllocError>
-    ensures { IfOk result (λ form. turned form (after (M.program machine.now) (M.standing machine.now))
-        ≡ formed most (after (M.program machine.now) (M.standing machine.now))) }
-{
-    match most {
-        None => Ok(None),
-        Some(most) => Ok(Some(pooled_form(machine, most, alloc)?)),
-    }
 }

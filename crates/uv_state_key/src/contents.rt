@@ -2,10 +2,8 @@
 ghost use Rattle.std.specs.Prelude.{◌≡◌, ◌+◌, ◌≤◌, ◌<◌, ◌++◌, OnOk, Some, vec_len, vec_capacity};
 ghost use Rattle.uv_work.specs.declared.content.Content.TheVariants.{Handle};
 ghost use Rattle.uv_work.specs.declared.request.Request.{Request};
-ghost use Rattle.uv_state_key.specs.Turned.{slot_in};
 ghost use Rattle.uv_state_key.specs.Key.{calls_code, named_code, kind_number, flags_of, handle_code, outcome_number, request_code, slot_code};
 
-use crate::forms::{Form, turn_generation, turn_handle};
 use crate::places::{bit, put_byte, put_id_option};
 use std::alloc::AllocError;
 use uv_ids::{Id, Kind};
@@ -15,7 +13,7 @@ use uv_work::{Content, Outcome, Request};
 
 #[tactic(auto, unfolding(crate::specs::Key::calls_code))]
 #[inline(always)]
-fn put_calls(out: &mut Vec<u8>, calls: Calls)
+pub(crate) fn put_calls(out: &mut Vec<u8>, calls: Calls)
     requires { vec_len out.old + 30 ≤ vec_capacity out.old }
     ensures items { out.new.items ≡ out.old.items ++ calls_code calls }
     ensures len { vec_len out.new ≤ vec_len out.old + 30 }
@@ -78,7 +76,7 @@ pub(crate) fn push_named(out: &mut Vec<u8>, named: Named) -> Result<(), AllocErr
     Ok(())
 }
 
-fn kind_number(kind: Kind) -> u8
+pub(crate) fn kind_number(kind: Kind) -> u8
     ensures { result ≡ kind_number kind }
 {
     match kind {
@@ -92,7 +90,7 @@ fn kind_number(kind: Kind) -> u8
 }
 
 /// The flags of a handle, a bit each.
-fn flags_of(handle: HandleRecord) -> u8
+pub(crate) fn flags_of(handle: HandleRecord) -> u8
     ensures { result ≡ flags_of handle }
 {
     bit(handle.referenced)
@@ -118,7 +116,7 @@ fn put_handle(out: &mut Vec<u8>, handle: HandleRecord)
     put_number(out, handle.repeat);
 }
 
-fn outcome_number(outcome: Outcome) -> u8
+pub(crate) fn outcome_number(outcome: Outcome) -> u8
     ensures { result ≡ outcome_number outcome }
 {
     match outcome {
@@ -187,27 +185,21 @@ fn push_handle(out: &mut Vec<u8>, generation: u32, handle: HandleRecord) -> Resu
     Ok(())
 }
 
-/// A slot, which has this number.
 #[tactic(auto, unfolding(crate::specs::Key::slot_code))]
 #[inline(always)]
-pub(crate) fn push_slot(
-    out: &mut Vec<u8>,
-    form: &Option<Form>,
-    number: u32,
-    slot: Slot<Content>,
-) -> Result<(), AllocError>
+pub(crate) fn push_slot(out: &mut Vec<u8>, slot: Slot<Content>) -> Result<(), AllocError>
     requires { vec_len out.old + 53 ≤ vec_capacity out.old }
-    ensures { OnOk result (out.new.items ≡ out.old.items ++ slot_code (slot_in form.now number slot)) }
+    ensures { OnOk result (out.new.items ≡ out.old.items ++ slot_code slot) }
 {
     // (each arm puts its own number of what the slot holds, so that nothing is read of the slot that isn't written)
-    let generation = turn_generation(form, number, slot.generation);
+    let generation = slot.generation;
     match slot.content {
         None => {
             put_number(out, u64::from(generation));
             put_byte(out, 0);
             Ok(())
         }
-        Some(Content::Handle(handle)) => push_handle(out, generation, turn_handle(form, handle)),
+        Some(Content::Handle(handle)) => push_handle(out, generation, handle),
         Some(Content::Request(request)) => {
             put_number(out, u64::from(generation));
             put_byte(out, 2);

@@ -1,10 +1,12 @@
-//! The bytes that name a state of the loop, or its pooled form.
+//! The bytes that name a state of the loop, or what is told of it, which tells its form by names.
 //!
 //! The main call is `push_key`, and `keys_tell` and `forms_tell` (`laws.rt`) are its theorems: equal bytes are equal states, or equal
-//! forms. Read `specs/Key.antt`, then `Formed.antt`, and of which states the second holds `Told.antt`.
+//! forms. Read `specs/Key.antt`, and `TaleKey.antt` for the bytes of the form, then `Formed.antt`, and of which states the second theorem
+//! holds `Told.antt`.
 #![tactic(auto)]
 
 mod bases;
+mod bound;
 mod contents;
 mod forms;
 mod holds;
@@ -13,6 +15,7 @@ mod lists;
 mod places;
 mod runs;
 mod state;
+mod tale;
 
 pub use laws::{forms_tell, keys_tell};
 pub use state::push_key;

@@ -44,14 +44,6 @@ pub(crate) fn put_id_option(out: &mut Vec<u8>, id: Option<Id>)
     }
 }
 
-pub(crate) fn push_id(out: &mut Vec<u8>, id: Id) -> Result<(), AllocError>
-    ensures { OnOk result (out.new.items ≡ out.old.items ++ id_code id) }
-{
-    out.reserve(20)?;
-    put_id(out, id);
-    Ok(())
-}
-
 pub(crate) fn push_id_option(out: &mut Vec<u8>, id: Option<Id>) -> Result<(), AllocError>
     ensures { OnOk result (out.new.items ≡ out.old.items ++ option_code id_code id) }
 {

@@ -14,7 +14,8 @@ returns-then-is_none g c =
     let long = after_long p (m.standing c.args.machine.now) in
     let count = c.workers-worker-end.ensures.count ∙ ap worker_count c.script.ensures in
     let within : c.workers.worker < length s.running = omega (arith, c.workers-test.true, count, long) in
-    found_here (λ (run : Option Id). is_none run) s.running c.workers.worker within (ap not (ap is_some (sym c.run_by.ensures) ∙ c.if-is_none.ensures)) c.workers.invariant
+    found_here (λ (run : Option Id). is_none run) s.running c.workers.worker within
+    (ap not (ap is_some (sym c.run_by.ensures) ∙ c.if-is_none.ensures)) c.workers.invariant
 
 pub workers-preserved : goal.workers-preserved
 workers-preserved g c =
@@ -24,7 +25,8 @@ workers-preserved g c =
     let long = after_long p (m.standing c.args.machine.now) in
     let count = c.workers-worker-end.ensures.count ∙ ap worker_count c.script.ensures in
     let within : c.workers.worker < length s.running = omega (arith, c.workers-test.true, count, long) in
-    found_later (λ (run : Option Id). is_none run) s.running c.workers.worker within (ap not (ap is_some (sym c.run_by.ensures) ∙ c.if-is_none.ensures)) c.workers.invariant
+    found_later (λ (run : Option Id). is_none run) s.running c.workers.worker within
+    (ap not (ap is_some (sym c.run_by.ensures) ∙ c.if-is_none.ensures)) c.workers.invariant
 
 pub returns : goal.returns
 returns g c =

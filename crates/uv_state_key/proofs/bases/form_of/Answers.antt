@@ -1,10 +1,30 @@
-use Rattle.std.proofs.Common.{Option, ℕ, ap, sym, ◌∙◌}
+use Rattle.std.proofs.Common.{◌≡◌, List, ap, ap₂, ◌∙◌, arith}
+use Rattle.std.specs.Prelude.{min}
+use Rattle.uv_ids.specs.declared.id.Id.{Id}
 use Rattle.uv_model.specs.After.{after}
-use Rattle.uv_state_key.specs.Formed.{formed}
-use Rattle.uv_state_key.proofs.TurnedLemmas.{turned_none}
+use Rattle.uv_model.specs.declared.numbers.Numbers.{Numbers}
+use Rattle.uv_model.specs.declared.place.Place.{Place}
+use Rattle.uv_order.proofs.Reaching.{reached}
+use Rattle.uv_shift.specs.Earliest.{or_over}
+use Rattle.uv_state_key.specs.Computed.{first_at, least_among}
+use Rattle.uv_state_key.proofs.ComputedLemmas.{first_same, least_same}
 use Rattle.uv_state_key.proofs.bases.form_of.Goals as goal
 
-pub returns-in-None : goal.returns-in-None
-returns-in-None g c =
-    let s = after (g.M.Machine.program c.args.machine.now) (g.M.Machine.standing c.args.machine.now) in
-    turned_none s ∙ ap (λ (o : Option ℕ). formed o s) (sym c.in-None.is)
+pub returns-clause-by : goal.returns-clause-by
+returns-clause-by g c =
+    let p = g.M.Machine.program c.args.machine.now in
+    let events = g.M.Machine.standing c.args.machine.now in
+    let s = after p events in
+    let each = (reached p events).timers.each in
+    let time : c.min.result ≡ min s.time s.clock =
+    (let least : c.min.result ≡ min c.numbers-numbers.result.time c.numbers-numbers.result.clock = grind (arith, c.min.ensures) in
+    least ∙ ap (λ (n : Numbers). min n.time n.clock) c.numbers-numbers.ensures) in
+    let first = c.first_at-at.ensures
+    ∙ ap₂ (λ (ids : List Id) at. first_at s ids at) (c.as_slice.ensures.value ∙ c.in-Ok.ensures.timers) time
+    ∙ first_same s s.timers (min s.time s.clock) each in
+    let starts = c.least_among.ensures
+    ∙ ap₂ (λ (ids : List Id) start. least_among s ids start) (c.as_slice-2.ensures.value ∙ c.in-Ok.ensures.timers)
+    (ap (λ (n : Numbers). n.next_start) c.numbers-numbers.ensures)
+    ∙ least_same s s.timers s.next_start each in
+    let ms = c.or_over.ensures ∙ ap₂ (λ (place : Place) at. or_over place at) c.place.ensures first in
+    λ i. record { ms = ms i; starts = starts i }

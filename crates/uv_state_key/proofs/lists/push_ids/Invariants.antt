@@ -1,10 +1,11 @@
 use Rattle.std.proofs.Common.{◌≡◌, ◌++◌, take}
 use Rattle.std.specs.List.{flat_map}
-use Rattle.uv_ids.specs.declared.id.Id.{Id}
-use Rattle.uv_state_key.specs.Key.{id_code}
-use Rattle.uv_state_key.specs.Turned.{id_in}
+use Rattle.uv_model.specs.After.{after}
+use Rattle.uv_state_key.specs.Listing.{member_code}
 use Rattle.uv_state_key.proofs.lists.push_ids.Given as goal
 
 -- those before this one
 abbrev pub invariant-loop-id : goal.invariant-loop-id
-invariant-loop-id l = l.out.items ≡ l.initial.out.items ++ flat_map (λ (id : Id). id_code (id_in l.form id)) (take l.id-index l.ids)
+invariant-loop-id g l =
+    let s = after (g.M.Machine.program l.machine) (g.M.Machine.standing l.machine) in
+    l.out.items ≡ l.initial.out.items ++ flat_map (member_code l.named s.arena.slots) (take l.id-index l.ids)

@@ -1,11 +1,9 @@
 use Rattle.std.proofs.Common.{◌≡◌, ◌<◌, ◌++◌, List, [], OnOk, length, ap, sym, subst, ◌∙◌, append_assoc, arith}
-use Rattle.std.specs.Prelude.{map}
 use Rattle.uv_ids.specs.declared.id.Id.{Id}
 use Rattle.uv_model.specs.After.{after}
 use Rattle.uv_model.specs.Queries.{members}
-use Rattle.uv_state_key.specs.Key.{ids_code}
+use Rattle.uv_state_key.specs.Listing.{members_code}
 use Rattle.uv_state_key.proofs.Listed.{none_before}
-use Rattle.uv_state_key.specs.Turned.{id_in}
 use Rattle.uv_state_key.proofs.lists.push_one_of.Goals as goal
 
 pub returns : goal.returns
@@ -15,10 +13,10 @@ returns g c =
     let ys = members s c.args.yet in
     let old = c.args.out.now.items in
     let given = c.as_slice.result.now in
-    let code = λ (ids : List Id). ids_code (map (id_in c.args.form.now) ids) in
+    let code = λ (ids : List Id). members_code c.args.named s.arena.slots ids in
     let some : 0 < length ys = omega (arith, c.len.ensures, c.if-len-eq0.false, ap length c.in-Ok.ensures.members) in
     let none : xs ≡ [] = none_before xs ys c.args.id some c.requires in
-    let all = ap (λ t. t ++ code given) c.in_ok-push_none.ensures ∙ append_assoc old (ids_code []) (code given)
+    let all = ap (λ t. t ++ code given) c.in_ok-push_none.ensures ∙ append_assoc old (code []) (code given)
     ∙ ap (λ t. old ++ (code t ++ code given)) (sym none)
     ∙ ap (λ t. old ++ (code xs ++ code t)) (c.as_slice.ensures.value ∙ c.in-Ok.ensures.members) in
     subst (λ t. OnOk c.push_ids.result (c.push_ids.new.out.items ≡ t)) all c.push_ids.ensures

@@ -1,15 +1,18 @@
 use Rattle.std.proofs.Common.{List, ℕ, [], ◌∷◌, ◌++◌, ap, sym, ◌∙◌, append_assoc}
-use Rattle.uv_state_key.specs.Key.{id_code}
+use Rattle.uv_model.specs.After.{after}
+use Rattle.uv_state_key.specs.Listing.{member_code}
 use Rattle.uv_state_key.proofs.Listed.{one_code}
 use Rattle.uv_state_key.proofs.lists.push_single.Goals as goal
 
 pub returns : goal.returns
-returns c =
+returns g c =
+    let slots = (after (g.M.Machine.program c.args.machine.now) (g.M.Machine.standing c.args.machine.now)).arena.slots in
     let old = c.args.out.now.items in
-    let code = id_code c.args.id in
+    let each = member_code c.args.named slots in
+    let code = each c.args.id in
     let one : List ℕ = 1 ∷ [] in
     let none : List ℕ = 0 ∷ [] in
     c.push_reserved-2.ensures.items
-    ∙ ap (λ t. t ++ none) (c.put_id.ensures.items
+    ∙ ap (λ t. t ++ none) (c.put_member.ensures.items
     ∙ ap (λ t. t ++ code) (c.push_reserved.ensures.items ∙ ap (λ t. t ++ one) c.in_ok-reserve.ensures.items))
-    ∙ ap (λ t. t ++ none) (append_assoc old one code) ∙ append_assoc old (one ++ code) none ∙ ap (λ t. old ++ t) (sym (one_code c.args.id))
+    ∙ ap (λ t. t ++ none) (append_assoc old one code) ∙ append_assoc old (one ++ code) none ∙ ap (λ t. old ++ t) (sym (one_code each c.args.id))

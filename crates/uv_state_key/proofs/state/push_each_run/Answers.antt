@@ -1,4 +1,4 @@
-use Rattle.std.proofs.Common.{◌<◌, ◌≤◌, ◌++◌, List, ℕ, Option, length, ap, ◌∙◌, arith}
+use Rattle.std.proofs.Common.{◌<◌, ◌≤◌, ◌++◌, Option, length, ap, ◌∙◌, arith}
 use Rattle.uv_ids.specs.declared.id.Id.{Id}
 use Rattle.uv_model.specs.After.{after}
 use Rattle.uv_key.specs.Codes.{number_code, option_code}

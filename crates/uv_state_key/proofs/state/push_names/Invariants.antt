@@ -1,13 +1,11 @@
 use Rattle.std.proofs.Common.{◌≡◌, ◌++◌, take}
 use Rattle.std.specs.List.{flat_map}
-use Rattle.uv_records.specs.declared.named.Named.{Named}
 use Rattle.uv_model.specs.After.{after}
 use Rattle.uv_state_key.specs.Key.{named_code}
-use Rattle.uv_state_key.specs.Turned.{name_in}
 use Rattle.uv_state_key.proofs.state.push_names.Given as goal
 
 -- those before this one
 abbrev pub invariant-loop-number : goal.invariant-loop-number
 invariant-loop-number g l =
     let s = after (g.M.Machine.program l.machine) (g.M.Machine.standing l.machine) in
-    l.out.items ≡ l.initial.out.items ++ flat_map (λ (n : Named). named_code (name_in l.form n)) (take l.number s.names)
+    l.out.items ≡ l.initial.out.items ++ flat_map named_code (take l.number s.names)

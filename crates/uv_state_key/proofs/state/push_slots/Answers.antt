@@ -1,27 +1,20 @@
-use Rattle.std.proofs.Common.{◌≡◌, ◌+◌, ◌<◌, ◌≤◌, ◌++◌, Option, suc, length, ap, sym, ◌∙◌, arith}
-use Rattle.uv_records.specs.declared.slot.Slot.{Slot}
-use Rattle.uv_work.specs.declared.content.Content.{Content}
+use Rattle.std.proofs.Common.{◌≡◌, ◌+◌, ◌<◌, ◌≤◌, ◌++◌, suc, length, ap, ◌∙◌, arith}
 use Rattle.uv_model.specs.After.{after}
 use Rattle.uv_key.specs.Codes.{number_code}
-use Rattle.uv_key.proofs.Loops.{list_end, piece, piece_turn}
+use Rattle.uv_key.proofs.Loops.{list_end, piece_turn}
 use Rattle.uv_state_key.specs.Key.{slot_code}
 use Rattle.uv_state_key.specs.Holding.{and_content, content_at, holds_in, id_at}
-use Rattle.uv_state_key.specs.Turned.{slots_in}
-use Rattle.uv_state_key.proofs.TurnedLemmas.{slot_at, slots_long}
 use Rattle.uv_state_key.proofs.state.push_slots.Goals as goal
 
 pub loop-number-preserved : goal.loop-number-preserved
 loop-number-preserved g c =
     let slots = (after (g.M.Machine.program c.args.machine.now) (g.M.Machine.standing c.args.machine.now)).arena.slots in
     let number = c.loop-number.number in
-    let out = c.loop-number.out.items in
-    let form = c.args.form.now in
     let next : suc number ≡ number + 1 = omega arith in
     let below : number < length slots = omega (arith, c.loop-number-test.true, c.used-number-end.ensures) in
     record {
       items = c.in_ok-push_used.ensures.items
-          ∙ ap (λ (slot : Option (Slot Content)). out ++ piece slot_code slot) (sym (slot_at form slots number))
-          ∙ piece_turn slot_code (slots_in form slots) number c.push_number.new.out.items out c.loop-number.invariant.items;
+          ∙ piece_turn slot_code slots number c.push_number.new.out.items c.loop-number.out.items c.loop-number.invariant.items;
       holds = c.in_ok-push_used.ensures.holds
           ∙ ap (λ holds. and_content holds (id_at slots number) (content_at slots number)) c.loop-number.invariant.holds
           ∙ ap (λ n. holds_in slots n) next;
@@ -32,11 +25,9 @@ pub returns-clause-items : goal.returns-clause-items
 returns-clause-items g c =
     let slots = (after (g.M.Machine.program c.args.machine.now) (g.M.Machine.standing c.args.machine.now)).arena.slots in
     let old = c.args.out.now.items in
-    let long = slots_long c.args.form.now slots in
-    let ended : length (slots_in c.args.form.now slots) ≤ c.loop-number.number =
-    omega (arith, long, c.loop-number-test.false, c.used-number-end.ensures) in
-    list_end slot_code (slots_in c.args.form.now slots) c.loop-number.number old c.push_number.new.out.items c.loop-number.out.items ended
-    (c.in_ok-push_number.ensures ∙ ap (λ n. old ++ number_code n) (c.from.ensures ∙ c.used.ensures ∙ sym long)) c.loop-number.invariant.items
+    let ended : length slots ≤ c.loop-number.number = omega (arith, c.loop-number-test.false, c.used-number-end.ensures) in
+    list_end slot_code slots c.loop-number.number old c.push_number.new.out.items c.loop-number.out.items ended
+    (c.in_ok-push_number.ensures ∙ ap (λ n. old ++ number_code n) (c.from.ensures ∙ c.used.ensures)) c.loop-number.invariant.items
 
 pub returns-clause-holds : goal.returns-clause-holds
 returns-clause-holds g c =

@@ -4,7 +4,7 @@ use Rattle.uv_model.specs.After.{after}
 use Rattle.uv_model.specs.State.{fresh}
 use Rattle.uv_find.specs.Kept.{none_kept}
 use Rattle.uv_find.specs.Orders.{first_left}
-use Rattle.uv_find.specs.Spots.{AreBrief, MayForget, MayHold, rules_by}
+use Rattle.uv_find.specs.Spots.{AreBrief, MayForget, MayHold, rules_by, rules_of}
 use Rattle.uv_asking.specs.Asked.{asked_in}
 use Rattle.uv_find.proofs.Forgets.{forgets}
 use Rattle.uv_find.proofs.Holds.{holds}
@@ -36,3 +36,8 @@ invariant_of-result g c =
       brief = subst (AreBrief c.in_ok-terms.terms.forget) (sym c.new.ensures.standing) tt;
       room = rw c.new.ensures.standing (omega arith);
     }
+
+pub returns-clause-rules : goal.returns-clause-rules
+returns-clause-rules g c =
+    ap (λ q. rules_by q c.in_ok-terms.terms) (c.new.ensures.program ∙ sym c.script.ensures) ∙ c.in_ok-terms.ensures
+    ∙ ap (λ q. rules_of q (asked_in c.args.asking.now)) c.script.ensures

@@ -1,0 +1,9 @@
+use Rattle.std.proofs.Common.{◌≡◌, drop}
+use Rattle.std.specs.List.{list_all}
+use Rattle.uv_find.specs.Holding.{test_of}
+use Rattle.uv_find.specs.Ops.{of_callbacks}
+use Rattle.uv_find.proofs.ops.holds_in_callbacks.Given as goal
+
+abbrev pub invariant-names : goal.invariant-names
+invariant-names l = list_all (of_callbacks (test_of l.test)) (drop l.name l.script.callbacks)
+    ≡ list_all (of_callbacks (test_of l.test)) l.script.callbacks

@@ -1,0 +1,24 @@
+use Rattle.std.proofs.Common.{◌≡◌, ◌+◌, ◌<◌, suc, length, ap, ◌∙◌, arith}
+use Rattle.uv_model.specs.After.{after}
+use Rattle.uv_state_key.specs.Holding.{and_content, content_at, holds_in, id_at}
+use Rattle.uv_state_key.proofs.tale.held_by.Goals as goal
+
+pub loop-number-preserved : goal.loop-number-preserved
+loop-number-preserved g c =
+    let slots = (after (g.M.Machine.program c.args.machine.now) (g.M.Machine.standing c.args.machine.now)).arena.slots in
+    let number = c.loop-number.number in
+    let next : suc number ≡ number + 1 = omega arith in
+    let below : number < length slots = omega (arith, c.loop-number-test.true, c.used-number-end.ensures) in
+    record {
+      holds = c.add_slot.ensures
+          ∙ ap (λ holds. and_content holds (id_at slots number) (content_at slots number)) c.loop-number.invariant.holds
+          ∙ ap (λ n. holds_in slots n) next;
+      within = omega (arith, below);
+    }
+
+pub returns : goal.returns
+returns g c =
+    let slots = (after (g.M.Machine.program c.args.machine.now) (g.M.Machine.standing c.args.machine.now)).arena.slots in
+    let ended : c.loop-number.number ≡ length slots =
+    omega (arith, c.loop-number-test.false, c.used-number-end.ensures, c.loop-number.invariant.within) in
+    c.loop-number.invariant.holds ∙ ap (λ n. holds_in slots n) ended

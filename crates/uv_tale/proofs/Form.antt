@@ -1,0 +1,124 @@
+-- The form of a state by its names is made from its tale.
+use Rattle.std.proofs.Common.{◌≡◌, ℕ, ◌++◌, List, [], ◌∷◌, Option, Some, None, refl, ap, sym, ◌∙◌}
+use Rattle.std.specs.Prelude.{map, option_map, option_to_list, min}
+use Rattle.uv_ids.specs.declared.due.Due.{Due}
+use Rattle.uv_ids.specs.declared.id.Id.{Id}
+use Rattle.uv_records.specs.declared.lists.WatcherKind.TheVariants as watcher
+use Rattle.uv_records.specs.declared.named.Named.{Named}
+use Rattle.uv_records.specs.declared.slot.Slot.{Slot}
+use Rattle.uv_records.specs.Slots.{held}
+use Rattle.uv_work.specs.declared.content.Content.{Content}
+use Rattle.uv_script.specs.Program.{Program, arena_size}
+use Rattle.uv_model.specs.declared.place.Place.{Place}
+use Rattle.uv_model.specs.declared.place.Place.TheVariants.{Main, Running}
+use Rattle.uv_model.specs.State.{State}
+use Rattle.uv_order.specs.Active.{run_ids}
+use Rattle.uv_shift.specs.Shift.{By}
+use Rattle.uv_shift.specs.Earliest.{back, base, earlier, earliest, least_start, or_first, or_over}
+use Rattle.uv_shift.proofs.Timed.{earliest_timed}
+use Rattle.uv_generations.specs.Youngest.{youngest}
+use Rattle.uv_names.specs.Counts.{capped, capped_place}
+use Rattle.uv_names.specs.Stale.{staled}
+use Rattle.uv_slots.specs.Arranged.{arranged, arranged_entry, arranged_id}
+use Rattle.uv_slots.specs.Buried.{buried, buried_by, buried_id, buried_name, dead_id}
+use Rattle.uv_slots.specs.NamedForm.{named_order, slot_bound, slots_bound}
+use Rattle.uv_pooled.specs.Pooled.{pooled}
+use Rattle.uv_workers.specs.Workers.{orderly}
+use Rattle.uv_by_name.specs.ByName.{by_name, IsRegular}
+use Rattle.uv_tale.specs.Tale.{tale}
+use Rattle.uv_tale.proofs.Made.{made, named_entry}
+use Rattle.uv_tale.proofs.Settled.{form_free, form_list, form_names, form_running, form_slots, form_timers, form_walk, has_list, has_yet, none_held, settled_by}
+use Rattle.uv_tale.proofs.Timers.{named_timers}
+
+-- ---- by how much it is later than its earliest form
+
+-- it tells no ids
+pub first_other : (g : Id → Id) (ts : List (Due × Id)) (at : ℕ) → or_first (map (λ (t : Due × Id). (t.0, g t.1)) ts) at ≡ or_first ts at
+first_other g [] at = refl
+first_other g (t ∷ ts) at = refl
+
+pub start_other : (g : Id → Id) (ts : List (Due × Id)) (start : ℕ) →
+    least_start (map (λ (t : Due × Id). (t.0, g t.1)) ts) start ≡ least_start ts start
+start_other g [] start = refl
+start_other g (t ∷ ts) start = ap (min t.0.start) (start_other g ts start)
+
+pub over_capped : (n : ℕ) (place : Place) (at : ℕ) → or_over (capped_place n place) at ≡ or_over place at
+over_capped n (Main line) at = refl
+over_capped n (Running run) at = refl
+
+same_base : (n : ℕ) (o : List ℕ) (dead : ℕ) (s : State) → base (capped n (staled (arranged o (buried dead s)))) ≡ base s
+same_base n o dead s =
+    let one = over_capped n s.place (or_first (map (arranged_entry o) s.timers) (min s.time s.clock))
+    ∙ ap (or_over s.place) (first_other (arranged_id o) s.timers (min s.time s.clock)) in
+    let two = start_other (arranged_id o) s.timers s.next_start in
+    λ i. record { ms = one i; starts = two i }
+
+-- ---- its order stays where names forget what is gone
+
+module _ (dead : ℕ) (slots : List (Slot Content)) (none : held slots (dead_id dead) ≡ None) where
+  slot_buried : (o : Option Id) → slot_bound slots (option_map (buried_id dead slots) o) ≡ slot_bound slots o
+  slot_buried None = refl
+  slot_buried (Some id) = by (held slots id) refl where
+    by : (c : Option Content) → held slots id ≡ c →
+        slot_bound slots (Some (buried_by dead id c)) ≡ option_map (λ (x : Content). id.slot) c
+    by None e = ap (option_map (λ (x : Content). dead)) none
+    by (Some x) e = ap (option_map (λ (x : Content). id.slot)) e
+
+  slots_buried : (ns : List Named) → slots_bound (map (buried_name dead slots) ns) slots ≡ slots_bound ns slots
+  slots_buried [] = refl
+  slots_buried (x ∷ xs) = λ i. option_to_list (slot_buried x.id i) ++ slots_buried xs i
+
+module _ (p : Program) (n : ℕ) (s : State) (regular : IsRegular p s) where
+  order_stays : named_order (buried (arena_size p).slots s) ≡ named_order s
+  order_stays = ap (λ (o : List ℕ). o ++ s.arena.free)
+      (slots_buried (arena_size p).slots s.arena.slots (none_held p n s regular) s.names)
+
+  -- the same, by the order of the state itself
+  by_order : by_name p n s ≡ orderly (youngest (back (base s) (settled_by p n s regular)))
+  by_order = ap (λ (o : List ℕ). pooled n (arranged o (buried (arena_size p).slots s))) order_stays
+      ∙ ap (λ (d : By). orderly (youngest (back d (settled_by p n s regular))))
+      (same_base n (named_order s) (arena_size p).slots s)
+
+  pub is_made : by_name p n s ≡ made (arena_size p).slots (tale n s) (map (named_entry s.arena.slots) (earliest s).timers)
+  is_made =
+      let k = regular.young in
+      let places = form_names p n s regular in
+      let slots = form_slots p n s regular in
+      let free = form_free p n s regular in
+      let timers = form_timers p n s regular (earlier (base s)) s.timers k.timers in
+      let list = form_list p n s regular in
+      let walk = form_walk p n s regular in
+      let ready = list s.ready k.ready in
+      let idle = walk s.watchers.idle (k.watchers watcher.Idle) in
+      let prepare = walk s.watchers.prepare (k.watchers watcher.Prepare) in
+      let check = walk s.watchers.check (k.watchers watcher.Check) in
+      let async = walk s.watchers.async (k.watchers watcher.Async) in
+      let closing = walk s.closing k.closing in
+      let waiting = list s.waiting (λ id e. k.opened id (has_list s.waiting (run_ids s.running) id e)) in
+      let running = form_running p n s regular s.running
+      (λ id e. k.opened id (has_yet s.waiting (run_ids s.running) id e)) in
+      let done = walk s.done k.done in
+      by_order ∙ (λ i. record {
+        place = (tale n s).place;
+        names = places i;
+        arena = record { slots = slots i; free = free i; unused = s.arena.unused };
+        timers = timers i;
+        ready = ready i;
+        watchers = record { idle = idle i; prepare = prepare i; check = check i; async = async i };
+        closing = closing i;
+        waiting = waiting i;
+        running = running i;
+        done = done i;
+        time = (tale n s).numbers.time;
+        clock = (tale n s).numbers.clock;
+        next_start = (tale n s).numbers.next_start;
+        stop_flag = s.stop_flag;
+        idled = s.idled;
+      })
+
+pub tales_tell : (p : Program) (n : ℕ) (s t : State) → IsRegular p s → IsRegular p t → tale n s ≡ tale n t → by_name p n s ≡ by_name p n t
+tales_tell p n s t h k same =
+    let times = (earliest_timed p s h.timed).timers in
+    let ticks = (earliest_timed p t k.timed).timers in
+    let timers = named_timers n s t h.tidy times k.tidy ticks (λ i. (same i).names) in
+    is_made p n s h ∙ (λ i. made (arena_size p).slots (same i) (timers i)) ∙ sym (is_made p n t k)
