@@ -5,25 +5,16 @@ use Rattle.std.proofs.lemmas.Option.{slice_get_past}
 use Rattle.uv_ids.specs.declared.event.Event.{Event}
 use Rattle.uv_ids.specs.declared.id.Id.{Id}
 use Rattle.uv_ids.specs.declared.id.Var.{Var}
-use Rattle.uv_ids.specs.declared.seen.Callback.{Callback}
-use Rattle.uv_ids.specs.declared.seen.Seen.{Seen}
 use Rattle.uv_records.specs.declared.named.Named.{Named}
 use Rattle.uv_records.specs.declared.slot.Slot.{Slot}
-use Rattle.uv_records.specs.Names.{count_of, counted}
 use Rattle.uv_records.specs.Slots.{held, held_in, id_of, next_id, next_unused}
 use Rattle.uv_script.specs.Program.{Program}
 use Rattle.uv_work.specs.declared.content.Content.{Content}
-use Rattle.uv_model.specs.declared.place.Body.{Body}
-use Rattle.uv_model.specs.declared.place.Run.{Run}
-use Rattle.uv_model.specs.declared.place.Place.{Place}
-use Rattle.uv_model.specs.declared.place.Place.TheVariants.{Main, Running}
-use Rattle.uv_model.specs.State.{State, live, live_id, named, with_id, with_named}
-use Rattle.uv_model.specs.Next as steps
+use Rattle.uv_model.specs.State.{State, live, live_id, named, with_id}
 use Rattle.uv_model.specs.Next.{Next, Moves, Refuses, next}
 use Rattle.uv_names.specs.Stale.{staled_by, staled_id, staled_name, staled, staled_next}
-use Rattle.uv_names.proofs.Changed.{as_is, changed, changed_body, changed_run, changed_place, Hides, named_changed, with_named_changed}
 use Rattle.uv_names.proofs.Grows.{Grow, next_grown}
-use Rattle.uv_names.proofs.Walk.{SeesAlike, step_alike}
+use Rattle.uv_names.proofs.Rebound.{HidesIds, live_rebound, named_rebound, next_rebound, rebound_next}
 
 -- ---- no step can tell
 
@@ -89,50 +80,10 @@ fresh_same slots unused (n ∷ ns) id e = by (slice_get slots n) refl e
         let same : id_of n slot ≡ id = cc in
         subst (λ (x : Id). staled_id slots x ≡ x) same (ap (staled_by (id_of n slot)) is ∙ at_its_own n slot)
 
-hides : (s : State) → Hides (staled_name s.arena.slots) s
+hides : (s : State) → HidesIds (staled_id s.arena.slots) s
 hides s = record {
-  unbound = refl;
-  live = λ x. live_same s x.id;
-  fresh = λ id e x. ap (λ y. record x { id = Some y }) (fresh_same s.arena.slots s.arena.unused s.arena.free id e);
-}
-
--- ---- a step from the staled state is the step, with names that were staled before
-
-same_body : (o : Option Body) → option_map (changed_body as_is) o ≡ o
-same_body None = refl
-same_body (Some body) = refl
-
-same_place : (place : Place) → changed_place as_is place ≡ place
-same_place (Main line) = refl
-same_place (Running run) = ap (λ body. Running (record run { body = body })) (same_body run.body)
-
--- the state after a step, with names that these slots stale
-abbrev staled_with : List (Slot Content) → Next → Next
-staled_with slots (Moves u line) = Moves (changed (staled_name slots) as_is u) line
-staled_with slots (Refuses why) = Refuses why
-
-call_alike : (p : Program) (slots : List (Slot Content)) (u : State) (run : Run) (kind : Callback) (v : Var) (line : Seen) →
-    steps.calls p (changed (staled_name slots) as_is u) (changed_run as_is run) kind v line ≡ staled_with slots (steps.calls p u run kind v line)
-call_alike p slots u run kind v line =
-    let f = staled_name slots in
-    let y = named u v in
-    let calls = counted kind y.calls in
-    let body = steps.body_from p kind v (count_of kind calls) 0 in
-    ap (λ (x : Named). Moves (record (with_named (changed f as_is u) v (record x { calls = counted kind x.calls }))
-    { place = Running (record run { body = steps.body_from p kind v (count_of kind (counted kind x.calls)) 0 }) }) (Some line))
-    (named_changed f as_is u v refl)
-    ∙ ap₂ (λ (t : State) (b : Option Body). Moves (record t { place = Running (record run { body = b }) }) (Some line))
-    (with_named_changed f as_is u v (record y { calls = calls })) (sym (same_body body))
-
-sees : (p : Program) (slots : List (Slot Content)) → SeesAlike p (staled_name slots) as_is as_is (staled_with slots)
-sees p slots = record {
-  refuses = λ why. refl;
-  stays = λ u line. refl;
-  moves = λ u place line same. ap (λ q. Moves (record (changed (staled_name slots) as_is u) { place = q }) line) (sym same);
-  calls = call_alike p slots;
-  goes = λ u run kind v call number line.
-      ap (λ b. Moves (record (changed (staled_name slots) as_is u) { place = Running (record run { body = b }) }) (Some line))
-      (sym (same_body (steps.body_from p kind v call number)));
+  live = λ id. live_same s (Some id);
+  fresh = λ id e. fresh_same s.arena.slots s.arena.unused s.arena.free id e;
 }
 
 -- ---- staled again
@@ -160,18 +111,14 @@ again : (xs ys : List (Slot Content)) → Grow xs ys → (ns : List Named) → m
 again xs ys grow [] = refl
 again xs ys grow (n ∷ ns) = ap₂ (λ id more. record n { id = id } ∷ more) (again_bound xs ys grow n.id) (again xs ys grow ns)
 
-staled_again : (p : Program) (s : State) (e : Event) (x : Next) → next p s e ≡ x → staled_next (staled_with s.arena.slots x) ≡ staled_next x
+staled_again : (p : Program) (s : State) (e : Event) (x : Next) → next p s e ≡ x →
+    staled_next (rebound_next (staled_id s.arena.slots) x) ≡ staled_next x
 staled_again p s e (Refuses why) is = refl
 staled_again p s e (Moves u line) is =
-    ap₂ (λ place names. Moves (record u { place = place; names = names }) line) (same_place u.place)
-    (again s.arena.slots u.arena.slots (next_grown p s u e line is) u.names)
+    ap (λ names. Moves (record u { names = names }) line) (again s.arena.slots u.arena.slots (next_grown p s u e line is) u.names)
 
 pub names_staled : (p : Program) (s : State) (e : Event) → staled_next (next p (staled s) e) ≡ staled_next (next p s e)
-names_staled p s e =
-    let f = staled_name s.arena.slots in
-    ap (λ place. staled_next (next p (record (staled s) { place = place }) e)) (sym (same_place s.place))
-    ∙ ap staled_next (step_alike p f as_is as_is (staled_with s.arena.slots) (sees p s.arena.slots) s (hides s) e)
-    ∙ staled_again p s e (next p s e) refl
+names_staled p s e = ap staled_next (next_rebound (staled_id s.arena.slots) p s (hides s) e) ∙ staled_again p s e (next p s e) refl
 
 pub alike_by_names : (p : Program) (s t : State) (e : Event) → staled s ≡ staled t → staled_next (next p s e) ≡ staled_next (next p t e)
 alike_by_names p s t e same = sym (names_staled p s e) ∙ ap (λ u. staled_next (next p u e)) same ∙ names_staled p t e
@@ -179,15 +126,10 @@ alike_by_names p s t e same = sym (names_staled p s e) ∙ ap (λ u. staled_next
 -- ---- what staled names tell
 
 pub named_staled : (s : State) (v : Var) → named (staled s) v ≡ staled_name s.arena.slots (named s v)
-named_staled s v = named_changed (staled_name s.arena.slots) as_is s v refl
+named_staled s v = named_rebound (staled_id s.arena.slots) s v
 
 pub live_staled : (s : State) (v : Var) → live (staled s) v ≡ live s v
-live_staled s v = ap (λ (x : Named). live_id (staled s) x.id) (named_staled s v)
-    ∙ seen_alike (option_map (staled_id s.arena.slots) (named s v).id) ∙ live_same s (named s v).id
-  where
-    seen_alike : (o : Option Id) → live_id (staled s) o ≡ live_id s o
-    seen_alike None = refl
-    seen_alike (Some id) = refl
+live_staled s v = live_rebound (staled_id s.arena.slots) s (hides s) v
 
 bound_by : (slots : List (Slot Content)) (o : Option Id) → is_some (option_map (staled_id slots) o) ≡ is_some o
 bound_by slots None = refl

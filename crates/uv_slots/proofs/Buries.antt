@@ -7,8 +7,7 @@ use Rattle.uv_records.specs.Names as names
 use Rattle.uv_records.specs.Slots.{with_held}
 use Rattle.uv_model.specs.Next.{Next, Refuses, next}
 use Rattle.uv_slots.specs.Buried.{dead_id, buried_id, buried_name, buried, buried_next, is_past, CanBury}
-use Rattle.uv_slots.proofs.ReboundOps.{rebound_name, Hides, named_rebound}
-use Rattle.uv_slots.proofs.ReboundSteps.{rebound_next, next_rebound}
+use Rattle.uv_names.proofs.Rebound.{rebound_name, rebound_next, HidesIds, named_rebound, next_rebound}
 use Rattle.uv_slots.proofs.Kept.{StaysKept}
 use Rattle.uv_slots.proofs.Walked.{IsKept, next_kept}
 
@@ -65,7 +64,7 @@ gone_id dead a id = if is_gone a id then dead_id dead else id
 pub dead_gone : (dead : ℕ) (a : Slots Content) → length a.slots + a.unused ≤ dead → IsGone (dead_id dead) a
 dead_gone dead a beyond = grind (arith, elements)
 
-hides : (dead : ℕ) (s : State) → length s.arena.slots + s.arena.unused ≤ dead → Hides (gone_id dead s.arena) s
+hides : (dead : ℕ) (s : State) → length s.arena.slots + s.arena.unused ≤ dead → HidesIds (gone_id dead s.arena) s
 hides dead s beyond = record {
   live = λ id. live_same id (held s.arena.slots id) refl;
   fresh = λ id there. fresh_same s.arena s.arena.free id refl there;
@@ -125,9 +124,9 @@ names_buried p dead s e can =
     let g = gone_id dead s.arena in
     ap (λ (ns : List Named). buried_next dead (next p (record s { names = ns }) e))
     (same_names (buried_id dead s.arena.slots) g s.names (λ n id bound. gone_same dead s.arena id (can.past (record { 0 = n }) id bound)))
-    ∙ ap (buried_next dead) (next_rebound p g s (hides dead s can.beyond) e) ∙ by (next p s e) refl
+    ∙ ap (buried_next dead) (next_rebound g p s (hides dead s can.beyond) e) ∙ by (next p s e) refl
   where
-    by : (x : Next) → next p s e ≡ x → buried_next dead (rebound_next p (gone_id dead s.arena) x) ≡ buried_next dead x
+    by : (x : Next) → next p s e ≡ x → buried_next dead (rebound_next (gone_id dead s.arena) x) ≡ buried_next dead x
     by (Refuses why) is = refl
     by (Moves t line) is = ap (λ (ns : List Named). Moves (record t { names = ns }) line)
         (again (buried_id dead t.arena.slots) (gone_id dead s.arena) t.names (later_id p dead s t e line can.beyond is))

@@ -13,8 +13,6 @@ pub mod Moved
 mod Alike
 mod Named
 pub mod Reached
-mod ReboundOps
-mod ReboundSteps
 mod Walked
 pub mod Buries
 pub mod Keeping
