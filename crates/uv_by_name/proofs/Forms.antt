@@ -11,7 +11,7 @@ use Rattle.uv_generations.proofs.Bare.{earliest_young, forms_apart}
 use Rattle.uv_generations.proofs.Slots.{get_renamed, renamed_slot}
 use Rattle.uv_normal.proofs.Reduced.{reduced_timed, reduced_young}
 use Rattle.uv_workers.specs.Workers.{ordered, orderly}
-use Rattle.uv_workers.proofs.Ops.{put}
+use Rattle.uv_workers.proofs.Frame.{put}
 use Rattle.uv_workers.proofs.Runs.{map_ordered}
 use Rattle.uv_pooled.specs.Pooled.{pooled}
 use Rattle.uv_slots.proofs.Moved.{place_number}

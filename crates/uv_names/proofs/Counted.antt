@@ -19,14 +19,14 @@ use Rattle.uv_model.specs.declared.place.Place.TheVariants.{Main, Running}
 use Rattle.uv_model.specs.State.{State, named}
 use Rattle.uv_model.specs.Next.{Moves, next, body_at, body_from}
 use Rattle.uv_names.specs.Counts.{capped_calls, capped_name, capped_body, capped_run, capped_place, capped, capped_next, IsBefore, AreBefore, call_end, lines_end, callbacks_end, all_end, script_end}
-use Rattle.uv_names.proofs.Changed.{Hides, named_changed}
+use Rattle.uv_names.proofs.Changed.{as_is, Hides, named_changed}
 use Rattle.uv_names.proofs.Walk.{SeesAlike, step_alike}
 
 pub unbound_capped : (n : ℕ) → capped_name n unbound ≡ unbound
 unbound_capped n = grind arith
 
 pub named_capped : (n : ℕ) (s : State) (v : Var) → named (capped n s) v ≡ capped_name n (named s v)
-named_capped n s v = named_changed (capped_name n) (λ call. min call n) s v (unbound_capped n)
+named_capped n s v = named_changed (capped_name n) (λ call. min call n) as_is s v (unbound_capped n)
 
 pub bound_capped : (n : ℕ) (s : State) (v : Var) → (named (capped n s) v).id ≡ (named s v).id
 bound_capped n s v = ap (λ (x : Named). x.id) (named_capped n s v)
@@ -201,7 +201,7 @@ place_twice : (n : ℕ) (place : Place) → capped_place n (capped_place n place
 place_twice n (Main line) = refl
 place_twice n (Running run) = ap (λ body. Running (record run { body = body })) (body_twice n run.body)
 
-sees : (n : ℕ) (p : Program) → AreBefore n p → SeesAlike p (capped_name n) (λ call. min call n) (capped_next n) (capped_next n)
+sees : (n : ℕ) (p : Program) → AreBefore n p → SeesAlike p (capped_name n) (λ call. min call n) as_is (capped_next n) (capped_next n)
 sees n p before = record {
   refuses = λ why. refl;
   stays = λ u line. ap₂ (λ place ns. Moves (record u { place = place; names = ns }) line) (place_twice n u.place) (names_twice n u.names);

@@ -1,6 +1,6 @@
 mod Cases
-mod Changed
-mod Walk
+pub mod Changed
+pub mod Walk
 pub mod Rebound
 pub mod Counted
 mod Grows

@@ -45,15 +45,15 @@ same_body : (o : Option Body) → option_map (changed_body as_is) o ≡ o
 same_body None = refl
 same_body (Some body) = refl
 
-same_place : (place : Place) → changed_place as_is place ≡ place
+pub same_place : (place : Place) → changed_place as_is place ≡ place
 same_place (Main line) = refl
 same_place (Running run) = ap (λ body. Running (record run { body = body })) (same_body run.body)
 
 module _ (g : Id → Id) where
   pub named_rebound : (s : State) (v : Var) → named (rebound g s) v ≡ rebound_name g (named s v)
-  named_rebound s v = named_changed (rebound_name g) as_is s v refl
+  named_rebound s v = named_changed (rebound_name g) as_is as_is s v refl
 
-  as_changed : (u : State) → changed (rebound_name g) as_is u ≡ rebound g u
+  as_changed : (u : State) → changed (rebound_name g) as_is as_is u ≡ rebound g u
   as_changed u = ap (λ place. record (rebound g u) { place = place }) (same_place u.place)
 
   -- ---- from a state in which no step can tell
@@ -70,22 +70,22 @@ module _ (g : Id → Id) where
       live_same (Some id) = can.live id
 
   pub live_rebound : (s : State) → HidesIds g s → (v : Var) → live (rebound g s) v ≡ live s v
-  live_rebound s can v = ap (λ u. live u v) (sym (as_changed s)) ∙ live_changed (rebound_name g) as_is s (hides s can) v
+  live_rebound s can v = ap (λ u. live u v) (sym (as_changed s)) ∙ live_changed (rebound_name g) as_is as_is s (hides s can) v
 
   call_alike : (p : Program) (u : State) (run : Run) (kind : Callback) (v : Var) (line : Seen) →
-      steps.calls p (changed (rebound_name g) as_is u) (changed_run as_is run) kind v line ≡ rebound_next g (steps.calls p u run kind v line)
+      steps.calls p (changed (rebound_name g) as_is as_is u) (changed_run as_is run) kind v line ≡ rebound_next g (steps.calls p u run kind v line)
   call_alike p u run kind v line =
       let f = rebound_name g in
       let y = named u v in
       let calls = counted kind y.calls in
       let body = steps.body_from p kind v (count_of kind calls) 0 in
-      ap (λ (x : Named). Moves (record (with_named (changed f as_is u) v (record x { calls = counted kind x.calls }))
+      ap (λ (x : Named). Moves (record (with_named (changed f as_is as_is u) v (record x { calls = counted kind x.calls }))
       { place = Running (record run { body = steps.body_from p kind v (count_of kind (counted kind x.calls)) 0 }) }) (Some line))
-      (named_changed f as_is u v refl)
+      (named_changed f as_is as_is u v refl)
       ∙ ap (λ (t : State). Moves (record t { place = Running (record run { body = body }) }) (Some line))
-      (with_named_changed f as_is u v (record y { calls = calls }))
+      (with_named_changed f as_is as_is u v (record y { calls = calls }))
 
-  sees : (p : Program) → SeesAlike p (rebound_name g) as_is as_is (rebound_next g)
+  sees : (p : Program) → SeesAlike p (rebound_name g) as_is as_is as_is (rebound_next g)
   sees p = record {
     refuses = λ why. refl;
     stays = λ u line. ap (λ t. Moves t line) (as_changed u);

@@ -20,7 +20,7 @@ use Rattle.uv_shift.specs.Earliest.{IsTimed}
 use Rattle.uv_generations.specs.Renamed.{Renaming, rename}
 use Rattle.uv_generations.specs.Youngest.{IsInSlot, IsYoung}
 use Rattle.uv_workers.specs.Workers.{ordered}
-use Rattle.uv_workers.proofs.Ops.{put}
+use Rattle.uv_workers.proofs.Frame.{put}
 use Rattle.uv_workers.proofs.Runs.{any_ordered}
 
 -- ---- whose requests are run

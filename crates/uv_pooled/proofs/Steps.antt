@@ -21,7 +21,7 @@ use Rattle.uv_names.specs.Counts.{AreBefore}
 use Rattle.uv_normal.specs.Normal.{normal, reduced, calls_timer, holds_timer, NextAlike}
 use Rattle.uv_normal.proofs.Steps as normals
 use Rattle.uv_workers.specs.Workers.{is_of_worker, next_by, ordered, orderly, orderly_next}
-use Rattle.uv_workers.proofs.Ops.{put}
+use Rattle.uv_workers.proofs.Frame.{put}
 use Rattle.uv_workers.proofs.Runs.{given, map_ordered}
 use Rattle.uv_workers.proofs.Steps as workers
 use Rattle.uv_pooled.specs.Pooled.{pooled, NextPooled}

@@ -23,8 +23,7 @@ use Rattle.uv_model.specs.State.{State, front_request, request, with_id}
 use Rattle.uv_model.specs.Next as steps
 use Rattle.uv_model.specs.Next.{Next, Moves, Refuses, next}
 use Rattle.uv_workers.specs.Workers.{is_of_worker, next_by, ordered, orderly, orderly_next}
-use Rattle.uv_workers.proofs.Frame.{put_next, front_request_same, next_same}
-use Rattle.uv_workers.proofs.Ops.{put}
+use Rattle.uv_workers.proofs.Frame.{put, put_next, front_request_same, next_same}
 use Rattle.uv_workers.proofs.Runs.{any_ordered, found_alike, ordered_again, set_alike}
 
 -- ---- two states that are the same with the workers' requests in order
