@@ -3,7 +3,7 @@ use Rattle.uv_by_name.proofs.Names.{◌≡◌, ℕ, ◌+◌, ◌==◌, ◌&&◌,
 use Rattle.uv_slots.proofs.Moved.{place_number}
 use Rattle.uv_by_name.proofs.Places.{one_place}
 use Rattle.uv_records.specs.declared.lists.WatcherKind.TheVariants as watcher
-use Rattle.uv_slots.proofs.Timers.{first_due_arranged}
+use Rattle.uv_slots.proofs.Arranging.{first_due_arranged}
 
 -- ---- other names
 

@@ -32,6 +32,6 @@ pub use Rattle.uv_slots.specs.Arranged.{IsOrder, place_of, arranged_id, arranged
 pub use Rattle.uv_slots.specs.NamedForm.{slot_bound, slots_bound, named_order, named_form}
 pub use Rattle.uv_slots.specs.Buried.{dead_id, buried_by, buried_id, buried_name, buried, buried_next}
 pub use Rattle.uv_slots.proofs.Orders.{Fits, number_at, same_place, place_behind, get_arranged, length_arranged}
-pub use Rattle.uv_slots.proofs.Slots.{held_arranged, handle_arranged, front_arranged, arranged_pair}
+pub use Rattle.uv_slots.proofs.Arranging.{held_arranged, handle_arranged, front_arranged, arranged_pair}
 pub use Rattle.uv_slots.proofs.Whole.{IsWhole, tidy_whole}
 pub use Rattle.uv_normal.specs.Normal.{normal, reduced}

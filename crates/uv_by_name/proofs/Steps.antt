@@ -7,7 +7,7 @@ use Rattle.uv_slots.proofs.Buries.{names_buried}
 use Rattle.uv_slots.proofs.Grows.{HasUsed, next_grows}
 use Rattle.uv_slots.proofs.Kept.{StaysKept}
 use Rattle.uv_slots.proofs.Moved.{whole_on}
-use Rattle.uv_slots.proofs.Steps.{next_arranged}
+use Rattle.uv_slots.proofs.Arranging.{next_arranged}
 use Rattle.uv_slots.proofs.Twice.{order_moved, form_whole}
 use Rattle.uv_normal.specs.Normal.{holds_timer, calls_timer}
 use Rattle.uv_generations.specs.Bare.{bare_line}

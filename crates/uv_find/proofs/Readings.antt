@@ -33,7 +33,7 @@ use Rattle.uv_slots.specs.Arranged.{arranged, arranged_id}
 use Rattle.uv_slots.specs.Buried.{buried, buried_id}
 use Rattle.uv_slots.proofs.Buries.{named_buried}
 use Rattle.uv_slots.proofs.Orders.{Fits}
-use Rattle.uv_slots.proofs.Slots.{held_arranged, named_arranged}
+use Rattle.uv_slots.proofs.Arranging.{held_arranged, named_arranged}
 use Rattle.uv_workers.specs.Workers.{ordered}
 use Rattle.uv_workers.proofs.Runs.{map_ordered}
 use Rattle.uv_by_name.proofs.Reading.{Sees, Reads}
@@ -62,7 +62,7 @@ reads_bound n v = record {
     shifts = λ d s. refl;
     frees = λ k s. ap (λ (x : Named). is_some x.id) (named_renamed k s v) ∙ some_map (rename k) (named s v).id;
     buries = λ dead s below. ap (λ (x : Named). is_some x.id) (named_buried dead s v) ∙ some_map (buried_id dead s.arena.slots) (named s v).id;
-    arranges = λ o s fits. ap (λ (x : Named). is_some x.id) (named_arranged o s v) ∙ some_map (arranged_id o) (named s v).id;
+    arranges = λ o s fits. ap (λ (x : Named). is_some x.id) (named_arranged o s v fits.order) ∙ some_map (arranged_id o) (named s v).id;
   };
   runs = λ s. refl;
 }
@@ -110,7 +110,7 @@ module _ {Y : Type 0} (f : Option Content → Y) (none : Y) where
       frees = λ k s. ap (λ (x : Named). of_bound (more k s) x.id) (named_renamed k s v) ∙ bound_freed k s (named s v).id;
       buries = λ dead s below. ap (λ (x : Named). of_bound (buried dead s) x.id) (named_buried dead s v)
           ∙ bound_buried dead s below (named s v).id;
-      arranges = λ o s fits. ap (λ (x : Named). of_bound (arranged o s) x.id) (named_arranged o s v) ∙ bound_arranged o s fits (named s v).id;
+      arranges = λ o s fits. ap (λ (x : Named). of_bound (arranged o s) x.id) (named_arranged o s v fits.order) ∙ bound_arranged o s fits (named s v).id;
     };
     runs = λ s. refl;
   }
@@ -161,7 +161,7 @@ reads_count f n same kind v = record {
     shifts = λ d s. refl;
     frees = λ k s. ap (λ (x : Named). f (count_of kind x.calls)) (named_renamed k s v);
     buries = λ dead s below. ap (λ (x : Named). f (count_of kind x.calls)) (named_buried dead s v);
-    arranges = λ o s fits. ap (λ (x : Named). f (count_of kind x.calls)) (named_arranged o s v);
+    arranges = λ o s fits. ap (λ (x : Named). f (count_of kind x.calls)) (named_arranged o s v fits.order);
   };
   runs = λ s. refl;
 }
@@ -327,7 +327,7 @@ reads_lag n v = record {
     shifts = λ d s. shifts d s (named s v).id;
     frees = λ k s. ap (λ (x : Named). lag_under (more k s) x.id) (named_renamed k s v) ∙ frees k s (named s v).id;
     buries = λ dead s below. ap (λ (x : Named). lag_under (buried dead s) x.id) (named_buried dead s v) ∙ buries dead s below (named s v).id;
-    arranges = λ o s fits. ap (λ (x : Named). lag_under (arranged o s) x.id) (named_arranged o s v) ∙ arranges o s fits (named s v).id;
+    arranges = λ o s fits. ap (λ (x : Named). lag_under (arranged o s) x.id) (named_arranged o s v fits.order) ∙ arranges o s fits (named s v).id;
   };
   runs = λ s. refl;
 } where

@@ -10,7 +10,7 @@ use Rattle.uv_generations.specs.More.{Frees, freed_more, more, more_line, more_n
 use Rattle.uv_generations.specs.Youngest.{freed_less, least_of, surplus, youngest, unfreed_line, IsYoung, TakesAlike}
 use Rattle.uv_generations.proofs.More.{rename}
 use Rattle.uv_generations.proofs.Slots.{held_renamed}
-use Rattle.uv_generations.proofs.Steps.{next_renamed}
+use Rattle.uv_generations.proofs.Slots.{next_renamed}
 use Rattle.uv_generations.proofs.Twice.{lines_unfreed}
 use Rattle.uv_generations.proofs.Base.{youngest_more, youngest_same}
 use Rattle.uv_generations.proofs.Grows.{Stays, next_grows}

@@ -6,7 +6,7 @@ use Rattle.uv_model.specs.Next.{Next, Refuses, next}
 use Rattle.uv_slots.specs.Arranged.{arranged, arranged_line, arranged_next, arranged_slots}
 use Rattle.uv_slots.specs.NamedForm.{named_order, named_form, IsTidy, TakesAlike}
 use Rattle.uv_slots.proofs.Orders.{Fits}
-use Rattle.uv_slots.proofs.Steps.{next_arranged}
+use Rattle.uv_slots.proofs.Arranging.{next_arranged}
 use Rattle.uv_slots.proofs.Whole.{IsWhole, tidy_whole}
 use Rattle.uv_slots.proofs.Twice.{order_moved, form_whole}
 use Rattle.uv_slots.proofs.Kept.{StaysKept}

@@ -1,10 +1,12 @@
 mod Names
 pub mod Orders
-mod Lists
-pub mod Slots
-pub mod Timers
-mod Ops
-pub mod Steps
+pub mod Relabel
+pub mod RelabeledLists
+pub mod RelabeledSlots
+pub mod RelabeledTimers
+mod RelabeledOps
+pub mod RelabeledSteps
+pub mod Arranging
 pub mod Whole
 pub mod Twice
 pub mod Kept

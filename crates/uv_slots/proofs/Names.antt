@@ -44,7 +44,7 @@ pub use Rattle.uv_records.specs.Handles.{activated, begun_at, inited, is_async, 
 pub use Rattle.uv_records.specs.Lists.{watcher_kind}
 pub use Rattle.uv_records.specs.Names.{count_of, counted, unbound}
 pub use Rattle.uv_records.specs.Refusals.{again_refusal, close_refusal, no_refusal, send_refusal, start_timer_refusal, start_watcher_refusal, stop_refusal, timer_refusal}
-pub use Rattle.uv_records.specs.Slots.{Slots, freed, held, held_in, id_of, next_free, next_id, taken, taken_from}
+pub use Rattle.uv_records.specs.Slots.{Slots, freed, held, held_in, id_of, next_free, next_id, taken, taken_from, with_held}
 pub use Rattle.uv_records.specs.Walks.{with_first, with_last}
 pub use Rattle.uv_records.specs.declared.handle.HandleRecord.{HandleRecord}
 pub use Rattle.uv_records.specs.declared.lists.WatcherKind.{WatcherKind}

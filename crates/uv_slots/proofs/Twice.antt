@@ -6,7 +6,7 @@ use Rattle.uv_records.specs.Walks.{Walk}
 use Rattle.uv_slots.specs.Arranged.{IsOrder, place_in, place_of, picked, arranged_slots, arranged_id, arranged_walk, arranged_named, arranged_entry, arranged}
 use Rattle.uv_slots.specs.NamedForm.{slot_bound, slots_bound, named_order, named_form, IsTidy}
 use Rattle.uv_slots.proofs.Orders.{Fits, same_place, place_behind, get_arranged, length_arranged, behind}
-use Rattle.uv_slots.proofs.Slots.{held_arranged}
+use Rattle.uv_slots.proofs.Arranging.{held_arranged}
 use Rattle.uv_slots.proofs.Whole.{IsWhole, tidy_whole}
 
 -- ---- two orders

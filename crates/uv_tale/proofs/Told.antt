@@ -32,7 +32,7 @@ use Rattle.uv_slots.specs.Arranged.{place_of, arranged_id, arranged_slots}
 use Rattle.uv_slots.specs.Buried.{buried, buried_by, buried_id, buried_name}
 use Rattle.uv_slots.proofs.Buries.{dead_gone}
 use Rattle.uv_slots.proofs.Orders.{length_arranged}
-use Rattle.uv_slots.proofs.Slots.{held_arranged}
+use Rattle.uv_slots.proofs.Arranging.{held_arranged}
 use Rattle.uv_workers.specs.Workers.{ordered}
 use Rattle.uv_workers.proofs.Runs.{map_ordered}
 use Rattle.uv_by_name.specs.ByName.{by_name, IsRegular}

@@ -1,4 +1,4 @@
-use Rattle.uv_generations.proofs.Steps.{next_renamed}
+use Rattle.uv_generations.proofs.Slots.{next_renamed}
 use Rattle.uv_generations.proofs.laws.generations_rename.Goals as goal
 
 pub returns : goal.returns

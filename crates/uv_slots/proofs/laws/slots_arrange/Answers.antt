@@ -1,4 +1,4 @@
-use Rattle.uv_slots.proofs.Steps.{next_arranged}
+use Rattle.uv_slots.proofs.Arranging.{next_arranged}
 use Rattle.uv_slots.proofs.laws.slots_arrange.Goals as goal
 
 pub returns : goal.returns
