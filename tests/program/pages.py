@@ -59,6 +59,7 @@ ENDS = {
     "find examples/late-timer.uvt 'may tick 40 1' 'may wait' 'find late beat 41'": 1,
     "find examples/debounce.find": 1,
     "find examples/server.find": 1,
+    "find examples/pool.find": 1,
     "find examples/starved-pool.find 'may wait' 'find call watchdog 2'": 1,
     "find examples/starved-pool.find 'may wait' 'find call watchdog 2' --full": 1,
     # (what is hunted ends badly)

@@ -36,7 +36,7 @@ before_each (t ∷ ts) a b id h (inl is) = subst (λ (x : Due). due_cmp a x ≡ 
 before_each (t ∷ ts) a b id h (inr later) = before_each ts a b id h.1 later
 
 -- whoever stands in the one stands in the other
-abbrev Within : List (Due × Id) → List (Due × Id) → Type 0
+abbrev pub Within : List (Due × Id) → List (Due × Id) → Type 0
 Within ts us = (due : Due) (id : Id) → Has ts due id → Has us due id
 
 -- where the first ones are the same, so are those behind it
@@ -53,7 +53,7 @@ first_same t u ts us bt bu (inr h) (inl is) = (is.0, is.1)
 first_same t u ts us bt bu (inr h) (inr k) = absurd
     (not_itself u.0 u.0 refl (due_cmp_total.trans u.0 t.0 u.0 (before_each us u.0 t.0 t.1 bu h) (before_each ts t.0 u.0 u.1 bt k)))
 
-same_list : (ts us : List (Due × Id)) → InOrder ts → InOrder us → Within ts us → Within us ts → ts ≡ us
+pub same_list : (ts us : List (Due × Id)) → InOrder ts → InOrder us → Within ts us → Within us ts → ts ≡ us
 same_list [] [] s r w v = refl
 same_list [] (u ∷ us) s r w v = absurd (v u.0 u.1 (inl (refl, refl)))
 same_list (t ∷ ts) [] s r w v = absurd (w t.0 t.1 (inl (refl, refl)))
