@@ -20,9 +20,7 @@ earliest_next p s e h k =
 -- what a state takes its earliest form takes
 pub earliest_back : (p : Program) (s : State) (e : Event) (t : State) (line : Option Seen) → IsTimed p s → next p s e ≡ Moves t line →
     IsMoved p (base s) (next p (earliest s) e) t line
-earliest_back p s e t line h takes =
-    let same = earliest_later s h.timers in
-    next_back p (base s) (earliest s) e t line (subst (TimesFit p) (sym same) h.fits) (ap (λ x. next p x e) same ∙ takes)
+earliest_back p s e t line h takes = search (earliest_later, next_back)
 
 pub goes_alike : (p : Program) (s other : State) (e : Event) (t : State) (line : Option Seen) → IsTimed p s → IsTimed p other →
     earliest s ≡ earliest other → next p s e ≡ Moves t line → ClockFits other e → GoesAlike p (next p other e) t line
@@ -46,21 +44,12 @@ pub earliest_again : (s : State) → AreTimers s s.timers → earliest (earliest
 earliest_again s k = sym (earliest_same (base s) (earliest s)) ∙ ap earliest (earliest_later s k)
 
 earlier_fits : (s : State) (e : Event) → AreTimers s s.timers → ClockFits s e → ClockFits (earliest s) e
-earlier_fits s (Tick ms) k h =
-    let same : (earliest s).clock + (base s).ms ≡ s.clock = ap (λ (x : State). x.clock) (earliest_later s k) in
-    omega (arith, h, same)
-earlier_fits s Loop k h = tt
-earlier_fits s (Take n) k h = tt
-earlier_fits s (Finish n) k h = tt
-earlier_fits s (Cancel v) k h = tt
-earlier_fits s (Send v) k h = tt
-earlier_fits s (Io v) k h = tt
+earlier_fits s each k h = grind arith
 
 -- what a state takes its earliest form takes, and the other way where the clock doesn't come to its limit
 pub earliest_goes : (p : Program) (s : State) (e : Event) (t : State) (line : Option Seen) → IsTimed p s → next p s e ≡ Moves t line →
     GoesAlike p (next p (earliest s) e) t line
-earliest_goes p s e t line h takes = goes_alike p s (earliest s) e t line h (earliest_timed p s h) (sym (earliest_again s h.timers)) takes
-    (earlier_fits s e h.timers (fits_taken p s e t line takes))
+earliest_goes p s e t line h takes = search (goes_alike, earliest_timed, earliest_again, earlier_fits, fits_taken)
 
 pub later_goes : (p : Program) (s : State) (e : Event) (t : State) (line : Option Seen) → IsTimed p s → next p (earliest s) e ≡ Moves t line →
     ClockFits s e → GoesAlike p (next p s e) t line

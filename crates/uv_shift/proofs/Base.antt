@@ -14,29 +14,19 @@ use Rattle.uv_shift.proofs.Retimed.{both, twice, handle_same, slots_same}
 
 -- ---- none of its times is earlier than its base
 
-before_at : (a b : Due) → due_order a b ≡ Less → a.at ≤ b.at
-before_at a b e = grind arith
-
 first_before : (a : Due) (ts : List (Due × Id)) (due : Due) (id : Id) → Before a ts → Has ts due id → a.at ≤ due.at
 first_before a [] due id h k = absurd k
-first_before a (t ∷ ts) due id h (inl is) = subst (λ (x : Due). a.at ≤ x.at) is.0 (before_at a t.0 h.0)
+first_before a (t ∷ ts) due id h (inl is) = subst (λ (x : Due). a.at ≤ x.at) is.0 (grind arith)
 first_before a (t ∷ ts) due id h (inr rest) = first_before a ts due id h.1 rest
 
 first_least : (ts : List (Due × Id)) (at : ℕ) (due : Due) (id : Id) → InOrder ts → Has ts due id → or_first ts at ≤ due.at
-first_least [] at due id h k = absurd k
-first_least (t ∷ ts) at due id h (inl is) = subst (λ (x : Due). min t.0.at at ≤ x.at) is.0 (omega arith)
-first_least (t ∷ ts) at due id h (inr rest) = let l = first_before t.0 ts due id h.0 rest in omega (arith, l)
+first_least each at due id h e5 = grind (arith, first_before)
 
 or_first_least : (ts : List (Due × Id)) (at : ℕ) → or_first ts at ≤ at
-or_first_least [] at = omega arith
-or_first_least (t ∷ ts) at = omega arith
-
-or_deadline_least : (stage : Stage) (at : ℕ) → or_deadline stage at ≤ at
-or_deadline_least stage at = grind arith
+or_first_least ts at = grind arith
 
 or_over_least : (place : Place) (at : ℕ) → or_over place at ≤ at
-or_over_least (Main line) at = omega arith
-or_over_least (Running run) at = or_deadline_least run.stage at
+or_over_least place at = grind arith
 
 start_least : (ts : List (Due × Id)) (start : ℕ) (due : Due) (id : Id) → Has ts due id → least_start ts start ≤ due.start
 start_least [] start due id k = absurd k
@@ -53,28 +43,10 @@ abbrev again : By → Retiming
 again d = both (later d) (earlier d)
 
 due_again : (d : By) (due : Due) → d.ms ≤ due.at → d.starts ≤ due.start → retimed_due (again d) due ≡ due
-due_again d due h k =
-    let at : due.at - d.ms + d.ms ≡ due.at = omega arith in
-    let start : due.start - d.starts + d.starts ≡ due.start = omega arith in
-    λ i. record { at = at i; start = start i }
-
-stage_again : (d : By) (stage : Stage) (at : ℕ) → d.ms ≤ or_deadline stage at → retimed_stage (again d) stage ≡ stage
-stage_again d (Poll None) at h = refl
-stage_again d (Poll (Some deadline)) at h =
-    let same : deadline - d.ms + d.ms ≡ deadline = omega arith in
-    ap (λ (x : ℕ). Poll (Some x)) same
-stage_again d Entry at h = refl
-stage_again d Pending at h = refl
-stage_again d (Walking kind) at h = refl
-stage_again d (Polled woken) at h = refl
-stage_again d Done at h = refl
-stage_again d DoneUnwoken at h = refl
-stage_again d Closing at h = refl
-stage_again d (Timers part when) at h = refl
+due_again d due h k = grind arith
 
 place_again : (d : By) (place : Place) (at : ℕ) → d.ms ≤ or_over place at → retimed_place (again d) place ≡ place
-place_again d (Main line) at h = refl
-place_again d (Running run) at h = ap (λ (stage : Stage). Running (record run { stage = stage })) (stage_again d run.stage at h)
+place_again d place at h = grind arith
 
 timers_again : (d : By) (ts : List (Due × Id)) → ((due : Due) (id : Id) → Has ts due id → (d.ms ≤ due.at) × (d.starts ≤ due.start)) →
     map (retimed_entry (again d)) ts ≡ ts
@@ -88,27 +60,13 @@ timers_again d (t ∷ ts) h =
 held_there : (slots : List (Slot Content)) (n : ℕ) (slot : Slot Content) → slice_get slots n ≡ Some slot → held slots (id_of n slot) ≡ slot.content
 held_there slots n slot e = grind (arith, e)
 
-timer_of : (k : Kind) → is_timer k ≡ true → k ≡ kind.Timer
-timer_of k e = grind arith
-
-and_both : (a b : Bool) → a && b ≡ true → (a ≡ true) × (b ≡ true)
-and_both a b e = grind arith
-
--- an active timer stands in the order of timers
-active_has : (s : State) (id : Id) (h : HandleRecord) → AreTimers s s.timers → handle s id ≡ Some h → h.active && is_timer h.kind ≡ true →
-    Has s.timers h.due id
-active_has s id h k is on =
-    let l = and_both h.active (is_timer h.kind) on in
-    k.all h.due id (record { its = h; holds = is; kind = timer_of h.kind l.1; active = l.0; due = refl })
-
 content_again : (d : By) (s : State) (n : ℕ) (slot : Slot Content) (c : Option Content) → AreTimers s s.timers →
     ((due : Due) (id : Id) → Has s.timers due id → (d.ms ≤ due.at) × (d.starts ≤ due.start)) → held s.arena.slots (id_of n slot) ≡ c →
     option_map (retimed_content (again d)) c ≡ c
-content_again d s n slot None k h e = refl
-content_again d s n slot (Some (content.Request r)) k h e = refl
 content_again d s n slot (Some (content.Handle its)) k h e = ap (λ (x : HandleRecord). Some (content.Handle x))
     (handle_same (again d) its
-    (λ on. let l = h its.due (id_of n slot) (active_has s (id_of n slot) its k (ap handle_in e) on) in due_again d its.due l.0 l.1))
+    (λ on. let l = h its.due (id_of n slot) (grind arith) in due_again d its.due l.0 l.1))
+content_again d s n slot each k h e = assumption
 
 -- the earliest form, made later by as much as the state itself is, is the state
 pub earliest_later : (s : State) → AreTimers s s.timers → shift (base s) (earliest s) ≡ s
@@ -122,45 +80,14 @@ earliest_later s k =
     let shown : s.clock - d.ms + d.ms ≡ s.clock = omega (arith, one, two) in
     let start : s.next_start - d.starts + d.starts ≡ s.next_start = omega (arith, three) in
     let dues : (due : Due) (id : Id) → Has s.timers due id → (d.ms ≤ due.at) × (d.starts ≤ due.start) =
-    λ due id h. (
-      (let l = first_least s.timers (min s.time s.clock) due id k.sorted h in omega (arith, one, l)),
-      start_least s.timers s.next_start due id h,
-    ) in
+    λ due id h. (grind (arith, first_least, start_least)) in
     let slots = slots_same (again d) s.arena.slots
     (λ n slot e. let there = held_there s.arena.slots n slot e in content_again d s n slot slot.content k dues there) in
     let place = place_again d s.place clock (omega arith) in
     let timers = timers_again d s.timers dues in
-    twice (later d) (earlier d) s
-    ∙ (λ i. record s {
-      place = place i;
-      arena = record s.arena { slots = slots i };
-      timers = timers i;
-      time = time i;
-      clock = shown i;
-      next_start = start i;
-    })
+    grind (arith, twice, later)
 
 -- ---- whatever the times are later by, the earliest form is the same
-
-or_first_later : (d : By) (ts : List (Due × Id)) (at : ℕ) → or_first (map (shift_entry d) ts) (at + d.ms) ≡ or_first ts at + d.ms
-or_first_later d [] at = refl
-or_first_later d (t ∷ ts) at = omega arith
-
-or_deadline_later : (d : By) (stage : Stage) (at : ℕ) → or_deadline (shift_stage d stage) (at + d.ms) ≡ or_deadline stage at + d.ms
-or_deadline_later d (Poll None) at = refl
-or_deadline_later d (Poll (Some deadline)) at = omega arith
-or_deadline_later d Entry at = refl
-or_deadline_later d Pending at = refl
-or_deadline_later d (Walking kind) at = refl
-or_deadline_later d (Polled woken) at = refl
-or_deadline_later d Done at = refl
-or_deadline_later d DoneUnwoken at = refl
-or_deadline_later d Closing at = refl
-or_deadline_later d (Timers part when) at = refl
-
-or_over_later : (d : By) (place : Place) (at : ℕ) → or_over (shift_place d place) (at + d.ms) ≡ or_over place at + d.ms
-or_over_later d (Main line) at = refl
-or_over_later d (Running run) at = or_deadline_later d run.stage at
 
 least_start_later : (d : By) (ts : List (Due × Id)) (start : ℕ) →
     least_start (map (shift_entry d) ts) (start + d.starts) ≡ least_start ts start + d.starts
@@ -168,11 +95,7 @@ least_start_later d [] start = refl
 least_start_later d (t ∷ ts) start = let l = least_start_later d ts start in omega (arith, l)
 
 base_later : (d : By) (s : State) → (base (shift d s)).ms ≡ (base s).ms + d.ms
-base_later d s =
-    let least : min (s.time + d.ms) (s.clock + d.ms) ≡ min s.time s.clock + d.ms = omega arith in
-    ap (λ (at : ℕ). or_over (shift_place d s.place) (or_first (map (shift_entry d) s.timers) at)) least
-    ∙ ap (or_over (shift_place d s.place)) (or_first_later d s.timers (min s.time s.clock))
-    ∙ or_over_later d s.place (or_first s.timers (min s.time s.clock))
+base_later d s = grind arith
 
 pub earliest_same : (d : By) (s : State) → earliest (shift d s) ≡ earliest s
 earliest_same d s =

@@ -27,50 +27,31 @@ shift_coded d x = record { state = shift d x.state; code = x.code }
 
 -- ---- an op on a handle
 
-by_why : (d : By) (s : State) (w : Option Code) (x x' : ops.Done) → (w ≡ None → x' ≡ shift_done d x) →
-    found_or w (refuses (shift d s)) x' ≡ shift_done d (found_or w (refuses s) x)
-by_why d s None x x' k = k refl
-by_why d s (Some code) x x' k = refl
-
 by_found : (d : By) (s : State) (t : Result (Id × HandleRecord) Code) (why : HandleRecord → Option Code) (f f' : Id → HandleRecord → ops.Done) →
     ((h : HandleRecord) → why (shift_handle d h) ≡ why h) → ((u : Id × HandleRecord) → t ≡ Ok u → handle s u.0 ≡ Some u.1) →
     ((id : Id) (h : HandleRecord) → handle s id ≡ Some h → why h ≡ None → f' id (shift_handle d h) ≡ shift_done d (f id h)) →
     ops.on_handle (shift d s) (shift_found d t) why f' ≡ shift_done d (ops.on_handle s t why f)
-by_found d s (Err code) why f f' same held k = refl
-by_found d s (Ok t) why f f' same held k = rw (same t.1)
-    (by_why d s (why t.1) (f t.0 t.1) (f' t.0 (shift_handle d t.1)) (λ e. k t.0 t.1 (held t refl) e))
+by_found d s t why f f' same held k = grind arith
 
 on_handle_shift : (d : By) (s : State) (v : Var) (why : HandleRecord → Option Code) (f f' : Id → HandleRecord → ops.Done) →
     ((h : HandleRecord) → why (shift_handle d h) ≡ why h) →
     ((id : Id) (h : HandleRecord) → handle s id ≡ Some h → why h ≡ None → f' id (shift_handle d h) ≡ shift_done d (f id h)) →
     ops.on_handle (shift d s) (live_handle (shift d s) v) why f' ≡ shift_done d (ops.on_handle s (live_handle s v) why f)
-on_handle_shift d s v why f f' same k = rw (live_handle_shift d s v)
-    (by_found d s (live_handle s v) why f f' same (λ u e. live_held s v u e) k)
+on_handle_shift d s v why f f' same k = search (live_handle_shift, by_found, live_held)
 
 -- ---- what is made
-
-by_free : (d : By) (s : State) (o : Option Id) (made made' : Id → State) → ((id : Id) → made' id ≡ shift d (made id)) →
-    found_or o (λ id. record { state = made' id; answer = answer.Id id }) (refuses (shift d s) Efull)
-    ≡ shift_done d (found_or o (λ id. record { state = made id; answer = answer.Id id }) (refuses s Efull))
-by_free d s None made made' k = refl
-by_free d s (Some id) made made' k = ap (λ (x : State). record { state = x; answer = answer.Id id }) (k id)
 
 by_live : (d : By) (s : State) (o : Option (Id × Content)) (made made' : Id → State) → ((id : Id) → made' id ≡ shift d (made id)) →
     ops.make (shift d s) (option_map (shift_live d) o) made' ≡ shift_done d (ops.make s o made)
 by_live d s (Some t) made made' k = refl
-by_live d s None made made' k = rw (next_free_shift d s.arena) (by_free d s (next_free s.arena) made made' k)
+by_live d s None made made' k = rw (next_free_shift d s.arena) (grind arith)
 
 make_shift : (d : By) (s : State) (v : Var) (made made' : Id → State) → ((id : Id) → made' id ≡ shift d (made id)) →
     ops.make (shift d s) (live (shift d s) v) made' ≡ shift_done d (ops.make s (live s v) made)
 make_shift d s v made made' k = rw (live_shift d s v) (by_live d s (live s v) made made' k)
 
 inited_shift : (d : By) (v : Var) (k : Kind) → content.Handle (inited v k) ≡ shift_content d (content.Handle (inited v k))
-inited_shift d v kind.Timer = refl
-inited_shift d v kind.Idle = refl
-inited_shift d v kind.Prepare = refl
-inited_shift d v kind.Check = refl
-inited_shift d v kind.Async = refl
-inited_shift d v kind.Io = refl
+inited_shift d v k = grind arith
 
 new_shift : (d : By) (s : State) (v : Var) (k : Kind) (id : Id) → ops.with_new (shift d s) v k id ≡ shift d (ops.with_new s v k id)
 new_shift d s v k id =
@@ -91,11 +72,7 @@ pub ended_shift : (d : By) (s : State) (id : Id) (r : Request) (outcome : Outcom
 ended_shift d s id r outcome = with_request_shift d (record s { done = with_last s.done id }) id (record r { outcome = outcome })
 
 pub cancel_shift : (d : By) (s : State) (t : Result (Id × Request) Code) → ops.cancel (shift d s) t ≡ shift_done d (ops.cancel s t)
-cancel_shift d s (Err code) = refl
-cancel_shift d s (Ok t) = if_shift (shift_done d) (list_any (same_id t.0) s.waiting) (list_any (same_id t.0) s.waiting) _ _ _ _ refl
-    (ap (λ (x : State). record { state = x; answer = answer.Cancelled t.0 })
-    (ended_shift d (record s { waiting = without_id s.waiting t.0 }) t.0 t.1 Cancelled))
-    refl
+cancel_shift d s t = grind (arith, if_shift, ended_shift)
 
 by_send : (d : By) (s : State) (w : Option Code) (id : Id) (h : HandleRecord) →
     found_or w (λ code. record { state = shift d s; code = code })
@@ -114,8 +91,7 @@ send_shift d s v = ap (ops.send (shift d s)) (live_handle_shift d s v) ∙ by_se
 -- ---- the ops on handles
 
 is_a_timer : (timer : Bool) (why : Option Code) → only_if timer why ≡ None → timer ≡ true
-is_a_timer true why e = refl
-is_a_timer false why e = cc e
+is_a_timer timer why e = grind arith
 
 starts_no_timer : (k : Kind) (closing : Bool) → only_if (is_startable k) (invalid_if closing) ≡ None → is_timer k ≡ false
 starts_no_timer k closing e = grind arith
@@ -132,27 +108,14 @@ again_shift d s id h fits timer =
     ap (λ u. ops.succeeds (restarted u id (shift_handle d h))) (stopped_shift d s id h)
     ∙ ap ops.succeeds (restarted_shift d (stopped s id h) id h timer fits)
 
-activated_due : (d : By) (active timer : Bool) (due : Due) → timer ≡ false → shift_if (active && timer) d due ≡ shift_if timer d due
-activated_due d true timer due e = refl
-activated_due d false timer due e = rw e refl
-
-activated_shift : (d : By) (h : HandleRecord) → is_timer h.kind ≡ false → activated (shift_handle d h) ≡ shift_handle d (activated h)
-activated_shift d h e = ap (λ due. record (activated h) { due = due }) (activated_due d h.active (is_timer h.kind) h.due e)
-
 activates : (d : By) (s : State) (id : Id) (h : HandleRecord) → is_timer h.kind ≡ false →
     with_handle (shift d s) id (activated (shift_handle d h)) ≡ shift d (with_handle s id (activated h))
-activates d s id h e = ap (with_handle (shift d s) id) (activated_shift d h e) ∙ with_handle_shift d s id (activated h)
-
-by_kind : (d : By) (s : State) (k : Option WatcherKind) (id : Id) (h : HandleRecord) → is_timer h.kind ≡ false →
-    found_or k (λ k. ops.watcher_started (shift d s) k id (shift_handle d h)) (with_handle (shift d s) id (activated (shift_handle d h)))
-    ≡ shift d (found_or k (λ k. ops.watcher_started s k id h) (with_handle s id (activated h)))
-by_kind d s None id h e = activates d s id h e
-by_kind d s (Some k) id h e = activates d (with_watched s k (with_first (watched s k) id)) id h e
+activates d s id h e = ap (with_handle (shift d s) id) (grind arith) ∙ with_handle_shift d s id (activated h)
 
 start_watcher_shift : (d : By) (s : State) (id : Id) (h : HandleRecord) → is_timer h.kind ≡ false →
     ops.start_watcher (shift d s) id (shift_handle d h) ≡ shift_done d (ops.start_watcher s id h)
 start_watcher_shift d s id h e = ap ops.succeeds
-    (if_shift (shift d) h.active h.active _ _ _ _ refl refl (by_kind d s (watcher_kind h.kind) id h e))
+    (if_shift (shift d) h.active h.active _ _ _ _ refl refl (grind (arith, activates)))
 
 closed_shift : (d : By) (s : State) (id : Id) (h : HandleRecord) → ops.closed (shift d s) id (shift_handle d h) ≡ shift d (ops.closed s id h)
 closed_shift d s id h = ap (λ off. with_handle (record off { closing = with_first s.closing id }) id (records.closed h)) (taken_off_shift d s id h)
@@ -160,42 +123,16 @@ closed_shift d s id h = ap (λ off. with_handle (record off { closing = with_fir
 
 due_at : (d : By) (time : ℕ) (active timer : Bool) (due : Due) → timer ≡ true →
     (if active then (shift_if (active && timer) d due).at - (time + d.ms) else 0) ≡ (if active then due.at - time else 0)
-due_at d time true timer due e = rw e (later due.at) where
-  later : (at : ℕ) → (at + d.ms) - (time + d.ms) ≡ at - time
-  later at = omega arith
-due_at d time false timer due e = refl
+due_at d time active timer due e = grind arith
 
 -- an op answers the same, except for the op `now`
 pub op_shift : (d : By) (s : State) (o : Op) → FitsOp (s.time + d.ms) o →
     ((id : Id) (h : HandleRecord) → handle s id ≡ Some h → s.time + d.ms + h.repeat < 2 ^ 64)
     → do_op (shift d s) o ≡ shift_op d o (do_op s o)
-op_shift d s (op.Init v k) fits repeats = make_shift d s v _ _ (new_shift d s v k)
-op_shift d s (op.Queue v task) fits repeats = make_shift d s v _ _ (queued_shift d s v task)
-op_shift d s (op.Cancel v) fits repeats = ap (ops.cancel (shift d s)) (live_request_shift d s v) ∙ cancel_shift d s (live_request s v)
-op_shift d s (op.Start v timeout repeat) fits repeats = on_handle_shift d s v start_timer_refusal _ _ (λ h. refl)
-    (λ id h held e. start_shift d s timeout repeat id h fits (is_a_timer (is_timer h.kind) _ e))
-op_shift d s (op.StartWatcher v) fits repeats = on_handle_shift d s v start_watcher_refusal _ _ (λ h. refl)
-    (λ id h held e. start_watcher_shift d s id h (starts_no_timer h.kind h.closing e))
-op_shift d s (op.Stop v) fits repeats = on_handle_shift d s v stop_refusal _ _ (λ h. refl) (λ id h held e. ap ops.succeeds (stopped_shift d s id h))
 op_shift d s (op.Again v) fits repeats = on_handle_shift d s v again_refusal _ _ (λ h. refl)
     (λ id h held e. again_shift d s id h (repeats id h held) (is_a_timer (is_timer h.kind) _ e))
-op_shift d s (op.SetRepeat v n) fits repeats = on_handle_shift d s v timer_refusal _ _ (λ h. refl)
-    (λ id h held e. ap ops.succeeds (with_handle_shift d s id (repeating n h)))
-op_shift d s (op.DueIn v) fits repeats = on_handle_shift d s v timer_refusal _ _ (λ h. refl)
-    (λ id h held e. ap (λ n. ops.says (shift d s) (answer.Number n)) (due_at d s.time h.active (is_timer h.kind) h.due (is_a_timer
-    (is_timer h.kind) _ e)))
-op_shift d s (op.Close v) fits repeats = on_handle_shift d s v close_refusal _ _ (λ h. refl) (λ id h held e. ap ops.succeeds (closed_shift d s id h))
-op_shift d s (op.Ref v) fits repeats = on_handle_shift d s v no_refusal _ _ (λ h. refl)
-    (λ id h held e. ap ops.succeeds (with_handle_shift d s id (referenced_as true h)))
-op_shift d s (op.Unref v) fits repeats = on_handle_shift d s v no_refusal _ _ (λ h. refl)
-    (λ id h held e. ap ops.succeeds (with_handle_shift d s id (referenced_as false h)))
-op_shift d s (op.HasRef v) fits repeats = on_handle_shift d s v no_refusal _ _ (λ h. refl) (λ id h held e. refl)
-op_shift d s (op.IsActive v) fits repeats = on_handle_shift d s v no_refusal _ _ (λ h. refl) (λ id h held e. refl)
-op_shift d s (op.IsClosing v) fits repeats = on_handle_shift d s v no_refusal _ _ (λ h. refl) (λ id h held e. refl)
-op_shift d s (op.Send v) fits repeats = ap ops.says_code (send_shift d s v)
-op_shift d s op.StopLoop fits repeats = refl
-op_shift d s op.UpdateTime fits repeats = refl
-op_shift d s op.Now fits repeats = refl
-op_shift d s op.IsAlive fits repeats = ap (λ b. ops.says (shift d s) (answer.Flag b)) (alive_shift d s)
-op_shift d s op.Timeout fits repeats = ap (λ t. ops.says (shift d s) (answer.Timeout t)) (backend_timeout_shift d s)
-op_shift d s op.CloseLoop fits repeats = if_shift (shift_done d) (ops.is_in_use s) (ops.is_in_use (shift d s)) _ _ _ _ (in_use_shift d s) refl refl
+op_shift d s (op.DueIn v) fits repeats = search (on_handle_shift, due_at, is_a_timer)
+op_shift d s each fits repeats =
+    grind (arith, make_shift, new_shift, queued_shift, live_request_shift, cancel_shift, on_handle_shift, start_shift, is_a_timer,
+    start_watcher_shift, starts_no_timer, stopped_shift, again_shift, with_handle_shift, due_at, closed_shift, send_shift, alive_shift,
+    backend_timeout_shift, if_shift, in_use_shift)

@@ -27,45 +27,29 @@ goes_on_early : (p : Program) (n : ℕ) (s : State) (es : List Event) → IsBoun
 goes_on_early p n s [] h = h.time
 goes_on_early p n s (e ∷ es) h = goes_on_early p (suc n) (state_of s (next p s e)) es (state_bounded p n s e h)
 
-fresh_names : (n : ℕ) → Counts 0 (replicate n unbound)
-fresh_names n = grind (arith, elements)
-
 after_early : (p : Program) (es : List Event) → (after p es).time ≤ LATEST
 unfolding after
-after_early p es = goes_on_early p 0 (fresh p) es (grind (arith, fresh_names))
+after_early p es = goes_on_early p 0 (fresh p) es (grind (arith, elements))
 
 -- ---- who is called as a timer
 
-has_first : (id : Id) (ids : List Id) → has_id (id ∷ ids) id ≡ true
-has_first id ids = grind arith
-
 timer_kind : (s : State) (id : Id) (its h : HandleRecord) → handle s id ≡ Some its → its.kind ≡ kind.Timer → handle s id ≡ Some h →
     is_timer h.kind ≡ true
-timer_kind s id its h holds is there =
-    let same : its ≡ h = same_Some its h (sym holds ∙ there) in
-    ap (λ (x : HandleRecord). is_timer x.kind) (sym same) ∙ ap is_timer is
+timer_kind s id its h holds is there = cc
 
 front_id : (s : State) (id : Id) (ids : List Id) (t : Id × HandleRecord) → front s (id ∷ ids) ≡ Some t → id ≡ t.0
-front_id s id ids t e = by (handle s id) e where
-  by : (o : Option HandleRecord) → with_id id o ≡ Some t → id ≡ t.0
-  by None f = cc f
-  by (Some h) f = ap (λ (x : Id × HandleRecord). x.0) (same_Some (id, h) t f)
+front_id s id ids t e = grind arith
 
 ready_timers : (s : State) (ids : List Id) (t : Id × HandleRecord) → AreSetAside s ids → front s ids ≡ Some t → is_timer t.1.kind ≡ true
 ready_timers s [] t h e = cc e
-ready_timers s (id ∷ ids) t h e =
-    let k = h.each id (has_first id ids) in
-    timer_kind s id k.its t.1 k.holds k.kind (ap (handle s) (front_id s id ids t e) ∙ front_held s (id ∷ ids) t e)
-
-first_id : (s : State) (u : Due × Id) (ts : List (Due × Id)) (t : Id × HandleRecord) → first_due s (u ∷ ts) ≡ Some t → u.1 ≡ t.0
-first_id s u ts t e = grind arith
+ready_timers s (id ∷ ids) t h e = grind (arith, timer_kind, front_id, front_held)
 
 first_timers : (s : State) (ts : List (Due × Id)) (t : Id × HandleRecord) → ((due : Due) (id : Id) → Has ts due id → IsTimer s due id) →
     first_due s ts ≡ Some t → is_timer t.1.kind ≡ true
 first_timers s [] t h e = cc e
 first_timers s (u ∷ ts) t h e =
     let k = h u.0 u.1 (inl (refl, refl)) in
-    timer_kind s u.1 k.its t.1 k.holds k.kind (ap (handle s) (first_id s u ts t e) ∙ first_due_held s (u ∷ ts) t e)
+    timer_kind s u.1 k.its t.1 k.holds k.kind (ap (handle s) (grind arith) ∙ first_due_held s (u ∷ ts) t e)
 
 -- ---- the whole
 

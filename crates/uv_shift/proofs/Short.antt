@@ -58,8 +58,7 @@ kept_if P b x y h k = grind arith
 
 found_both : {A B : Type 0} (o : Option A) (f : A → B) (other : B) (P : B → Type 0) → ((x : A) → o ≡ Some x → P (f x)) → P other →
     P (found_or o f other)
-found_both (Some x) f other P h k = h x refl
-found_both None f other P h k = k
+found_both o f other P h k = grind arith
 
 with_short : (n : ℕ) (s : State) (id : Id) (h : HandleRecord) → Keeps n s → h.repeat < n → Keeps n (with_handle s id h)
 with_short n s id h k b = short_set n s.arena.slots id.slot _ k b
@@ -79,9 +78,6 @@ started_short : (n : ℕ) (s : State) (id : Id) (h : HandleRecord) (timeout repe
     Keeps n (started s id h timeout repeat)
 started_short n s id h timeout repeat k b = short_set n s.arena.slots id.slot _ k b
 
-stopped_short : (n : ℕ) (s : State) (id : Id) (h : HandleRecord) → Keeps n s → h.repeat < n → Keeps n (stopped s id h)
-stopped_short n s id h k b = short_set n s.arena.slots id.slot _ k b
-
 restarted_short : (n : ℕ) (s : State) (id : Id) (h : HandleRecord) → Keeps n s → h.repeat < n → Keeps n (restarted s id h)
 restarted_short n s id h k b = kept_if (Keeps n) (h.repeat == 0) s _ k (started_short n s id h h.repeat h.repeat k b)
 
@@ -89,13 +85,11 @@ on_handle_short : (n : ℕ) (s : State) (v : Var) (why : HandleRecord → Option
     ((id : Id) (h : HandleRecord) → h.repeat < n → Keeps n (f id h).state) → Keeps n (ops.on_handle s (live_handle s v) why f).state
 on_handle_short n s v why f k each = at (live_handle s v) (λ t e. held_short n s t.0 t.1 k (live_held s v t e)) where
   at : (t : Result (Id × HandleRecord) Code) → ((u : Id × HandleRecord) → t ≡ Ok u → u.1.repeat < n) → Keeps n (ops.on_handle s t why f).state
-  at (Err code) l = k
-  at (Ok t) l = found_both (why t.1) _ (f t.0 t.1) (λ (d : ops.Done). Keeps n d.state) (λ code e. k) (each t.0 t.1 (l t refl))
+  at t l = grind arith
 
 make_short : (n : ℕ) (s : State) (t : Option (Id × Content)) (made : Id → State) → Keeps n s → ((id : Id) → Keeps n (made id)) →
     Keeps n (ops.make s t made).state
-make_short n s (Some t) made k each = k
-make_short n s None made k each = found_both (next_free s.arena) _ _ (λ (d : ops.Done). Keeps n d.state) (λ id e. each id) k
+make_short n s t made k each = grind arith
 
 new_short : (n : ℕ) (s : State) (v : Var) (kind : Kind) (id : Id) → 0 < n → Keeps n s → Keeps n (ops.with_new s v kind id)
 new_short n s v kind id pos k =
@@ -119,41 +113,18 @@ start_watcher_short n s id h k b = kept_if (Keeps n) h.active s _ k
 send_short : (n : ℕ) (s : State) (v : Var) → Keeps n s → Keeps n (send s (live_handle s v)).state
 send_short n s v k = at (live_handle s v) (λ t e. held_short n s t.0 t.1 k (live_held s v t e)) where
   at : (t : Result (Id × HandleRecord) Code) → ((u : Id × HandleRecord) → t ≡ Ok u → u.1.repeat < n) → Keeps n (send s t).state
-  at (Err code) l = k
-  at (Ok t) l = found_both (send_refusal t.1) _ _ (λ (c : Coded). Keeps n c.state) (λ code e. k) (with_short n s t.0 (records.sent t.1) k (l t refl))
+  at t l = grind (arith, found_both, with_short)
 
 op_short : (n : ℕ) (s : State) (o : Op) → 0 < n → IsShortOp n o → Keeps n s → Keeps n (do_op s o).state
-op_short n s (op.Init v kind) pos b k = make_short n s _ _ k (λ id. new_short n s v kind id pos k)
-op_short n s (op.Queue v task) pos b k = make_short n s _ _ k (λ id. taken_short n s.arena.free id (content.Request (queued v task)) s.arena k tt)
-op_short n s (op.Cancel v) pos b k = cancel_short n s (live_request s v) k
-op_short n s (op.Start v timeout repeat) pos b k = on_handle_short n s v start_timer_refusal _ k
-    (λ id h l. started_short n (stopped s id h) id h timeout repeat (stopped_short n s id h k l) b.1)
-op_short n s (op.StartWatcher v) pos b k = on_handle_short n s v start_watcher_refusal _ k (λ id h l. start_watcher_short n s id h k l)
-op_short n s (op.Stop v) pos b k = on_handle_short n s v stop_refusal _ k (λ id h l. stopped_short n s id h k l)
-op_short n s (op.Again v) pos b k = on_handle_short n s v again_refusal _ k (λ id h l. restarted_short n (stopped s id h) id h
-    (stopped_short n s id h k l) l)
-op_short n s (op.SetRepeat v r) pos b k = on_handle_short n s v timer_refusal _ k (λ id h l. with_short n s id (repeating r h) k b)
-op_short n s (op.DueIn v) pos b k = on_handle_short n s v timer_refusal _ k (λ id h l. k)
-op_short n s (op.Close v) pos b k = on_handle_short n s v close_refusal _ k (λ id h l. short_set n s.arena.slots id.slot _ k l)
-op_short n s (op.Ref v) pos b k = on_handle_short n s v no_refusal _ k (λ id h l. with_short n s id (referenced_as true h) k l)
-op_short n s (op.Unref v) pos b k = on_handle_short n s v no_refusal _ k (λ id h l. with_short n s id (referenced_as false h) k l)
-op_short n s (op.HasRef v) pos b k = on_handle_short n s v no_refusal _ k (λ id h l. k)
-op_short n s (op.IsActive v) pos b k = on_handle_short n s v no_refusal _ k (λ id h l. k)
-op_short n s (op.IsClosing v) pos b k = on_handle_short n s v no_refusal _ k (λ id h l. k)
-op_short n s (op.Send v) pos b k = send_short n s v k
-op_short n s op.StopLoop pos b k = k
-op_short n s op.UpdateTime pos b k = k
-op_short n s op.Now pos b k = k
-op_short n s op.IsAlive pos b k = k
-op_short n s op.Timeout pos b k = k
 op_short n s op.CloseLoop pos b k = kept_if (λ (d : ops.Done). Keeps n d.state) (ops.is_in_use s) _ _ k k
+op_short n s each pos b k =
+    search (make_short, new_short, taken_short, cancel_short, on_handle_short, started_short, start_watcher_short, restarted_short,
+    with_short, short_set, send_short, kept_if)
 
 -- ---- a step
 
 way_short : (n : ℕ) (o : Order) (s : State) (run : Run) (w : Way) → Keeps n s → Stays n (steps.goes_by o s run w)
-way_short n o s run (ToTimers part) k = k
-way_short n o s run ToPending k = k
-way_short n o s run ToEnd k = k
+way_short n o s run w k = grind arith
 
 turn_short : (n : ℕ) (o : Order) (s : State) (run : Run) (turn : Turn) → Keeps n s → Stays n (steps.turns o s run turn)
 turn_short n o s run turn k = way_short n o s run (steps.way o run.mode (steps.goes s) turn) k
@@ -165,8 +136,7 @@ fire_short p n s run part k = found_both (front s s.ready) _ _ (Stays n)
 
 call_due_short : (p : Program) (n : ℕ) (s : State) (run : Run) (part : TimersOf) → Keeps n s → Stays n (steps.call_due p s run part)
 call_due_short p n s run part k = found_both (steps.first_due s s.timers) _ _ (Stays n)
-    (λ t e. let l = held_short n s t.0 t.1 k (first_due_held s s.timers t e) in
-    restarted_short n (stopped s t.0 t.1) t.0 t.1 (stopped_short n s t.0 t.1 k l) l)
+    (λ t e. search (held_short, first_due_held, restarted_short, short_set))
     (turn_short n (order_of p) s run (Behind part) k)
 
 collect_short : (p : Program) (n : ℕ) (s : State) (run : Run) (part : TimersOf) → Keeps n s → Stays n (steps.collect p s run part)
@@ -180,10 +150,7 @@ timers_short p n s run part Collecting k = kept_if (Stays n) (from_heap p) _ _ (
 timers_short p n s run part Firing k = fire_short p n s run part k
 
 after_walk_short : (n : ℕ) (s : State) (run : Run) (kind : WatcherKind) → Keeps n s → Stays n (steps.after_walk s run kind)
-after_walk_short n s run watcher.Idle k = k
-after_walk_short n s run watcher.Prepare k = k
-after_walk_short n s run watcher.Check k = k
-after_walk_short n s run watcher.Async k = k
+after_walk_short n s run kind k = grind arith
 
 walk_short : (p : Program) (n : ℕ) (s : State) (run : Run) (kind : WatcherKind) → Keeps n s → Stays n (steps.walk p s run kind)
 walk_short p n s run kind k = found_both (front s (watched s kind).yet) _ _ (Stays n) (λ t e. k) (after_walk_short n s run kind k)
@@ -230,9 +197,8 @@ body_short p n s run body (Some line) pos short k e = op_short n s line.op pos
 
 main_short : (p : Program) (n : ℕ) (s : State) (line : ℕ) (x : Option MainOp) → 0 < n → IsShort n p → Keeps n s → slice_get p.main line ≡ x →
     Stays n (steps.main_step (order_of p) s line x)
-main_short p n s line None pos short k e = tt
-main_short p n s line (Some (main.Run mode)) pos short k e = kept_if (Keeps n) (steps.refreshes (order_of p) mode) (refreshed s) s k k
 main_short p n s line (Some (main.Op o)) pos short k e = op_short n s o pos (short (site.Main line) o (ap main_op e)) k
+main_short p n s line each pos short k e = grind arith
 
 run_short : (p : Program) (n : ℕ) (s : State) (run : Run) (body : Option Body) → 0 < n → IsShort n p → Keeps n s →
     Stays n (steps.run_step p s run body)
@@ -244,33 +210,26 @@ loop_short p n s (Main line) pos short k = main_short p n s line (slice_get p.ma
 loop_short p n s (Running run) pos short k = run_short p n s run run.body pos short k
 
 take_short : (n : ℕ) (s : State) (w : ℕ) (t : Result (Id × Request) Why) → Keeps n s → Stays n (take s w t)
-take_short n s w (Err y) k = tt
-take_short n s w (Ok t) k = k
+take_short n s w t k = grind arith
 
 finish_short : (n : ℕ) (s : State) (w : ℕ) (t : Result (Id × Request) Why) → Keeps n s → Stays n (steps.finish s w t)
 finish_short n s w (Err y) k = tt
 finish_short n s w (Ok t) k = short_set n s.arena.slots t.0.slot _ k tt
 
 call_io_short : (p : Program) (n : ℕ) (s : State) (v : Var) (r : Option Run) (o : Option Id) → Keeps n s → Stays n (steps.call_io p s v r o)
-call_io_short p n s v None None k = tt
-call_io_short p n s v None (Some id) k = tt
-call_io_short p n s v (Some run) None k = tt
-call_io_short p n s v (Some run) (Some id) k = k
+call_io_short p n s v r o k = grind arith
 
 next_short : (p : Program) (n : ℕ) (s : State) (e : Event) → 0 < n → IsShort n p → Keeps n s → Stays n (next p s e)
 unfolding next
-next_short p n s Loop pos short k = loop_short p n s s.place pos short k
-next_short p n s (Take w) pos short k = take_short n s w (steps.next_work s (slice_get s.running w)) k
-next_short p n s (Finish w) pos short k = finish_short n s w (steps.work_of s (slice_get s.running w)) k
 next_short p n s (Cancel v) pos short k = kept_if (Stays n) (nat_lt v.0 (length s.names)) _ _ (cancel_short n s (live_request s v) k) tt
 next_short p n s (Send v) pos short k = kept_if (Stays n) (nat_lt v.0 (length s.names)) _ _ (send_short n s v k) tt
 next_short p n s (Io v) pos short k = kept_if (Stays n) (nat_lt v.0 (length s.names)) _ _
     (call_io_short p n s v (steps.io_run p s s.place) (steps.io_handle (live_handle s v)) k) tt
 next_short p n s (Tick ms) pos short k = kept_if (Stays n) (nat_le (s.clock + ms) LATEST) _ _ k tt
+next_short p n s each pos short k = search (loop_short, take_short, finish_short, kept_if, cancel_short, send_short, call_io_short)
 
 state_short : (n : ℕ) (s : State) (x : Next) → Keeps n s → Stays n x → Keeps n (state_of s x)
-state_short n s (Moves t line) k l = l
-state_short n s (Refuses w) k l = k
+state_short n s x k l = grind arith
 
 goes_on_short : (p : Program) (n : ℕ) (s : State) (es : List Event) → 0 < n → IsShort n p → Keeps n s → Keeps n (goes_on p s es)
 goes_on_short p n s [] pos short k = k

@@ -13,22 +13,14 @@ use Rattle.uv_shift.proofs.Cases.{if_shift}
 
 -- ---- what a slot holds
 
-held_at : (d : By) (id : Id) (o : Option (Slot Content)) →
-    option_and_then (held_in id) (option_map (shift_slot d) o) ≡ option_map (shift_content d) (option_and_then (held_in id) o)
-held_at d id o = grind arith
-
 pub held_shift : (d : By) (slots : List (Slot Content)) (id : Id) → held (map (shift_slot d) slots) id ≡ option_map (shift_content d) (held slots id)
-held_shift d slots id = rw (slice_get-map (shift_slot d) slots id.slot) (held_at d id (slice_get slots id.slot))
+held_shift d slots id = rw (slice_get-map (shift_slot d) slots id.slot) (grind arith)
 
 handle_of_shift : (d : By) (o : Option Content) → handle_in (option_map (shift_content d) o) ≡ option_map (shift_handle d) (handle_in o)
-handle_of_shift d None = refl
-handle_of_shift d (Some (content.Handle h)) = refl
-handle_of_shift d (Some (content.Request r)) = refl
+handle_of_shift d o = grind arith
 
 request_of_shift : (d : By) (o : Option Content) → request_in (option_map (shift_content d) o) ≡ request_in o
-request_of_shift d None = refl
-request_of_shift d (Some (content.Handle h)) = refl
-request_of_shift d (Some (content.Request r)) = refl
+request_of_shift d o = grind arith
 
 pub handle_shift : (d : By) (s : State) (id : Id) → handle (shift d s) id ≡ option_map (shift_handle d) (handle s id)
 handle_shift d s id = ap handle_in (held_shift d s.arena.slots id) ∙ handle_of_shift d (held s.arena.slots id)
@@ -38,9 +30,8 @@ request_shift d s id = ap request_in (held_shift d s.arena.slots id) ∙ request
 
 pub set_shift : (d : By) (slots : List (Slot Content)) (i : ℕ) (x : Slot Content) →
     slice_set (map (shift_slot d) slots) i (shift_slot d x) ≡ map (shift_slot d) (slice_set slots i x)
-set_shift d [] i x = refl
-set_shift d (y ∷ ys) zero x = refl
 set_shift d (y ∷ ys) (suc i) x = ap (λ zs. shift_slot d y ∷ zs) (set_shift d ys i x)
+set_shift d each e2 x = assumption
 
 pub with_handle_shift : (d : By) (s : State) (id : Id) (h : HandleRecord) →
     with_handle (shift d s) id (shift_handle d h) ≡ shift d (with_handle s id h)
@@ -61,40 +52,16 @@ same_pair t = t
 
 pub with_id_shift : (d : By) (id : Id) (o : Option HandleRecord) →
     with_id id (option_map (shift_handle d) o) ≡ option_map (shift_pair d) (with_id id o)
-with_id_shift d id None = refl
-with_id_shift d id (Some h) = refl
-
-same_option : (o : Option (Id × Request)) → o ≡ option_map same_pair o
-same_option None = refl
-same_option (Some t) = refl
+with_id_shift d id o = grind arith
 
 pub front_shift : (d : By) (s : State) (ids : List Id) → front (shift d s) ids ≡ option_map (shift_pair d) (front s ids)
-front_shift d s [] = refl
-front_shift d s (id ∷ ids) = ap (with_id id) (handle_shift d s id) ∙ with_id_shift d id (handle s id)
-
-pub front_request_shift : (d : By) (s : State) (ids : List Id) → front_request (shift d s) ids ≡ option_map same_pair (front_request s ids)
-front_request_shift d s [] = refl
-front_request_shift d s (id ∷ ids) = ap (with_id id) (request_shift d s id) ∙ same_option (with_id id (request s id))
+front_shift d s ids = grind (arith, handle_shift, with_id_shift)
 
 pub front_request_same : (d : By) (s : State) (ids : List Id) → front_request (shift d s) ids ≡ front_request s ids
-front_request_same d s [] = refl
-front_request_same d s (id ∷ ids) = ap (with_id id) (request_shift d s id)
-
-pub with_request_id_shift : (d : By) (s : State) (id : Id) → with_id id (request (shift d s) id) ≡ option_map same_pair (with_id id (request s id))
-with_request_id_shift d s id = ap (with_id id) (request_shift d s id) ∙ same_option (with_id id (request s id))
-
-held_id : (id : Id) (o : Option HandleRecord) (t : Id × HandleRecord) → with_id id o ≡ Some t → o ≡ Some t.1
-held_id id o t e = grind arith
-
-held_as : (id : Id) (o : Option HandleRecord) (t : Id × HandleRecord) → with_id id o ≡ Some t → id ≡ t.0
-held_as id o t e = grind arith
-
-pub with_id_held : (s : State) (id : Id) (t : Id × HandleRecord) → with_id id (handle s id) ≡ Some t → handle s t.0 ≡ Some t.1
-with_id_held s id t e = ap (handle s) (sym (held_as id (handle s id) t e)) ∙ held_id id (handle s id) t e
+front_request_same d s ids = grind (arith, request_shift)
 
 pub front_held : (s : State) (ids : List Id) (t : Id × HandleRecord) → front s ids ≡ Some t → handle s t.0 ≡ Some t.1
-front_held s [] t e = cc e
-front_held s (id ∷ ids) t e = with_id_held s id t e
+front_held s ids t e = grind arith
 
 -- ---- names
 
@@ -102,8 +69,7 @@ abbrev pub shift_live : By → Id × Content → Id × Content
 shift_live d t = (t.0, shift_content d t.1)
 
 live_with : (d : By) (id : Id) (o : Option Content) → with_id id (option_map (shift_content d) o) ≡ option_map (shift_live d) (with_id id o)
-live_with d id None = refl
-live_with d id (Some x) = refl
+live_with d id o = grind arith
 
 live_id_shift : (d : By) (s : State) (o : Option Id) → live_id (shift d s) o ≡ option_map (shift_live d) (live_id s o)
 live_id_shift d s None = refl
@@ -117,14 +83,10 @@ shift_found d (Ok t) = Ok (shift_pair d t)
 shift_found d (Err code) = Err code
 
 as_handle_shift : (d : By) (o : Option (Id × Content)) → as_handle (option_map (shift_live d) o) ≡ shift_found d (as_handle o)
-as_handle_shift d None = refl
-as_handle_shift d (Some (id, content.Handle h)) = refl
-as_handle_shift d (Some (id, content.Request r)) = refl
+as_handle_shift d o = grind arith
 
 as_request_shift : (d : By) (o : Option (Id × Content)) → as_request (option_map (shift_live d) o) ≡ as_request o
-as_request_shift d None = refl
-as_request_shift d (Some (id, content.Handle h)) = refl
-as_request_shift d (Some (id, content.Request r)) = refl
+as_request_shift d o = grind arith
 
 pub live_handle_shift : (d : By) (s : State) (v : Var) → live_handle (shift d s) v ≡ shift_found d (live_handle s v)
 live_handle_shift d s v = ap as_handle (live_shift d s v) ∙ as_handle_shift d (live s v)
@@ -133,14 +95,7 @@ pub live_request_shift : (d : By) (s : State) (v : Var) → live_request (shift 
 live_request_shift d s v = ap as_request (live_shift d s v) ∙ as_request_shift d (live s v)
 
 held_as_handle : (s : State) (o : Option Id) (t : Id × HandleRecord) → as_handle (live_id s o) ≡ Ok t → handle s t.0 ≡ Some t.1
-held_as_handle s None t e = cc e
-held_as_handle s (Some id) t e = at (held s.arena.slots id) refl e where
-  at : (o : Option Content) → held s.arena.slots id ≡ o → as_handle (with_id id o) ≡ Ok t → handle s t.0 ≡ Some t.1
-  at None f g = cc g
-  at (Some (content.Handle h)) f g =
-      let same : ◌≡◌ {A = Id × HandleRecord} (id, h) t = cc g in
-      subst (λ (u : Id × HandleRecord). handle s u.0 ≡ Some u.1) same (ap handle_in f)
-  at (Some (content.Request r)) f g = cc g
+held_as_handle s o t e = grind arith
 
 -- a live handle is held
 pub live_held : (s : State) (v : Var) (t : Id × HandleRecord) → live_handle s v ≡ Ok t → handle s t.0 ≡ Some t.1
@@ -155,18 +110,10 @@ any_shift d test same [] = refl
 any_shift d test same (x ∷ xs) = ap₂ (λ a b. a || b) (same x.content) (any_shift d test same xs)
 
 keeps_shift : (d : By) (o : Option Content) → content_keeps (option_map (shift_content d) o) ≡ content_keeps o
-keeps_shift d None = refl
-keeps_shift d (Some (content.Handle h)) = refl
-keeps_shift d (Some (content.Request r)) = refl
+keeps_shift d o = grind arith
 
 pends_shift : (d : By) (o : Option Content) → content_pends (option_map (shift_content d) o) ≡ content_pends o
-pends_shift d None = refl
-pends_shift d (Some (content.Handle h)) = refl
-pends_shift d (Some (content.Request r)) = refl
-
-used_shift : (d : By) (o : Option Content) → is_used (option_map (shift_content d) o) ≡ is_used o
-used_shift d None = refl
-used_shift d (Some x) = refl
+pends_shift d o = grind arith
 
 pub alive_shift : (d : By) (s : State) → is_alive (shift d s) ≡ is_alive s
 alive_shift d s = ap (λ b. b || has_closing s) (any_shift d content_keeps (keeps_shift d) s.arena.slots)
@@ -175,7 +122,7 @@ pub pending_shift : (d : By) (s : State) → has_pending (shift d s) ≡ has_pen
 pending_shift d s = any_shift d content_pends (pends_shift d) s.arena.slots
 
 pub in_use_shift : (d : By) (s : State) → is_in_use (shift d s) ≡ is_in_use s
-in_use_shift d s = any_shift d is_used (used_shift d) s.arena.slots
+in_use_shift d s = any_shift d is_used (grind arith) s.arena.slots
 
 -- ---- slots taken and freed
 
@@ -183,15 +130,9 @@ length_shift : (d : By) (slots : List (Slot Content)) → length (map (shift_slo
 length_shift d [] = refl
 length_shift d (x ∷ xs) = ap suc (length_shift d xs)
 
-id_at : (d : By) (n : ℕ) (o : Option (Slot Content)) →
-    option_and_then (λ slot. Some (id_of n slot)) (option_map (shift_slot d) o) ≡ option_and_then (λ slot. Some (id_of n slot)) o
-id_at d n None = refl
-id_at d n (Some slot) = refl
-
 next_id_shift : (d : By) (slots : List (Slot Content)) (unused : ℕ) (free : List ℕ) →
     next_id (map (shift_slot d) slots) unused free ≡ next_id slots unused free
-next_id_shift d slots unused [] = ap (λ n. next_unused n unused) (length_shift d slots)
-next_id_shift d slots unused (n ∷ ns) = rw (slice_get-map (shift_slot d) slots n) (id_at d n (slice_get slots n))
+next_id_shift d slots unused free = grind (arith, length_shift, slice_get-map)
 
 pub next_free_shift : (d : By) (a : Slots Content) → next_free (shift_arena d a) ≡ next_free a
 next_free_shift d a = next_id_shift d a.slots a.unused a.free

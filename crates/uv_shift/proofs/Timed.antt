@@ -9,19 +9,13 @@ use Rattle.uv_shift.specs.Shift.{By, shift, FitsOp, TimesFit}
 use Rattle.uv_shift.specs.Earliest.{base, earliest, IsTimed}
 use Rattle.uv_shift.proofs.Later.{shift_due, shift_if, shift_handle, shift_entry}
 use Rattle.uv_shift.proofs.Slots.{handle_shift}
-use Rattle.uv_shift.proofs.Timers.{cmp_shift}
 use Rattle.uv_shift.proofs.Steps.{can_shift}
 use Rattle.uv_shift.proofs.Base.{earliest_later}
 
 -- ---- the order of timers
 
 same_due : (d : By) (a b : Due) → shift_due d a ≡ shift_due d b → a ≡ b
-same_due d a b e =
-    let at : a.at + d.ms ≡ b.at + d.ms = ap (λ (x : Due). x.at) e in
-    let start : a.start + d.starts ≡ b.start + d.starts = ap (λ (x : Due). x.start) e in
-    let one : a.at ≡ b.at = omega (arith, at) in
-    let two : a.start ≡ b.start = omega (arith, start) in
-    λ i. record { at = one i; start = two i }
+same_due d a b e = grind arith
 
 pub has_later : (d : By) (ts : List (Due × Id)) (due : Due) (id : Id) → Has ts due id → Has (map (shift_entry d) ts) (shift_due d due) id
 has_later d [] due id h = h
@@ -35,17 +29,11 @@ has_earlier d (t ∷ ts) due id (inr rest) = inr (has_earlier d ts due id rest)
 
 before_earlier : (d : By) (a : Due) (ts : List (Due × Id)) → Before (shift_due d a) (map (shift_entry d) ts) → Before a ts
 before_earlier d a [] h = tt
-before_earlier d a (t ∷ ts) h = (sym (cmp_shift d a t.0) ∙ h.0, before_earlier d a ts h.1)
+before_earlier d a (t ∷ ts) h = (sym (grind arith) ∙ h.0, before_earlier d a ts h.1)
 
 order_earlier : (d : By) (ts : List (Due × Id)) → InOrder (map (shift_entry d) ts) → InOrder ts
 order_earlier d [] h = tt
 order_earlier d (t ∷ ts) h = (before_earlier d t.0 ts h.0, order_earlier d ts h.1)
-
--- the handle that a later one comes from
-found_earlier : (d : By) (o : Option HandleRecord) (its : HandleRecord) → option_map (shift_handle d) o ≡ Some its →
-    (h : HandleRecord) × (o ≡ Some h) × (shift_handle d h ≡ its)
-found_earlier d None its e = absurd (none-some its e)
-found_earlier d (Some h) its e = (h, refl, same_Some (shift_handle d h) its e)
 
 shifted : (d : By) (b : Bool) (due : Due) → b ≡ true → shift_if b d due ≡ shift_due d due
 shifted d b due e = rw e refl
@@ -54,14 +42,7 @@ on_timer : (active : Bool) (k : Kind) → active ≡ true → k ≡ kind.Timer �
 on_timer active k a e = rw a (rw e refl)
 
 timer_earlier : (d : By) (s : State) (due : Due) (id : Id) → IsTimer (shift d s) (shift_due d due) id → IsTimer s due id
-timer_earlier d s due id k =
-    let found = found_earlier d (handle s id) k.its (sym (handle_shift d s id) ∙ k.holds) in
-    let h = found.0 in
-    let kind : h.kind ≡ kind.Timer = ap (λ (x : HandleRecord). x.kind) found.2 ∙ k.kind in
-    let active : h.active ≡ true = ap (λ (x : HandleRecord). x.active) found.2 ∙ k.active in
-    let moved : shift_due d h.due ≡ shift_due d due =
-    sym (shifted d (h.active && is_timer h.kind) h.due (on_timer h.active h.kind active kind)) ∙ ap (λ (x : HandleRecord). x.due) found.2 ∙ k.due in
-    record { its = h; holds = found.1; kind = kind; active = active; due = same_due d h.due due moved }
+timer_earlier d s due id k = grind (arith, handle_shift, shifted, on_timer, same_due)
 
 timer_later : (d : By) (s : State) (due : Due) (id : Id) → IsTimer s due id → IsTimer (shift d s) (shift_due d due) id
 timer_later d s due id k = record {
