@@ -79,11 +79,7 @@ io_leaves : (p : Program) (s b : State) (v : Var) (m : Option Seen) → next p s
 unfolding next
 io_leaves p s b v m e = by (nat_lt v.0 (length s.names)) (io_run p s s.place) (io_handle (live_handle s v)) e where
   by : (x : Bool) (run : Option Run) (id : Option Id) → (if x then call_io p s v run id else Refuses Range) ≡ Moves b m → LeavesPool s b
-  by false run id e = cc e
-  by true None id e = cc e
-  by true (Some run) None e = cc e
-  by true (Some run) (Some id) e =
-      subst (LeavesPool s) (ap (state_of s) e) (record { waiting = refl; running = refl; arena = refl })
+  by x run id e = grind arith
 
 -- ---- what a send leaves
 
@@ -105,11 +101,7 @@ sends p s b v m e = by (nat_lt v.0 (length s.names)) (live_handle s v) refl e wh
       LeavesRequests s (found_or {B = Coded} o (λ code. record { state = s; code = code })
       (record { state = with_handle s t.0 (records.sent t.1); code = Success })).state
   set t live (Some code) = record { waiting = refl; running = refl; requests = λ id q h. h }
-  set t live None = record {
-    waiting = refl;
-    running = refl;
-    requests = λ id q h. request_stays s.arena.slots t.0 id t.1 (records.sent t.1) q (live_held s v t live) h;
-  }
+  set t live None = search (request_stays, live_held)
 
   of : (x : Result (Id × HandleRecord) Code) → live_handle s v ≡ x → LeavesRequests s (send s x).state
   of (Err code) live = record { waiting = refl; running = refl; requests = λ id q h. h }

@@ -100,42 +100,23 @@ abbrev clocked_done : Change → ops.Done → ops.Done
 clocked_done c x = record { state = clocked c x.state; answer = x.answer }
 
 only_clock : (c : Change) → SameWork c → (u : State) → changed c u ≡ clocked c u
-only_clock c same u =
-    let waiting = same.waiting u.waiting in
-    let done = same.done u.done.list in
-    let slots = same.slots u.arena.slots in
-    λ i. record (clocked c u) { waiting = waiting i; done = record u.done { list = done i }; arena = record u.arena { slots = slots i } }
+only_clock c same u = grind arith
 
 -- ---- what is seen in a slot
 
 handle_seen : (o : Option Content) → handle_in o ≡ elim (seen_in o) [ Some x ↦ x | None ↦ None ]
-handle_seen None = refl
-handle_seen (Some x) = refl
+handle_seen o = grind arith
 
 pub handle_same : (o o' : Option Content) → seen_in o' ≡ seen_in o → handle_in o' ≡ handle_in o
 handle_same o o' e = handle_seen o' ∙ ap (λ (x : Option (Option HandleRecord)). elim x [ Some y ↦ y | None ↦ None ]) e ∙ sym (handle_seen o)
 
 -- a name's handle, by what is seen
 live_same : (id : Id) (o o' : Option Content) → seen_in o' ≡ seen_in o → as_handle (with_id id o') ≡ as_handle (with_id id o)
-live_same id None None e = refl
-live_same id None (Some x) e = cc e
-live_same id (Some x) None e = cc e
-live_same id (Some (content.Handle h)) (Some (content.Handle g)) e = grind arith
-live_same id (Some (content.Handle h)) (Some (content.Request r)) e = grind arith
-live_same id (Some (content.Request r)) (Some (content.Handle g)) e = grind arith
-live_same id (Some (content.Request q)) (Some (content.Request r)) e = refl
+live_same id each e2 e = grind arith
 
 -- who stands for a handle is live with it
 pub live_held : (s : State) (v : Var) (t : Id × HandleRecord) → live_handle s v ≡ Ok t → handle s t.0 ≡ Some t.1
-live_held s v t e = by (named s v).id e where
-  at : (id : Id) (o : Option Content) → held s.arena.slots id ≡ o → as_handle (with_id id o) ≡ Ok t → handle s t.0 ≡ Some t.1
-  at id None f e = cc e
-  at id (Some (content.Handle h)) f e = grind arith
-  at id (Some (content.Request r)) f e = cc e
-
-  by : (o : Option Id) → as_handle (live_id s o) ≡ Ok t → handle s t.0 ≡ Some t.1
-  by None e = cc e
-  by (Some id) e = at id (held s.arena.slots id) refl e
+live_held s v t e = grind arith
 
 module _ (c : Change) (leaves : Leaves c) where
   abbrev pub changed_done : ops.Done → ops.Done

@@ -30,9 +30,6 @@ asked id r = record { generation = id.generation; content = Some (content.Reques
 
 -- ---- lists
 
-not_both : (a b : Bool) → a ≡ b → not a ≡ true → b ≡ false
-not_both a b e f = grind arith
-
 apart_numbers : (n m : ℕ) → not (n == m) ≡ true → m ≡ n → ⊥
 apart_numbers n m e f = grind arith
 
@@ -44,15 +41,13 @@ pub get_set_same : (slots : List (Slot Content)) (i : ℕ) (x y : Slot Content) 
 get_set_same slots i x y e = grind (arith, elements)
 
 pub set_there : (slots : List (Slot Content)) (n : ℕ) (x : Slot Content) → slice_get slots n ≡ Some x → slice_set slots n x ≡ slots
-set_there [] n x e = refl
-set_there (y ∷ ys) zero x e = ap (λ (z : Slot Content). z ∷ ys) (sym (same_Some y x e))
 set_there (y ∷ ys) (suc n) x e = ap (λ (zs : List (Slot Content)). y ∷ zs) (set_there ys n x e)
+set_there each e1 x e = grind arith
 
 set_pushed : (slots : List (Slot Content)) (n : ℕ) (x y z : Slot Content) → slice_get slots n ≡ Some z →
     slice_set slots n x ++ y ∷ [] ≡ slice_set (slots ++ y ∷ []) n x
-set_pushed [] n x y z e = cc e
-set_pushed (w ∷ ws) zero x y z e = refl
 set_pushed (w ∷ ws) (suc n) x y z e = ap (λ (zs : List (Slot Content)). w ∷ zs) (set_pushed ws n x y z e)
+set_pushed each e1 x y z e = grind arith
 
 set_length : (slots : List (Slot Content)) (n : ℕ) (x : Slot Content) → length (slice_set slots n x) ≡ length slots
 set_length slots n x = grind (arith, elements)
@@ -61,10 +56,8 @@ set_length slots n x = grind (arith, elements)
 any_set : (f : Option Content → Bool) (slots : List (Slot Content)) (n : ℕ) (x y : Slot Content) → slice_get slots n ≡ Some y →
     f x.content ≡ f y.content → list_any (λ (slot : Slot Content). f slot.content) (slice_set slots n x)
     ≡ list_any (λ (slot : Slot Content). f slot.content) slots
-any_set f [] n x y e k = refl
-any_set f (z ∷ zs) zero x y e k =
-    ap (λ (b : Bool). b || list_any (λ (slot : Slot Content). f slot.content) zs) (k ∙ ap (λ (s : Slot Content). f s.content) (sym (same_Some z y e)))
 any_set f (z ∷ zs) (suc n) x y e k = ap (λ (b : Bool). f z.content || b) (any_set f zs n x y e k)
+any_set f each e2 x y e k = grind arith
 
 -- ---- the slot of an open request
 
@@ -77,27 +70,7 @@ pub record Holds (s : State) (id : Id) (r : Request) : Type 0 where
 
 pub request_there : (slots : List (Slot Content)) (id : Id) (r : Request) → request_in (held slots id) ≡ Some r →
     slice_get slots id.slot ≡ Some (asked id r)
-request_there slots id r e = by (slice_get slots id.slot) e where
-  at : (slot : Slot Content) (b : Bool) → (slot.generation == id.generation) ≡ b →
-      request_in (if b then slot.content else None) ≡ Some r → Some slot ≡ Some (asked id r)
-  at slot false f e = cc e
-  at slot true f e = inside slot.content refl e where
-    inside : (o : Option Content) → slot.content ≡ o → request_in o ≡ Some r → Some slot ≡ Some (asked id r)
-    inside None g e = cc e
-    inside (Some (content.Handle h)) g e = cc e
-    inside (Some (content.Request q)) g e =
-        let generation = eqb-true slot.generation id.generation f in
-        let whole = g ∙ ap (λ (x : Request). Some (content.Request x)) (same_Some q r e) in
-        λ i. Some (record { generation = generation i; content = whole i })
-
-  by : (o : Option (Slot Content)) → request_in (elim o [ Some slot ↦ held_in id slot | None ↦ None ]) ≡ Some r → o ≡ Some (asked id r)
-  by None e = cc e
-  by (Some slot) e = at slot (slot.generation == id.generation) refl e
-
--- no handle stands there
-no_handle : (slots : List (Slot Content)) (i id : Id) (r : Request) (h : HandleRecord) → slice_get slots id.slot ≡ Some (asked id r) →
-    handle_in (held slots i) ≡ Some h → i.slot ≡ id.slot → ⊥
-no_handle slots i id r h e f g = grind arith
+request_there slots id r e = grind arith
 
 test_apart : (a b : ℕ) → (a ≡ b → ⊥) → not (a == b) ≡ true
 test_apart a b f = grind arith
@@ -121,7 +94,7 @@ holds_open p es id r k e =
     let there = request_there s.arena.slots id r e in
     record {
       there = there;
-      handles = λ i h f. test_apart i.slot id.slot (no_handle s.arena.slots i id r h there f);
+      handles = λ i h f. test_apart i.slot id.slot (grind arith);
       free = λ n ns f. test_apart n id.slot (not_free p es n ns id r f there);
       ended = λ i ids f. test_apart i.slot id.slot (not_ended i ids f there);
     }
@@ -162,14 +135,7 @@ seen_same slots id i r q e = by (i.slot == id.slot) refl where
   by : (b : Bool) → (i.slot == id.slot) ≡ b → seen_in (held (slice_set slots id.slot (asked id q)) i) ≡ seen_in (held slots i)
   by false f = ap (λ (o : Option (Slot Content)). seen_in (elim o [ Some slot ↦ held_in i slot | None ↦ None ]))
       (get_set_other slots id.slot i.slot (asked id q) (λ g. cc (f, eq-eqb i.slot id.slot g)))
-  by true f =
-      let same = eqb-true i.slot id.slot f in
-      ap (λ (n : ℕ). seen_in (elim (slice_get (slice_set slots id.slot (asked id q)) n) [ Some slot ↦ held_in i slot | None ↦ None ])) same
-      ∙ ap (λ (o : Option (Slot Content)). seen_in (elim o [ Some slot ↦ held_in i slot | None ↦ None ]))
-      (get_set_same slots id.slot (asked id q) (asked id r) e)
-      ∙ one (id.generation == i.generation) refl
-      ∙ ap (λ (o : Option (Slot Content)). seen_in (elim o [ Some slot ↦ held_in i slot | None ↦ None ])) (sym e)
-      ∙ ap (λ (n : ℕ). seen_in (elim (slice_get slots n) [ Some slot ↦ held_in i slot | None ↦ None ])) (sym same)
+  by true f = grind (arith, eqb-true, get_set_same)
 
 module _ (clock : ℕ → ℕ) (waiting : List Id → List Id) (running : List (Option Id) → List (Option Id)) (done : List Id → List Id)
     (id : Id) (q : Request) where

@@ -134,8 +134,7 @@ first s id r e = by s.waiting refl e where
 
 -- who waits goes on to wait behind the front
 pub front_stays : (ids rest : List Id) (id i : Id) → ids ≡ id ∷ rest → drop 1 ids ++ i ∷ [] ≡ drop 1 (ids ++ i ∷ [])
-front_stays [] rest id i e = cc e
-front_stays (x ∷ xs) rest id i e = refl
+front_stays ids rest id i e = cc
 
 -- an open request is held as it was behind a step of the loop
 still_held : (p : Program) (es : List Event) (a : State) (l : Option Seen) (waiting : List Id → List Id) (id : Id) (r : Request) →
@@ -236,15 +235,12 @@ unfolding next
 finish_next p s k id r e f = ap (λ o. finish s k (work_of s o)) e ∙ ap (λ o. finish s k (found_or (with_id id o) Ok (Err IdleWorker))) f
 
 runs_here : (running : List (Option Id)) (k : ℕ) (id : Id) → slice_get running k ≡ Some (Some id) → has_id (run_ids running) id ≡ true
-runs_here [] k id e = cc e
-runs_here (None ∷ rs) zero id e = cc e
 runs_here (None ∷ rs) (suc k) id e = runs_here rs k id e
-runs_here (Some i ∷ rs) zero id e = ap (λ (b : Bool). b || has_id (run_ids rs) id) (itself i id (same_Some i id (same_Some (Some i) (Some id) e)))
 runs_here (Some i ∷ rs) (suc k) id e = or_right (same_id i id) (has_id (run_ids rs) id) (runs_here rs k id e)
+runs_here each e1 id e = search (itself, same_Some, or_right)
 
 runs_on : (s : State) (k : ℕ) (id : Id) → slice_get s.running k ≡ Some (Some id) → has_id (s.waiting ++ run_ids s.running) id ≡ true
-runs_on s k id e = has_both s.waiting (run_ids s.running) id
-    ∙ or_right (has_id s.waiting id) (has_id (run_ids s.running) id) (runs_here s.running k id e)
+runs_on s k id e = search (has_both, or_right, runs_here)
 
 finished_apart : (p : Program) (es : List Event) (a b : State) (k : ℕ) (l m : Option Seen) → is_apart p (after p es) ≡ true →
     next p (after p es) Loop ≡ Moves a l → next p (after p es) (Finish k) ≡ Moves b m → Meets p (Finish k) a b l m

@@ -87,12 +87,10 @@ way_turns V145 Nowait go (Behind timers_of.Iteration) e = e
 -- ---- who is found
 
 front_held : (s : State) (ids : List Id) (t : Id × HandleRecord) → front s ids ≡ Some t → handle s t.0 ≡ Some t.1
-front_held s [] t e = cc e
-front_held s (id ∷ ids) t e = grind arith
+front_held s ids t e = grind arith
 
 first_due_held : (s : State) (ts : List (Due × Id)) (t : Id × HandleRecord) → steps.first_due s ts ≡ Some t → handle s t.0 ≡ Some t.1
-first_due_held s [] t e = cc e
-first_due_held s (u ∷ ts) t e = grind arith
+first_due_held s ts t e = grind arith
 
 module _ (p : Program) (c : Change) (leaves : Leaves c) (s : State) (hides : Hides c s) where
   front_same : (ids : List Id) → front (changed c s) ids ≡ front s ids
