@@ -17,8 +17,7 @@ map_square {A} f g h k (x ∷ xs) e = ap₂ (λ (y : A) (ys : List A). y ∷ ys)
 
 maybe_square : {A : Type 0} (f g h k : A → A) (o : Option A) → ((x : A) → f (g x) ≡ h (k x)) →
     option_map f (option_map g o) ≡ option_map h (option_map k o)
-maybe_square f g h k None e = refl
-maybe_square f g h k (Some x) e = ap Some (e x)
+maybe_square f g h k o e = grind arith
 
 -- a name that is bound to another id
 abbrev bound_to : (Id → Id) → Named → Named
@@ -26,9 +25,7 @@ bound_to f x = record x { id = option_map f x.id }
 
 names_square : (f g h k : Id → Id) (ns : List Named) → ((id : Id) → f (g id) ≡ h (k id)) →
     map (bound_to f) (map (bound_to g) ns) ≡ map (bound_to h) (map (bound_to k) ns)
-names_square f g h k ns e =
-    map_square (bound_to f) (bound_to g) (bound_to h) (bound_to k) ns
-    (λ x. ap (λ (id : Option Id). record x { id = id }) (maybe_square f g h k x.id e))
+names_square f g h k ns e = grind (arith, map_square, maybe_square)
 
 same_lists : {X : Type 0} (xs ys : List X) → ((n : ℕ) → slice_get xs n ≡ slice_get ys n) → xs ≡ ys
 same_lists [] [] e = refl
@@ -63,11 +60,7 @@ reduced_buried n dead s beyond =
 -- and slots stand in another order
 staled_arranged : (o : List ℕ) (slots : List (Slot Content)) (id : Id) → Fits o slots →
     staled_id (arranged_slots o slots) (arranged_id o id) ≡ arranged_id o (staled_id slots id)
-staled_arranged o slots id fits = ap (staled_by (arranged_id o id)) (get_arranged o slots id.slot fits) ∙ by (slice_get slots id.slot)
-  where
-    by : (x : Option (Slot Content)) → staled_by (arranged_id o id) x ≡ arranged_id o (staled_by id x)
-    by None = refl
-    by (Some slot) = grind arith
+staled_arranged o slots id fits = grind (arith, get_arranged)
 
 pub reduced_arranged : (n : ℕ) (o : List ℕ) (s : State) → Fits o s.arena.slots → reduced n (arranged o s) ≡ arranged o (reduced n s)
 reduced_arranged n o s fits =
@@ -80,20 +73,14 @@ reduced_arranged n o s fits =
 -- and slots stand in another order
 buried_there : (dead : ℕ) (o : List ℕ) (slots : List (Slot Content)) (id : Id) → Fits o slots → length slots ≤ dead →
     buried_id dead (arranged_slots o slots) (arranged_id o id) ≡ arranged_id o (buried_id dead slots id)
-buried_there dead o slots id fits beyond = ap (buried_by dead (arranged_id o id)) (held_arranged o slots id fits) ∙ by (held slots id)
-  where
-    by : (x : Option Content) → buried_by dead (arranged_id o id) x ≡ arranged_id o (buried_by dead id x)
-    by None = ap (λ (n : ℕ). record { slot = n; generation = 0 })
-        (sym (place_behind o dead fits.order (let l = fits.within in omega (arith, l, beyond))))
-    by (Some x) = refl
+buried_there dead o slots id fits beyond = grind (arith, held_arranged, place_behind)
 
 pub buried_arranged : (dead : ℕ) (o : List ℕ) (s : State) → Fits o s.arena.slots → length s.arena.slots ≤ dead →
     buried dead (arranged o s) ≡ arranged o (buried dead s)
 buried_arranged dead o s fits beyond =
     let slots = s.arena.slots in
     ap (λ (ns : List Named). record (arranged o s) { names = ns })
-    (names_square (buried_id dead (arranged_slots o slots)) (arranged_id o) (arranged_id o) (buried_id dead slots) s.names
-    (λ id. buried_there dead o slots id fits beyond))
+    (search (names_square, buried_there))
 
 -- and times are later
 buried_when : (d : By) (dead : ℕ) (slots : List (Slot Content)) (id : Id) →
@@ -101,8 +88,7 @@ buried_when : (d : By) (dead : ℕ) (slots : List (Slot Content)) (id : Id) →
 buried_when d dead slots id = ap (buried_by dead id) (held_shift d slots id) ∙ by (held slots id)
   where
     by : (x : Option Content) → buried_by dead id (option_map (retimed_content (later d)) x) ≡ buried_by dead id x
-    by None = refl
-    by (Some x) = refl
+    by x = grind arith
 
 pub buried_later : (d : By) (dead : ℕ) (s : State) → buried dead (shift d s) ≡ shift d (buried dead s)
 buried_later d dead s = λ i. record (shift d s) { names = map (bound_to (λ id. buried_when d dead s.arena.slots id i)) s.names }
@@ -110,18 +96,13 @@ buried_later d dead s = λ i. record (shift d s) { names = map (bound_to (λ id.
 -- and slots were freed more often
 buried_freed : (k : Frees) (dead : ℕ) (slots : List (Slot Content)) (id : Id) → k dead ≡ 0 →
     buried_id dead (renamed_slots k slots) (rename k id) ≡ rename k (buried_id dead slots id)
-buried_freed k dead slots id never = ap (buried_by dead (rename k id)) (held_renamed k slots id) ∙ by (held slots id)
-  where
-    by : (x : Option Content) → buried_by dead (rename k id) x ≡ rename k (buried_by dead id x)
-    by None = ap (λ (n : ℕ). record { slot = dead; generation = n }) (omega (arith, never))
-    by (Some x) = refl
+buried_freed k dead slots id never = grind (arith, rename, held_renamed)
 
 pub buried_more : (k : Frees) (dead : ℕ) (s : State) → k dead ≡ 0 → buried dead (more k s) ≡ more k (buried dead s)
 buried_more k dead s never =
     let slots = s.arena.slots in
     ap (λ (ns : List Named). record (more k s) { names = ns })
-    (names_square (buried_id dead (renamed_slots k slots)) (rename k) (rename k) (buried_id dead slots) s.names
-    (λ id. buried_freed k dead slots id never))
+    (search (names_square, renamed_slots, rename, buried_freed))
 
 -- ---- slots stand in another order
 
@@ -134,22 +115,10 @@ slots_later o d slots fits = same_lists
   where
     by : (m n : ℕ) → place_of o n ≡ m → slice_get (arranged_slots o (map (retimed_slot (later d)) slots)) m
         ≡ slice_get (map (retimed_slot (later d)) (arranged_slots o slots)) m
-    by m n there = ap (slice_get (arranged_slots o (map (retimed_slot (later d)) slots))) (sym there)
-        ∙ get_arranged o (map (retimed_slot (later d)) slots) n (fits_too o slots _ fits (length-map slots (retimed_slot (later d))))
-        ∙ slice_get-map (retimed_slot (later d)) slots n
-        ∙ ap (option_map (retimed_slot (later d))) (sym (get_arranged o slots n fits))
-        ∙ sym (slice_get-map (retimed_slot (later d)) (arranged_slots o slots) (place_of o n))
-        ∙ ap (slice_get (map (retimed_slot (later d)) (arranged_slots o slots))) there
+    by m n there = grind (arith, get_arranged, fits_too, length-map, slice_get-map)
 
 pub arranged_later : (o : List ℕ) (d : By) (s : State) → Fits o s.arena.slots → arranged o (shift d s) ≡ shift d (arranged o s)
-arranged_later o d s fits =
-    let slots = slots_later o d s.arena.slots fits in
-    let timers = entries s.timers in
-    λ i. record (shift d (arranged o s)) { arena = record (arranged o s).arena { slots = slots i }; timers = timers i }
-  where
-    entries : (ts : List (Due × Id)) →
-        map (arranged_entry o) (map (retimed_entry (later d)) ts) ≡ map (retimed_entry (later d)) (map (arranged_entry o) ts)
-    entries ts = map_square (arranged_entry o) (retimed_entry (later d)) (retimed_entry (later d)) (arranged_entry o) ts (λ t. refl)
+arranged_later o d s fits = grind (arith, slots_later, map_square)
 
 -- and were freed more often: how often, goes by the places that they had
 abbrev pub frees_at : List ℕ → Frees → Frees
@@ -166,13 +135,7 @@ slots_more o k slots fits = same_lists
   where
     by : (m : ℕ) → place_of o (number_at o m) ≡ m → slice_get (arranged_slots o (renamed_slots k slots)) m
         ≡ slice_get (renamed_slots (frees_at o k) (arranged_slots o slots)) m
-    by m there =
-        let n = number_at o m in
-        ap (slice_get (arranged_slots o (renamed_slots k slots))) (sym there)
-        ∙ get_arranged o (renamed_slots k slots) n (fits_too o slots _ fits (length_more k slots))
-        ∙ get_renamed k slots n
-        ∙ ap (option_map (renamed_slot (k n))) (sym (get_arranged o slots n fits) ∙ ap (slice_get (arranged_slots o slots)) there)
-        ∙ sym (get_renamed (frees_at o k) (arranged_slots o slots) m)
+    by m there = grind (arith, number_at, renamed_slots, get_arranged, fits_too, length_more, get_renamed, renamed_slot)
 
 module _ (o : List ℕ) (k : Frees) (s : State) (fits : Fits o s.arena.slots) where
   id_more : (id : Id) → arranged_id o (rename k id) ≡ rename (frees_at o k) (arranged_id o id)

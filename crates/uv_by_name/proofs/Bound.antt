@@ -12,13 +12,7 @@ bound_same : (f : Named → Named) (g : Id → Id) (ns : List Named) (slots othe
     ((x : Named) → (f x).id ≡ option_map g x.id) → ((id : Id) → slot_bound other (Some (g id)) ≡ slot_bound slots (Some id)) →
     slots_bound (map f ns) other ≡ slots_bound ns slots
 bound_same f g [] slots other names ids = refl
-bound_same f g (x ∷ xs) slots other names ids =
-    ap₂ (λ (y : Option ℕ) (ys : List ℕ). option_to_list y ++ ys) (ap (slot_bound other) (names x) ∙ by x.id)
-    (bound_same f g xs slots other names ids)
-  where
-    by : (o : Option Id) → slot_bound other (option_map g o) ≡ slot_bound slots o
-    by None = refl
-    by (Some id) = ids id
+bound_same f g (x ∷ xs) slots other names ids = grind (arith, (bound_same f g xs slots other names ids))
 
 -- the order, from these numbers on
 abbrev order_from : State → List ℕ → List ℕ
@@ -36,22 +30,17 @@ order_buried dead s beyond =
   where
     by : (id : Id) (o : Option Content) → held s.arena.slots id ≡ o →
         slot_bound s.arena.slots (Some (buried_by dead id o)) ≡ option_map (λ (x : Content). id.slot) o
-    by id None e = ap (option_map (λ (x : Content). dead)) (dead_held dead s.arena.slots beyond)
-    by id (Some x) e = ap (option_map (λ (x : Content). id.slot)) e
-
-bound_staled : (slots : List (Slot Content)) (id : Id) → slot_bound slots (Some (staled_id slots id)) ≡ slot_bound slots (Some id)
-bound_staled slots id = grind arith
+    by id o e = grind (arith, dead_held)
 
 same_id_by : (o : Option Id) → o ≡ option_map (λ id. id) o
-same_id_by None = refl
-same_id_by (Some id) = refl
+same_id_by o = grind arith
 
 pub order_reduced : (n : ℕ) (s : State) → named_order (reduced n s) ≡ named_order s
 order_reduced n s =
     let slots = s.arena.slots in
     ap (order_from s)
     (bound_same (capped_name n) (λ id. id) (map (staled_name slots) s.names) slots slots (λ x. same_id_by x.id) (λ id. refl)
-    ∙ bound_same (staled_name slots) (staled_id slots) s.names slots slots (λ x. refl) (bound_staled slots))
+    ∙ bound_same (staled_name slots) (staled_id slots) s.names slots slots (λ x. refl) (grind arith))
 
 -- ---- other times and generations
 
@@ -60,8 +49,7 @@ order_later d s = ap (order_from s) (by s.names)
   where
     content : (id : Id) (o : Option Content) → option_map (λ (x : Content). id.slot) (option_map (retimed_content (later d)) o)
         ≡ option_map (λ (x : Content). id.slot) o
-    content id None = refl
-    content id (Some x) = refl
+    content id o = grind arith
 
     bound : (o : Option Id) → slot_bound (map (retimed_slot (later d)) s.arena.slots) o ≡ slot_bound s.arena.slots o
     bound None = refl

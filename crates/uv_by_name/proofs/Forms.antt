@@ -126,10 +126,7 @@ runs_twice f g xs =
     ∙ map_ordered (option_map f) (map (option_map g) xs)
 
 form_orderly : (dead : ℕ) (s : State) → form_of dead (orderly s) ≡ form_of dead s
-form_orderly dead s =
-    let u = named_form (buried dead s) in
-    ap (λ running. put running (bare u))
-    (runs_twice (any.rename (freed_less (surplus (earliest u)))) (arranged_id (named_order (buried dead s))) s.running)
+form_orderly dead s = simp (put, runs_twice)
 
 -- what holds of a state whose form by names its pooled form tells
 pub record CanForm (p : Program) (dead : ℕ) (s : State) : Type 0 where

@@ -172,10 +172,4 @@ module _ (o : List ℕ) (s : State) (fits : Fits o s.arena.slots) where
 
 -- where an event doesn't take the clock beyond its limit
 pub clock_same : (s t : State) (e : Event) → t.clock ≡ s.clock → ClockFits s e → ClockFits t e
-clock_same s t (Tick ms) same h = grind (arith, same, h)
-clock_same s t Loop same h = tt
-clock_same s t (Take worker) same h = tt
-clock_same s t (Finish worker) same h = tt
-clock_same s t (Cancel v) same h = tt
-clock_same s t (Send v) same h = tt
-clock_same s t (Io v) same h = tt
+clock_same s t each same h = grind arith

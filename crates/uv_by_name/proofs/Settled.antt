@@ -17,8 +17,7 @@ pub beyond_all : (p : Program) (s : State) → IsRegular p s → length s.arena.
 beyond_all p s regular = (let l = regular.buries.beyond in omega (arith, l))
 
 pub whole_in : (p : Program) (s : State) → IsRegular p s → IsWhole (order_in p s) s.arena.slots
-whole_in p s regular = subst (λ (o : List ℕ). IsWhole o s.arena.slots) (sym (order_buried (dead_of p) s (beyond_all p s regular)))
-    (tidy_whole s regular.tidy)
+whole_in p s regular = search (order_buried, beyond_all, tidy_whole)
 
 pub fits_in : (p : Program) (s : State) → IsRegular p s → Fits (order_in p s) s.arena.slots
 fits_in p s regular = whole_fits (order_in p s) s.arena.slots (whole_in p s regular)

@@ -65,9 +65,7 @@ module _ (p : Program) (n : ℕ) (o : List ℕ) (a other : State) (fits : Fits o
 
 -- which line calls a timer, the slots tell
 calls_same : (a b : State) (line : Option Seen) → a.arena ≡ b.arena → calls_timer a line ≡ calls_timer b line
-calls_same a b None same = refl
-calls_same a b (Some (seen.Call v id)) same = ap (λ (arena : Slots Content). holds_timer (held arena.slots id)) same
-calls_same a b (Some line) same = refl
+calls_same a b line same = grind arith
 
 module _ (p : Program) (n : ℕ) (s t : State) (o q : List ℕ) where
   -- from the settled states, and from the states themselves
@@ -118,21 +116,14 @@ module _ (p : Program) (n : ℕ) (s t : State) (o q : List ℕ) where
 
 -- ---- the steps of workers
 
-line_apart : (o : List ℕ) (j : ℕ) (line : Seen) → line_by j (arranged_line o line) ≡ arranged_line o (line_by j line)
-line_apart o j line = grind arith
-
 by_arranged : (o : List ℕ) (j : ℕ) (x : Next) → next_by j (arranged_next o x) ≡ arranged_next o (next_by j x)
-by_arranged o j (Refuses why) = refl
-by_arranged o j (Moves s None) = refl
-by_arranged o j (Moves s (Some line)) = ap (λ (says : Seen). Moves (arranged o s) (Some says)) (line_apart o j line)
+by_arranged o j each = grind arith
 
 by_buried : (dead j : ℕ) (x : Next) → buried_next dead (next_by j x) ≡ next_by j (buried_next dead x)
-by_buried dead j (Moves s line) = refl
-by_buried dead j (Refuses why) = refl
+by_buried dead j x = grind arith
 
 by_grows : (m j : ℕ) (x : Next) → StaysKept (HasUsed m) x → StaysKept (HasUsed m) (next_by j x)
-by_grows m j (Moves s line) h = h
-by_grows m j (Refuses why) h = h
+by_grows m j x h = grind arith
 
 -- ---- the laws
 

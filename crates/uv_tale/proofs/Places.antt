@@ -18,14 +18,12 @@ use Rattle.uv_tale.proofs.Made.{holding, place_told, slot_told, slots_held, empt
 -- ---- the place of a number
 
 stands : (o : List ℕ) (m n : ℕ) → slice_get o m ≡ Some n → times o n ≡ 0 → ⊥
-stands [] m n e none = grind arith
-stands (k ∷ ks) zero n e none = grind arith
 stands (k ∷ ks) (suc m) n e none = grind (arith, stands ks m n)
+stands each e1 n e none = grind arith
 
 placed_once : (o : List ℕ) (m n : ℕ) → slice_get o m ≡ Some n → times o n ≡ 1 → place_in o n ≡ Some m
-placed_once [] m n e once = grind arith
-placed_once (k ∷ ks) zero n e once = grind arith
 placed_once (k ∷ ks) (suc m) n e once = grind (arith, stands ks m n, placed_once ks m n)
+placed_once each e1 n e once = grind arith
 
 -- what stands at a place in an order has that place
 pub placed : (o : List ℕ) (m n : ℕ) → IsOrder o → slice_get o m ≡ Some n → place_of o n ≡ m

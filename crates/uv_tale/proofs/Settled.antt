@@ -44,9 +44,7 @@ drop_all (x ∷ xs) = drop_all xs
 
 get_behind : {X : Type 0} (xs ys : List X) (i : ℕ) → slice_get (xs ++ ys) (length xs + i) ≡ slice_get ys i
 get_behind [] ys i = ap (slice_get ys) (omega arith)
-get_behind (x ∷ xs) ys i =
-    let next : suc (length xs) + i ≡ suc (length xs + i) = omega arith in
-    ap (slice_get (x ∷ xs ++ ys)) next ∙ get_behind xs ys i
+get_behind (x ∷ xs) ys i = grind (arith, (get_behind xs ys i))
 
 itself : (id : Id) → same_id id id ≡ true
 itself id = grind arith
@@ -67,15 +65,11 @@ zero_slots : (d : By) (r : Renaming) (xs : List (Slot Content)) →
     ((m : ℕ) (slot : Slot Content) → slice_get xs m ≡ Some slot → r m slot.generation ≡ 0) →
     renamed_slots r (map (retimed_slot (earlier d)) xs) ≡ map (clean d) xs
 zero_slots d r [] h = refl
-zero_slots d r (x ∷ xs) h =
-    let first = h 0 x refl in
-    let rest = zero_slots d (λ m. r (suc m)) xs (λ m. h (suc m)) in
-    λ i. record { generation = first i; content = option_map (retimed_content (earlier d)) x.content } ∷ rest i
+zero_slots d r (x ∷ xs) h = grind (arith, (zero_slots d (λ m. r (suc m)) xs (λ m. h (suc m))))
 
 -- what a name is bound to stands among the names
 named_there : (o : Option Named) (id : Id) → (unwrap_or o unbound).id ≡ Some id → o ≡ Some (unwrap_or o unbound)
-named_there None id e = absurd (let f : ⊥ = cc e in f)
-named_there (Some m) id e = refl
+named_there o id e = grind arith
 
 vacant_once : (o : Option (Slot Content)) (n : ℕ) → n ≡ vacancies o → 0 < n → vacancies o ≡ 1
 vacant_once o n e l = grind arith

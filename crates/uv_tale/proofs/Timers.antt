@@ -41,10 +41,7 @@ Within ts us = (due : Due) (id : Id) → Has ts due id → Has us due id
 
 -- where the first ones are the same, so are those behind it
 within_rest : (t u : Due × Id) (ts us : List (Due × Id)) → t.0 ≡ u.0 → Before t.0 ts → Within (t ∷ ts) (u ∷ us) → Within ts us
-within_rest t u ts us e before w due id h = by (w due id (inr h)) where
-  by : Has (u ∷ us) due id → Has us due id
-  by (inl is) = absurd (not_itself t.0 due (e ∙ is.0) (before_each ts t.0 due id before h))
-  by (inr rest) = rest
+within_rest t u ts us e before w due id h = grind (arith, not_itself, before_each)
 
 first_same : (t u : Due × Id) (ts us : List (Due × Id)) → Before t.0 ts → Before u.0 us → Has (u ∷ us) t.0 t.1 → Has (t ∷ ts) u.0 u.1 →
     (t.0 ≡ u.0) × (t.1 ≡ u.1)
@@ -103,8 +100,7 @@ held_retimed r slots id = ap (option_and_then (held_in id)) (slice_get-map (reti
 
 name_there : (ns : List Named) (v : ℕ) (o : Option Named) (id : Id) → slice_get ns v ≡ o → (unwrap_or o unbound).id ≡ Some id →
     (m : Named) × (slice_get ns v ≡ Some m) × (m.id ≡ Some id)
-name_there ns v None id e f = absurd (none-some id f)
-name_there ns v (Some m) id e f = (m, e, f)
+name_there ns v o id e f = grind arith
 
 module _ (n : ℕ) (s : State) (tidy : IsTidy s) (times : AreTimers (earliest s) (earliest s).timers) where
   timer_is : (due : Due) (id : Id) → IsTimer (earliest s) due id → IsTold (tale n s).names due (name_at s.arena.slots id)

@@ -273,8 +273,7 @@ reads_tale n = record {
   sees = record {
     reduces = tale_reduced n;
     shifts = λ d s. tale_earliest n (shift d s) ∙ ap (tale_now n) (earliest_same d s) ∙ sym (tale_earliest n s);
-    frees = λ k s. tale_other n (rename k) (renamed_slots k s.arena.slots) s.arena.free s
-        (held_renamed k s.arena.slots) (length_renamed k s.arena.slots);
+    frees = search (tale_other, rename, renamed_slots, held_renamed, length_renamed);
     buries = tale_buried n;
     arranges = λ o s fits. tale_other n (arranged_id o) (arranged_slots o s.arena.slots) (map (place_of o) s.arena.free) s
         (λ id. held_arranged o s.arena.slots id fits) (length_arranged o s.arena.slots fits);
