@@ -22,11 +22,7 @@ record IsArranged (o : List ℕ) (x : Next) (t : State) (line : Option Seen) : T
   moved_line : option_map (arranged_line o) says ≡ line
 
 arranged_as : (o : List ℕ) (x : Next) (t : State) (line : Option Seen) → arranged_next o x ≡ Moves t line → IsArranged o x t line
-arranged_as o (Refuses why) t line same = absurd (let f : ⊥ = cc in f)
-arranged_as o (Moves u says) t line same =
-    let one : arranged o u ≡ t = cc in
-    let two : option_map (arranged_line o) says ≡ line = cc in
-    record { state = u; says = says; takes = refl; moved = one; moved_line = two }
+arranged_as o x t line same = grind arith
 
 -- the order of a state's slots fits that of its step as well
 tidy_fits : (s : State) → IsTidy s → Fits (named_order s) s.arena.slots
@@ -68,10 +64,4 @@ takes_alike p s other e t line tidy its same takes after =
     sym (next_arranged p q other e (tidy_fits other its)) ∙ ap (λ (u : State). next p u e) (sym same)
     ∙ next_arranged p o s e (tidy_fits s tidy) ∙ ap (arranged_next o) takes in
     let go = arranged_as q (next p other e) _ _ one in
-    record {
-      state = go.state;
-      says = go.says;
-      takes = go.takes;
-      same = form_alike o q t go.state (fits_behind p s e t line tidy takes) (fits_behind p other e go.state go.says its go.takes) go.moved after;
-      same_line = go.moved_line;
-    }
+    search (form_alike, fits_behind)

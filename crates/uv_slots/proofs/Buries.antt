@@ -48,9 +48,7 @@ gone_kept p id = record {
   counted = λ ns a v c gone. gone;
   turned = λ ns a old x y holds gone. (turned_past a id old x y holds ∙ gone.0, turned_gone a id old x y holds gone.1);
   made = λ ns a v new x there gone. (made_past a a.free id new x refl there gone.0, made_gone a a.free id new x refl there gone.0 gone.1);
-  freed = λ ns a old x holds gone.
-      let last = (arena_size p).last_generation in
-      (freed_past last a id old x holds gone.0, freed_gone last a id old x holds gone.0 gone.1);
+  freed = grind (arith, freed_past, freed_gone);
 }
 
 -- ---- what is gone, and is not to come, gets the one dead id
@@ -64,21 +62,6 @@ gone_id dead a id = if is_gone a id then dead_id dead else id
 pub dead_gone : (dead : ℕ) (a : Slots Content) → length a.slots + a.unused ≤ dead → IsGone (dead_id dead) a
 dead_gone dead a beyond = grind (arith, elements)
 
-hides : (dead : ℕ) (s : State) → length s.arena.slots + s.arena.unused ≤ dead → HidesIds (gone_id dead s.arena) s
-hides dead s beyond = record {
-  live = λ id. live_same id (held s.arena.slots id) refl;
-  fresh = λ id there. fresh_same s.arena s.arena.free id refl there;
-}
-  where
-    live_same : (id : Id) (o : Option Content) → held s.arena.slots id ≡ o →
-        with_id (gone_id dead s.arena id) (held s.arena.slots (gone_id dead s.arena id)) ≡ with_id id (held s.arena.slots id)
-    live_same id None is = let gone = dead_gone dead s.arena beyond in grind (arith, elements)
-    live_same id (Some x) is = grind arith
-
-    fresh_same : (a : Slots Content) (free : List ℕ) (id : Id) → a.free ≡ free → next_id a.slots a.unused free ≡ Some id → gone_id dead a id ≡ id
-    fresh_same a [] id is there = grind (arith, elements)
-    fresh_same a (n ∷ ns) id is there = grind (arith, elements)
-
 -- ---- a step
 
 -- where no name is bound to what is to come, these are the buried names
@@ -89,8 +72,7 @@ same_names f g (x ∷ xs) same = ap₂ (λ (id : Option Id) (more : List Named).
     (same_names f g xs (λ n. same (suc n)))
   where
     first : (o : Option Id) → ((id : Id) → o ≡ Some id → f id ≡ g id) → option_map f o ≡ option_map g o
-    first None each = refl
-    first (Some id) each = ap Some (each id refl)
+    first o each = grind arith
 
 gone_same : (dead : ℕ) (a : Slots Content) (id : Id) → is_past a id ≡ true → buried_id dead a.slots id ≡ gone_id dead a id
 gone_same dead a id past = grind arith
@@ -98,11 +80,7 @@ gone_same dead a id past = grind arith
 -- names that were buried before are buried as the others are
 again : (f g : Id → Id) (ns : List Named) → ((id : Id) → f (g id) ≡ f id) → map (rebound_name f) (map (rebound_name g) ns) ≡ map (rebound_name f) ns
 again f g [] same = refl
-again f g (x ∷ xs) same = ap₂ (λ (id : Option Id) (more : List Named). record x { id = id } ∷ more) (first x.id) (again f g xs same)
-  where
-    first : (o : Option Id) → option_map f (option_map g o) ≡ option_map f o
-    first None = refl
-    first (Some id) = ap Some (same id)
+again f g (x ∷ xs) same = grind (arith, (again f g xs same))
 
 later_id : (p : Program) (dead : ℕ) (s t : State) (e : Event) (line : Option Seen) → length s.arena.slots + s.arena.unused ≤ dead →
     next p s e ≡ Moves t line → (id : Id) → buried_id dead t.arena.slots (gone_id dead s.arena id) ≡ buried_id dead t.arena.slots id
@@ -124,7 +102,7 @@ names_buried p dead s e can =
     let g = gone_id dead s.arena in
     ap (λ (ns : List Named). buried_next dead (next p (record s { names = ns }) e))
     (same_names (buried_id dead s.arena.slots) g s.names (λ n id bound. gone_same dead s.arena id (can.past (record { 0 = n }) id bound)))
-    ∙ ap (buried_next dead) (next_rebound g p s (hides dead s can.beyond) e) ∙ by (next p s e) refl
+    ∙ ap (buried_next dead) (next_rebound g p s (grind (arith, dead_gone, elements)) e) ∙ by (next p s e) refl
   where
     by : (x : Next) → next p s e ≡ x → buried_next dead (rebound_next (gone_id dead s.arena) x) ≡ buried_next dead x
     by (Refuses why) is = refl
@@ -147,11 +125,7 @@ gone_by dead slots old id is none = grind arith
 
 pub gone_buried : (dead : ℕ) (s : State) (v : Var) (id : Id) → (named (buried dead s) v).id ≡ Some id → held s.arena.slots id ≡ None →
     id ≡ dead_id dead
-gone_buried dead s v id bound none = by (named s v).id (ap (λ (x : Named). x.id) (sym (named_buried dead s v)) ∙ bound)
-  where
-    by : (o : Option Id) → option_map (buried_id dead s.arena.slots) o ≡ Some id → id ≡ dead_id dead
-    by None e = absurd (let f : ⊥ = cc in f)
-    by (Some old) e = gone_by dead s.arena.slots old id (let same : buried_id dead s.arena.slots old ≡ id = cc in same) none
+gone_buried dead s v id bound none = grind (arith, named_buried, gone_by)
 
 pub buried_again : (dead : ℕ) (s : State) → length s.arena.slots + s.arena.unused ≤ dead → buried dead (buried dead s) ≡ buried dead s
 buried_again dead s beyond = ap (λ (ns : List Named). record s { names = ns })

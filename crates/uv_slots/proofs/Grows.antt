@@ -14,18 +14,10 @@ set_grows : (n : ℕ) (slots : List (Slot Content)) (i : ℕ) (x : Slot Content)
 set_grows n slots i x h = grind (arith, elements, h)
 
 taken_grows : (n : ℕ) (free : List ℕ) (id : Id) (x : Content) (a : Slots Content) → n ≤ length a.slots → n ≤ length (taken_from free id x a).slots
-taken_grows n [] id x a h = grind (arith, elements, h)
-taken_grows n (i ∷ is) id x a h = set_grows n a.slots id.slot _ h
+taken_grows n free id x a h = grind (arith, elements, set_grows)
 
 freed_grows : (n last : ℕ) (id : Id) (a : Slots Content) → n ≤ length a.slots → n ≤ length (freed last id a).slots
-freed_grows n last id a h = cond_both (id.generation == last) _ _ (λ (u : Slots Content). n ≤ length u.slots)
-    (λ at. set_grows n a.slots id.slot _ h) (λ more. set_grows n a.slots id.slot _ h)
+freed_grows n last id a h = grind (arith, cond_both, set_grows)
 
 pub next_grows : (p : Program) (n : ℕ) (s : State) (e : Event) → n ≤ length s.arena.slots → StaysKept (HasUsed n) (next p s e)
-next_grows p n s e h = next_kept p (λ v. Unit {0}) (HasUsed n) s (record {
-  may = λ at o v is named. tt;
-  counted = λ names a v c k. k;
-  turned = λ names a id x y holds same k. set_grows n a.slots id.slot _ k;
-  made = λ names a v id x may same loose there k. taken_grows n a.free id x a k;
-  freed = λ id x holds k. freed_grows n (arena_size p).last_generation id s.arena k;
-}) e h
+next_grows p n s e h = next_kept p (λ v. Unit {0}) (HasUsed n) s (search (set_grows, taken_grows, freed_grows)) e h

@@ -33,11 +33,7 @@ turned_fit dead a old x y holds fit = record {
 
 made_fit : (dead : ℕ) (a : Slots Content) (free : List ℕ) (new : Id) (x : Content) → a.free ≡ free → next_id a.slots a.unused free ≡ Some new →
     AreFit dead a → AreFit dead (taken_from free new x a)
-made_fit dead a [] new x is there fit = record {
-  beyond = (let most = fit.beyond in grind (arith, elements));
-  once = fit.once;
-  empty = λ id z now. (grind (arith, elements));
-}
+made_fit dead a [] new x is there fit = grind (arith, elements)
 made_fit dead a (n ∷ ns) new x is there fit = record {
   beyond = (let most = fit.beyond in grind (arith, elements));
   once = λ m. (let less = fit.once m in grind (arith, elements));
@@ -69,11 +65,8 @@ counted_same (x ∷ xs) (suc v) (suc w) c = counted_same xs v w c
 bound_either : (ns : List Named) (v w : ℕ) (new id : Id) →
     (names.named (slice_set ns v (record (names.named ns v) { id = Some new })) w).id ≡ Some id →
     (new ≡ id) ⊎ ((names.named ns w).id ≡ Some id)
-bound_either [] v w new id e = inr e
-bound_either (x ∷ xs) zero zero new id e = inl (let same : new ≡ id = cc in same)
-bound_either (x ∷ xs) zero (suc w) new id e = inr e
-bound_either (x ∷ xs) (suc v) zero new id e = inr e
 bound_either (x ∷ xs) (suc v) (suc w) new id e = bound_either xs v w new id e
+bound_either each e1 e2 new id e = grind arith
 
 -- what was made just now isn't made again
 new_past : (dead : ℕ) (a : Slots Content) (free : List ℕ) (new : Id) (x : Content) → a.free ≡ free → next_id a.slots a.unused free ≡ Some new →
@@ -131,29 +124,15 @@ goes_on_can p dead s (e ∷ es) can = goes_on_can p dead (state_of s (next p s e
     by (Moves t line) is = next_can p dead s t e line can is
     by (Refuses why) is = can
 
-fresh_can : (p : Program) (dead : ℕ) → (arena_size p).slots ≤ dead → CanBury dead (fresh p)
-fresh_can p dead beyond = search (arith, elements)
-
 pub after_can : (p : Program) (dead : ℕ) (es : List Event) → (arena_size p).slots ≤ dead → CanBury dead (after p es)
 unfolding after
-after_can p dead es beyond = goes_on_can p dead (fresh p) es (fresh_can p dead beyond)
+after_can p dead es beyond = goes_on_can p dead (fresh p) es (grind (arith, elements))
 
 -- ---- with the names buried
 
 buried_past : (dead : ℕ) (a : Slots Content) (o : Option Id) (id : Id) → length a.slots + a.unused ≤ dead →
     ((old : Id) → o ≡ Some old → is_past a old ≡ true) → option_map (buried_id dead a.slots) o ≡ Some id → is_past a id ≡ true
-buried_past dead a None id beyond past e = absurd (let f : ⊥ = cc in f)
-buried_past dead a (Some old) id beyond past e = by (held a.slots old) (let same : buried_id dead a.slots old ≡ id = cc in same)
-  where
-    by : (o : Option Content) → buried_by dead old o ≡ id → is_past a id ≡ true
-    by None same = subst (λ (x : Id). is_past a x ≡ true) same (dead_gone dead a beyond).0
-    by (Some x) same = subst (λ (y : Id). is_past a y ≡ true) same (past old refl)
+buried_past dead a o id beyond past e = grind (arith, dead_gone)
 
 pub buried_can : (dead : ℕ) (s : State) → CanBury dead s → CanBury dead (buried dead s)
-buried_can dead s can = record {
-  beyond = can.beyond;
-  once = can.once;
-  empty = can.empty;
-  past = λ v id bound. buried_past dead s.arena (named s v).id id can.beyond (can.past v)
-      (ap (λ (x : Named). x.id) (sym (named_buried dead s v)) ∙ bound);
-}
+buried_can dead s can = grind (arith, buried_past, named_buried)

@@ -11,31 +11,19 @@ use Rattle.uv_slots.proofs.Twice.{moved}
 -- ---- what stands at a place
 
 stands : (o : List ℕ) (m n : ℕ) → slice_get o m ≡ Some n → times o n ≡ 0 → ⊥
-stands [] m n e none = grind arith
-stands (k ∷ ks) zero n e none = grind arith
 stands (k ∷ ks) (suc m) n e none = grind (arith, stands ks m n)
+stands each e1 n e none = grind arith
 
 pub placed_once : (o : List ℕ) (m n : ℕ) → slice_get o m ≡ Some n → times o n ≡ 1 → place_in o n ≡ Some m
-placed_once [] m n e once = grind arith
-placed_once (k ∷ ks) zero n e once = grind arith
 placed_once (k ∷ ks) (suc m) n e once = grind (arith, stands ks m n, placed_once ks m n)
+placed_once each e1 n e once = grind arith
 
 pub number_within : (o : List ℕ) (m n : ℕ) → IsOrder o → slice_get o m ≡ Some n → n < length o
 number_within o m n h e = grind (arith, stands o m n e, h.no_other n)
 
 -- its place is that place
 pub place_number : (o : List ℕ) (m : ℕ) → IsOrder o → place_of o (number_at o m) ≡ m
-place_number o m h = by (slice_get o m) refl where
-  by : (x : Option ℕ) → slice_get o m ≡ x → place_of o (unwrap_or x m) ≡ m
-  by (Some n) e = ap (λ (y : Option ℕ). unwrap_or y n) (placed_once o m n e (h.once n (number_within o m n h e)))
-  by None e = place_behind o m h (grind (arith, slice_get_cases o m))
-
--- numbers below a limit go to places below it, and stand at such places
-number_below : (o : List ℕ) (limit m : ℕ) → IsOrder o → length o ≤ limit → m < limit → number_at o m < limit
-number_below o limit m h l less = by (slice_get o m) refl where
-  by : (x : Option ℕ) → slice_get o m ≡ x → unwrap_or x m < limit
-  by (Some n) e = (let k = number_within o m n h e in omega (arith, k, l))
-  by None e = less
+place_number o m h = grind (arith, placed_once, number_within, place_behind, slice_get_cases)
 
 place_below : (o : List ℕ) (limit n : ℕ) → length o ≤ limit → n < limit → place_of o n < limit
 place_below o limit n l less = by (place_in o n) refl where
@@ -59,7 +47,7 @@ whole_on o q slots fits whole =
       order = record {
         once = λ m l. times_at o q m fits.order
             ∙ whole.order.once (number_at o m)
-            (number_below o (length q) m fits.order (omega (arith, fits.within, whole.length)) (omega (arith, l, same)));
+            (grind (arith, number_within));
         no_other = λ m l.
             let behind = place_behind o m fits.order (omega (arith, l, same, fits.within, whole.length)) in
             ap (times (moved o q)) (sym behind) ∙ times_moved o q m fits.order ∙ whole.order.no_other m (omega (arith, l, same));
@@ -68,16 +56,4 @@ whole_on o q slots fits whole =
     }
 
 pub whole_back : {X : Type 0} (o q : List ℕ) (slots : List X) → Fits o slots → IsWhole (moved o q) (arranged_slots o slots) → IsWhole q slots
-whole_back o q slots fits whole =
-    let same = length-map q (place_of o) in
-    let all : length q ≡ length slots = sym same ∙ whole.length ∙ length_arranged o slots fits in
-    record {
-      order = record {
-        once = λ n l. sym (times_moved o q n fits.order) ∙ whole.order.once (place_of o n)
-            (let k = place_below o (length q) n (omega (arith, fits.within, all)) l in omega (arith, k, same));
-        no_other = λ n l.
-            let behind = place_behind o n fits.order (omega (arith, l, fits.within, all)) in
-            sym (times_moved o q n fits.order) ∙ ap (times (moved o q)) behind ∙ whole.order.no_other n (omega (arith, l, same));
-      };
-      length = all;
-    }
+whole_back o q slots fits whole = grind (arith, length-map, length_arranged, times_moved, place_below, place_behind)

@@ -45,10 +45,6 @@ pub record IsThere (slots : List (Slot Content)) (id : Id) (x : Content) : Type 
 pub is_there : (slots : List (Slot Content)) (id : Id) (x : Content) → held slots id ≡ Some x → IsThere slots id x
 is_there slots id x e = grind arith
 
-name_turned : (slots : List (Slot Content)) (id i : Id) (x y : Content) → held slots id ≡ Some x → name_in y ≡ name_in x →
-    name_at (with_held slots id y) i ≡ name_at slots i
-name_turned slots id i x y e same = (let k = is_there slots id x e in grind (arith, elements))
-
 vacant_turned : (slots : List (Slot Content)) (id : Id) (n : ℕ) (x y : Content) → held slots id ≡ Some x →
     vacancies (slice_get (with_held slots id y) n) ≡ vacancies (slice_get slots n)
 vacant_turned slots id n x y e = (let k = is_there slots id x e in grind (arith, elements))
@@ -83,8 +79,8 @@ counted_agree count ns a v c k = record {
 pub turned_agree : (count : ℕ) (ns : List Named) (a : Slots Content) (id : Id) (x y : Content) → held a.slots id ≡ Some x → name_in y ≡ name_in x →
     Agree count ns a → Agree count ns (record a { slots = with_held a.slots id y })
 turned_agree count ns a id x y e same k = record {
-  bound = λ i u f. k.bound i u (sym (name_turned a.slots id i x y e same) ∙ f);
-  alone = λ w u i f g. k.alone w u i f (sym (name_turned a.slots id i x y e same) ∙ g);
+  bound = λ i u f. k.bound i u (sym (grind (arith, is_there, elements)) ∙ f);
+  alone = λ w u i f g. k.alone w u i f (sym (grind (arith, is_there, elements)) ∙ g);
   free = λ n. k.free n ∙ sym (vacant_turned a.slots id n x y e);
   old = λ w i f. (let l = k.old w i f in let m = uses_turned a.slots id i.slot x y e in omega (arith, l, m));
   many = k.many;
@@ -123,16 +119,7 @@ fills_next : (slots : List (Slot Content)) (unused : ℕ) (id : Id) (x : Content
     ((m : ℕ) → times [] m ≡ vacancies (slice_get slots m)) → next_id slots unused [] ≡ Some id →
     Fills (record { slots = slots; free = []; unused = unused }) (taken_from [] id x (record { slots = slots; free = []; unused = unused })) id x
 fills_next slots zero id x free e = absurd (let f : ⊥ = cc e in f)
-fills_next slots (suc unused) id x free e =
-    let one : length slots ≡ id.slot = (let g : record { slot = length slots; generation = 0 } ≡ id = cc e in ap (λ (i : Id). i.slot) g) in
-    let two : 0 ≡ id.generation = (let g : record { slot = length slots; generation = 0 } ≡ id = cc e in ap (λ (i : Id). i.generation) g) in
-    record {
-      new = grind (arith, elements);
-      name = λ i. grind (arith, elements);
-      free = λ m. grind (arith, elements, free m);
-      uses_now = grind (arith, elements);
-      uses_other = λ m d. grind (arith, elements);
-    }
+fills_next slots (suc unused) id x free e = grind (arith, elements)
 
 fills : (a : Slots Content) (id : Id) (x : Content) → ((m : ℕ) → times a.free m ≡ vacancies (slice_get a.slots m)) → next_free a ≡ Some id →
     Fills a (taken id x a) id x
@@ -174,10 +161,7 @@ made_agree count ns a v id x less called loose next k = record {
 
   -- nothing that is held was called so
   unheld : (i : Id) (w : Var) → name_at a.slots i ≡ Some w → w.0 ≡ v.0 → ⊥
-  unheld i w e same = by (held a.slots i) refl e where
-    by : (o : Option Content) → held a.slots i ≡ o → option_map name_in o ≡ Some w → ⊥
-    by None g h = cc h
-    by (Some y) g h = loose i y (ap (id_named ns) (sym (same_var w v same)) ∙ k.bound i w e) g
+  unheld i w e same = grind arith
 
   bound : (i : Id) (u : Var) (b : Bool) → same_id i id ≡ b → (if b then Some (name_in x) else name_at a.slots i) ≡ Some u → id_named now u ≡ Some i
   bound i u true same e =

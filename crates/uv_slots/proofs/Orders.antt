@@ -79,15 +79,12 @@ AreIn o slots = (n : ℕ) → length slots ≤ n → times o n ≡ 0
 first_in : (m : ℕ) (ms : List ℕ) (length : ℕ) → ((n : ℕ) → length ≤ n → times (m ∷ ms) n ≡ 0) → m < length
 first_in m ms length h = grind (arith, h m)
 
-rest_in : (m : ℕ) (ms : List ℕ) (n : ℕ) → times (m ∷ ms) n ≡ 0 → times ms n ≡ 0
-rest_in m ms n e = grind arith
-
 -- so the first one has its slot, and the rest of them have theirs
 first_picked : {X : Type 0} {P : Type 0} (m : ℕ) (ms : List ℕ) (slots : List X) → AreIn (m ∷ ms) slots →
     ((x : X) → slice_get slots m ≡ Some x → AreIn ms slots → P) → P
 first_picked {X} {P} m ms slots h each = by (slice_get slots m) refl where
   by : (o : Option X) → slice_get slots m ≡ o → P
-  by o e = grind (arith, slice_get_cases, first_in, rest_in)
+  by o e = grind (arith, slice_get_cases, first_in)
 
 length_picked : {X : Type 0} (o : List ℕ) (slots : List X) → AreIn o slots → length (picked o slots) ≡ length o
 length_picked [] slots h = refl
@@ -107,10 +104,7 @@ apart m ms n e same = grind arith
 -- setting a slot that isn't picked leaves what is picked
 kept_picked : {X : Type 0} (o : List ℕ) (slots : List X) (n : ℕ) (x : X) → times o n ≡ 0 → picked o (slice_set slots n x) ≡ picked o slots
 kept_picked [] slots n x e = refl
-kept_picked {X} (m ∷ ms) slots n x e = search (get_set_other, apart, rest_in, (kept_picked ms slots n x (rest_in m ms n e)))
-
-others : (m : ℕ) (ms : List ℕ) (n : ℕ) → times (m ∷ ms) n ≡ 1 → (m == n) ≡ false → times ms n ≡ 1
-others m ms n once other = grind arith
+kept_picked {X} (m ∷ ms) slots n x e = search (get_set_other, apart, (kept_picked ms slots n x (grind arith)))
 
 set_picked : {X : Type 0} (o : List ℕ) (slots more : List X) (n i : ℕ) (x : X) → AreIn o slots → times o n ≡ 1 → place_in o n ≡ Some i →
     slice_set (picked o slots ++ more) i x ≡ picked o (slice_set slots n x) ++ more
@@ -120,7 +114,7 @@ set_picked {X} (m ∷ ms) slots more n i x h once e = first_picked m ms slots h 
     (λ same first. grind (arith, get_set, kept_picked))
     (λ other j at next. rw next
     (rw (get_set_other slots n m x (eqb-false m n other) ∙ there)
-    (ap (λ (xs : List X). y ∷ xs) (set_picked ms slots more n j x rest (others m ms n once other) at))))))
+    (ap (λ (xs : List X). y ∷ xs) (set_picked ms slots more n j x rest (grind arith) at))))))
 
 push_picked : {X : Type 0} (o : List ℕ) (slots : List X) (x : X) → AreIn o slots → picked o (slots ++ x ∷ []) ≡ picked o slots
 push_picked [] slots x h = refl
@@ -192,6 +186,3 @@ any_arranged {X} f o slots h = both (list_any f (arranged_slots o slots)) (list_
 
       by : (b : Bool) → list_any f (picked o slots) ≡ b → (b || list_any f (drop (length o) slots)) ≡ true → list_any f slots ≡ true
       by b t e = grind (arith, any_picked, are_in, any_behind)
-
-pub fits_set : {X : Type 0} (o : List ℕ) (slots : List X) (n : ℕ) (x : X) → Fits o slots → Fits o (slice_set slots n x)
-fits_set o slots n x h = record { order = h.order; within = omega (arith, h.within, length-set slots n x) }

@@ -42,8 +42,7 @@ state_agree : (p : Program) (n : ℕ) (s : State) (e : Event) → AreDeclared p 
     Agree (count_of p) s.names s.arena → Agree (count_of p) (state_of s (next p s e)).names (state_of s (next p s e)).arena
 state_agree p n s e declared few h k = by (next p s e) (next_agree p n s e declared few h k) where
   by : (x : Next) → StaysKept (Agree (count_of p)) x → Agree (count_of p) (state_of s x).names (state_of s x).arena
-  by (Moves t line) now = now
-  by (Refuses why) now = k
+  by x now = grind arith
 
 -- ---- all steps
 
@@ -55,15 +54,6 @@ goes_on_agree p n s (e ∷ es) declared few h k = goes_on_agree p (suc n) (state
 
 unbound_all : (n : ℕ) (v : Var) → id_named (replicate n unbound) v ≡ None
 unbound_all n v = grind (arith, elements)
-
-fresh_agree : (p : Program) → Agree (count_of p) (fresh p).names (fresh p).arena
-fresh_agree p = record {
-  bound = λ id v e. absurd (let f : ⊥ = cc e in f);
-  alone = λ v u id e f. absurd (let g : ⊥ = cc f in g);
-  free = λ n. refl;
-  old = λ v id e. absurd (let f : ⊥ = cc (e, unbound_all (count_of p) v) in f);
-  many = grind (arith, elements);
-}
 
 fresh_counts : (n : ℕ) → Counts 0 (replicate n unbound)
 fresh_counts n = grind (arith, elements)
@@ -78,4 +68,4 @@ agree_tidy count s k = record {
 pub after_tidy : (p : Program) (es : List Event) → AreDeclared p → length es < (arena_size p).last_generation → IsTidy (after p es)
 unfolding after
 after_tidy p es declared few = agree_tidy (count_of p) (goes_on p (fresh p) es)
-    (goes_on_agree p 0 (fresh p) es declared (omega (arith, few)) (grind (arith, fresh_counts)) (fresh_agree p))
+    (goes_on_agree p 0 (fresh p) es declared (omega (arith, few)) (grind (arith, fresh_counts)) (grind (arith, unbound_all, elements)))

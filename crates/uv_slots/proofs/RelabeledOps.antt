@@ -182,27 +182,10 @@ closed_relabeled o s id h fits =
     ∙ with_handle_relabeled o (record (taken_off s id h) { closing = with_first s.closing id }) id (records.closed h) fits
 
 pub op_relabeled : (o : Relabel) (s : State) (x : Op) → o.Fits s.arena → do_op (relabeled o s) x ≡ relabeled_done o (do_op s x)
-op_relabeled o s (op.Init v kind) fits = make_relabeled o s v _ _ fits (λ id. new_relabeled o s v kind id fits)
-op_relabeled o s (op.Queue v task) fits = make_relabeled o s v _ _ fits (λ id. queued_relabeled o s v task id fits)
-op_relabeled o s (op.Cancel v) fits = ap (ops.cancel (relabeled o s)) (live_request_relabeled o s v fits) ∙ cancel_relabeled o s (live_request s v) fits
-op_relabeled o s (op.Start v timeout repeat) fits = on_handle_relabeled o s v start_timer_refusal _ _ fits
-    (λ id h. start_relabeled o s timeout repeat id h fits)
-op_relabeled o s (op.StartWatcher v) fits = on_handle_relabeled o s v start_watcher_refusal _ _ fits (λ id h. start_watcher_relabeled o s id h fits)
-op_relabeled o s (op.Stop v) fits = on_handle_relabeled o s v stop_refusal _ _ fits (λ id h. ap ops.succeeds (stopped_relabeled o s id h fits))
-op_relabeled o s (op.Again v) fits = on_handle_relabeled o s v again_refusal _ _ fits (λ id h. again_relabeled o s id h fits)
-op_relabeled o s (op.SetRepeat v n) fits = on_handle_relabeled o s v timer_refusal _ _ fits (λ id h. turned o s id (repeating n h) fits)
-op_relabeled o s (op.DueIn v) fits = on_handle_relabeled o s v timer_refusal _ _ fits (λ id h. refl)
-op_relabeled o s (op.Close v) fits = on_handle_relabeled o s v close_refusal _ _ fits (λ id h. ap ops.succeeds (closed_relabeled o s id h fits))
-op_relabeled o s (op.Ref v) fits = on_handle_relabeled o s v no_refusal _ _ fits (λ id h. turned o s id (referenced_as true h) fits)
-op_relabeled o s (op.Unref v) fits = on_handle_relabeled o s v no_refusal _ _ fits (λ id h. turned o s id (referenced_as false h) fits)
-op_relabeled o s (op.HasRef v) fits = on_handle_relabeled o s v no_refusal _ _ fits (λ id h. refl)
-op_relabeled o s (op.IsActive v) fits = on_handle_relabeled o s v no_refusal _ _ fits (λ id h. refl)
-op_relabeled o s (op.IsClosing v) fits = on_handle_relabeled o s v no_refusal _ _ fits (λ id h. refl)
-op_relabeled o s (op.Send v) fits = ap ops.says_code (send_relabeled o s v fits)
-op_relabeled o s op.StopLoop fits = refl
-op_relabeled o s op.UpdateTime fits = refl
-op_relabeled o s op.Now fits = refl
-op_relabeled o s op.IsAlive fits = ap (λ (b : Bool). ops.says (relabeled o s) (answer.Flag b)) (alive_relabeled o s fits)
 op_relabeled o s op.Timeout fits = ap (λ (t : Option ℕ). ops.says (relabeled o s) (answer.Timeout t)) (backend_timeout_relabeled o s fits)
 op_relabeled o s op.CloseLoop fits = if_shift (relabeled_done o) (ops.is_in_use s) (ops.is_in_use (relabeled o s)) _ _ _ _
     (in_use_relabeled o s fits) refl refl
+op_relabeled o s each fits =
+    search (make_relabeled, new_relabeled, queued_relabeled, live_request_relabeled, cancel_relabeled, on_handle_relabeled, start_relabeled,
+    start_watcher_relabeled, stopped_relabeled, again_relabeled, turned, closed_relabeled, send_relabeled, alive_relabeled, backend_timeout_relabeled,
+    if_shift, in_use_relabeled)

@@ -101,10 +101,7 @@ call_due_relabeled p o s run part fits = found_shift (relabeled_next o) (relabel
 
 timers_relabeled : (p : Program) (o : Relabel) (s : State) (run : Run) (part : TimersOf) (timing : Timing) → o.Fits s.arena →
     steps.timers p (relabeled o s) run part timing ≡ relabeled_next o (steps.timers p s run part timing)
-timers_relabeled p o s run part Collecting fits = if_shift (relabeled_next o) (from_heap p) (from_heap p) _ _ _ _ refl
-    (call_due_relabeled p o s run part fits)
-    (collect_relabeled p o s run part fits)
-timers_relabeled p o s run part Firing fits = fire_relabeled p o s run part fits
+timers_relabeled p o s run part timing fits = grind (arith, if_shift, call_due_relabeled, collect_relabeled, fire_relabeled)
 
 -- ---- the poll
 
@@ -118,10 +115,7 @@ woken_relabeled o s fits = ap₂ (λ (a b : Bool). a || b) (some_relabeled o s.d
 
 poll_relabeled : (o : Relabel) (s : State) (run : Run) (deadline : Option ℕ) → o.Fits s.arena →
     steps.poll (relabeled o s) run deadline ≡ relabeled_next o (steps.poll s run deadline)
-poll_relabeled o s run deadline fits = if_shift (relabeled_next o) (steps.may_leave s deadline) (steps.may_leave (relabeled o s) deadline) _ _ _ _
-    (ap (λ (b : Bool). has_passed s.clock deadline || b) (woken_relabeled o s fits))
-    refl
-    refl
+poll_relabeled o s run deadline fits = grind (arith, if_shift, woken_relabeled)
 
 -- ---- the sections that walk a list
 
@@ -180,16 +174,13 @@ in_walk_relabeled p o s run watcher.Check fits = walk_relabeled p o s run watche
 
 -- what holds a handle or a request holds something
 holds_handle : {P : Type 0} (o : Option Content) (h : HandleRecord) → handle_in o ≡ Some h → ((x : Content) → o ≡ Some x → P) → P
-holds_handle None h e each = cc e
-holds_handle (Some x) h e each = each x refl
+holds_handle o h e each = grind arith
 
 holds_request : {P : Type 0} (o : Option Content) (r : Request) → request_in o ≡ Some r → ((x : Content) → o ≡ Some x → P) → P
-holds_request None r e each = cc e
-holds_request (Some x) r e each = each x refl
+holds_request o r e each = grind arith
 
 request_held : (s : State) (ids : List Id) (t : Id × Request) → front_request s ids ≡ Some t → request s t.0 ≡ Some t.1
-request_held s [] t e = cc e
-request_held s (id ∷ ids) t e = grind arith
+request_held s ids t e = grind arith
 
 close_front_relabeled : (p : Program) (o : Relabel) (s : State) (run : Run) → CanRelabel o p s →
     steps.close_front p (relabeled o s) run ≡ relabeled_next o (steps.close_front p s run)
@@ -239,33 +230,19 @@ stage_relabeled p o s run (Timers part when) can = timers_relabeled p o s run pa
 
 body_relabeled : (p : Program) (o : Relabel) (s : State) (run : Run) (body : Body) (x : Option CallbackLine) → CanRelabel o p s →
     steps.body_step p (relabeled o s) run body x ≡ relabeled_next o (steps.body_step p s run body x)
-body_relabeled p o s run body None can = refl
-body_relabeled p o s run body (Some line) can =
-    let place = Running (record run { body = steps.body_from p body.callback body.name body.call (body.next + 1) }) in
-    ap (λ (x : ops.Done). Moves (record x.state { place = place }) (Some (seen.Op (site.In body.callback body.name body.next) x.answer)))
-    (op_relabeled o s line.op can.fits)
+body_relabeled p o s run body x can = grind (arith, op_relabeled)
 
 run_relabeled : (p : Program) (o : Relabel) (s : State) (run : Run) (body : Option Body) → CanRelabel o p s →
     steps.run_step p (relabeled o s) run body ≡ relabeled_next o (steps.run_step p s run body)
-run_relabeled p o s run None can = stage_relabeled p o s run run.stage can
-run_relabeled p o s run (Some body) can = body_relabeled p o s run body (slice_get (lines_in p body.callback body.name) body.next) can
+run_relabeled p o s run body can = grind (arith, stage_relabeled, body_relabeled)
 
 main_relabeled : (p : Program) (o : Relabel) (s : State) (line : ℕ) (x : Option MainOp) → CanRelabel o p s →
     steps.main_step (order_of p) (relabeled o s) line x ≡ relabeled_next o (steps.main_step (order_of p) s line x)
-main_relabeled p o s line (Some (main.Run mode)) can =
-    ap (λ (u : State). Moves (record u { place = Running (record { mode = mode; line = line; stage = Entry; body = None }) }) (Some (seen.Run mode)))
-    (if_shift (relabeled o) (steps.refreshes (order_of p) mode) (steps.refreshes (order_of p) mode) (refreshed s) s (refreshed (relabeled o s))
-    (relabeled o s)
-    refl refl refl)
-main_relabeled p o s line None can = refl
-main_relabeled p o s line (Some (main.Op it)) can =
-    ap (λ (x : ops.Done). Moves (record x.state { place = Main (line + 1) }) (Some (seen.Op (site.Main line) x.answer)))
-    (op_relabeled o s it can.fits)
+main_relabeled p o s line each can = grind (arith, if_shift, op_relabeled)
 
 loop_relabeled : (p : Program) (o : Relabel) (s : State) (place : Place) → CanRelabel o p s →
     steps.loop_step p (relabeled o s) place ≡ relabeled_next o (steps.loop_step p s place)
-loop_relabeled p o s (Main line) can = main_relabeled p o s line (slice_get p.main line) can
-loop_relabeled p o s (Running run) can = run_relabeled p o s run run.body can
+loop_relabeled p o s place can = grind (arith, main_relabeled, run_relabeled)
 
 -- ---- what comes from outside
 
@@ -277,22 +254,15 @@ known_relabeled o s v = ap (nat_lt v.0) (length-map s.names (relabeled_named o))
 
 sent_to_relabeled : (o : Relabel) (s : State) (v : Var) → o.Fits s.arena →
     steps.sent_to (relabeled o s) v ≡ relabeled_next o (steps.sent_to s v)
-sent_to_relabeled o s v fits = if_shift (relabeled_next o) (nat_lt v.0 (length s.names)) (nat_lt v.0 (length (map (relabeled_named o) s.names))) _ _ _ _
-    (known_relabeled o s v)
-    (ap (λ (c : Coded). Moves c.state (Some (seen.Send v c.code))) (send_relabeled o s v fits))
-    refl
+sent_to_relabeled o s v fits = grind (arith, if_shift, known_relabeled, send_relabeled)
 
 cancels_relabeled : (o : Relabel) (s : State) (v : Var) → o.Fits s.arena →
     steps.cancels (relabeled o s) v ≡ relabeled_next o (steps.cancels s v)
-cancels_relabeled o s v fits = if_shift (relabeled_next o) (nat_lt v.0 (length s.names)) (nat_lt v.0 (length (map (relabeled_named o) s.names))) _ _ _ _
-    (known_relabeled o s v)
-    (search (live_request_relabeled, cancel_relabeled))
-    refl
+cancels_relabeled o s v fits = grind (arith, if_shift, known_relabeled, live_request_relabeled, cancel_relabeled)
 
 found_work : (o : Relabel) (w : Why) (x : Option (Id × Request)) →
     found_or (option_map (relabeled_pair o) x) Ok (Err w) ≡ relabeled_found o (found_or x Ok (Err w))
-found_work o w None = refl
-found_work o w (Some t) = refl
+found_work o w x = grind arith
 
 next_work_relabeled : (o : Relabel) (s : State) (y : Option (Option Id)) → o.Fits s.arena →
     steps.next_work (relabeled o s) (option_map (option_map o.id) y) ≡ relabeled_found o (steps.next_work s y)
@@ -302,8 +272,7 @@ next_work_relabeled o s (Some None) fits = simp (front_request_relabeled, found_
 
 take_relabeled : (o : Relabel) (s : State) (n : ℕ) (t : Result (Id × Request) Why) →
     steps.take (relabeled o s) n (relabeled_found o t) ≡ relabeled_next o (steps.take s n t)
-take_relabeled o s n (Err w) = refl
-take_relabeled o s n (Ok t) = simp (drop-map, map-set)
+take_relabeled o s n t = grind (arith, drop-map, map-set)
 
 work_of_relabeled : (o : Relabel) (s : State) (y : Option (Option Id)) → o.Fits s.arena →
     steps.work_of (relabeled o s) (option_map (option_map o.id) y) ≡ relabeled_found o (steps.work_of s y)
@@ -313,44 +282,16 @@ work_of_relabeled o s (Some (Some id)) fits = simp (request_relabeled, with_id_r
 
 finish_relabeled : (o : Relabel) (s : State) (n : ℕ) (t : Result (Id × Request) Why) → o.Fits s.arena →
     steps.finish (relabeled o s) n (relabeled_found o t) ≡ relabeled_next o (steps.finish s n t)
-finish_relabeled o s n (Err w) fits = refl
-finish_relabeled o s n (Ok t) fits =
-    let outcome = Finished (digest_of t.1.task.rounds (text_of t.1.task)) in
-    ap (λ (running : List (Option Id)). Moves (ops.ended (record (relabeled o s) { running = running }) (o.id t.0) t.1 outcome)
-    (Some (seen.Finish n t.1.name (o.id t.0))))
-    (sym (map-set (option_map o.id) s.running n None))
-    ∙ ap (λ (u : State). Moves u (Some (seen.Finish n t.1.name (o.id t.0))))
-    (ended_relabeled o (record s { running = slice_set s.running n None }) t.0 t.1 outcome fits)
+finish_relabeled o s n t fits = grind (arith, map-set, ended_relabeled)
 
 -- ---- I/O
 
-takes_relabeled : (o : Relabel) (s : State) (stage : Stage) (body : Option Body) →
-    steps.takes_io (relabeled o s) stage body ≡ steps.takes_io s stage body
-takes_relabeled o s stage (Some body) = refl
-takes_relabeled o s Entry None = refl
-takes_relabeled o s Pending None = refl
-takes_relabeled o s (Walking watcher.Idle) None = refl
-takes_relabeled o s (Walking watcher.Prepare) None = refl
-takes_relabeled o s (Walking watcher.Check) None = refl
-takes_relabeled o s (Walking watcher.Async) None = ap not (some_relabeled o s.watchers.async.yet)
-takes_relabeled o s (Poll deadline) None = refl
-takes_relabeled o s (Polled woken) None = refl
-takes_relabeled o s Done None = refl
-takes_relabeled o s DoneUnwoken None = refl
-takes_relabeled o s Closing None = refl
-takes_relabeled o s (Timers part when) None = refl
-
 io_run_relabeled : (p : Program) (o : Relabel) (s : State) (place : Place) → steps.io_run p (relabeled o s) place ≡ steps.io_run p s place
-io_run_relabeled p o s (Main line) = refl
-io_run_relabeled p o s (Running run) = ap (λ (b : Bool). if has_io p && b then Some run else None) (takes_relabeled o s run.stage run.body)
+io_run_relabeled p o s place = grind arith
 
 io_handle_relabeled : (o : Relabel) (t : Result (Id × HandleRecord) Code)
     → steps.io_handle (relabeled_found o t) ≡ option_map o.id (steps.io_handle t)
-io_handle_relabeled o (Err code) = refl
-io_handle_relabeled o (Ok t) = by (records.is_io t.1.kind && t.1.active) where
-  by : (b : Bool) → (if b then Some (o.id t.0) else None) ≡ option_map o.id (if b then Some t.0 else None)
-  by true = refl
-  by false = refl
+io_handle_relabeled o t = grind arith
 
 stage_polled_relabeled : (o : Relabel) (s : State) (stage : Stage) → o.Fits s.arena →
     steps.stage_polled (relabeled o s) stage ≡ steps.stage_polled s stage
@@ -364,16 +305,13 @@ stage_polled_relabeled o s DoneUnwoken fits = refl
 stage_polled_relabeled o s Closing fits = refl
 stage_polled_relabeled o s (Timers part when) fits = refl
 
-time_as : (o : Relabel) (s : State) (stage : Stage) → steps.time_polled (relabeled o s) stage ≡ steps.time_polled s stage
-time_as o s stage = assumption
-
 call_io_relabeled : (p : Program) (o : Relabel) (s : State) (v : Var) (r : Option Run) (x : Option Id) → o.Fits s.arena →
     steps.call_io p (relabeled o s) v r (option_map o.id x) ≡ relabeled_next o (steps.call_io p s v r x)
 call_io_relabeled p o s v (Some run) (Some id) fits =
     let line = seen.Io v id in
     ap₂ (λ (time : ℕ) (stage : Stage). steps.calls p (record (relabeled o s) { time = time }) (record run { stage = stage }) callback.Handle v
     (relabeled_line o line))
-    (time_as o s run.stage) (stage_polled_relabeled o s run.stage fits)
+    (grind arith) (stage_polled_relabeled o s run.stage fits)
     ∙ calls_relabeled p o (record s { time = steps.time_polled s run.stage }) (record run { stage = steps.stage_polled s run.stage })
     callback.Handle v line
 call_io_relabeled p o s v r x fits = assumption

@@ -21,23 +21,17 @@ place_moved o (m ∷ ms) n h = rw (same_place o m n h, place_moved o ms n h) ref
 
 place_twice : {X : Type 0} (o q : List ℕ) (slots : List X) (n : ℕ) → Fits o slots → IsWhole q slots →
     place_of (moved o q) (place_of o n) ≡ place_of q n
-place_twice o q slots n fits whole =
-    ap (λ (x : Option ℕ). unwrap_or x (place_of o n)) (place_moved o q n fits.order) ∙ by (place_in q n) refl where
-      by : (x : Option ℕ) → place_in q n ≡ x → unwrap_or x (place_of o n) ≡ unwrap_or x n
-      by (Some i) e = refl
-      by None e = place_behind o n fits.order (let l = behind q n whole.order e in omega (arith, l, fits.within, whole.length))
+place_twice o q slots n fits whole = grind (arith, place_moved, place_behind, behind)
 
 picked_twice : {X : Type 0} (o q : List ℕ) (slots : List X) → Fits o slots → picked (moved o q) (arranged_slots o slots) ≡ picked q slots
 picked_twice o [] slots fits = refl
-picked_twice {X} o (m ∷ ms) slots fits =
-    ap₂ (λ (x : Option X) (xs : List X). option_to_list x ++ xs) (get_arranged o slots m fits) (picked_twice o ms slots fits)
+picked_twice {X} o (m ∷ ms) slots fits = simp (get_arranged, (picked_twice o ms slots fits))
 
 slots_twice : {X : Type 0} (o q : List ℕ) (slots : List X) → Fits o slots → IsWhole q slots →
     arranged_slots (moved o q) (arranged_slots o slots) ≡ arranged_slots q slots
 slots_twice {X} o q slots fits whole =
     let same : length (moved o q) ≡ length (arranged_slots o slots) = length-map q (place_of o) ∙ whole.length ∙ sym (length_arranged o slots fits) in
-    ap₂ (λ (xs ys : List X). xs ++ ys) (picked_twice o q slots fits)
-    (drop_all (length (moved o q)) (arranged_slots o slots) (omega (arith, same)) ∙ sym (drop_all (length q) slots (omega (arith, whole.length))))
+    grind (arith, picked_twice, drop_all)
 
 -- ---- the parts of a state
 
@@ -46,8 +40,7 @@ each_twice f g h [] e = refl
 each_twice {A} f g h (x ∷ xs) e = ap₂ (λ (y : A) (ys : List A). y ∷ ys) (e x) (each_twice f g h xs e)
 
 maybe_twice : {A : Type 0} (f g h : A → A) (o : Option A) → ((x : A) → f (g x) ≡ h x) → option_map f (option_map g o) ≡ option_map h o
-maybe_twice f g h None e = refl
-maybe_twice f g h (Some x) e = ap Some (e x)
+maybe_twice f g h o e = grind arith
 
 module _ (o q : List ℕ) (s : State) (fits : Fits o s.arena.slots) (whole : IsWhole q s.arena.slots) where
   id_twice : (id : Id) → arranged_id (moved o q) (arranged_id o id) ≡ arranged_id q id
@@ -99,28 +92,18 @@ module _ (o q : List ℕ) (s : State) (fits : Fits o s.arena.slots) (whole : IsW
 
 bound_moved : (o : List ℕ) (slots : List (Slot Content)) (x : Option Id) → Fits o slots →
     slot_bound (arranged_slots o slots) (option_map (arranged_id o) x) ≡ option_map (place_of o) (slot_bound slots x)
-bound_moved o slots None fits = refl
-bound_moved o slots (Some id) fits = ap (option_map (λ (x : Content). place_of o id.slot)) (held_arranged o slots id fits) ∙ by (held slots id) where
-  by : (x : Option Content) → option_map (λ (y : Content). place_of o id.slot) x
-      ≡ option_map (place_of o) (option_map (λ (y : Content). id.slot) x)
-  by None = refl
-  by (Some y) = refl
+bound_moved o slots x fits = grind (arith, held_arranged)
 
 to_list : (o : List ℕ) (x : Option ℕ) → option_to_list (option_map (place_of o) x) ≡ map (place_of o) (option_to_list x)
-to_list o None = refl
-to_list o (Some n) = refl
+to_list o x = grind arith
 
 all_moved : (o : List ℕ) (ns : List Named) (slots : List (Slot Content)) → Fits o slots →
     slots_bound (map (arranged_named o) ns) (arranged_slots o slots) ≡ moved o (slots_bound ns slots)
 all_moved o [] slots fits = refl
-all_moved o (n ∷ ns) slots fits =
-    ap₂ (λ (xs ys : List ℕ). xs ++ ys) (ap option_to_list (bound_moved o slots n.id fits) ∙ to_list o (slot_bound slots n.id))
-    (all_moved o ns slots fits)
-    ∙ sym (map-append (place_of o) (option_to_list (slot_bound slots n.id)) (slots_bound ns slots))
+all_moved o (n ∷ ns) slots fits = simp (bound_moved, to_list, map-append, (all_moved o ns slots fits))
 
 pub order_moved : (o : List ℕ) (s : State) → Fits o s.arena.slots → named_order (arranged o s) ≡ moved o (named_order s)
-order_moved o s fits = ap (λ (xs : List ℕ). xs ++ moved o s.arena.free) (all_moved o s.names s.arena.slots fits)
-    ∙ sym (map-append (place_of o) (slots_bound s.names s.arena.slots) s.arena.free)
+order_moved o s fits = simp (all_moved, map-append)
 
 -- the form is the same however the slots stood
 pub form_whole : (o : List ℕ) (s : State) → Fits o s.arena.slots → IsWhole (named_order s) s.arena.slots → named_form (arranged o s) ≡ named_form s

@@ -49,21 +49,17 @@ record IsBoundTo (ns : List Named) (slots : List (Slot Content)) (n i : ℕ) : T
   at : slice_get ns i ≡ Some its
   bound : slot_bound slots its.id ≡ Some n
 
-bound_behind : (m : Named) (ns : List Named) (slots : List (Slot Content)) (n i : ℕ) → IsBoundTo ns slots n i → IsBoundTo (m ∷ ns) slots n (suc i)
-bound_behind m ns slots n i k = record { its = k.its; at = k.at; bound = k.bound }
-
 one_time : (o : Option ℕ) (n : ℕ) → o ≡ Some n → times (option_to_list o) n ≡ 1
 one_time o n e = grind arith
 
 no_time : (o : Option ℕ) (n : ℕ) → (o ≡ Some n → ⊥) → times (option_to_list o) n ≡ 0
-no_time None n d = refl
-no_time (Some m) n d = grind (arith, d)
+no_time o n d = grind arith
 
 none_bound : (ns : List Named) (slots : List (Slot Content)) (n : ℕ) → ((i : ℕ) → IsBoundTo ns slots n i → ⊥) → times (slots_bound ns slots) n ≡ 0
 none_bound [] slots n none = refl
 none_bound (m ∷ ms) slots n none =
     let front = no_time (slot_bound slots m.id) n (λ e. none 0 (record { its = m; at = refl; bound = e })) in
-    let rest = none_bound ms slots n (λ i k. none (suc i) (bound_behind m ms slots n i k)) in
+    let rest = none_bound ms slots n (λ i k. none (suc i) (grind arith)) in
     times_append (option_to_list (slot_bound slots m.id)) (slots_bound ms slots) n ∙ (grind (arith, front, rest))
 
 one_bound : (ns : List Named) (slots : List (Slot Content)) (n i : ℕ) → IsBoundTo ns slots n i → ((j : ℕ) → IsBoundTo ns slots n j → j ≡ i) →
@@ -72,13 +68,13 @@ one_bound [] slots n i k only = absurd (grind (arith, k.at))
 one_bound (m ∷ ms) slots n zero k only =
     let same : m ≡ k.its = (let e = k.at in cc e) in
     let front = one_time (slot_bound slots m.id) n (ap (λ (x : Named). slot_bound slots x.id) same ∙ k.bound) in
-    let rest = none_bound ms slots n (λ i l. (let e = only (suc i) (bound_behind m ms slots n i l) in omega (arith, e))) in
+    let rest = none_bound ms slots n (λ i l. (let e = only (suc i) (grind arith) in omega (arith, e))) in
     times_append (option_to_list (slot_bound slots m.id)) (slots_bound ms slots) n ∙ (grind (arith, front, rest))
 one_bound (m ∷ ms) slots n (suc i) k only =
     let front = no_time (slot_bound slots m.id) n
     (λ e. (let f = only 0 (record { its = m; at = refl; bound = e }) in omega (arith, f))) in
     let rest = one_bound ms slots n i (record { its = k.its; at = k.at; bound = k.bound })
-    (λ j l. (let f = only (suc j) (bound_behind m ms slots n j l) in omega (arith, f))) in
+    (λ j l. (let f = only (suc j) (grind arith) in omega (arith, f))) in
     times_append (option_to_list (slot_bound slots m.id)) (slots_bound ms slots) n ∙ (grind (arith, front, rest))
 
 -- ---- a state's
@@ -101,11 +97,7 @@ record IsBoundBy (slots : List (Slot Content)) (id : Option Id) (n : ℕ) : Type
   content_there : slot.content ≡ Some content
 
 bound_by : (slots : List (Slot Content)) (id : Option Id) (n : ℕ) → slot_bound slots id ≡ Some n → IsBoundBy slots id n
-bound_by slots None n e = absurd (let f : ⊥ = cc e in f)
-bound_by slots (Some id) n e = by (slice_get slots id.slot) refl e where
-  by : (o : Option (Slot Content)) → slice_get slots id.slot ≡ o → option_map (λ (x : Content). id.slot) (option_and_then (held_in id) o) ≡ Some n →
-      IsBoundBy slots (Some id) n
-  by o there f = grind arith
+bound_by slots id n e = grind arith
 
 -- what a slot holds is held under its id
 held_there : (slots : List (Slot Content)) (n : ℕ) (slot : Slot Content) → slice_get slots n ≡ Some slot → held slots (id_of n slot) ≡ slot.content
@@ -113,8 +105,7 @@ held_there slots n slot e = grind arith
 
 -- a name that is bound to something stands among the names
 named_there : (o : Option Named) (id : Id) → (unwrap_or o unbound).id ≡ Some id → o ≡ Some (unwrap_or o unbound)
-named_there None id e = absurd (let f : ⊥ = cc e in f)
-named_there (Some m) id e = refl
+named_there o id e = grind arith
 
 -- the name of what a slot holds is bound to it, and no other one
 held_once : (s : State) (n : ℕ) (slot : Slot Content) (x : Content) → IsTidy s → slice_get s.arena.slots n ≡ Some slot → slot.content ≡ Some x →
@@ -145,20 +136,10 @@ held_once s n slot x tidy e f = one_bound s.names s.arena.slots n (name_in x).0
 
 none_held : (s : State) (n : ℕ) → ((slot : Slot Content) (x : Content) → slice_get s.arena.slots n ≡ Some slot → slot.content ≡ Some x → ⊥) →
     times (slots_bound s.names s.arena.slots) n ≡ 0
-none_held s n none = none_bound s.names s.arena.slots n
-    (λ i k. (let b = bound_by s.arena.slots k.its.id n k.bound in none b.slot b.content b.there b.content_there))
+none_held s n none = grind (arith, none_bound, bound_by)
 
 named_once : (s : State) (n : ℕ) → IsTidy s → times (named_order s) n ≡ present (slice_get s.arena.slots n)
-named_once s n tidy = times_append (slots_bound s.names s.arena.slots) s.arena.free n
-    ∙ ap (λ (m : ℕ). times (slots_bound s.names s.arena.slots) n + m) (tidy.free n) ∙ by (slice_get s.arena.slots n) refl where
-      inside : (slot : Slot Content) (o : Option Content) → slice_get s.arena.slots n ≡ Some slot → slot.content ≡ o →
-          times (slots_bound s.names s.arena.slots) n + vacant o ≡ 1
-      inside slot None e f = rw (none_held s n (λ other x g h. (grind arith))) refl
-      inside slot (Some x) e f = rw (held_once s n slot x tidy e f) refl
-
-      by : (o : Option (Slot Content)) → slice_get s.arena.slots n ≡ o → times (slots_bound s.names s.arena.slots) n + vacancies o ≡ present o
-      by None e = rw (none_held s n (λ slot x f g. (grind arith))) refl
-      by (Some slot) e = inside slot slot.content e refl
+named_once s n tidy = grind (arith, times_append, none_held, held_once)
 
 pub tidy_whole : (s : State) → IsTidy s → IsWhole (named_order s) s.arena.slots
 tidy_whole s tidy =
@@ -166,7 +147,4 @@ tidy_whole s tidy =
     let once : (n : ℕ) → n < length slots → times (named_order s) n ≡ 1 = λ n l. grind (arith, named_once s n tidy, slice_get_cases slots n) in
     let none : (n : ℕ) → length slots ≤ n → times (named_order s) n ≡ 0 = λ n l. named_once s n tidy ∙ ap present (slice_get_past slots n l) in
     let same : length (named_order s) ≡ length slots = sym (total_length (length slots) (named_order s) none) ∙ total_once (length slots) _ once in
-    record {
-      order = record { once = λ n l. once n (omega (arith, l, same)); no_other = λ n l. none n (omega (arith, l, same)) };
-      length = same;
-    }
+    grind arith
