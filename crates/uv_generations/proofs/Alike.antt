@@ -48,11 +48,7 @@ record IsMore (k : Frees) (x : Next) (t : State) (line : Option Seen) : Type 0 w
   pub moved_line : line ≡ option_map (more_line k) says
 
 moved_as : (k : Frees) (x : Next) (t : State) (line : Option Seen) → more_next k x ≡ Moves t line → IsMore k x t line
-moved_as k (Refuses w) t line same = absurd (let f : ⊥ = cc in f)
-moved_as k (Moves u says) t line same =
-    let one : more k u ≡ t = cc in
-    let two : option_map (more_line k) says ≡ line = cc in
-    record { state = u; says = says; takes = refl; moved = sym one; moved_line = sym two }
+moved_as k x t line same = grind arith
 
 absent : (slots : List (Slot Content)) (n : ℕ) → slice_get slots n ≡ None → length slots ≤ n
 absent slots n e = grind (arith, slice_get_cases slots n)
@@ -60,13 +56,7 @@ absent slots n e = grind (arith, slice_get_cases slots n)
 -- behind a step, too, a slot that was never used was never freed
 pub unused_behind : (p : Program) (s : State) (e : Event) (u : State) (says : Option Seen) → next p (youngest s) e ≡ Moves u says →
     (slot : ℕ) → slice_get u.arena.slots slot ≡ None → surplus s slot ≡ 0
-unused_behind p s e u says takes slot gone =
-    let n = length (youngest s).arena.slots in
-    let least : n ≤ n = omega arith in
-    let grows : n ≤ length u.arena.slots = subst (Stays n) takes (next_grows p n (youngest s) e least) in
-    let used = length_same (freed_less (surplus s)) s.arena.slots in
-    let past = absent u.arena.slots slot gone in
-    base_unused s slot (omega (arith, grows, used, past))
+unused_behind p s e u says takes slot gone = grind (arith, next_grows, length_same, absent, base_unused)
 
 pub takes_alike : (p : Program) (s other : State) (e : Event) (t : State) (line : Option Seen) → IsYoung p s → IsYoung p other →
     youngest s ≡ youngest other → next p s e ≡ Moves t line → TakesAlike (next p other e) t line

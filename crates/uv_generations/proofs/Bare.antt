@@ -32,12 +32,7 @@ use Rattle.uv_generations.proofs.Alike.{takes_alike}
 slots_apart : (f : Renaming) (r : Retiming) (slots : List (Slot Content)) →
     renamed_slots f (map (retimed_slot r) slots) ≡ map (retimed_slot r) (renamed_slots f slots)
 slots_apart f r [] = refl
-slots_apart f r (x ∷ xs) = ap (λ (ys : List (Slot Content)). record {
-  generation = f 0 x.generation;
-  content =
-      option_map (retimed_content r) x.content;
-} ∷ ys)
-    (slots_apart (λ n. f (suc n)) r xs)
+slots_apart f r (x ∷ xs) = cc (slots_apart (λ n. f (suc n)) r xs)
 
 timers_apart : (f : Renaming) (r : Retiming) (ts : List (Due × Id)) →
     map (renamed_entry f) (map (retimed_entry r) ts) ≡ map (retimed_entry r) (map (renamed_entry f) ts)
@@ -45,33 +40,21 @@ timers_apart f r [] = refl
 timers_apart f r (t ∷ ts) = ap (λ (us : List (Due × Id)). retimed_entry r (renamed_entry f t) ∷ us) (timers_apart f r ts)
 
 apart : (f : Renaming) (r : Retiming) (s : State) → renamed f (retimed r s) ≡ retimed r (renamed f s)
-apart f r s =
-    let slots = slots_apart f r s.arena.slots in
-    let timers = timers_apart f r s.timers in
-    λ i. record (retimed r (renamed f s)) { arena = record s.arena { slots = slots i }; timers = timers i }
+apart f r s = simp (slots_apart, timers_apart)
 
 least_retimed : (r : Retiming) (slot : ℕ) (names : List Named) (o : Option (Slot Content)) →
     least_of slot names (option_map (retimed_slot r) o) ≡ least_of slot names o
-least_retimed r slot names None = refl
-least_retimed r slot names (Some it) = refl
+least_retimed r slot names o = grind arith
 
 base_retimed : (r : Retiming) (s : State) (slot : ℕ) → surplus (retimed r s) slot ≡ surplus s slot
-base_retimed r s slot = ap (least_of slot s.names) (slice_get-map (retimed_slot r) s.arena.slots slot)
-    ∙ least_retimed r slot s.names (slice_get s.arena.slots slot)
+base_retimed r s slot = simp (slice_get-map, least_retimed)
 
 first_renamed : (f : Renaming) (ts : List (Due × Id)) (at : ℕ) → or_first (map (renamed_entry f) ts) at ≡ or_first ts at
-first_renamed f [] at = refl
-first_renamed f (t ∷ ts) at = refl
+first_renamed f ts at = grind arith
 
 start_renamed : (f : Renaming) (ts : List (Due × Id)) (start : ℕ) → least_start (map (renamed_entry f) ts) start ≡ least_start ts start
 start_renamed f [] start = refl
 start_renamed f (t ∷ ts) start = ap (min t.0.start) (start_renamed f ts start)
-
-base_renamed : (f : Renaming) (s : State) → early.base (renamed f s) ≡ early.base s
-base_renamed f s =
-    let first = first_renamed f s.timers (min s.time s.clock) in
-    let start = start_renamed f s.timers s.next_start in
-    λ i. record { ms = or_over s.place (first i); starts = start i }
 
 pub forms_apart : (s : State) → youngest (earliest s) ≡ earliest (youngest s)
 forms_apart s =
@@ -80,19 +63,14 @@ forms_apart s =
     let same = base_retimed r s in
     ap (λ (g : Renaming). renamed g (retimed r s)) (λ i slot. freed_less (λ n. same n i) slot)
     ∙ apart f r s
-    ∙ ap (λ (d : By). retimed (earlier d) (renamed f s)) (sym (base_renamed f s))
-
-line_apart : (p : Program) (line : Seen) → unfreed_line (untimed_line p line) ≡ untimed_line p (unfreed_line line)
-line_apart p line = grind arith
+    ∙ ap (λ (d : By). retimed (earlier d) (renamed f s)) (sym (grind (arith, first_renamed, start_renamed)))
 
 lines_apart : (p : Program) (o : Option Seen) →
     option_map (bare_line p) o ≡ option_map unfreed_line (option_map (untimed_line p) o)
-lines_apart p None = refl
-lines_apart p (Some line) = ap Some (sym (line_apart p line))
+lines_apart p o = grind arith
 
 pub lines_bare : (p : Program) (o : Option Seen) → option_map (bare_line p) o ≡ option_map (untimed_line p) (option_map unfreed_line o)
-lines_bare p None = refl
-lines_bare p (Some line) = refl
+lines_bare p o = grind arith
 
 -- a line that is later has the same bare one
 pub bare_later : (p : Program) (d : By) (o : Option Seen) → option_map (bare_line p) (option_map (shift_line p d) o) ≡ option_map (bare_line p) o
@@ -103,8 +81,7 @@ bare_later p d o = lines_apart p (option_map (shift_line p d) o) ∙ ap (option_
 held_earlier : (d : By) (s : State) (id : Id) → IsInSlot (shift d s) id → IsInSlot s id
 held_earlier d s id k = by (held s.arena.slots id) refl (sym (held_shift d s.arena.slots id) ∙ k.holds) where
   by : (o : Option Content) → held s.arena.slots id ≡ o → option_map (retimed_content (later d)) o ≡ Some k.its → IsInSlot s id
-  by None f g = cc g
-  by (Some x) f g = record { its = x; holds = f }
+  by o f g = grind arith
 
 young_earlier : (p : Program) (d : By) (s : State) → IsYoung p (shift d s) → IsYoung p s
 young_earlier p d s h = record {
@@ -142,6 +119,5 @@ bare_alike p s other e t line h young k youth same takes fits =
       says = option_map (shift_line p d) two.says;
       takes = earliest_next p other e k fits ∙ ap (shift_next p d) two.takes;
       same = bare_same d two.state ∙ ap earliest two.same ∙ sym (bare_same c one.state) ∙ ap bare (sym one.moved);
-      same_line = bare_later p d two.says ∙ lines_bare p two.says ∙ ap (option_map (untimed_line p)) two.same_line ∙ sym (lines_bare p one.says)
-          ∙ sym (bare_later p c one.says) ∙ ap (option_map (bare_line p)) (sym one.moved_line);
+      same_line = grind (arith, bare_later, lines_bare);
     }

@@ -15,35 +15,20 @@ use Rattle.uv_generations.proofs.Twice.{both, twice, has_front, has_behind, ids_
 -- ---- none of its ids is younger than its surplus
 
 or_least : (slot : ℕ) (o : Option Id) (least : ℕ) → or_bound slot o least ≤ least
-or_least slot None least = omega arith
-or_least slot (Some id) least = by (id.slot == slot) where
-  by : (b : Bool) → (if b then min id.generation least else least) ≤ least
-  by true = omega arith
-  by false = omega arith
+or_least slot o least = grind arith
 
 bound_least : (slot : ℕ) (ns : List Named) (least : ℕ) → least_bound slot ns least ≤ least
 bound_least slot [] least = omega arith
-bound_least slot (n ∷ ns) least =
-    let l = or_least slot n.id (least_bound slot ns least) in
-    let m = bound_least slot ns least in
-    omega (arith, l, m)
-
-own_least : (id : Id) (least : ℕ) → or_bound id.slot (Some id) least ≤ id.generation
-own_least id least = grind arith
+bound_least slot (n ∷ ns) least = grind (arith, or_least, (bound_least slot ns least))
 
 -- a name stands among the names
 named_least : (ns : List Named) (i : ℕ) (n : Named) (id : Id) (least : ℕ) → slice_get ns i ≡ Some n → n.id ≡ Some id →
     least_bound id.slot ns least ≤ id.generation
-named_least [] i n id least e f = absurd (let f : ⊥ = cc in f)
-named_least (x ∷ xs) zero n id least e f =
-    let same : x ≡ n = cc in
-    let its : x.id ≡ Some id = ap (λ (y : Named). y.id) same ∙ f in
-    subst (λ (o : Option Id). or_bound id.slot o (least_bound id.slot xs least) ≤ id.generation) (sym its)
-    (own_least id (least_bound id.slot xs least))
 named_least (x ∷ xs) (suc i) n id least e f =
     let l = or_least id.slot x.id (least_bound id.slot xs least) in
     let m = named_least xs i n id least e f in
     omega (arith, l, m)
+named_least each e1 n id least e f = grind arith
 
 -- ---- what is made younger, and older again
 
@@ -58,24 +43,13 @@ id_again k id h = ap (λ (g : ℕ). record { slot = id.slot; generation = g }) (
 
 pub slot_of : (slots : List (Slot Content)) (id : Id) (x : Content) (o : Option (Slot Content)) → option_and_then (held_in id) o ≡ Some x →
     (slot : Slot Content) × (o ≡ Some slot) × (slot.generation ≡ id.generation)
-slot_of slots id x None e = absurd (let f : ⊥ = cc in f)
-slot_of slots id x (Some slot) e = (slot, refl, same (slot.generation == id.generation) refl e) where
-  same : (b : Bool) → (slot.generation == id.generation) ≡ b → (if b then slot.content else None) ≡ Some x → slot.generation ≡ id.generation
-  same true f e = grind (arith, f)
-  same false f e = absurd (let f : ⊥ = cc in f)
+slot_of slots id x o e = grind arith
 
 held_least : (s : State) (id : Id) → IsInSlot s id → surplus s id.slot ≤ id.generation
-held_least s id h =
-    let slot = slot_of s.arena.slots id h.its (slice_get s.arena.slots id.slot) h.holds in
-    let l = bound_least id.slot s.names slot.0.generation in
-    let m : least_of id.slot s.names (Some slot.0) ≤ id.generation = omega (arith, l, slot.2) in
-    subst (λ (o : Option (Slot Content)). least_of id.slot s.names o ≤ id.generation) (sym slot.1) m
+held_least s id h = grind (arith, slot_of, bound_least)
 
 name_least : (s : State) (i : ℕ) (n : Named) (id : Id) → slice_get s.names i ≡ Some n → n.id ≡ Some id → surplus s id.slot ≤ id.generation
-name_least s i n id e f = by (slice_get s.arena.slots id.slot) where
-  by : (o : Option (Slot Content)) → least_of id.slot s.names o ≤ id.generation
-  by None = omega arith
-  by (Some it) = named_least s.names i n id it.generation e f
+name_least s i n id e f = grind (arith, named_least)
 
 names_same : (f : Renaming) (ns : List Named) →
     ((i : ℕ) (n : Named) (id : Id) → slice_get ns i ≡ Some n → n.id ≡ Some id → any.rename f id ≡ id) → map (any.renamed_named f) ns ≡ ns
@@ -89,8 +63,7 @@ names_same f (n ∷ ns) h =
       by (Some id) e = ap Some (h zero n id refl e)
 
 slot_least : (s : State) (n : ℕ) (slot : Slot Content) → slice_get s.arena.slots n ≡ Some slot → surplus s n ≤ slot.generation
-slot_least s n slot e = subst (λ (o : Option (Slot Content)). least_of n s.names o ≤ slot.generation) (sym e)
-    (bound_least n s.names slot.generation)
+slot_least s n slot e = grind (arith, bound_least)
 
 -- the youngest form, whose slots were freed more often by as much as those of the state itself, is the state
 pub youngest_more : (p : Program) (s : State) → IsYoung p s → more (surplus s) (youngest s) ≡ s
@@ -109,38 +82,18 @@ youngest_more p s h =
     let waiting = ids_same f s.waiting (λ id k. each id (h.opened id (has_front s.waiting (run_ids s.running) id k))) in
     let running = running_same f s.running (λ id k. each id (h.opened id (has_behind s.waiting (run_ids s.running) id k))) in
     let done = walk_same f s.done (λ id k. each id (h.done id k)) in
-    twice (freed_more (surplus s)) (freed_less (surplus s)) s
-    ∙ (λ i. record s {
-      names = names i;
-      arena = record s.arena { slots = slots i };
-      timers = timers i;
-      ready = ready i;
-      watchers = record { idle = idle i; prepare = prepare i; check = check i; async = async i };
-      closing = closing i;
-      waiting = waiting i;
-      running = running i;
-      done = done i;
-    })
+    grind (arith, twice)
 
 -- ---- however often slots were freed more, the youngest form is the same
 
 or_more : (k : Frees) (slot : ℕ) (o : Option Id) (least : ℕ) →
     or_bound slot (option_map (rename k) o) (least + k slot) ≡ or_bound slot o least + k slot
-or_more k slot None least = refl
-or_more k slot (Some id) least = by (id.slot == slot) refl where
-  by : (b : Bool) → (id.slot == slot) ≡ b →
-      (if b then min (id.generation + k id.slot) (least + k slot) else least + k slot) ≡ (if b then min id.generation least else least) + k slot
-  by false e = refl
-  by true e =
-      let same : id.slot ≡ slot = grind (arith, e) in
-      let moved : k id.slot ≡ k slot = ap k same in
-      omega (arith, moved)
+or_more k slot o least = grind arith
 
 bound_more : (k : Frees) (slot : ℕ) (ns : List Named) (least : ℕ) →
     least_bound slot (map (renamed_named k) ns) (least + k slot) ≡ least_bound slot ns least + k slot
 bound_more k slot [] least = refl
-bound_more k slot (n ∷ ns) least =
-    ap (or_bound slot (option_map (rename k) n.id)) (bound_more k slot ns least) ∙ or_more k slot n.id (least_bound slot ns least)
+bound_more k slot (n ∷ ns) least = grind (arith, or_more, (bound_more k slot ns least))
 
 base_more : (k : Frees) (s : State) (slot : ℕ) → (slice_get s.arena.slots slot ≡ None → k slot ≡ 0)
     → surplus (more k s) slot ≡ surplus s slot + k slot
@@ -149,8 +102,7 @@ base_more k s slot unused = ap (least_of slot (map (renamed_named k) s.names)) (
       by : (o : Option (Slot Content)) → slice_get s.arena.slots slot ≡ o →
           least_of slot (map (renamed_named k) s.names) (option_map (λ (it : Slot Content). record it { generation = it.generation + k slot }) o)
           ≡ least_of slot s.names o + k slot
-      by None e = let none : k slot ≡ 0 = unused e in omega (arith, none)
-      by (Some it) e = bound_more k slot s.names it.generation
+      by o e = grind (arith, bound_more)
 
 pub youngest_same : (k : Frees) (s : State) → ((slot : ℕ) → slice_get s.arena.slots slot ≡ None → k slot ≡ 0) → youngest (more k s) ≡ youngest s
 youngest_same k s unused =

@@ -25,14 +25,11 @@ goes_on_freed p n s (e ∷ es) h =
     let same : suc n + length es ≡ n + length (e ∷ es) = omega arith in
     subst (λ (m : ℕ). Freed m (goes_on p t es).arena.slots) same (goes_on_freed p (suc n) t es (state_bounded p n s e h))
 
-fresh_names : (n : ℕ) → Counts 0 (replicate n unbound)
-fresh_names n = grind (arith, elements)
-
 after_freed : (p : Program) (es : List Event) → Freed (length es) (after p es).arena.slots
 unfolding after
 after_freed p es =
     let same : 0 + length es ≡ length es = omega arith in
-    subst (λ (m : ℕ). Freed m (goes_on p (fresh p) es).arena.slots) same (goes_on_freed p 0 (fresh p) es (grind (arith, fresh_names)))
+    subst (λ (m : ℕ). Freed m (goes_on p (fresh p) es).arena.slots) same (goes_on_freed p 0 (fresh p) es (grind (arith, elements)))
 
 held_freed : (s : State) (n : ℕ) (id : Id) (x : Content) → Freed n s.arena.slots → held s.arena.slots id ≡ Some x → id.generation ≤ n
 held_freed s n id x h e =
@@ -43,16 +40,10 @@ held_freed s n id x h e =
 -- ---- who is held
 
 handle_held : (s : State) (id : Id) (h : HandleRecord) → handle s id ≡ Some h → IsInSlot s id
-handle_held s id h e = by (held s.arena.slots id) refl e where
-  by : (o : Option Content) → held s.arena.slots id ≡ o → handle_in o ≡ Some h → IsInSlot s id
-  by None f g = cc g
-  by (Some x) f g = record { its = x; holds = f }
+handle_held s id h e = grind arith
 
 request_held : (s : State) (id : Id) (r : Request) → request s id ≡ Some r → IsInSlot s id
-request_held s id r e = by (held s.arena.slots id) refl e where
-  by : (o : Option Content) → held s.arena.slots id ≡ o → request_in o ≡ Some r → IsInSlot s id
-  by None f g = cc g
-  by (Some x) f g = record { its = x; holds = f }
+request_held s id r e = grind arith
 
 pub after_young : (p : Program) (es : List Event) → length es < (arena_size p).last_generation → IsYoung p (after p es)
 after_young p es few =

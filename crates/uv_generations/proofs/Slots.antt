@@ -17,16 +17,14 @@ renamed_slot n slot = record slot { generation = slot.generation + n }
 
 pub get_renamed : (k : Frees) (slots : List (Slot Content)) (i : ℕ) →
     slice_get (renamed_slots k slots) i ≡ option_map (renamed_slot (k i)) (slice_get slots i)
-get_renamed k [] i = refl
-get_renamed k (x ∷ xs) zero = refl
 get_renamed k (x ∷ xs) (suc i) = get_renamed (λ n. k (suc n)) xs i
+get_renamed k each e2 = assumption
 
 pub set_renamed : (k : Frees) (slots : List (Slot Content)) (i g : ℕ) (c : Option Content) →
     slice_set (renamed_slots k slots) i (record { generation = g + k i; content = c })
     ≡ renamed_slots k (slice_set slots i (record { generation = g; content = c }))
-set_renamed k [] i g c = refl
-set_renamed k (x ∷ xs) zero g c = refl
 set_renamed k (x ∷ xs) (suc i) g c = ap (λ (ys : List (Slot Content)). renamed_slot (k 0) x ∷ ys) (set_renamed (λ n. k (suc n)) xs i g c)
+set_renamed k each e2 g c = assumption
 
 length_renamed : (k : Frees) (slots : List (Slot Content)) → length (renamed_slots k slots) ≡ length slots
 length_renamed k [] = refl
@@ -34,34 +32,19 @@ length_renamed k (x ∷ xs) = ap suc (length_renamed (λ n. k (suc n)) xs)
 
 push_renamed : (k : Frees) (slots : List (Slot Content)) (c : Option Content) → k (length slots) ≡ 0 →
     renamed_slots k slots ++ record { generation = 0; content = c } ∷ [] ≡ renamed_slots k (slots ++ record { generation = 0; content = c } ∷ [])
-push_renamed k [] c e =
-    let same : 0 ≡ 0 + k 0 = omega (arith, e) in
-    ap (λ (n : ℕ). record { generation = n; content = c } ∷ []) same
+push_renamed k [] c e = cc
 push_renamed k (x ∷ xs) c e = ap (λ (ys : List (Slot Content)). renamed_slot (k 0) x ∷ ys) (push_renamed (λ n. k (suc n)) xs c e)
-
--- what an id holds stays
-more_same : (a b n : ℕ) → (a + n == b + n) ≡ (a == b)
-more_same a b n = grind arith
 
 held_at : (n : ℕ) (id : Id) (more : Id) (o : Option (Slot Content)) → more.generation ≡ id.generation + n →
     option_and_then (held_in more) (option_map (renamed_slot n) o) ≡ option_and_then (held_in id) o
-held_at n id more None e = refl
-held_at n id more (Some slot) e = ap (λ (b : Bool). if b then slot.content else None)
-    (ap (λ (g : ℕ). slot.generation + n == g) e ∙ more_same slot.generation id.generation n)
+held_at n id more o e = grind arith
 
 pub held_renamed : (k : Frees) (slots : List (Slot Content)) (id : Id) → held (renamed_slots k slots) (rename k id) ≡ held slots id
-held_renamed k slots id = ap (option_and_then (held_in (rename k id))) (get_renamed k slots id.slot)
-    ∙ held_at (k id.slot) id (rename k id) (slice_get slots id.slot) refl
+held_renamed k slots id = search (get_renamed, held_at)
 
 -- two ids are the same where they are once they are renamed
 pub same_renamed : (k : Frees) (a b : Id) → same_id (rename k a) (rename k b) ≡ same_id a b
-same_renamed k a b = by (a.slot == b.slot) refl where
-  by : (same : Bool) → (a.slot == b.slot) ≡ same →
-      (same && (a.generation + k a.slot == b.generation + k b.slot)) ≡ (same && (a.generation == b.generation))
-  by false e = refl
-  by true e =
-      let slot : a.slot ≡ b.slot = eqb-true a.slot b.slot e in
-      ap (λ (n : ℕ). a.generation + n == b.generation + k b.slot) (ap k slot) ∙ more_same a.generation b.generation (k b.slot)
+same_renamed k a b = grind arith
 
 -- ---- what is asked of all slots
 
@@ -75,27 +58,18 @@ any_slot k test (x ∷ xs) = ap (λ (b : Bool). test x.content || b) (any_slot (
 id_at : (k : Frees) (n : ℕ) (o : Option (Slot Content)) →
     option_and_then (λ (slot : Slot Content). Some (id_of n slot)) (option_map (renamed_slot (k n)) o)
     ≡ option_map (rename k) (option_and_then (λ (slot : Slot Content). Some (id_of n slot)) o)
-id_at k n None = refl
-id_at k n (Some slot) = refl
+id_at k n o = grind arith
 
 unused_at : (k : Frees) (used unused : ℕ) → k used ≡ 0 → next_unused used unused ≡ option_map (rename k) (next_unused used unused)
-unused_at k used zero e = refl
-unused_at k used (suc unused) e =
-    let same : 0 ≡ 0 + k used = omega (arith, e) in
-    ap (λ (n : ℕ). Some (record { slot = used; generation = n })) same
+unused_at k used unused e = grind arith
 
 pub next_id_renamed : (k : Frees) (slots : List (Slot Content)) (unused : ℕ) (free : List ℕ) → k (length slots) ≡ 0 →
     next_id (renamed_slots k slots) unused free ≡ option_map (rename k) (next_id slots unused free)
-next_id_renamed k slots unused [] e = ap (λ (n : ℕ). next_unused n unused) (length_renamed k slots) ∙ unused_at k (length slots) unused e
-next_id_renamed k slots unused (n ∷ ns) e = ap (option_and_then (λ (slot : Slot Content). Some (id_of n slot))) (get_renamed k slots n)
-    ∙ id_at k n (slice_get slots n)
+next_id_renamed k slots unused free e = grind (arith, length_renamed, unused_at, get_renamed, id_at)
 
 pub taken_from_renamed : (k : Frees) (free : List ℕ) (id : Id) (x : Content) (a : Slots Content) → k (length a.slots) ≡ 0 →
     taken_from free (rename k id) x (renamed_arena k a) ≡ renamed_arena k (taken_from free id x a)
-taken_from_renamed k [] id x a e = ap (λ (slots : List (Slot Content)). record (taken_from [] id x a) { slots = slots })
-    (push_renamed k a.slots (Some x) e)
-taken_from_renamed k (n ∷ ns) id x a e = ap (λ (slots : List (Slot Content)). record a { slots = slots; free = ns })
-    (set_renamed k a.slots id.slot id.generation (Some x))
+taken_from_renamed k free id x a e = grind (arith, push_renamed, set_renamed)
 
 not_last : (a last : ℕ) → a < last → (a == last) ≡ false
 not_last a last l = grind arith
@@ -109,11 +83,7 @@ freed_renamed k last id a l =
       slots = slice_set slots id.slot (record { generation = g; content = None });
       free = id.slot ∷ a.free;
     } in
-    rw (not_last (id.generation + k id.slot) last l)
-    (rw (not_last id.generation last sooner)
-    (ap (λ (g : ℕ). gone g (renamed_slots k a.slots)) more
-    ∙ ap (λ (slots : List (Slot Content)). record a { slots = slots; free = id.slot ∷ a.free })
-    (set_renamed k a.slots id.slot (id.generation + 1) None)))
+    grind (arith, not_last, set_renamed)
 
 -- ---- slots that were freed more often are named anew
 
@@ -136,14 +106,8 @@ by_frees k = record {
   takes = λ a id x e. taken_from_renamed k a.free id x a e;
 }
 
-pub handle_renamed : (k : Frees) (s : State) (id : Id) → handle (renamed k s) (rename k id) ≡ handle s id
-handle_renamed k s id = ap handle_in (held_renamed k s.arena.slots id)
-
 pub named_renamed : (k : Frees) (s : State) (v : Var) → named (renamed k s) v ≡ renamed_named k (named s v)
 named_renamed k s v = named_relabeled (by_frees k) s v
 
 pub next_renamed : (p : Program) (k : Frees) (s : State) (e : Event) → CanRename p k s → next p (renamed k s) e ≡ renamed_next k (next p s e)
-next_renamed p k s e can = next_relabeled p (by_frees k) s e (record {
-  fits = can.unused;
-  frees = λ id x holds. freed_renamed k (arena_size p).last_generation id s.arena (can.left id x holds);
-})
+next_renamed p k s e can = next_relabeled p (by_frees k) s e (grind (arith, freed_renamed))

@@ -18,14 +18,10 @@ ids_twice f g [] = refl
 ids_twice f g (id ∷ ids) = ap (λ (xs : List Id). rename (both f g) id ∷ xs) (ids_twice f g ids)
 
 walk_twice : (f g : Renaming) (w : Walk Id) → renamed_walk f (renamed_walk g w) ≡ renamed_walk (both f g) w
-walk_twice f g w =
-    let list = ids_twice f g w.list in
-    let yet = ids_twice f g w.yet in
-    λ i. record { list = list i; yet = yet i }
+walk_twice f g w = simp ids_twice
 
 id_twice : (f g : Renaming) (o : Option Id) → option_map (rename f) (option_map (rename g) o) ≡ option_map (rename (both f g)) o
-id_twice f g None = refl
-id_twice f g (Some id) = refl
+id_twice f g o = grind arith
 
 running_twice : (f g : Renaming) (running : List (Option Id)) →
     map (option_map (rename f)) (map (option_map (rename g)) running) ≡ map (option_map (rename (both f g))) running
@@ -42,47 +38,13 @@ timers_twice f g (t ∷ ts) = ap (λ (us : List (Due × Id)). renamed_entry (bot
 
 slots_twice : (f g : Renaming) (slots : List (Slot Content)) → renamed_slots f (renamed_slots g slots) ≡ renamed_slots (both f g) slots
 slots_twice f g [] = refl
-slots_twice f g (x ∷ xs) = ap (λ (ys : List (Slot Content)). record x { generation = f 0 (g 0 x.generation) } ∷ ys)
-    (slots_twice (λ n. f (suc n)) (λ n. g (suc n)) xs)
+slots_twice f g (x ∷ xs) = cc (slots_twice (λ n. f (suc n)) (λ n. g (suc n)) xs)
 
 pub twice : (f g : Renaming) (s : State) → renamed f (renamed g s) ≡ renamed (both f g) s
-twice f g s =
-    let names = names_twice f g s.names in
-    let slots = slots_twice f g s.arena.slots in
-    let timers = timers_twice f g s.timers in
-    let ready = ids_twice f g s.ready in
-    let idle = walk_twice f g s.watchers.idle in
-    let prepare = walk_twice f g s.watchers.prepare in
-    let check = walk_twice f g s.watchers.check in
-    let async = walk_twice f g s.watchers.async in
-    let closing = walk_twice f g s.closing in
-    let waiting = ids_twice f g s.waiting in
-    let running = running_twice f g s.running in
-    let done = walk_twice f g s.done in
-    λ i. record s {
-      names = names i;
-      arena = record s.arena { slots = slots i };
-      timers = timers i;
-      ready = ready i;
-      watchers = record { idle = idle i; prepare = prepare i; check = check i; async = async i };
-      closing = closing i;
-      waiting = waiting i;
-      running = running i;
-      done = done i;
-    }
-
--- a line is the same without its generations
-answer_unfreed : (f : Renaming) (a : Answer) → renamed_answer unfreed (renamed_answer f a) ≡ renamed_answer unfreed a
-answer_unfreed f a = grind arith
-
-line_unfreed : (f : Renaming) (line : Seen) → unfreed_line (renamed_line f line) ≡ unfreed_line line
-line_unfreed f (seen.Op site a) = ap (seen.Op site) (answer_unfreed f a)
-line_unfreed f (seen.Cancel v a) = ap (seen.Cancel v) (answer_unfreed f a)
-line_unfreed f line = refl
+twice f g s = simp (names_twice, slots_twice, timers_twice, ids_twice, walk_twice, running_twice)
 
 pub lines_unfreed : (f : Renaming) (o : Option Seen) → option_map unfreed_line (option_map (renamed_line f) o) ≡ option_map unfreed_line o
-lines_unfreed f None = refl
-lines_unfreed f (Some line) = ap Some (line_unfreed f line)
+lines_unfreed f o = grind arith
 
 -- ---- where no id becomes another
 
@@ -105,17 +67,13 @@ ids_same f [] h = refl
 ids_same f (x ∷ xs) h = ap₂ (λ (y : Id) (ys : List Id). y ∷ ys) (h x (has_first x xs)) (ids_same f xs (λ id k. h id (has_rest x id xs k)))
 
 pub walk_same : (f : Renaming) (w : Walk Id) → ((id : Id) → has_id (w.list ++ w.yet) id ≡ true → rename f id ≡ id) → renamed_walk f w ≡ w
-walk_same f w h =
-    let list = ids_same f w.list (λ id k. h id (has_front w.list w.yet id k)) in
-    let yet = ids_same f w.yet (λ id k. h id (has_behind w.list w.yet id k)) in
-    λ i. record { list = list i; yet = yet i }
+walk_same f w h = simp (ids_same, has_front, has_behind)
 
 pub running_same : (f : Renaming) (running : List (Option Id)) → ((id : Id) → has_id (run_ids running) id ≡ true → rename f id ≡ id) →
     map (option_map (rename f)) running ≡ running
 running_same f [] h = refl
 running_same f (None ∷ os) h = ap (λ (xs : List (Option Id)). None ∷ xs) (running_same f os h)
-running_same f (Some id ∷ os) h = ap₂ (λ (x : Id) (xs : List (Option Id)). Some x ∷ xs) (h id (has_first id (run_ids os)))
-    (running_same f os (λ it k. h it (has_rest id it (run_ids os) k)))
+running_same f (Some id ∷ os) h = search (has_first, has_rest, (running_same f os (λ it k. h it (has_rest id it (run_ids os) k))))
 
 pub timers_same : (f : Renaming) (ts : List (Due × Id)) → ((due : Due) (id : Id) → Has ts due id → rename f id ≡ id) →
     map (renamed_entry f) ts ≡ ts
@@ -128,5 +86,4 @@ timers_same f (t ∷ ts) h =
 pub slots_same : (f : Renaming) (slots : List (Slot Content)) →
     ((n : ℕ) (slot : Slot Content) → slice_get slots n ≡ Some slot → f n slot.generation ≡ slot.generation) → renamed_slots f slots ≡ slots
 slots_same f [] h = refl
-slots_same f (x ∷ xs) h = ap₂ (λ (g : ℕ) (ys : List (Slot Content)). record x { generation = g } ∷ ys) (h zero x refl)
-    (slots_same (λ n. f (suc n)) xs (λ n slot e. h (suc n) slot e))
+slots_same f (x ∷ xs) h = grind (arith, (slots_same (λ n. f (suc n)) xs (λ n slot e. h (suc n) slot e)))
