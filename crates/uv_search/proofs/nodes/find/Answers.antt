@@ -1,0 +1,34 @@
+use Rattle.std.proofs.Common.{◌≡◌, ◌<◌, ◌-◌, length, sym, ap, subst, ◌∙◌, arith, slice_get, slice_index_or, Some, ℕ}
+use Rattle.std.proofs.lemmas.Option.{slice_get-get_or}
+use Rattle.uv_search.specs.Chains.{place_of}
+use Rattle.uv_search.proofs.Linking.{begins, goes_back}
+use Rattle.uv_search.proofs.nodes.find.Goals as goal
+
+pub loop-at-init : goal.loop-at-init
+loop-at-init c =
+    let last = c.args.last.now in
+    begins (place_of (length last)) c.args.pairs.now c.args.pair c.requires.linked.linked
+    (subst (λ p. slice_get last p ≡ Some (slice_index_or last c.place.result 0)) c.place.ensures.value
+    (slice_get-get_or last c.place.result 0 c.place.ensures.below))
+
+pub returns-then-is_same-clause-some : goal.returns-then-is_same-clause-some
+returns-then-is_same-clause-some c =
+    let row = c.loop-at.at - 1 in
+    slice_get-get_or c.args.pairs.now row (0, 0) (omega (arith, c.loop-at-test.true, c.loop-at.invariant.within))
+    ∙ ap Some (c.is_same.ensures.yes c.if-is_same.true)
+
+pub loop-at-smaller : goal.loop-at-smaller
+loop-at-smaller c =
+    let row = c.loop-at.at - 1 in
+    let below : row < length c.args.pairs.now = omega (arith, c.loop-at-test.true, c.loop-at.invariant.within) in
+    (goes_back (place_of (length c.args.last.now)) c.args.pairs.now c.args.pair (slice_index_or c.args.pairs.now row (0, 0)) c.requires.linked.linked
+    c.loop-at.invariant c.loop-at-test.true (slice_get-get_or c.args.pairs.now row (0, 0) below) (c.is_same.ensures.no c.if-is_same.false)
+    (slice_get-get_or c.args.before.now row 0 (omega (arith, below, c.requires.linked.long)))).1
+
+pub loop-at-preserved : goal.loop-at-preserved
+loop-at-preserved c =
+    let row = c.loop-at.at - 1 in
+    let below : row < length c.args.pairs.now = omega (arith, c.loop-at-test.true, c.loop-at.invariant.within) in
+    (goes_back (place_of (length c.args.last.now)) c.args.pairs.now c.args.pair (slice_index_or c.args.pairs.now row (0, 0)) c.requires.linked.linked
+    c.loop-at.invariant c.loop-at-test.true (slice_get-get_or c.args.pairs.now row (0, 0) below) (c.is_same.ensures.no c.if-is_same.false)
+    (slice_get-get_or c.args.before.now row 0 (omega (arith, below, c.requires.linked.long)))).0

@@ -1,0 +1,10 @@
+use Rattle.std.proofs.Common.{length}
+use Rattle.uv_search.specs.Chains.{place_of}
+use Rattle.uv_search.proofs.Linking.{Walks}
+use Rattle.uv_search.proofs.nodes.find.Given as goal
+
+abbrev pub invariant-loop-at : goal.invariant-loop-at
+invariant-loop-at l = Walks (place_of (length l.last)) l.pairs l.pair l.at
+
+abbrev pub decreases-loop-at : goal.decreases-loop-at
+decreases-loop-at l = l.at
