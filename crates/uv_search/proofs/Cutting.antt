@@ -39,9 +39,10 @@ module _ (parts : List (List ℕ)) (pairs : List (ℕ × ℕ)) where
       let back = slice_index_or parts pair.1 [] in
       let middle : length front ≡ length key / 2 = cut.middles i pair found.1 ∙ ap (λ k. length k / 2) found.2 in
       let is_front : front ≡ take (length key / 2) key =
-      sym (take_front front back) ∙ ap (λ k. take (length front) k) found.2 ∙ ap (λ n. take n key) middle in
+          sym (take_front front back) ∙ ap (λ k. take (length front) k) found.2 ∙ ap (λ n. take n key) middle in
       let is_back : back ≡ drop (length key / 2) key =
-      sym (drop_front front back) ∙ ap (λ k. drop (length front) k) found.2 ∙ ap (λ n. drop n key) middle in (
+          sym (drop_front front back) ∙ ap (λ k. drop (length front) k) found.2 ∙ ap (λ n. drop n key) middle in
+      (
         pair,
         found.1,
         slice_get-get_or parts pair.0 [] (cut.fronts i pair found.1) ∙ ap Some is_front,
@@ -109,26 +110,26 @@ module _ (parts : List (List ℕ)) (pairs : List (ℕ × ℕ)) where
       → IsCut parts (pairs ++ (a, b) ∷ [])
   one_more_cut cut a b key is_front is_back none long whole = record {
     fronts = λ i pair e. elim (get_either pairs (a, b) i pair e) [
-      | inl h ↦ cut.fronts i pair h
-      | inr h ↦ subst (λ p. p.0 < length parts) (sym h.1) (get_below parts a _ is_front)
+      inl h ↦ cut.fronts i pair h
+    | inr h ↦ subst (λ p. p.0 < length parts) (sym h.1) (get_below parts a _ is_front)
     ];
     backs = λ i pair e. elim (get_either pairs (a, b) i pair e) [
-      | inl h ↦ cut.backs i pair h
-      | inr h ↦ subst (λ p. p.1 < length parts) (sym h.1) (get_below parts b _ is_back)
+      inl h ↦ cut.backs i pair h
+    | inr h ↦ subst (λ p. p.1 < length parts) (sym h.1) (get_below parts b _ is_back)
     ];
     middles = λ i pair e. elim (get_either pairs (a, b) i pair e) [
-      | inl h ↦ cut.middles i pair h
-      | inr h ↦ subst (λ p. length (slice_index_or parts p.0 []) ≡ length (joined parts p) / 2) (sym h.1)
-          (ap length (index_of parts a [] _ is_front) ∙ long ∙ ap (λ k. length k / 2) (sym is_key))
+      inl h ↦ cut.middles i pair h
+    | inr h ↦ subst (λ p. length (slice_index_or parts p.0 []) ≡ length (joined parts p) / 2) (sym h.1)
+        (ap length (index_of parts a [] _ is_front) ∙ long ∙ ap (λ k. length k / 2) (sym is_key))
     ];
     pairs_once = λ i j pair e f. elim (get_either pairs (a, b) i pair e) [
-      | inl h ↦ elim (get_either pairs (a, b) j pair f) [
-        | inl g ↦ cut.pairs_once i j pair h g
-        | inr g ↦ absurd (none i (h ∙ ap Some g.1))
+      inl h ↦ elim (get_either pairs (a, b) j pair f) [
+        inl g ↦ cut.pairs_once i j pair h g
+      | inr g ↦ absurd (none i (h ∙ ap Some g.1))
       ]
-      | inr h ↦ elim (get_either pairs (a, b) j pair f) [
-        | inl g ↦ absurd (none j (g ∙ ap Some h.1))
-        | inr g ↦ h.0 ∙ sym g.0
+    | inr h ↦ elim (get_either pairs (a, b) j pair f) [
+        inl g ↦ absurd (none j (g ∙ ap Some h.1))
+      | inr g ↦ h.0 ∙ sym g.0
       ]
     ];
   } where
@@ -250,10 +251,8 @@ distinct_once (y ∷ ys) once = (
 ) where
   zero_suc : (j : ℕ) → zero ≡ suc j → ⊥
   zero_suc j e = omega (arith, e)
-
   below : (i j : ℕ) → suc i ≡ suc j → i ≡ j
   below i j e = omega (arith, e)
-
   all : (zs : List (List ℕ)) → ((j : ℕ) → slice_get zs j ≡ Some y → ⊥) → AllByRecursion (λ z. pointwise nat_eq y z ≡ false) zs
   all [] none = tt
   all (z ∷ zs) none = (no (pointwise nat_eq y z) (λ same. none 0 (ap Some (sym ((bytes_decides y z).0 same)))), all zs (λ j. none (suc j))) where

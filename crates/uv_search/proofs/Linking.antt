@@ -48,13 +48,13 @@ pub one_more : {last before places before' places' : List ℕ} {n place at : ℕ
     → Linked (slice_set last place (suc n)) before' places' (suc n)
 one_more {last} {before} {places} {before'} {places'} {n} {place} {at} old alike alike_before is_place is_before is_last = record {
   lasts = λ p a e. elim (same_or_not p place) [
-    | inl same ↦ this p a e same
-    | inr other ↦ that p a (sym (get_other last place p (suc n) other) ∙ e) other
+    inl same ↦ this p a e same
+  | inr other ↦ that p a (sym (get_other last place p (suc n) other) ∙ e) other
   ];
   befores = λ i p a less is_at e. elim (below_or_at n i less) [
-    | inl below ↦ leads_still (λ j j_less. alike j (omega (arith, below, j_less)))
+    inl below ↦ leads_still (λ j j_less. alike j (omega (arith, below, j_less)))
         (old.befores i p a below (sym (alike i below) ∙ is_at) (sym (alike_before i below) ∙ e))
-    | inr same ↦ here i p a is_at e same
+  | inr same ↦ here i p a is_at e same
   ];
 } where
   this : (p a : ℕ) → slice_get (slice_set last place (suc n)) p ≡ Some a → p ≡ place → Leads places' p (suc n) a
@@ -65,19 +65,17 @@ one_more {last} {before} {places} {before'} {places'} {n} {place} {at} old alike
         none_behind = λ i from less _. absurd (omega (arith, one, from, less));
         is_there = λ i e'. ap (slice_get places') (omega (arith, one, e')) ∙ is_place ∙ ap Some (sym same);
       }
-
   that : (p a : ℕ) → slice_get last p ≡ Some a → (p ≡ place → ⊥) → Leads places' p (suc n) a
   that p a e other =
       let was = leads_still alike (old.lasts p a e) in
       record {
         within = omega (arith, was.within);
         none_behind = λ i from less is_at. elim (below_or_at n i less) [
-          | inl below ↦ was.none_behind i from below is_at
-          | inr same ↦ other (one_value (sym is_at ∙ ap (slice_get places') same ∙ is_place))
+          inl below ↦ was.none_behind i from below is_at
+        | inr same ↦ other (one_value (sym is_at ∙ ap (slice_get places') same ∙ is_place))
         ];
         is_there = was.is_there;
       }
-
   here : (i p a : ℕ) → slice_get places' i ≡ Some p → slice_get before' i ≡ Some a → i ≡ n → Leads places' p i a
   here i p a is_at e same =
       let one : p ≡ place = one_value (sym is_at ∙ ap (slice_get places') same ∙ is_place) in
@@ -128,10 +126,10 @@ linked_more {last} {before} {pairs} pair at old room is_last =
     let wide = set_long last (f pair) (n + 1) in
     let places_long : length (map f pairs) ≡ n = length-map pairs f in
     let linked = one_more {before' = before ++ at ∷ []} {places' = map f pairs ++ f pair ∷ []} old.linked
-    (λ i less. get_front (map f pairs) (f pair) i (omega (arith, places_long, less)))
-    (λ i less. get_front before at i (omega (arith, old.long, less)))
-    (subst (λ m. slice_get (map f pairs ++ f pair ∷ []) m ≡ Some (f pair)) places_long (get_last (map f pairs) (f pair)))
-    (subst (λ m. slice_get (before ++ at ∷ []) m ≡ Some at) old.long (get_last before at)) is_last in
+        (λ i less. get_front (map f pairs) (f pair) i (omega (arith, places_long, less)))
+        (λ i less. get_front before at i (omega (arith, old.long, less)))
+        (subst (λ m. slice_get (map f pairs ++ f pair ∷ []) m ≡ Some (f pair)) places_long (get_last (map f pairs) (f pair)))
+        (subst (λ m. slice_get (before ++ at ∷ []) m ≡ Some at) old.long (get_last before at)) is_last in
     record {
       linked = subst (λ c. Linked (slice_set last (f pair) (n + 1)) (before ++ at ∷ []) (map (place_of c) (pairs ++ pair ∷ [])) (length (pairs ++ pair ∷ [])))
           (sym wide)
@@ -163,12 +161,13 @@ module _ {X : Type 0} (f : X → ℕ) (xs : List X) (q : X) where
   pub goes_on : {last before : List ℕ} {row at : ℕ} (x : X) → Linked last before (map f xs) (length xs) → Walks (suc row)
       → slice_get xs row ≡ Some x → (x ≡ q → ⊥) → slice_get before row ≡ Some at → Walks at × (at ≤ row)
   goes_on {last} {before} {row} {at} x linked walks is_x other is_before =
-      let leads = linked.befores row (f q) at (omega (arith, walks.within)) (walks.is_there row refl) is_before in (
+      let leads = linked.befores row (f q) at (omega (arith, walks.within)) (walks.is_there row refl) is_before in
+      (
         record {
           within = omega (arith, leads.within, walks.within);
           none_behind = λ i from is_q. elim (below_or_at row i (below i from is_q)) [
-            | inl less ↦ leads.none_behind i from less (get_map f xs i q is_q)
-            | inr same ↦ other (one_value (sym is_x ∙ sym (ap (slice_get xs) same) ∙ is_q))
+            inl less ↦ leads.none_behind i from less (get_map f xs i q is_q)
+          | inr same ↦ other (one_value (sym is_x ∙ sym (ap (slice_get xs) same) ∙ is_q))
           ];
           is_there = leads.is_there;
         },

@@ -42,18 +42,6 @@ impl Halves {
         self.parts.is_once();
     }
 
-    /// The number of these bytes, if they are there.
-    pub(crate) fn number(&self, bytes: &[u8]) -> Option<u32>
-        ensures some { IfSome result (λ number. slice_get self.now number ≡ Some bytes.now) }
-        ensures none { IfNone result ((i : ℕ) → slice_get self.now i ≡ Some bytes.now → ⊥) }
-    {
-        self.parts.is_once();
-        let (front, back) = bytes.split_at(bytes.len() / 2);
-        let front = self.parts.number(front)?;
-        let back = self.parts.number(back)?;
-        self.pairs.number((front, back))
-    }
-
     /// The number of these bytes, which are added if they aren't there.
     pub(crate) fn enter(&mut self, bytes: &[u8]) -> Result<u32, AllocError>
         ensures ok { IfOk result (λ number. slice_get self.new number ≡ Some bytes.now) }

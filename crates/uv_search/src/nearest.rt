@@ -3,7 +3,7 @@ ghost use Rattle.std.specs.Prelude.{◌≡◌, ◌∷◌, ◌<◌, drop, length,
 ghost use Rattle.uv_search.specs.Settled.{IsTooDeep, IsWay};
 
 use crate::maze::{Maze, Went};
-use crate::seen::{Key, Seen};
+use crate::seen::{Entered, Key, Seen};
 use crate::shortening::{go_back, shorten};
 use std::alloc::{AllocError, Global};
 
@@ -90,9 +90,10 @@ fn keep(
     key: &Key,
     step: Reaching,
 ) -> Result<(), AllocError> {
-    if seen.number(key).is_none() {
-        seen.add(key)?;
-        reached.push(step)?;
+    match seen.enter(key, usize::MAX)? {
+        Entered::There(_) => {}
+        Entered::New => reached.push(step)?,
+        Entered::Full => return Err(AllocError),
     }
     Ok(())
 }
