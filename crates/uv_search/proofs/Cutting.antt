@@ -1,11 +1,11 @@
 -- Byte strings in two parts: which one a pair is, and one pair more.
-use Rattle.std.proofs.Common.{◌≡◌, ℕ, zero, suc, ◌+◌, ◌/◌, ◌<◌, ◌≤◌, Bool, true, false, List, [], ◌∷◌, ◌++◌, length, map, Option, None, IfNone, IfSome, Result, Ok, Err, IfOk, OnErr, refl, sym, ap, subst, ◌∙◌, inl, inr, ◌⊎◌, Some, slice_get, slice_index_or, take, drop, nat_eq, arith, true≢false}
+use Rattle.std.proofs.Common.{◌≡◌, ℕ, zero, suc, ◌/◌, ◌<◌, ◌≤◌, Bool, true, false, List, [], ◌∷◌, ◌++◌, length, map, Result, Ok, Err, IfOk, OnErr, refl, sym, ap, subst, ◌∙◌, inl, inr, Some, slice_get, slice_index_or, take, drop, nat_eq, arith, true≢false}
 use Rattle.std.proofs.lemmas.Option.{slice_get-get_or}
 use Rattle.std.specs.List.{AllByRecursion, IsDistinct}
 use Rattle.std.specs.Cmp.Lexicographic.{pointwise, bytes_decides, nat_list_eq_equiv}
 use Rattle.uv_search.specs.Cuts.{IsCut, IsEntered, IsOnce, KeepsNumbers, joined}
 use Rattle.uv_search.specs.Keys.{Has}
-use Rattle.uv_search.proofs.KeyLists.{get_below, get_before, get_either, get_last, has_at, number_of, map_last}
+use Rattle.uv_search.proofs.KeyLists.{get_below, get_before, get_either, has_at, number_of, map_last}
 use Rattle.uv_search.proofs.Linking.{get_map}
 
 one_value : {X : Type 0} {x y : X} → Some x ≡ Some y → x ≡ y
@@ -39,10 +39,9 @@ module _ (parts : List (List ℕ)) (pairs : List (ℕ × ℕ)) where
       let back = slice_index_or parts pair.1 [] in
       let middle : length front ≡ length key / 2 = cut.middles i pair found.1 ∙ ap (λ k. length k / 2) found.2 in
       let is_front : front ≡ take (length key / 2) key =
-          sym (take_front front back) ∙ ap (λ k. take (length front) k) found.2 ∙ ap (λ n. take n key) middle in
+      sym (take_front front back) ∙ ap (λ k. take (length front) k) found.2 ∙ ap (λ n. take n key) middle in
       let is_back : back ≡ drop (length key / 2) key =
-          sym (drop_front front back) ∙ ap (λ k. drop (length front) k) found.2 ∙ ap (λ n. drop n key) middle in
-      (
+      sym (drop_front front back) ∙ ap (λ k. drop (length front) k) found.2 ∙ ap (λ n. drop n key) middle in (
         pair,
         found.1,
         slice_get-get_or parts pair.0 [] (cut.fronts i pair found.1) ∙ ap Some is_front,
@@ -54,7 +53,8 @@ module _ (parts : List (List ℕ)) (pairs : List (ℕ × ℕ)) where
       → slice_get (map (joined parts) pairs) i ≡ Some (front ++ back)
   of_parts i a b front back is_front is_back is_pair =
       get_map (joined parts) pairs i (a, b) is_pair
-      ∙ ap Some (ap (λ f. f ++ slice_index_or parts b []) (index_of parts a [] front is_front) ∙ ap (λ k. front ++ k) (index_of parts b [] back is_back))
+      ∙ ap Some (ap (λ f. f ++ slice_index_or parts b []) (index_of parts a [] front is_front)
+      ∙ ap (λ k. front ++ k) (index_of parts b [] back is_back))
 
   -- where its pair is missing, it is missing
   pub no_pair : IsOnce parts → IsCut parts pairs → (a b : ℕ) (key : List ℕ) → slice_get parts a ≡ Some (take (length key / 2) key)
@@ -110,26 +110,26 @@ module _ (parts : List (List ℕ)) (pairs : List (ℕ × ℕ)) where
       → IsCut parts (pairs ++ (a, b) ∷ [])
   one_more_cut cut a b key is_front is_back none long whole = record {
     fronts = λ i pair e. elim (get_either pairs (a, b) i pair e) [
-      inl h ↦ cut.fronts i pair h
-    | inr h ↦ subst (λ p. p.0 < length parts) (sym h.1) (get_below parts a _ is_front)
+      | inl h ↦ cut.fronts i pair h
+      | inr h ↦ subst (λ p. p.0 < length parts) (sym h.1) (get_below parts a _ is_front)
     ];
     backs = λ i pair e. elim (get_either pairs (a, b) i pair e) [
-      inl h ↦ cut.backs i pair h
-    | inr h ↦ subst (λ p. p.1 < length parts) (sym h.1) (get_below parts b _ is_back)
+      | inl h ↦ cut.backs i pair h
+      | inr h ↦ subst (λ p. p.1 < length parts) (sym h.1) (get_below parts b _ is_back)
     ];
     middles = λ i pair e. elim (get_either pairs (a, b) i pair e) [
-      inl h ↦ cut.middles i pair h
-    | inr h ↦ subst (λ p. length (slice_index_or parts p.0 []) ≡ length (joined parts p) / 2) (sym h.1)
-        (ap length (index_of parts a [] _ is_front) ∙ long ∙ ap (λ k. length k / 2) (sym is_key))
+      | inl h ↦ cut.middles i pair h
+      | inr h ↦ subst (λ p. length (slice_index_or parts p.0 []) ≡ length (joined parts p) / 2) (sym h.1)
+          (ap length (index_of parts a [] _ is_front) ∙ long ∙ ap (λ k. length k / 2) (sym is_key))
     ];
     pairs_once = λ i j pair e f. elim (get_either pairs (a, b) i pair e) [
-      inl h ↦ elim (get_either pairs (a, b) j pair f) [
-        inl g ↦ cut.pairs_once i j pair h g
-      | inr g ↦ absurd (none i (h ∙ ap Some g.1))
+      | inl h ↦ elim (get_either pairs (a, b) j pair f) [
+        | inl g ↦ cut.pairs_once i j pair h g
+        | inr g ↦ absurd (none i (h ∙ ap Some g.1))
       ]
-    | inr h ↦ elim (get_either pairs (a, b) j pair f) [
-        inl g ↦ absurd (none j (g ∙ ap Some h.1))
-      | inr g ↦ h.0 ∙ sym g.0
+      | inr h ↦ elim (get_either pairs (a, b) j pair f) [
+        | inl g ↦ absurd (none j (g ∙ ap Some h.1))
+        | inr g ↦ h.0 ∙ sym g.0
       ]
     ];
   } where
@@ -198,18 +198,6 @@ pub number_there : (parts : List (List ℕ)) (pairs : List (ℕ × ℕ)) (i a b 
 number_there parts pairs i a b key is_front is_back e =
     of_parts parts pairs i a b _ _ is_front is_back e ∙ ap Some (halves_of (length key / 2) key)
 
--- that it has none
-module _ (parts : List (List ℕ)) (pairs : List (ℕ × ℕ)) (cut : IsCut parts pairs) (key : List ℕ) where
-  pub no_front : ((i : ℕ) → slice_get parts i ≡ Some (take (length key / 2) key) → ⊥) → (i : ℕ) → slice_get (map (joined parts) pairs) i ≡ Some key → ⊥
-  no_front none i e = let at = in_parts parts pairs cut i key e in none at.0.0 at.2
-
-  pub no_back : ((i : ℕ) → slice_get parts i ≡ Some (drop (length key / 2) key) → ⊥) → (i : ℕ) → slice_get (map (joined parts) pairs) i ≡ Some key → ⊥
-  no_back none i e = let at = in_parts parts pairs cut i key e in none at.0.1 at.3
-
-pub if_none : (o : Option ℕ) {P : Type 0} → P → IfNone o P
-if_none None p = p
-if_none (Some n) p = tt
-
 pub if_ok_so : {E : Type 0} (r : Result ℕ E) {P Q : ℕ → Type 0} → ((n : ℕ) → P n → Q n) → IfOk r P → IfOk r Q
 if_ok_so (Ok n) f p = f n p
 if_ok_so (Err e) f p = tt
@@ -217,14 +205,6 @@ if_ok_so (Err e) f p = tt
 pub on_err : {X E : Type 0} (r : Result X E) {P : Type 0} → P → OnErr r P
 on_err (Ok x) p = tt
 on_err (Err e) p = p
-
-pub if_none_so : (o : Option ℕ) {P Q : Type 0} → (P → Q) → IfNone o P → IfNone o Q
-if_none_so None f p = f p
-if_none_so (Some n) f p = tt
-
-pub if_some_so : (o : Option ℕ) {P Q : ℕ → Type 0} → ((n : ℕ) → P n → Q n) → IfSome o P → IfSome o Q
-if_some_so None f p = tt
-if_some_so (Some n) f p = f n p
 
 -- ---- lists in which each is there once
 
@@ -251,8 +231,10 @@ distinct_once (y ∷ ys) once = (
 ) where
   zero_suc : (j : ℕ) → zero ≡ suc j → ⊥
   zero_suc j e = omega (arith, e)
+
   below : (i j : ℕ) → suc i ≡ suc j → i ≡ j
   below i j e = omega (arith, e)
+
   all : (zs : List (List ℕ)) → ((j : ℕ) → slice_get zs j ≡ Some y → ⊥) → AllByRecursion (λ z. pointwise nat_eq y z ≡ false) zs
   all [] none = tt
   all (z ∷ zs) none = (no (pointwise nat_eq y z) (λ same. none 0 (ap Some (sym ((bytes_decides y z).0 same)))), all zs (λ j. none (suc j))) where

@@ -2,7 +2,7 @@
 use Rattle.std.proofs.Common.{◌≡◌, ℕ, zero, suc, ◌<◌, ◌≤◌, List, [], ◌∷◌, ◌++◌, length, map, refl, sym, ap, subst, ◌∙◌, inl, inr, ◌⊎◌, Some, slice_get, slice_set, arith, ◌+◌, ◌-◌, length-append}
 use Rattle.std.proofs.lemmas.List.{length-map}
 use Rattle.uv_search.specs.Chains.{AreLinked, Leads, Linked, place_of}
-use Rattle.uv_search.proofs.KeyLists.{get_last, get_below, get_other, set_long}
+use Rattle.uv_search.proofs.KeyLists.{get_last, get_below, get_other, map_last, set_long}
 
 pub get_map : {X Y : Type 0} (f : X → Y) (xs : List X) (i : ℕ) (x : X) → slice_get xs i ≡ Some x → slice_get (map f xs) i ≡ Some (f x)
 get_map f [] i x e = absurd cc
@@ -48,13 +48,13 @@ pub one_more : {last before places before' places' : List ℕ} {n place at : ℕ
     → Linked (slice_set last place (suc n)) before' places' (suc n)
 one_more {last} {before} {places} {before'} {places'} {n} {place} {at} old alike alike_before is_place is_before is_last = record {
   lasts = λ p a e. elim (same_or_not p place) [
-    inl same ↦ this p a e same
-  | inr other ↦ that p a (sym (get_other last place p (suc n) other) ∙ e) other
+    | inl same ↦ this p a e same
+    | inr other ↦ that p a (sym (get_other last place p (suc n) other) ∙ e) other
   ];
   befores = λ i p a less is_at e. elim (below_or_at n i less) [
-    inl below ↦ leads_still (λ j j_less. alike j (omega (arith, below, j_less)))
+    | inl below ↦ leads_still (λ j j_less. alike j (omega (arith, below, j_less)))
         (old.befores i p a below (sym (alike i below) ∙ is_at) (sym (alike_before i below) ∙ e))
-  | inr same ↦ here i p a is_at e same
+    | inr same ↦ here i p a is_at e same
   ];
 } where
   this : (p a : ℕ) → slice_get (slice_set last place (suc n)) p ≡ Some a → p ≡ place → Leads places' p (suc n) a
@@ -65,17 +65,19 @@ one_more {last} {before} {places} {before'} {places'} {n} {place} {at} old alike
         none_behind = λ i from less _. absurd (omega (arith, one, from, less));
         is_there = λ i e'. ap (slice_get places') (omega (arith, one, e')) ∙ is_place ∙ ap Some (sym same);
       }
+
   that : (p a : ℕ) → slice_get last p ≡ Some a → (p ≡ place → ⊥) → Leads places' p (suc n) a
   that p a e other =
       let was = leads_still alike (old.lasts p a e) in
       record {
         within = omega (arith, was.within);
         none_behind = λ i from less is_at. elim (below_or_at n i less) [
-          inl below ↦ was.none_behind i from below is_at
-        | inr same ↦ other (one_value (sym is_at ∙ ap (slice_get places') same ∙ is_place))
+          | inl below ↦ was.none_behind i from below is_at
+          | inr same ↦ other (one_value (sym is_at ∙ ap (slice_get places') same ∙ is_place))
         ];
         is_there = was.is_there;
       }
+
   here : (i p a : ℕ) → slice_get places' i ≡ Some p → slice_get before' i ≡ Some a → i ≡ n → Leads places' p i a
   here i p a is_at e same =
       let one : p ≡ place = one_value (sym is_at ∙ ap (slice_get places') same ∙ is_place) in
@@ -102,12 +104,9 @@ linked_anew f xs last before n at x old is_x is_last long =
     let below = get_below xs n x is_x in
     let was = get_of before n (omega (arith, below, long)) in
     let more : suc n ≡ n + 1 = omega arith in
-    subst (λ m. Linked (slice_set last (f x) m) (slice_set before n at) (map f xs) m) more (one_more old (λ i less. refl) (λ i less. get_other before n i at (λ e. omega (arith, e, less))) (get_map f xs n x is_x)
+    subst (λ m. Linked (slice_set last (f x) m) (slice_set before n at) (map f xs) m) more
+    (one_more old (λ i less. refl) (λ i less. get_other before n i at (λ e. omega (arith, e, less))) (get_map f xs n x is_x)
     (get_set before n was.0 at was.1) is_last)
-
-map_last : {X Y : Type 0} (f : X → Y) (xs : List X) (x : X) → map f (xs ++ x ∷ []) ≡ map f xs ++ f x ∷ []
-map_last f [] x = refl
-map_last f (y ∷ ys) x = ap (λ zs. f y ∷ zs) (map_last f ys x)
 
 get_front : {X : Type 0} (xs : List X) (y : X) (i : ℕ) → i < length xs → slice_get (xs ++ y ∷ []) i ≡ slice_get xs i
 get_front [] y i less = absurd (omega (arith, less))
@@ -126,12 +125,13 @@ linked_more {last} {before} {pairs} pair at old room is_last =
     let wide = set_long last (f pair) (n + 1) in
     let places_long : length (map f pairs) ≡ n = length-map pairs f in
     let linked = one_more {before' = before ++ at ∷ []} {places' = map f pairs ++ f pair ∷ []} old.linked
-        (λ i less. get_front (map f pairs) (f pair) i (omega (arith, places_long, less)))
-        (λ i less. get_front before at i (omega (arith, old.long, less)))
-        (subst (λ m. slice_get (map f pairs ++ f pair ∷ []) m ≡ Some (f pair)) places_long (get_last (map f pairs) (f pair)))
-        (subst (λ m. slice_get (before ++ at ∷ []) m ≡ Some at) old.long (get_last before at)) is_last in
+    (λ i less. get_front (map f pairs) (f pair) i (omega (arith, places_long, less)))
+    (λ i less. get_front before at i (omega (arith, old.long, less)))
+    (subst (λ m. slice_get (map f pairs ++ f pair ∷ []) m ≡ Some (f pair)) places_long (get_last (map f pairs) (f pair)))
+    (subst (λ m. slice_get (before ++ at ∷ []) m ≡ Some at) old.long (get_last before at)) is_last in
     record {
-      linked = subst (λ c. Linked (slice_set last (f pair) (n + 1)) (before ++ at ∷ []) (map (place_of c) (pairs ++ pair ∷ [])) (length (pairs ++ pair ∷ [])))
+      linked = subst
+          (λ c. Linked (slice_set last (f pair) (n + 1)) (before ++ at ∷ []) (map (place_of c) (pairs ++ pair ∷ [])) (length (pairs ++ pair ∷ [])))
           (sym wide)
           (subst (λ m. Linked (slice_set last (f pair) (n + 1)) (before ++ at ∷ []) (map f (pairs ++ pair ∷ [])) m) (sym long)
           (subst (λ ps. Linked (slice_set last (f pair) (n + 1)) (before ++ at ∷ []) ps (n + 1)) (sym (map_last f pairs pair))
@@ -161,13 +161,12 @@ module _ {X : Type 0} (f : X → ℕ) (xs : List X) (q : X) where
   pub goes_on : {last before : List ℕ} {row at : ℕ} (x : X) → Linked last before (map f xs) (length xs) → Walks (suc row)
       → slice_get xs row ≡ Some x → (x ≡ q → ⊥) → slice_get before row ≡ Some at → Walks at × (at ≤ row)
   goes_on {last} {before} {row} {at} x linked walks is_x other is_before =
-      let leads = linked.befores row (f q) at (omega (arith, walks.within)) (walks.is_there row refl) is_before in
-      (
+      let leads = linked.befores row (f q) at (omega (arith, walks.within)) (walks.is_there row refl) is_before in (
         record {
           within = omega (arith, leads.within, walks.within);
           none_behind = λ i from is_q. elim (below_or_at row i (below i from is_q)) [
-            inl less ↦ leads.none_behind i from less (get_map f xs i q is_q)
-          | inr same ↦ other (one_value (sym is_x ∙ sym (ap (slice_get xs) same) ∙ is_q))
+            | inl less ↦ leads.none_behind i from less (get_map f xs i q is_q)
+            | inr same ↦ other (one_value (sym is_x ∙ sym (ap (slice_get xs) same) ∙ is_q))
           ];
           is_there = leads.is_there;
         },

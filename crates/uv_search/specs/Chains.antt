@@ -1,6 +1,6 @@
--- Rows by places, of which each row has one: the last row of a place, and the row before each one at its place. A row is told by its number and one more,
--- and 0 tells that there is none.
-use Rattle.std.specs.Prelude.{◌≡◌, ℕ, suc, ◌+◌, ◌*◌, ◌/◌, ◌%◌, ◌^◌, ◌<◌, ◌≤◌, List, [], ◌∷◌, Some, slice_get, map, length}
+-- Rows by places, of which each row has one: the last row of a place, and the row before each one at its place. A row is told by its
+-- number and one more, and 0 tells that there is none.
+use Rattle.std.specs.Prelude.{◌≡◌, ℕ, suc, ◌+◌, ◌*◌, ◌/◌, ◌%◌, ◌^◌, ◌<◌, ◌≤◌, List, Some, slice_get, map, length}
 
 -- of the first n rows this one is the last at the place
 pub record Leads (places : List ℕ) (place n at : ℕ) : Type 0 where

@@ -1,5 +1,5 @@
 -- Byte strings that are kept in two parts, each part by its number.
-use Rattle.std.specs.Prelude.{◌≡◌, ℕ, ◌+◌, ◌/◌, ◌<◌, List, [], ◌∷◌, ◌++◌, ◌⊎◌, Some, slice_get, slice_index_or, map, length}
+use Rattle.std.specs.Prelude.{◌≡◌, ℕ, ◌/◌, ◌<◌, List, [], ◌∷◌, ◌++◌, ◌⊎◌, Some, slice_get, slice_index_or, length}
 
 abbrev pub joined : List (List ℕ) → ℕ × ℕ → List ℕ
 joined parts pair = slice_index_or parts pair.0 [] ++ slice_index_or parts pair.1 []

@@ -6,10 +6,10 @@ ghost use Rattle.uv_search.specs.Cuts.{IsEntered};
 use std::alloc::{AllocError, Global};
 use std::marker::Model;
 
-/// How many pairs there may be at most: each has a number that, and one more, is a `u32`.
-const MOST: usize = 0xFFFF_FFFF;
+/// How many rows there may be at most: each has a number that, and one more, is a `u32`.
+pub(crate) const MOST: usize = 0xFFFF_FFFF;
 
-/// Where rows begin.
+/// Half as many places as there are first.
 const FIRST_PLACES: usize = 16;
 
 /// Pairs, numbered from 0 in the order in which they were added.
@@ -69,7 +69,12 @@ fn link(pairs: &[(u32, u32)], before: &mut [u32], last: &mut [u32])
 }
 
 /// Twice as many places, where there are as many pairs as places.
-fn widen(alloc: Global, pairs: &[(u32, u32)], before: &mut [u32], last: &mut Vec<u32>) -> Result<(), AllocError>
+fn widen(
+    alloc: Global,
+    pairs: &[(u32, u32)],
+    before: &mut [u32],
+    last: &mut Vec<u32>,
+) -> Result<(), AllocError>
     requires linked { AreLinked last.old.items before.old pairs.now }
     requires few { length pairs.now < 0xFFFF_FFFF }
     ensures linked { AreLinked last.new.items before.new pairs.now }
@@ -129,7 +134,12 @@ impl Nodes {
         ensures some { IfSome result (λ number. slice_get self.now number ≡ Some pair) }
         ensures none { IfNone result ((i : ℕ) → slice_get self.now i ≡ Some pair → ⊥) }
     {
-        find(self.pairs.as_slice(), self.before.as_slice(), self.last.as_slice(), pair)
+        find(
+            self.pairs.as_slice(),
+            self.before.as_slice(),
+            self.last.as_slice(),
+            pair,
+        )
     }
 
     /// One more, behind the others.
@@ -144,7 +154,12 @@ impl Nodes {
         }
         self.pairs.reserve(1)?;
         self.before.reserve(1)?;
-        widen(self.alloc, self.pairs.as_slice(), self.before.as_mut_slice(), &mut self.last)?;
+        widen(
+            self.alloc,
+            self.pairs.as_slice(),
+            self.before.as_mut_slice(),
+            &mut self.last,
+        )?;
         let place = place(pair, self.last.len());
         self.before.push_reserved(self.last[place]);
         self.pairs.push_reserved(pair);

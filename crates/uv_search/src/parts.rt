@@ -5,13 +5,11 @@ ghost use Rattle.std.proofs.Common.{rules, ap};
 ghost use Rattle.std.specs.Cmp.Rules.{comparing, hashing};
 ghost use Rattle.uv_search.specs.Cuts.{IsOnce, KeepsNumbers};
 
+use crate::nodes::MOST;
 use indexmap::{Equivalent, IndexSet};
 use std::alloc::{AllocError, Global};
 use std::hash::{Hash, Hasher};
 use std::marker::Model;
-
-/// How many there may be at most: each has a number that, and one more, is a `u32`.
-const MOST: usize = 0xFFFF_FFFF;
 
 /// The bytes of a part, which are hashed all at once.
 #[derive(Drop)]

@@ -1,4 +1,3 @@
-use Rattle.std.proofs.Common.{◌≡◌, slice_get, Some, ℕ}
 use Rattle.uv_search.proofs.Cutting.{kept_twice}
 use Rattle.uv_search.proofs.seen.pair_of.Goals as goal
 

@@ -1,7 +1,7 @@
-use Rattle.std.proofs.Common.{◌≡◌, ◌<◌, length, sym, ap, subst, ◌∙◌, arith, slice_get, slice_set, slice_index_or, Some, ℕ, ◌++◌, ◌∷◌, [], ◌+◌}
+use Rattle.std.proofs.Common.{◌≡◌, ◌<◌, length, ap, subst, ◌∙◌, arith, slice_get, slice_set, slice_index_or, Some, ◌+◌}
 use Rattle.std.proofs.lemmas.Grind.{common_steps}
 use Rattle.std.proofs.lemmas.Option.{slice_get-get_or}
-use Rattle.uv_search.specs.Chains.{AreLinked, place_of}
+use Rattle.uv_search.specs.Chains.{place_of}
 use Rattle.uv_search.proofs.Linking.{linked_as, linked_more}
 use Rattle.uv_search.proofs.nodes.Nodes.add.Goals as goal
 
@@ -12,7 +12,8 @@ invariant_of-self-2 c =
     let linked = c.in_ok-widen.ensures.linked in
     let below : c.place-place.result < length last = omega (arith, c.len.ensures, c.place-place.ensures.below) in
     let long : c.len.result ≡ length last = omega (arith, c.len.ensures) in
-    let is : c.place-place.result ≡ place_of (length last) c.args.pair = subst (λ m. c.place-place.result ≡ place_of m c.args.pair) long c.place-place.ensures.value in
+    let is : c.place-place.result ≡ place_of (length last) c.args.pair =
+    subst (λ m. c.place-place.result ≡ place_of m c.args.pair) long c.place-place.ensures.value in
     let at = slice_get-get_or last c.place-place.result 0 below in
     let more = linked_more c.args.pair (slice_index_or last c.place-place.result 0) linked c.in_ok-widen.ensures.room
     (subst (λ p. slice_get last p ≡ Some (slice_index_or last c.place-place.result 0)) is at) in

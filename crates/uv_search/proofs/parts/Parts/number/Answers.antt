@@ -1,4 +1,4 @@
-use Rattle.std.proofs.Common.{◌≡◌, List, ℕ, true, Option, Some, None, sym, subst, ◌∙◌, map, nat_eq, slice_get, position, is_some}
+use Rattle.std.proofs.Common.{◌≡◌, List, ℕ, true, Some, None, sym, subst, ◌∙◌, map, nat_eq, slice_get, position, is_some}
 use Rattle.std.specs.List.{list_any}
 use Rattle.std.specs.Cmp.Lexicographic.{pointwise}
 use Rattle.uv_search.specs.declared.parts.Part.{Part}
