@@ -133,6 +133,26 @@ op_shift d s (op.Again v) fits repeats = on_handle_shift d s v again_refusal _ _
     (λ id h held e. again_shift d s id h (repeats id h held) (is_a_timer (is_timer h.kind) _ e))
 op_shift d s (op.DueIn v) fits repeats = search (on_handle_shift, due_at, is_a_timer)
 op_shift d s each fits repeats =
-    grind (arith, make_shift, new_shift, queued_shift, live_request_shift, cancel_shift, on_handle_shift, start_shift, is_a_timer,
-    start_watcher_shift, starts_no_timer, stopped_shift, again_shift, with_handle_shift, due_at, closed_shift, send_shift, alive_shift,
-    backend_timeout_shift, if_shift, in_use_shift)
+    grind (
+      arith,
+      make_shift,
+      new_shift,
+      queued_shift,
+      live_request_shift,
+      cancel_shift,
+      on_handle_shift,
+      start_shift,
+      is_a_timer,
+      start_watcher_shift,
+      starts_no_timer,
+      stopped_shift,
+      again_shift,
+      with_handle_shift,
+      due_at,
+      closed_shift,
+      send_shift,
+      alive_shift,
+      backend_timeout_shift,
+      if_shift,
+      in_use_shift,
+    )

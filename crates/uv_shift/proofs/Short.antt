@@ -118,8 +118,20 @@ send_short n s v k = at (live_handle s v) (λ t e. held_short n s t.0 t.1 k (liv
 op_short : (n : ℕ) (s : State) (o : Op) → 0 < n → IsShortOp n o → Keeps n s → Keeps n (do_op s o).state
 op_short n s op.CloseLoop pos b k = kept_if (λ (d : ops.Done). Keeps n d.state) (ops.is_in_use s) _ _ k k
 op_short n s each pos b k =
-    search (make_short, new_short, taken_short, cancel_short, on_handle_short, started_short, start_watcher_short, restarted_short,
-    with_short, short_set, send_short, kept_if)
+    search (
+      make_short,
+      new_short,
+      taken_short,
+      cancel_short,
+      on_handle_short,
+      started_short,
+      start_watcher_short,
+      restarted_short,
+      with_short,
+      short_set,
+      send_short,
+      kept_if,
+    )
 
 -- ---- a step
 
