@@ -123,10 +123,15 @@ kind_text kind.Check h = []
 kind_text kind.Async h = flagged (codes " pending ") h.pending
 kind_text kind.Io h = []
 
+abbrev pub flags_text : HandleRecord → List ℕ
+flags_text h = flagged (codes " ref ") h.referenced ++ flagged (codes " active ") h.active ++ flagged (codes " closing ") h.closing
+
+-- what each handle has
+abbrev pub front_text : Program → HandleRecord → List ℕ
+front_text p h = kind_word h.kind ++ codes " " ++ name_text p.names h.name ++ flags_text h
+
 abbrev pub record_text : Program → HandleRecord → List ℕ
-record_text p h =
-    kind_word h.kind ++ codes " " ++ name_text p.names h.name ++ flagged (codes " ref ") h.referenced ++ flagged (codes " active ") h.active
-    ++ flagged (codes " closing ") h.closing ++ kind_text h.kind h
+record_text p h = front_text p h ++ kind_text h.kind h
 
 -- an open request: which worker runs it, or that it waits for one
 abbrev pub open_text : Option ℕ → List ℕ
@@ -144,12 +149,15 @@ request_text p worker r =
     codes "work " ++ name_text p.names r.name ++ codes " " ++ outcome_text worker r.outcome ++ numbered (codes " ") r.task.rounds
     ++ task_text (text_of r.task)
 
+abbrev pub empty_text : Bool → List ℕ
+empty_text true = codes "empty"
+empty_text false = codes "retired"
+
 -- what a slot holds; an empty one is on the free list or retired. A request is shown with the worker that runs it
 abbrev pub content_text : Program → Bool → Option ℕ → Option Content → List ℕ
 content_text p free worker (Some (content.Handle h)) = record_text p h
 content_text p free worker (Some (content.Request r)) = request_text p worker r
-content_text p true worker None = codes "empty"
-content_text p false worker None = codes "retired"
+content_text p free worker None = empty_text free
 
 abbrev pub slot_line : Program → Bool → Option ℕ → Id → Option Content → List ℕ
 slot_line p free worker id c = codes "slot " ++ id_text id ++ codes " " ++ content_text p free worker c ++ codes "\n"

@@ -9,14 +9,17 @@ ghost use Rattle.uv_model.specs.After.{after};
 ghost use Rattle.uv_model.specs.declared.place.Place.TheVariants.{Running};
 ghost use Rattle.uv_model.specs.Queries.{numbers, timer_ids};
 ghost use Rattle.uv_script.specs.Writes.{Writes};
-ghost use Rattle.uv_text.specs.State.{numbered, flagged, steps_line, timers_text, stage_text, callback_word, body_text, place_line, bound_text, counts_text, name_line, name_part, kind_text, record_text, open_text, outcome_text, request_text, content_text, slot_line, slot_part, free_line, unused_line, holder_text, member_text, list_line, list_word, held_line, bound_line, named_text, members_line, before_poll, after_poll, run_text, runs_upto, running_line, work_text, last_part, part_after, part_count, state_text};
+ghost use Rattle.uv_script.specs.Text.{name_text};
+ghost use Rattle.uv_text.specs.Trace.{id_text};
+ghost use Rattle.uv_text.specs.State.{numbered, flagged, steps_line, timers_text, stage_text, callback_word, body_text, place_line, name_line, name_part, kind_text, front_text, record_text, open_text, outcome_text, request_text, empty_text, slot_line, slot_part, free_line, unused_line, holder_text, member_text, list_line, list_word, held_line, bound_line, named_text, members_line, before_poll, after_poll, run_text, runs_upto, running_line, work_text, last_part, part_after, part_count, state_text};
 
 use crate::parts::{Parts, push_parts};
+use crate::room::{letters, put, put_bound, put_counts, put_flags, put_id, put_name};
 use crate::trace::{push_id, push_timeout};
 use std::alloc::{AllocError, Global};
 use uv_ids::{Callback, Fault, Id, Kind, Var};
 use uv_model::{Body, Machine, Numbers, Place, Run, Stage, TimersOf, Timing};
-use uv_records::{Calls, HandleRecord, ListName, Named};
+use uv_records::{HandleRecord, ListName, Named};
 use uv_script::{Script, push_number, push_task_text};
 use uv_session::Session;
 use uv_work::{Content, Outcome, Request};
@@ -239,22 +242,8 @@ fn push_run_place(text: &mut Vec<u8>, script: &Script, run: Run) -> Result<(), A
     text.extend_from_slice(b"\n")
 }
 
-fn push_bound(text: &mut Vec<u8>, id: Option<Id>) -> Result<(), AllocError>
-    ensures { Writes result text.old.items (bound_text id) text.new.items }
-{
-    match id {
-        Some(id) => push_id(text, id),
-        None => text.extend_from_slice(b"none"),
-    }
-}
-
-fn push_counts(text: &mut Vec<u8>, counts: Calls) -> Result<(), AllocError>
-    ensures { Writes result text.old.items (counts_text counts) text.new.items }
-{
-    push_numbered(text, " ", u64::from(counts.handle))?;
-    push_numbered(text, " ", u64::from(counts.after))?;
-    push_numbered(text, " ", u64::from(counts.close))
-}
+/// The most bytes of the line of a name, besides those of the name.
+const NAME_LINE: usize = 61;
 
 fn push_name_line(
     text: &mut Vec<u8>,
@@ -264,12 +253,15 @@ fn push_name_line(
 ) -> Result<(), AllocError>
     ensures { Writes result text.old.items (name_line script.now name named) text.new.items }
 {
-    text.extend_from_slice(b"name ")?;
-    script.names().push_name(text, name)?;
-    text.extend_from_slice(b" ")?;
-    push_bound(text, named.id)?;
-    push_counts(text, named.calls)?;
-    text.extend_from_slice(b"\n")
+    let name = letters(script, name);
+    text.reserve(name.len() + NAME_LINE)?;
+    put(text, b"name ");
+    put_name(text, name);
+    text.push_reserved(b' ');
+    put_bound(text, named.id);
+    put_counts(text, named.calls);
+    text.push_reserved(b'\n');
+    Ok(())
 }
 
 /// A name, by its number.
@@ -335,8 +327,8 @@ pub fn push_named<M: Machine>(
 }
 
 /// What a handle has that those of another kind have not.
-fn push_kind(text: &mut Vec<u8>, handle: HandleRecord) -> Result<(), AllocError>
-    ensures { Writes result text.old.items (kind_text handle.kind handle) text.new.items }
+fn push_kind(text: &mut Vec<u8>, handle: &HandleRecord) -> Result<(), AllocError>
+    ensures { Writes result text.old.items (kind_text handle.now.kind handle.now) text.new.items }
 {
     match handle.kind {
         Kind::Timer => {
@@ -350,16 +342,43 @@ fn push_kind(text: &mut Vec<u8>, handle: HandleRecord) -> Result<(), AllocError>
     }
 }
 
-fn push_record(text: &mut Vec<u8>, script: &Script, handle: HandleRecord) -> Result<(), AllocError>
-    ensures { Writes result text.old.items (record_text script.now handle) text.new.items }
+/// The most bytes of a handle's line before what only its kind has, besides those of its name.
+const HANDLE: usize = 60;
+
+/// The line of a slot that holds a handle, up to what only its kind has.
+fn push_handle(
+    text: &mut Vec<u8>,
+    script: &Script,
+    id: Id,
+    handle: &HandleRecord,
+) -> Result<(), AllocError>
+    ensures { Writes result text.old.items (codes "slot " ++ id_text id ++ codes " " ++ front_text script.now handle.now) text.new.items }
 {
-    text.extend_from_slice(handle.kind.word().as_bytes())?;
-    text.extend_from_slice(b" ")?;
-    script.names().push_name(text, handle.name)?;
-    push_flagged(text, " ref ", handle.referenced)?;
-    push_flagged(text, " active ", handle.active)?;
-    push_flagged(text, " closing ", handle.closing)?;
-    push_kind(text, handle)
+    let name = letters(script, handle.name);
+    let word = handle.kind.word().as_bytes();
+    text.reserve(name.len() + HANDLE)?;
+    put(text, b"slot ");
+    put_id(text, id);
+    text.push_reserved(b' ');
+    put(text, word);
+    text.push_reserved(b' ');
+    put_name(text, name);
+    put_flags(text, handle);
+    Ok(())
+}
+
+/// The line of a slot that holds a handle.
+fn push_handle_line(
+    text: &mut Vec<u8>,
+    script: &Script,
+    id: Id,
+    handle: &HandleRecord,
+) -> Result<(), AllocError>
+    ensures { Writes result text.old.items (codes "slot " ++ id_text id ++ codes " " ++ record_text script.now handle.now ++ codes "\n") text.new.items }
+{
+    push_handle(text, script, id, handle)?;
+    push_kind(text, handle)?;
+    text.extend_from_slice(b"\n")
 }
 
 fn push_open(text: &mut Vec<u8>, worker: Option<usize>) -> Result<(), AllocError>
@@ -402,23 +421,7 @@ fn push_request(
     push_task_text(text, request.task.text())
 }
 
-fn push_content(
-    text: &mut Vec<u8>,
-    script: &Script,
-    is_free: bool,
-    worker: Option<usize>,
-    content: Option<Content>,
-) -> Result<(), AllocError>
-    ensures { Writes result text.old.items (content_text script.now is_free worker content) text.new.items }
-{
-    match content {
-        Some(Content::Handle(handle)) => push_record(text, script, handle),
-        Some(Content::Request(request)) => push_request(text, script, worker, request),
-        None if is_free => text.extend_from_slice(b"empty"),
-        None => text.extend_from_slice(b"retired"),
-    }
-}
-
+/// The line of a slot.
 fn push_slot_line(
     text: &mut Vec<u8>,
     script: &Script,
@@ -429,11 +432,38 @@ fn push_slot_line(
 ) -> Result<(), AllocError>
     ensures { Writes result text.old.items (slot_line script.now is_free worker id content) text.new.items }
 {
+    match content {
+        Some(Content::Handle(handle)) => push_handle_line(text, script, id, &handle),
+        Some(Content::Request(request)) => push_request_line(text, script, worker, id, request),
+        None => push_empty_line(text, is_free, id),
+    }
+}
+
+/// The line of a slot that holds a request.
+fn push_request_line(
+    text: &mut Vec<u8>,
+    script: &Script,
+    worker: Option<usize>,
+    id: Id,
+    request: Request,
+) -> Result<(), AllocError>
+    ensures { Writes result text.old.items (codes "slot " ++ id_text id ++ codes " " ++ request_text script.now worker request ++ codes "\n")
+        text.new.items }
+{
     text.extend_from_slice(b"slot ")?;
     push_id(text, id)?;
     text.extend_from_slice(b" ")?;
-    push_content(text, script, is_free, worker, content)?;
+    push_request(text, script, worker, request)?;
     text.extend_from_slice(b"\n")
+}
+
+/// The line of a slot that holds nothing.
+fn push_empty_line(text: &mut Vec<u8>, is_free: bool, id: Id) -> Result<(), AllocError>
+    ensures { Writes result text.old.items (codes "slot " ++ id_text id ++ codes " " ++ empty_text is_free ++ codes "\n") text.new.items }
+{
+    text.extend_from_slice(b"slot ")?;
+    push_id(text, id)?;
+    text.extend_from_slice(if is_free { b" empty\n" } else { b" retired\n" })
 }
 
 /// A slot that was used.
@@ -504,12 +534,26 @@ fn push_holder(
     }
 }
 
+/// A space, and a name.
+fn push_spaced_name(text: &mut Vec<u8>, script: &Script, name: Var) -> Result<(), AllocError>
+    ensures { Writes result text.old.items (codes " " ++ name_text script.now.names name) text.new.items }
+{
+    let name = letters(script, name);
+    text.reserve(name.len() + 1)?;
+    text.push_reserved(b' ');
+    put_name(text, name);
+    Ok(())
+}
+
 fn push_member<M: Machine>(text: &mut Vec<u8>, machine: &M, id: Id) -> Result<(), AllocError>
     ensures { Writes result text.old.items (member_text
         (M.program machine.now) (after (M.program machine.now) (M.standing machine.now)) id) text.new.items }
 {
-    text.extend_from_slice(b" ")?;
-    push_holder(text, machine.script(), machine.held(id))
+    match machine.held(id) {
+        Some(Content::Handle(handle)) => push_spaced_name(text, machine.script(), handle.name),
+        Some(Content::Request(request)) => push_spaced_name(text, machine.script(), request.name),
+        None => text.extend_from_slice(b" "),
+    }
 }
 
 #[tactic(auto, using(crate::proofs::Pieces::pieces, uv_script::proofs::Writing::writing))]

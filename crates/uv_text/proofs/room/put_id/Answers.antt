@@ -25,3 +25,9 @@ put_number-requires-2 c =
       c.push_reserved.ensures.len,
       c.push_reserved.ensures.capacity,
     )
+
+pub returns-clause-len : goal.returns-clause-len
+returns-clause-len c =
+    let few = length-decimal-le 10 c.args.id.slot (omega arith) (omega arith) (omega arith) in
+    let more = length-decimal-le 10 c.args.id.generation (omega arith) (omega arith) (omega arith) in
+    omega (arith, few, more, c.put_number.ensures.len, c.push_reserved.ensures.len, c.put_number-2.ensures.len)

@@ -9,12 +9,12 @@ pub returns-in_err-push_numbered-in-Timer-2 : goal.returns-in_err-push_numbered-
 returns-in_err-push_numbered-in-Timer-2 c =
     let exit = c.from_residual-in_err-push_numbered-in-Timer-2 in
     let p = err_from_is_err_and exit.result exit.ensures.1 in
-    rw (p.1, c.in-Timer.is) (cut (flagged (codes " begun ") c.args.handle.begun ++ numbered (codes " due ") c.args.handle.due.at)
+    rw (p.1, c.in-Timer.is) (cut (flagged (codes " begun ") c.args.handle.now.begun ++ numbered (codes " due ") c.args.handle.now.due.at)
     c.in_err-push_numbered-in-Timer-2.ensures (grind (arith, append_assoc)) (search (begins_itself, begins_more)))
 
 pub returns-in_ok-push_numbered-in-Timer-2 : goal.returns-in_ok-push_numbered-in-Timer-2
 returns-in_ok-push_numbered-in-Timer-2 c =
-    let front = flagged (codes " begun ") c.args.handle.begun ++ numbered (codes " due ") c.args.handle.due.at
-    ++ numbered (codes " start ") c.args.handle.due.start in
+    let front = flagged (codes " begun ") c.args.handle.now.begun ++ numbered (codes " due ") c.args.handle.now.due.at
+    ++ numbered (codes " start ") c.args.handle.now.due.start in
     let before : c.push_numbered-in-Timer.new.text.items ≡ c.args.text.now.items ++ front = grind (arith, append_assoc) in
     rw c.in-Timer.is (search (rules, writing, before))
