@@ -3,14 +3,15 @@
 
 ghost use Rattle.std.specs.Prelude.{◌≡◌, ◌≤◌, ◌++◌, length, IfOk, IfErr, codes};
 ghost use Rattle.uv_ids.specs.declared.fault.Fault.TheVariants.{Memory};
-ghost use Rattle.uv_ids.specs.declared.seen.Seen.TheVariants.{Op, After};
+ghost use Rattle.uv_ids.specs.declared.seen.Seen.TheVariants.{Op, After, Call};
+ghost use Rattle.uv_ids.specs.Words.{phase_word};
 ghost use Rattle.hex.specs.Hex.{encode_lower};
 ghost use Rattle.uv_script.specs.Writes.{Writes};
 ghost use Rattle.uv_text.specs.Trace.{id_text, handle_text, timeout_text, answer_text, end_text, worker_text, outside_text, site_text, line_text, seen_text};
 
-use crate::room::{ID, put, put_id, put_name};
+use crate::room::{ID, letters, put, put_id, put_name};
 use std::alloc::{AllocError, Global};
-use uv_ids::{Answer, Code, Fault, Id, Seen, Site, Var};
+use uv_ids::{Answer, Code, Fault, Id, Phase, Seen, Site, Var};
 use uv_script::{Script, push_number};
 
 /// A trace line with its line feed.
@@ -28,7 +29,47 @@ pub fn seen_text(alloc: Global, script: &Script, seen: Seen) -> Result<Vec<u8>, 
 pub fn push_seen(text: &mut Vec<u8>, script: &Script, seen: Seen) -> Result<(), AllocError>
     ensures { Writes result text.old.items (seen_text script.now seen) text.new.items }
 {
-    push_line(text, script, seen)?;
+    match seen {
+        Seen::Call(name, id) => push_call(text, script, name, id),
+        Seen::Section(phase) => push_section(text, phase),
+        _ => push_other(text, script, seen),
+    }
+}
+
+/// The line of a callback of a handle, with its line feed. It is in a function of its own, and so is that of a section: most lines are
+/// one of the two.
+#[inline(always)]
+fn push_call(text: &mut Vec<u8>, script: &Script, name: Var, id: Id) -> Result<(), AllocError>
+    ensures { Writes result text.old.items (seen_text script.now (Call name id)) text.new.items }
+{
+    let name = letters(script, name);
+    text.reserve(name.len() + 7 + ID)?;
+    put(text, b"call ");
+    put_name(text, name);
+    text.push_reserved(b' ');
+    put_id(text, id);
+    text.push_reserved(b'\n');
+    Ok(())
+}
+
+/// The line of a section, with its line feed.
+#[inline(always)]
+fn push_section(text: &mut Vec<u8>, phase: Phase) -> Result<(), AllocError>
+    ensures { Writes result text.old.items (phase_word phase ++ codes "\n") text.new.items }
+{
+    let word = phase.word().as_bytes();
+    text.reserve(word.len() + 1)?;
+    put(text, word);
+    text.push_reserved(b'\n');
+    Ok(())
+}
+
+/// Any line, with its line feed.
+#[inline(never)]
+fn push_other(text: &mut Vec<u8>, script: &Script, seen: Seen) -> Result<(), AllocError>
+    ensures { Writes result text.old.items (seen_text script.now seen) text.new.items }
+{
+    push_any_line(text, script, seen)?;
     text.push(b'\n')?;
     Ok(())
 }
@@ -180,10 +221,7 @@ fn push_handle(
     requires { length word.now ≤ 7 }
     ensures { Writes result text.old.items (word.now ++ handle_text script.now name id) text.new.items }
 {
-    let name = match script.names().get(name) {
-        Some(bytes) => bytes,
-        None => &[],
-    };
+    let name = letters(script, name);
     text.reserve(word.len() + name.len() + 1 + ID)?;
     put(text, word);
     put_name(text, name);
