@@ -1,10 +1,11 @@
 """What a line costs in instructions: tests/costs/lines [--program PATH] [--beside PATH]
 
 Each figure is what two sessions differ by (`valgrind --tool=callgrind`), of which one has more steps, handles or lines of script, divided
-by how many more. The steps are those of ten idle handles that spin (as in tests/costs/instructions), and no list of them grows between
-the two. What a command takes is the difference of a session that gives it and one that doesn't. A replay is a whole run of the program
-over a recording, so its figure has the callbacks that are compared: half of the steps call one. A handle of `state` has two lines in it,
-that of its name and that of its slot; a script gives a handle three lines, of which one is its name's.
+by how many more. The steps are those of idle handles that spin, one or ten (as in tests/costs/instructions), and no list of them grows
+between the two. What a command takes is the difference of a session that gives it and one that doesn't. A replay is a whole run of the
+program over a recording, so its figure has the callbacks that are compared: of ten handles half of the steps call one, of one a tenth. A
+handle of `state` has two lines in it, that of its name and that of its slot, and if it is started its name stands in the line of a list;
+a script gives a handle three lines, of which one is its name's.
 
 The program is that of ./uvt build, or the one that is named. With --beside another program stands beside it, as the same one of an older
 version, and the ratio of the two.
@@ -27,16 +28,16 @@ FEW, MANY = 36_000, 60_000
 SOME, MORE = 1000, 4000
 
 
-def spinning(steps: int) -> list[str]:
-    """Ten idle handles, after so many steps."""
-    return [*idle_handles(10), "begin", f"loop {steps}"]
+def spinning(count: int, steps: int) -> list[str]:
+    """So many idle handles, after so many steps."""
+    return [*idle_handles(count), "begin", f"loop {steps}"]
 
 
-def handles(count: int, kind: str, start: str) -> list[str]:
-    """So many handles, each started by these words, and the steps that make them."""
+def handles(count: int, kind: str, then: str) -> list[str]:
+    """So many handles, behind whose `init` there is this line (NAME is that of the handle), and the steps that make them."""
     lines = [f"slots {count}", *(f"var n{number}" for number in range(count))]
     for number in range(count):
-        lines += [f"main init n{number} {kind}", f"main start n{number}{start}"]
+        lines += [f"main init n{number} {kind}", f"main {then.replace('NAME', f'n{number}')}"]
     return [*lines, "main run default", "begin", f"loop {2 * count + 1}"]
 
 
@@ -49,49 +50,55 @@ def command(program: str, lines: list[str], word: str) -> int:
     return conversation(program, [*lines, word]) - conversation(program, lines)
 
 
-def a_step(program: str) -> float:
-    return (conversation(program, spinning(MANY)) - conversation(program, spinning(FEW))) / (MANY - FEW)
+def a_step(program: str, count: int) -> float:
+    few, many = (conversation(program, spinning(count, steps)) for steps in (FEW, MANY))
+    return (many - few) / (MANY - FEW)
 
 
-def shown_step(word: str) -> Callable[[str], float]:
+def shown_step(program: str, count: int, word: str) -> float:
     """A standing step, in what this command shows."""
-    return lambda program: (command(program, spinning(MANY), word) - command(program, spinning(FEW), word)) / (MANY - FEW)
+    few, many = (command(program, spinning(count, steps), word) for steps in (FEW, MANY))
+    return (many - few) / (MANY - FEW)
 
 
-def recording(program: str, steps: int) -> bytes:
+def recording(program: str, count: int, steps: int) -> bytes:
     """The recording of a session of so many steps."""
-    ran = subprocess.run([program, "debug"], input=text_of([*spinning(steps), "record"]), stdout=subprocess.PIPE)
+    ran = subprocess.run([program, "debug"], input=text_of([*spinning(count, steps), "record"]), stdout=subprocess.PIPE)
     start = ran.stdout.rfind(b"\nuvt ") + 1
     if ran.returncode or not start:
         raise Fault(f"{program} ended with status {ran.returncode}, and without a recording")
     return ran.stdout[start:]
 
 
-def replayed(program: str) -> float:
-    few, many = (collected([program, "replay"], recording(program, steps)) for steps in (FEW, MANY))
+def replayed(program: str, count: int) -> float:
+    few, many = (collected([program, "replay"], recording(program, count, steps)) for steps in (FEW, MANY))
     return (many - few) / (MANY - FEW)
 
 
-def state_of(kind: str, start: str) -> Callable[[str], float]:
+def state_of(program: str, kind: str, then: str) -> float:
     """A handle of this kind, in the lines of `state`."""
-    return lambda program: (command(program, handles(MORE, kind, start), "state") - command(program, handles(SOME, kind, start), "state")) / (
-        MORE - SOME
-    )
+    some, more = (command(program, handles(count, kind, then), "state") for count in (SOME, MORE))
+    return (more - some) / (MORE - SOME)
 
 
 def read_line(program: str) -> float:
     """A line of a script that is read."""
-    few, many = (handles(count, "check", "")[:-1] for count in (SOME, MORE))
+    few, many = (handles(count, "check", "start NAME")[:-1] for count in (SOME, MORE))
     return (conversation(program, many) - conversation(program, few)) / (len(many) - len(few))
 
 
 FIGURES: dict[str, Callable[[str], float]] = {
-    "a step on, printed": a_step,
-    "a line of `trace`": shown_step("trace"),
-    "a step of `record`": shown_step("record"),
-    "a replayed step": replayed,
-    "a check handle of `state`": state_of("check", ""),
-    "a timer of `state`": state_of("timer", " 100 100"),
+    "an idle handle: a step on, printed": lambda program: a_step(program, 1),
+    "a line of `trace`": lambda program: shown_step(program, 1, "trace"),
+    "a step of `record`": lambda program: shown_step(program, 1, "record"),
+    "a replayed step": lambda program: replayed(program, 1),
+    "10 idle handles: a step on, printed": lambda program: a_step(program, 10),
+    "a line of `trace`, of ten": lambda program: shown_step(program, 10, "trace"),
+    "a step of `record`, of ten": lambda program: shown_step(program, 10, "record"),
+    "a replayed step, of ten": lambda program: replayed(program, 10),
+    "a check handle of `state`": lambda program: state_of(program, "check", "active NAME"),
+    "one that is started": lambda program: state_of(program, "check", "start NAME"),
+    "a timer that is started": lambda program: state_of(program, "timer", "start NAME 100 100"),
     "a line of a script": read_line,
 }
 
