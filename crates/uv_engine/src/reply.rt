@@ -49,7 +49,7 @@ pub(crate) fn tell<M: Machine>(
 {
     match session.do_event(event) {
         Ok(outcome) => {
-            push_appended(text, session.machine().script(), outcome.seen)?;
+            push_appended(text, session.machine().script(), &outcome.seen)?;
             if session.stops(outcome.seen) {
                 push_break(text, session.steps().len())?;
                 return Ok(false);

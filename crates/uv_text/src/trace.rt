@@ -32,6 +32,18 @@ pub fn push_seen(text: &mut Vec<u8>, script: &Script, seen: Seen) -> Result<(), 
     match seen {
         Seen::Call(name, id) => push_call(text, script, name, id),
         Seen::Section(phase) => push_section(text, phase),
+        _ => push_other(text, script, &seen),
+    }
+}
+
+/// The same of a line that lies in an answer, and is read there: a copy of it would cost more than most texts.
+#[inline(always)]
+pub(crate) fn push_lent(text: &mut Vec<u8>, script: &Script, seen: &Seen) -> Result<(), AllocError>
+    ensures { Writes result text.old.items (seen_text script.now seen.now) text.new.items }
+{
+    match seen {
+        Seen::Call(name, id) => push_call(text, script, *name, *id),
+        Seen::Section(phase) => push_section(text, *phase),
         _ => push_other(text, script, seen),
     }
 }
@@ -66,10 +78,10 @@ fn push_section(text: &mut Vec<u8>, phase: Phase) -> Result<(), AllocError>
 
 /// Any line, with its line feed.
 #[inline(never)]
-fn push_other(text: &mut Vec<u8>, script: &Script, seen: Seen) -> Result<(), AllocError>
-    ensures { Writes result text.old.items (seen_text script.now seen) text.new.items }
+fn push_other(text: &mut Vec<u8>, script: &Script, seen: &Seen) -> Result<(), AllocError>
+    ensures { Writes result text.old.items (seen_text script.now seen.now) text.new.items }
 {
-    push_any_line(text, script, seen)?;
+    push_any_line(text, script, *seen)?;
     text.push(b'\n')?;
     Ok(())
 }

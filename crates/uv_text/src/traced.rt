@@ -6,7 +6,7 @@ ghost use Rattle.uv_script.specs.Writes.{Writes};
 ghost use Rattle.uv_text.specs.Trace.{trace_part, appended_text};
 
 use crate::parts::Parts;
-use crate::trace::push_seen;
+use crate::trace::{push_lent, push_seen};
 use std::alloc::AllocError;
 use uv_ids::Seen;
 use uv_model::Machine;
@@ -48,7 +48,10 @@ fn push_trace_part<M: Machine>(
 {
     let steps = machine.len();
     prove!(number < steps);
-    push_appended(text, machine.script(), machine.seen(number + 1))
+    match machine.seen(number + 1) {
+        Some(seen) => push_seen(text, machine.script(), seen),
+        None => Ok(()),
+    }
 }
 
 /// Puts what a step appended behind a text, with a line feed: a line, or nothing.
@@ -56,12 +59,12 @@ fn push_trace_part<M: Machine>(
 pub fn push_appended(
     text: &mut Vec<u8>,
     script: &Script,
-    seen: Option<Seen>,
+    seen: &Option<Seen>,
 ) -> Result<(), AllocError>
-    ensures { Writes result text.old.items (appended_text script.now seen) text.new.items }
+    ensures { Writes result text.old.items (appended_text script.now seen.now) text.new.items }
 {
     match seen {
-        Some(seen) => push_seen(text, script, seen),
+        Some(seen) => push_lent(text, script, seen),
         None => Ok(()),
     }
 }

@@ -12,7 +12,7 @@ returns-in_err-push_handle c =
     let handle = c.args.handle.now in
     let front = codes "slot " ++ id_text c.args.id ++ codes " " ++ front_text script handle in
     let there : front ++ (kind_text handle.kind handle ++ codes "\n") ≡ codes "slot " ++ id_text c.args.id ++ codes " " ++ record_text script handle ++ codes "\n" =
-        grind (arith, append_assoc) in
+    grind (arith, append_assoc) in
     let exit = c.from_residual in
     let p = err_from_is_err_and exit.result exit.ensures.1 in
     rw (p.1) (cut_before c.args.text.now.items front _ _ c.in_err-push_handle.ensures
@@ -25,7 +25,7 @@ returns-in_err-push_kind c =
     let front = codes "slot " ++ id_text c.args.id ++ codes " " ++ front_text script handle in
     let begun = front ++ kind_text handle.kind handle in
     let there : begun ++ codes "\n" ≡ codes "slot " ++ id_text c.args.id ++ codes " " ++ record_text script handle ++ codes "\n" =
-        grind (arith, append_assoc) in
+    grind (arith, append_assoc) in
     let exit = c.from_residual-in_err-push_kind in
     let p = err_from_is_err_and exit.result exit.ensures.1 in
     rw (p.1) (cut front c.in_err-push_kind.ensures c.in_ok-push_handle.ensures
