@@ -61,7 +61,7 @@ fn ended(last: &mut LastStep<u64>, place: u64) {
 /// A record more is there.
 fn push<R: Abort>(rt: &R, trail: &mut Trail<u64>, last: &mut LastStep<u64>) {
     last.rename(Naming::Unbound(Var(2)));
-    trail.reserve().expect(rt, "there is memory");
+    trail.reserve(1).expect(rt, "there is memory");
     trail.push_at(last.place(), last);
 }
 

@@ -1,15 +1,15 @@
 -- A step from where there is room for it: with its line and its record, or not at all.
-use Rattle.uv_loop.proofs.Names.{◌≡◌, ◌∙◌, ◌<◌, ◌++◌, [], ◌∷◌, ℕ, length, Option, None, Ok, Err, refl, arith, sym, subst, Event, Seen, Program, Place, Answers, STEPS, refusal_of, Record, Held, Returns, OfEach, Course, IsCourse, Leads, Steps, AreSame, AreRoomier, IsOneMore, events_of}
+use Rattle.uv_loop.proofs.Names.{◌≡◌, ◌∙◌, ◌<◌, ◌++◌, [], ◌∷◌, ℕ, length, Option, None, Ok, Err, refl, arith, sym, subst, Event, Seen, Program, Place, Answers, STEPS, refusal_of, Record, Held, Returns, OfEach, Course, IsCourse, Leads, Standing, AreSame, AreRoomier, IsOneMore, events_of}
 use Rattle.uv_ids.specs.declared.fault.Fault.TheVariants.{Memory}
 use Rattle.uv_model.specs.Next.{next}
 use Rattle.uv_loop.proofs.Courses.{course, course_moved, course_roomier, course_same, answers_ok, answers_wanting}
 use Rattle.uv_loop.proofs.Told.{few_events, events_told, events_same}
 
 -- no room is made on the heap
-pub roomier : {s t : Steps} (h : Held Place) → AreSame s t → AreRoomier s t h h
+pub roomier : {s t : Standing} (h : Held Place) → AreSame s t → AreRoomier s t h h
 roomier h same = record { steps = same; image = refl; room = omega arith }
 
-module _ {p : Program} {s t : Steps} {h k : Held Place} {w : Course} {n : ℕ} (e : Event)
+module _ {p : Program} {s t : Standing} {h k : Held Place} {w : Course} {n : ℕ} (e : Event)
     (c : IsCourse p (events_of s.seen.items) s.seen.items s.trail.records h) (view : course p (events_of s.seen.items) s.trail.records h n ≡ w)
     (same : AreRoomier s t h k) where
   pub begun : IsCourse p (events_of t.seen.items) t.seen.items t.trail.records k
@@ -21,7 +21,7 @@ module _ {p : Program} {s t : Steps} {h k : Held Place} {w : Course} {n : ℕ} (
       → Answers STEPS w.program w.standing e (Err Memory) (events_of t.seen.items)
   unfinished few free = answers_wanting p _ _ _ h w view c e (few_events _ few) _ free (events_same same.steps.seen)
 
-  module _ {u : Steps} (m : Held Place) {r : Record Place} {line : Option Seen} (few : length s.seen.items < STEPS)
+  module _ {u : Standing} (m : Held Place) {r : Record Place} {line : Option Seen} (few : length s.seen.items < STEPS)
       (leads : Leads p k.image m.image e line) (more : IsOneMore t u line r) where
     few_begun : length (events_of t.seen.items) < STEPS
     few_begun = few_events t.seen.items (subst (λ xs. length xs < STEPS) (sym same.steps.seen) few)

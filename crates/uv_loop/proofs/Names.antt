@@ -42,7 +42,7 @@ pub use Rattle.uv_loop.specs.Pooling.{MayFinish, MayTake}
 pub use Rattle.uv_loop.specs.Taken.{AreRoomier, AreSame, IsOneMore, event_of, events_of}
 pub use Rattle.uv_loop.specs.Turning.{PerformsAt, Turns}
 pub use Rattle.uv_loop.specs.declared.plan.Plan.{Plan}
-pub use Rattle.uv_loop.specs.declared.steps.Steps.{Steps}
+pub use Rattle.uv_loop.specs.Standing.{Standing}
 pub use Rattle.uv_memory.proofs.Rooms.{unwind_still}
 pub use Rattle.uv_memory.proofs.Trails.{begins_same, unwound-push}
 pub use Rattle.uv_memory.specs.Fit.{IsFit}

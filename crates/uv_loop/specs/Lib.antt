@@ -2,6 +2,7 @@ pub mod Begins
 pub mod Turning
 pub mod Course
 pub mod LineRows
+pub mod Standing
 pub mod Taken
 pub mod Pooling
 pub mod Acting

@@ -71,6 +71,6 @@ impl ArenaLoop {
         ensures last { self.now.walk.image.arena.last ≡ (arena_size self.now.program).last_generation }
         ensures begins { unwound self.now.walk.records self.now.walk.image ≡ first_image self.now.program }
     {
-        let _ = self.steps.seen.len();
+        let _ = self.steps.len();
     }
 }

@@ -1,5 +1,5 @@
 //! What the steps that stand appended to the trace, in two rows by its width.
-ghost use Rattle.std.specs.Prelude.{◌≡◌, ◌<◌, ◌++◌, ◌∷◌, [], OnOk, IfOk, IfErr, Some, length, slice_get, take, pred};
+ghost use Rattle.std.specs.Prelude.{◌≡◌, ◌<◌, ◌≤◌, ◌+◌, ◌++◌, ◌∷◌, [], OnOk, IfOk, IfErr, Some, length, slice_get, take, pred};
 ghost use Rattle.uv_loop.specs.LineRows.{said, is_wide, Says};
 
 use std::alloc::{AllocError, Global};
@@ -129,20 +129,22 @@ impl LineRow {
         self.lines[step].said(self.wides.as_slice())
     }
 
-    /// Makes room for one more.
-    pub(crate) fn reserve(&mut self) -> Result<(), AllocError>
+    /// Makes room for so many more.
+    pub(crate) fn reserve(&mut self, count: usize) -> Result<(), AllocError>
         ensures same { self.new.items ≡ self.old.items }
-        ensures ok { OnOk result (0 < self.new.room) }
+        ensures ok { OnOk result (count ≤ self.new.room) }
+        ensures kept { self.old.room ≤ self.new.room }
     {
-        self.lines.reserve(1)?;
-        self.wides.reserve(1)
+        self.lines.reserve(count)?;
+        self.wides.reserve(count)
     }
 
     /// One more. It takes no memory.
     #[inline(always)]
     pub(crate) fn push(&mut self, line: Option<Seen>)
         requires { 0 < self.old.room }
-        ensures { self.new.items ≡ self.old.items ++ line ∷ [] }
+        ensures items { self.new.items ≡ self.old.items ++ line ∷ [] }
+        ensures room { self.old.room ≤ self.new.room + 1 }
     {
         match Line::narrow(line) {
             Ok(narrow) => self.lines.push_reserved(narrow),
@@ -155,7 +157,8 @@ impl LineRow {
 
     /// The last one goes, if there is one.
     pub(crate) fn pop(&mut self)
-        ensures { self.new.items ≡ take (pred (length self.old.items)) self.old.items }
+        ensures items { self.new.items ≡ take (pred (length self.old.items)) self.old.items }
+        ensures room { self.old.room ≤ self.new.room }
     {
         let Some(line) = self.lines.pop() else {
             return;

@@ -67,7 +67,7 @@ impl Machine for ArenaLoop {
         ensures answer { AnswersResult STEPS self.old.program self.old.standing worker work.job result self.new.standing }
         ensures records { Adds result self.old self.new }
     {
-        if self.steps.seen.len() >= STEPS {
+        if self.steps.len() >= STEPS {
             return Err(Fault::StepsFull);
         }
         let (id, request) = match self.memory.work_of(worker) {
@@ -103,7 +103,7 @@ impl Machine for ArenaLoop {
 
     #[tactic(auto, using(uv_model::proofs::Runs::runs))]
     fn len(&self) -> usize {
-        self.steps.seen.len()
+        self.steps.len()
     }
 
     #[tactic(auto, using(uv_model::proofs::Runs::runs, uv_model::proofs::Runs::seen_at))]

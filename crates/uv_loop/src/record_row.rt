@@ -1,5 +1,5 @@
 //! What takes the steps that stand back.
-ghost use Rattle.std.specs.Prelude.{◌≡◌, ◌<◌, ◌++◌, ◌∷◌, [], OnOk, length};
+ghost use Rattle.std.specs.Prelude.{◌≡◌, ◌<◌, ◌≤◌, ◌+◌, ◌++◌, ◌∷◌, [], OnOk, length};
 ghost use Rattle.uv_memory.specs.Record.{at_place};
 
 use crate::kept_place::KeptPlace;
@@ -39,19 +39,21 @@ impl RecordRow {
         self.trail.len()
     }
 
-    /// Makes room for one more.
-    pub(crate) fn reserve(&mut self) -> Result<(), AllocError>
+    /// Makes room for so many more.
+    pub(crate) fn reserve(&mut self, count: usize) -> Result<(), AllocError>
         ensures same { self.new.records ≡ self.old.records }
-        ensures ok { OnOk result (0 < self.new.room) }
+        ensures ok { OnOk result (count ≤ self.new.room) }
+        ensures kept { self.old.room ≤ self.new.room }
     {
-        self.trail.reserve()
+        self.trail.reserve(count)
     }
 
     /// One more. It takes no memory.
     #[inline(always)]
     pub(crate) fn push(&mut self, last: &LastStep<Place>)
         requires { 0 < self.old.room }
-        ensures { self.new.records ≡ self.old.records ++ last.now ∷ [] }
+        ensures records { self.new.records ≡ self.old.records ++ last.now ∷ [] }
+        ensures room { self.old.room ≤ self.new.room + 1 }
     {
         let place = KeptPlace::of(last.place());
         self.trail.push_at(place, last);
@@ -60,7 +62,8 @@ impl RecordRow {
     /// The last one of some goes, and is this but for where the loop stood, which is answered.
     pub(crate) fn pop(&mut self, last: &mut LastStep<Place>) -> Place
         requires { 0 < length self.old.records }
-        ensures { self.old.records ≡ self.new.records ++ at_place result last.new ∷ [] }
+        ensures records { self.old.records ≡ self.new.records ++ at_place result last.new ∷ [] }
+        ensures room { self.old.room ≤ self.new.room }
     {
         match self.trail.pop_at(last) {
             None => unreachable!(),

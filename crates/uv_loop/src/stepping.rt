@@ -1,12 +1,12 @@
 //! A step is taken: what refuses it, the room that it needs, and then what it does, with its line and its record. One of the loop stands
 //! apart from one from outside: what most steps go through is compiled alone then, and hands on no more than it has to.
-ghost use Rattle.std.specs.Prelude.{◌≡◌, ◌≤◌, OnOk, length};
+ghost use Rattle.std.specs.Prelude.{◌≡◌, ◌<◌, ◌≤◌, OnOk, length};
 ghost use Rattle.uv_ids.specs.declared.event.Event.TheVariants.{Loop};
 ghost use Rattle.uv_model.specs.After.{Answers, STEPS};
 ghost use Rattle.uv_memory.specs.Image.{held};
 ghost use Rattle.uv_loop.specs.Course.{Adds};
 ghost use Rattle.uv_loop.specs.Acting.{outside_event};
-ghost use Rattle.uv_loop.specs.Taken.{AreRoomier, HasRoom};
+ghost use Rattle.uv_loop.specs.Taken.{AreRoomier};
 
 use crate::acting::act;
 use crate::arena_loop::ArenaLoop;
@@ -24,7 +24,7 @@ use uv_model::{Outcome, Place, STEPS};
 fn make_room(steps: &mut Steps, memory: &mut Memory<Place>) -> Result<(), AllocError>
     ensures same { AreRoomier steps.old steps.new (held memory.old) (held memory.new) }
     ensures pieces { memory.new.slots.room ≡ memory.old.slots.room }
-    ensures steps { OnOk result (HasRoom steps.new) }
+    ensures steps { OnOk result (0 < steps.new.ready) }
     ensures heap { OnOk result (length (held memory.new).image.arena.memory.row.items ≤ (held memory.new).room) }
 {
     steps.reserve()?;
@@ -39,7 +39,7 @@ impl ArenaLoop {
         ensures answer { Answers STEPS self.old.program self.old.standing Loop result self.new.standing }
         ensures records { Adds result self.old self.new }
     {
-        if self.steps.seen.len() >= STEPS {
+        if self.steps.len() >= STEPS {
             return Err(Fault::StepsFull);
         }
         match loop_refusal(&self.memory, &self.script) {
@@ -64,7 +64,7 @@ impl ArenaLoop {
         ensures answer { Answers STEPS self.old.program self.old.standing (outside_event outside) result self.new.standing }
         ensures records { Adds result self.old self.new }
     {
-        if self.steps.seen.len() >= STEPS {
+        if self.steps.len() >= STEPS {
             return Err(Fault::StepsFull);
         }
         let plan = match plan_of(&self.memory, &self.script, outside) {

@@ -58,23 +58,23 @@ impl<P: Copy> Trail<P> {
         self.rows.len()
     }
 
-    /// Makes room for one more record, whatever its change.
-    pub fn reserve(&mut self) -> Result<(), AllocError>
+    /// Makes room for so many more records, whatever their changes.
+    pub fn reserve(&mut self, count: usize) -> Result<(), AllocError>
         ensures same { self.new.records ≡ self.old.records }
-        ensures ok { OnOk result (0 < self.new.room) }
+        ensures ok { OnOk result (count ≤ self.new.room) }
         ensures kept { self.old.room ≤ self.new.room }
-        ensures wanted { OnErr result (self.old.room ≡ 0) }
+        ensures wanted { OnErr result (self.old.room < count) }
     {
-        if self.rows.reserve(1).is_err() {
+        if self.rows.reserve(count).is_err() {
             return Err(AllocError);
         }
-        if self.smalls.reserve(1).is_err() {
+        if self.smalls.reserve(count).is_err() {
             return Err(AllocError);
         }
-        if self.mediums.reserve(1).is_err() {
+        if self.mediums.reserve(count).is_err() {
             return Err(AllocError);
         }
-        if self.larges.reserve(1).is_err() {
+        if self.larges.reserve(count).is_err() {
             return Err(AllocError);
         }
         Ok(())

@@ -18,8 +18,8 @@ pub invariant_of-self-else-is_wide : goal.invariant_of-self-else-is_wide
 invariant_of-self-else-is_wide c = popped_narrow c.pop.new.self.items c.self.inside.lines.items c.self.inside.wides.items c.in-Some.line
     c.in-Some.ensures.items (sym c.is_wide.ensures ∙ c.if-is_wide.false) c.self.invariant
 
-pub returns-in-Some-pop : goal.returns-in-Some-pop
-returns-in-Some-pop c =
+pub returns-in-Some-pop-clause-items : goal.returns-in-Some-pop-clause-items
+returns-in-Some-pop-clause-items c =
     let kept = popped_wide c.pop.new.self.items c.self.inside.lines.items c.pop-then-is_wide.new.self.items
     c.self.inside.wides.items c.in-Some.line c.in-Some-pop.field-0 c.in-Some.ensures.items c.in-Some-pop.ensures.items
     (sym c.is_wide.ensures ∙ c.if-is_wide.true) c.self.invariant in

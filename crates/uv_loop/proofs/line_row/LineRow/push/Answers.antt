@@ -14,8 +14,8 @@ invariant_of-self-in-Err c =
     c.push_reserved-in-Err-2.new.self.items c.len.result c.in-Err.wide last c.push_reserved-in-Err.ensures.items
     c.push_reserved-in-Err-2.ensures.items c.self.invariant
 
-pub returns-in-Err : goal.returns-in-Err
-returns-in-Err c =
+pub returns-in-Err-clause-items : goal.returns-in-Err-clause-items
+returns-in-Err-clause-items c =
     let last : c.len.result ≡ length c.self.inside.wides.items = search rules in
     said_wide_pushed c.self.inside.lines.items c.push_reserved-in-Err.new.self.items c.self.inside.wides.items
     c.push_reserved-in-Err-2.new.self.items c.len.result c.in-Err.wide last c.push_reserved-in-Err.ensures.items
