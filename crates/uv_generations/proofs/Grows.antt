@@ -70,8 +70,21 @@ stopped_grows n s id h k = set_grows n s.arena.slots id.slot _ k
 
 op_grows : (n : ℕ) (s : State) (o : Op) → Grows n s → Grows n (do_op s o).state
 op_grows n s each k =
-    grind (arith, make_grows, new_grows, taken_grows, cancel_grows, on_handle_grows, set_grows, stopped_grows, start_watcher_grows, restarted_grows,
-    turned_grows, send_grows, kept_if)
+    grind (
+      arith,
+      make_grows,
+      new_grows,
+      taken_grows,
+      cancel_grows,
+      on_handle_grows,
+      set_grows,
+      stopped_grows,
+      start_watcher_grows,
+      restarted_grows,
+      turned_grows,
+      send_grows,
+      kept_if,
+    )
 
 -- ---- a step
 

@@ -186,6 +186,22 @@ op_relabeled o s op.Timeout fits = ap (λ (t : Option ℕ). ops.says (relabeled 
 op_relabeled o s op.CloseLoop fits = if_shift (relabeled_done o) (ops.is_in_use s) (ops.is_in_use (relabeled o s)) _ _ _ _
     (in_use_relabeled o s fits) refl refl
 op_relabeled o s each fits =
-    search (make_relabeled, new_relabeled, queued_relabeled, live_request_relabeled, cancel_relabeled, on_handle_relabeled, start_relabeled,
-    start_watcher_relabeled, stopped_relabeled, again_relabeled, turned, closed_relabeled, send_relabeled, alive_relabeled, backend_timeout_relabeled,
-    if_shift, in_use_relabeled)
+    search (
+      make_relabeled,
+      new_relabeled,
+      queued_relabeled,
+      live_request_relabeled,
+      cancel_relabeled,
+      on_handle_relabeled,
+      start_relabeled,
+      start_watcher_relabeled,
+      stopped_relabeled,
+      again_relabeled,
+      turned,
+      closed_relabeled,
+      send_relabeled,
+      alive_relabeled,
+      backend_timeout_relabeled,
+      if_shift,
+      in_use_relabeled,
+    )
