@@ -10,7 +10,7 @@ use Rattle.uv_arena.specs.declared.links.Links.{Links}
 use Rattle.uv_arena.specs.declared.links.ChainPlace.{ChainPlace}
 use Rattle.uv_arena.specs.declared.links.Cell.{Cell}
 use Rattle.uv_arena.specs.Chains.{Chains, link, loose, each, first, last, IsIn, IsSegment, Stands, list_of, head_of, tail_of, new_links, new_ends, relinked}
-use Rattle.uv_arena.specs.Image.{Memory, IsBelow, IsWithin, with_links, chains, chain, relinked_memory, put_in, taken_out, edit_at, edited, links_in, links_at, head_at, tail_at, Fits, AreFit, IsLinked, held_slots}
+use Rattle.uv_arena.specs.Image.{Memory, IsBelow, IsWithin, with_links, with_cells, chains, chain, relinked_memory, put_in, taken_out, edit_at, edited, links_in, links_at, head_at, tail_at, Fits, AreFit, IsLinked, held_slots}
 use Rattle.uv_arena.proofs.Each.{get-each, length-each, get-each_back, each-each, each-agree, each-same, set-as}
 use Rattle.uv_arena.proofs.Lists.{last_is_in, first_is_in, in_left, in_right, segment_tells, segment_right, split_at}
 use Rattle.uv_arena.proofs.Relinking.{eqb_no, own_links, same_list}
@@ -88,6 +88,26 @@ module _ {X : Type 0} where
       → slice_get (relinked_memory t a b l m).row.items t.slot ≡ Some (with_links l c)
   own_relinked t a b l m c e = get-each (relink_at t a b l) m.row.items t.slot c e
       ∙ ap (λ (z : Links). Some (with_links z c)) (own_links t a b l c.links)
+
+  -- the own links of a slot that is put in a place are written once
+  one_write : (t : ChainPlace) (a b : Option ℕ) (l o : Links) (x j : ℕ) → x ≡ t.slot → (z : Cell X)
+      → relink_at t a b l j (with_links (cond (eqb x j) o z.links) z) ≡ relink_at t a b l j z
+  one_write t a b l o x j is z = elim (eqb_tells x j) [
+    | inl e ↦ ap (λ (q : Links). with_links q z) (here (cond (eqb x j) o z.links) (sym is ∙ e.1) ∙ sym (here z.links (sym is ∙ e.1)))
+    | inr n ↦ ap (λ (u : Bool). relink_at t a b l j (with_links (cond u o z.links) z)) n.0
+  ] where
+    here : (q : Links) → t.slot ≡ j → new_links t a b l j q ≡ l
+    here q e = ap (λ k. new_links t a b l k q) (sym e) ∙ own_links t a b l q
+
+  pub written_once : (t : ChainPlace) (x : ℕ) → x ≡ t.slot → (m : Memory X)
+      → put_in t (with_cells (λ j z. with_links (cond (eqb x j) loose z.links) z) m) ≡ put_in t m
+  written_once t x is m =
+      let own = link t.list t.before t.after in let at = Some t.slot in
+      let f : ℕ → Cell X → Cell X = λ j z. with_links (cond (eqb x j) loose z.links) z in
+      let cells = each-each f (relink_at t at at own) m.row.items
+      ∙ each-agree (λ j z. relink_at t at at own j (f j z)) (relink_at t at at own) m.row.items
+      (λ j z e. one_write t at at own loose x j is z) in
+      λ k. record { row = row (cells k) m.row.capacity; ends = each (new_ends t at at) m.ends }
 
   -- another slot stays on the chain that it is on
   pub list_relinked : (t : ChainPlace) (a b : Option ℕ) (l : Links) (m : Memory X) (y : ℕ) → t.slot ≢ y

@@ -1,5 +1,5 @@
 -- A slot is put on a list, or taken off it.
-use Rattle.std.proofs.Common.{◌≡◌, ℕ, ◌-◌, ◌<◌, Bool, true, false, ◌&&◌, eqb, List, [], ◌∷◌, ◌++◌, length, Some, None, is_some, refl, sym, ap, ◌∙◌, subst, inl, inr, arith, append-nil}
+use Rattle.std.proofs.Common.{◌≡◌, ◌≢◌, ℕ, ◌-◌, ◌<◌, Bool, true, false, ◌&&◌, eqb, List, [], ◌∷◌, ◌++◌, length, Some, None, is_some, refl, sym, ap, ◌∙◌, subst, inl, inr, arith, append-nil}
 use Rattle.std.proofs.lemmas.Bool.Decides.{eqb_tells}
 use Rattle.std.proofs.lemmas.Option.{slice_get_within}
 use Rattle.uv_ids.specs.declared.id.Id.{Id}
@@ -11,12 +11,13 @@ use Rattle.uv_records.specs.Walks.{without}
 use Rattle.uv_arena.specs.declared.links.Links.{Links}
 use Rattle.uv_arena.specs.declared.links.ChainPlace.{ChainPlace}
 use Rattle.uv_arena.specs.declared.links.Cell.{Cell}
-use Rattle.uv_arena.specs.Chains.{link, loose, first, last, IsApart}
+use Rattle.uv_arena.specs.Chains.{link, loose, first, last, IsApart, IsSegment}
 use Rattle.uv_arena.specs.declared.links.TheConstants.{FREE}
-use Rattle.uv_arena.specs.Image.{Image, Memory, IsWithin, list_or_first, name_at, chain, links_in, links_at, place_at, put_in, taken_out, with_links, in_memory, front_place, back_place, members, held_slots, plain_slots, held, on_list, IsSound, AreFit}
-use Rattle.uv_arena.specs.Undo.{push_undone, unlink_undone}
-use Rattle.uv_arena.specs.Calls.{IsPushed, IsUnlinked}
-use Rattle.uv_arena.proofs.Memories.{place_of, put_made, take_made, placed, head_is, tail_is, slots_relinked, length_relinked, own_relinked, list_relinked, others_fit, fit_relinked, all_fit, member_tells}
+use Rattle.uv_arena.specs.Image.{Image, Memory, IsWithin, list_or_first, name_at, chain, links_in, links_at, place_at, put_in, taken_out, with_links, in_memory, front_place, back_place, members, held_slots, plain_slots, held, on_list, IsSound, AreFit, chains, head_at, tail_at}
+use Rattle.uv_arena.specs.Undo.{push_undone, unlink_undone, rotate_undone, CanUndoUnlink, slot_or_first, front_again}
+use Rattle.uv_arena.specs.Calls.{IsPushed, IsUnlinked, IsFirst, IsRotated}
+use Rattle.uv_arena.proofs.Memories.{place_of, get-links, put_made, take_made, placed, head_is, tail_is, slots_relinked, length_relinked, own_relinked, list_relinked, others_fit, fit_relinked, all_fit, member_tells}
+use Rattle.uv_arena.proofs.Lists.{last_append}
 use Rattle.uv_arena.proofs.Places.{between}
 use Rattle.uv_arena.proofs.Lookups.{is_there, is_loose, is_on, IsThereOn, on_list_by, name_below, name_other, without_none, without_one}
 
@@ -169,3 +170,112 @@ module _ {X : Type 0} where
         sound = subst (λ p. IsSound (in_memory (taken_out p) v)) (sym stands) all.1;
         unlinked = subst (λ p. IsUnlinked v (in_memory (taken_out p) v) d p) (sym stands) all.2;
       }
+
+  -- ---- the front of a list becomes the last of another one
+
+  module _ (v : Image X) (s : IsSound v) (from to : ListName) (d : Id) (apart : from ≢ to) (f : IsFirst v from d) where
+    -- where the front stands
+    abbrev pub front_of : ChainPlace
+    front_of = between (name_at v.names (number from)) [] d.slot f.rest
+
+    pub stands_first : links_at v.memory d.slot ≡ link (name_at v.names (number from)) None (first f.rest None)
+    stands_first =
+        let k = name_at v.names (number from) in let lt : k < LIST_COUNT = name_below v s from in
+        let there = is_there v.memory d f.listed.held in let c = there.cell in
+        let seg = subst (λ l. IsSegment (chains v.memory).links k None l None) f.is (s.linked.stands.lists k (omega arith)).segment in
+        let got = get-links v.memory.row.items d.slot c there.at in
+        ap links_in there.at ∙ cc (got, seg.0)
+
+    pub place_first : place_at v.memory d.slot ≡ front_of
+    place_first = ap (λ (l : Links). place_of (list_or_first l.list) l.prev d.slot l.next) stands_first
+
+    off : IsTaken v d
+    off = take_off v s d f.listed.listed
+
+    abbrev pub without_first : Image X
+    without_first = in_memory (taken_out front_of) v
+
+    unlinked : IsUnlinked v without_first d front_of
+    unlinked = subst (λ p. IsUnlinked v (in_memory (taken_out p) v) d p) place_first off.unlinked
+
+    sound : IsSound without_first
+    sound = subst (λ p. IsSound (in_memory (taken_out p) v)) place_first off.sound
+
+    to_kept : members without_first to ≡ members v to
+    to_kept = unlinked.lists to ∙ f.others to (λ e. apart (sym e))
+
+    from_left : members without_first from ≡ f.rest
+    from_left = unlinked.lists from ∙ f.after
+
+    put : IsPut without_first to d (back_place (name_at v.names (number to)) d.slot without_first.memory) (members without_first to ++ d.slot ∷ [])
+    put = put_back without_first sound to d (ap is_some (unlinked.slots.contents d) ∙ f.listed.held) unlinked.loose
+
+    same_back : back_place (name_at v.names (number to)) d.slot v.memory ≡ back_place (name_at v.names (number to)) d.slot without_first.memory
+    same_back =
+        let k = name_at v.names (number to) in let lt : k < LIST_COUNT = name_below v s to in
+        ap (λ o. place_of k o d.slot None) (tail_is v.memory s.linked k (omega arith)
+        ∙ ap (last None) (sym to_kept) ∙ sym (tail_is without_first.memory sound.linked k (omega arith)))
+
+    -- what is known once the front is the last of the other list
+    abbrev pub back_of : ChainPlace
+    back_of = back_place (name_at v.names (number to)) d.slot v.memory
+
+    abbrev pub with_last : Image X
+    with_last = in_memory (λ m. put_in back_of (taken_out front_of m)) v
+
+    pub record IsTurned : Type 0 where
+      pub slot : d.slot < length v.memory.row.items
+      pub from_within : IsWithin front_of (length v.memory.row.items)
+      pub to_within : IsWithin back_of (length v.memory.row.items)
+      pub sound : IsSound with_last
+      pub rotated : IsRotated v with_last from to d
+
+    is_put : IsPut without_first to d back_of (members without_first to ++ d.slot ∷ [])
+    is_put = subst (λ t. IsPut without_first to d t (members without_first to ++ d.slot ∷ [])) (sym same_back) put
+
+    last_there : tail_at with_last.memory (name_at v.names (number to)) ≡ Some d.slot
+    last_there =
+        let k = name_at v.names (number to) in let lt : k < LIST_COUNT = name_below v s to in
+        tail_is with_last.memory is_put.sound.linked k (omega arith) ∙ ap (last None) is_put.pushed.lists
+        ∙ last_append (members without_first to) (d.slot ∷ []) None
+
+    front_back : front_again from d.slot without_first ≡ front_of
+    front_back =
+        let k = name_at v.names (number from) in let lt : k < LIST_COUNT = name_below v s from in
+        ap (λ o. place_of k None d.slot o) (head_is without_first.memory sound.linked k (omega arith) ∙ ap (λ xs. first xs None) from_left)
+
+    front_kept : front_again from d.slot without_first ≡ front_again from d.slot with_last
+    front_kept =
+        let k = name_at v.names (number from) in let lt : k < LIST_COUNT = name_below v s from in
+        ap (λ o. place_of k None d.slot o) (head_is without_first.memory sound.linked k (omega arith)
+        ∙ ap (λ xs. first xs None) (sym (is_put.pushed.others from apart))
+        ∙ sym (head_is with_last.memory is_put.sound.linked k (omega arith)))
+
+    pub turned : IsTurned
+    turned =
+        let m = v.memory in
+        let long = length_relinked front_of front_of.after front_of.before loose m in
+        record {
+          slot = off.slot;
+          from_within = subst (λ p. IsWithin p (length m.row.items)) place_first off.within;
+          to_within = subst (IsWithin back_of) long is_put.within;
+          sound = is_put.sound;
+          rotated = record {
+            between = without_first;
+            place = front_of;
+            unlinked = unlinked;
+            pushed = is_put.pushed;
+            undone =
+                ap (λ o. (let k = push_undone (slot_or_first o) with_last in unlink_undone (front_again from (slot_or_first o) k) k)) last_there
+                ∙ ap (λ (k : Image X). unlink_undone (front_again from d.slot k) k) is_put.pushed.undone
+                ∙ ap (λ t. unlink_undone t without_first) front_back ∙ unlinked.undone;
+            can_undo = record {
+              slot = d.slot;
+              last = last_there;
+              front = ap (front_again from d.slot) is_put.pushed.undone ∙ front_kept;
+              pushed = is_put.pushed.can_undo;
+              unlinked = subst (λ (k : Image X). CanUndoUnlink k (front_again from d.slot k)) (sym is_put.pushed.undone)
+                  (subst (CanUndoUnlink without_first) (sym front_back) unlinked.can_undo);
+            };
+          };
+        }

@@ -12,7 +12,7 @@ use Rattle.uv_arena.specs.declared.undo.InsertUndo.{InsertUndo}
 use Rattle.uv_arena.specs.declared.undo.RemoveUndo.{RemoveUndo}
 use Rattle.uv_arena.specs.declared.undo.SpliceUndo.{SpliceUndo}
 use Rattle.uv_arena.specs.Image.{Image, Arena, members, plain_slots, held, on_list}
-use Rattle.uv_arena.specs.Undo.{insert_undone, remove_undone, set_undone, push_undone, unlink_undone, splice_undone, CanUndoInsert, CanUndoRemove, CanUndoSet, CanUndoPush, CanUndoUnlink, CanUndoSplice}
+use Rattle.uv_arena.specs.Undo.{insert_undone, remove_undone, set_undone, push_undone, unlink_undone, splice_undone, rotate_undone, CanUndoRotate, CanUndoInsert, CanUndoRemove, CanUndoSet, CanUndoPush, CanUndoUnlink, CanUndoSplice}
 
 -- the slot of an id
 abbrev pub slot_of : Option Id → Option ℕ
@@ -123,6 +123,15 @@ module _ {X : Type 0} where
     pub after : without eqb (members i list) d.slot ≡ rest
     pub others : (l : ListName) → l ≢ list → without eqb (members i l) d.slot ≡ members i l
     pub listed : IsListed i d
+
+  -- the first of a list is the last of another one
+  pub record IsRotated (old new : Image X) (from to : ListName) (d : Id) : Type 0 where
+    pub between : Image X
+    pub place : ChainPlace
+    pub unlinked : IsUnlinked old between d place
+    pub pushed : IsPushed between new to d (members between to ++ d.slot ∷ [])
+    pub undone : rotate_undone from to new ≡ old
+    pub can_undo : CanUndoRotate new from to
 
   -- the last of a list
   pub record IsLast (i : Image X) (list : ListName) (d : Id) : Type 0 where

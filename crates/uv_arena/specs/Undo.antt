@@ -1,5 +1,5 @@
 -- What takes a change of the arena back, and when that may be asked: where the arena is as the change left it.
-use Rattle.std.specs.Prelude.{◌≡◌, ℕ, ◌-◌, ◌<◌, false, length, Some, None, if◌then◌else◌}
+use Rattle.std.specs.Prelude.{◌≡◌, ℕ, ◌-◌, ◌<◌, false, length, Option, Some, None, if◌then◌else◌}
 use Rattle.std.specs.List.{swap}
 use Rattle.uv_records.specs.declared.lists.ListName.{ListName}
 use Rattle.uv_records.specs.Lists.{number}
@@ -8,7 +8,12 @@ use Rattle.uv_arena.specs.declared.undo.InsertUndo.{InsertUndo}
 use Rattle.uv_arena.specs.declared.undo.RemoveUndo.{RemoveUndo}
 use Rattle.uv_arena.specs.declared.undo.SpliceUndo.{SpliceUndo}
 use Rattle.uv_arena.specs.declared.links.TheConstants.{FREE}
-use Rattle.uv_arena.specs.Image.{Image, Memory, IsWithin, put_in, taken_out, edited, shrunk, slot_at, place_at, front_place, in_memory, IsSound}
+use Rattle.uv_arena.specs.Image.{Image, Memory, IsWithin, put_in, taken_out, edited, shrunk, slot_at, place_at, tail_at, name_at, front_place, in_memory, IsSound}
+
+-- the slot of an end of a chain, or the first one
+abbrev pub slot_or_first : Option ℕ → ℕ
+slot_or_first None = 0
+slot_or_first (Some x) = x
 
 -- the two lists change places
 abbrev pub spliced : {X : Type 0} → ListName → ListName → Image X → Image X
@@ -71,6 +76,25 @@ module _ {X : Type 0} where
   pub record CanUndoUnlink (i : Image X) (t : ChainPlace) : Type 0 where
     pub place : IsWithin t (length i.memory.row.items)
     pub sound : IsSound (unlink_undone t i)
+
+  -- that the front of a list was moved to the end of another one is taken back: the last of that is the front again
+  abbrev pub last_slot : ListName → Image X → ℕ
+  last_slot to i = slot_or_first (tail_at i.memory (name_at i.names (number to)))
+
+  abbrev pub front_again : ListName → ℕ → Image X → ChainPlace
+  front_again from x i = front_place (name_at i.names (number from)) x i.memory
+
+  abbrev pub rotate_undone : ListName → ListName → Image X → Image X
+  rotate_undone from to i =
+      let x = last_slot to i in let k = push_undone x i in unlink_undone (front_again from x k) k
+
+  pub record CanUndoRotate (i : Image X) (from to : ListName) : Type 0 where
+    pub slot : ℕ
+    pub last : tail_at i.memory (name_at i.names (number to)) ≡ Some slot
+    -- the front of the one list is the same with the slot on the other one
+    pub front : front_again from slot (push_undone slot i) ≡ front_again from slot i
+    pub pushed : CanUndoPush i slot
+    pub unlinked : CanUndoUnlink (push_undone slot i) (front_again from slot (push_undone slot i))
 
   -- a splice is taken back: the two lists change places again
   abbrev pub splice_undone : SpliceUndo → Image X → Image X

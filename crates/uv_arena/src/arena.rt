@@ -409,6 +409,18 @@ impl<T: Pends> Slots<T> {
         self.memory.take(place);
     }
 
+    /// Takes a slot out of its place, and puts it in another one.
+    fn shift(&mut self, from: ChainPlace, to: ChainPlace)
+        requires slot { from.slot ≡ to.slot }
+        requires from { IsWithin from (length self.old.image.memory.row.items) }
+        requires to { IsWithin to (length self.old.image.memory.row.items) }
+        requires sound { IsSound (in_memory (λ m. put_in to (taken_out from m)) self.old.image) }
+        ensures image { self.new.image ≡ in_memory (λ m. put_in to (taken_out from m)) self.old.image }
+        ensures room { self.new.room ≡ self.old.room }
+    {
+        self.memory.shift(from, to);
+    }
+
     /// Writes what a slot holds.
     fn edit(&mut self, at: u32, slot: Slot<T>)
         requires within { at < length self.old.image.memory.row.items }

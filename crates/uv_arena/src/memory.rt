@@ -138,6 +138,21 @@ impl<T: Pends> Memory<T> {
         self.relink(place, place.after, place.before, LOOSE);
     }
 
+    /// Takes a slot out of a place, and puts it in another one. Its own links are written once.
+    #[inline(always)]
+    pub(crate) fn shift(&mut self, from: ChainPlace, to: ChainPlace)
+        requires all { length self.old.ends ≡ CHAIN_COUNT }
+        requires slot { from.slot ≡ to.slot }
+        requires from { IsWithin from (length self.old.row.row.items) }
+        requires to { IsWithin to (length self.old.row.row.items) }
+        ensures memory { memory_of self.new ≡ put_in to (taken_out from (memory_of self.old)) }
+        ensures room { self.new.row.room ≡ self.old.row.room }
+    {
+        self.relink_before(from, from.after);
+        self.relink_after(from, from.before);
+        self.put(to);
+    }
+
     /// Writes what a slot holds.
     pub(crate) fn edit(&mut self, at: u32, slot: Slot<T>)
         requires { at < length self.old.row.row.items }

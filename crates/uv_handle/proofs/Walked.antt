@@ -7,10 +7,9 @@ use Rattle.uv_records.specs.declared.lists.WatcherKind.TheVariants as watcher
 use Rattle.uv_records.specs.Handles.{woken}
 use Rattle.uv_records.specs.Lists.{list_of, yet_of}
 use Rattle.uv_records.specs.Slots as plain
-use Rattle.uv_arena.specs.declared.links.ChainPlace.{ChainPlace}
-use Rattle.uv_arena.specs.Image.{Image, members}
-use Rattle.uv_arena.specs.Undo.{push_undone, unlink_undone, CanUndoPush, CanUndoUnlink}
-use Rattle.uv_arena.specs.Calls.{IsFirst, IsPushed, IsUnlinked}
+use Rattle.uv_arena.specs.Image.{Image}
+use Rattle.uv_arena.specs.Undo.{rotate_undone, CanUndoRotate}
+use Rattle.uv_arena.specs.Calls.{IsFirst, IsRotated}
 use Rattle.uv_handle.specs.declared.undo.RecordUndo.{RecordUndo}
 use Rattle.uv_handle.specs.Counted.{Counted, counted, record_at}
 use Rattle.uv_handle.specs.Watch.{pending_of, woken_if, IsWoken, IsMovedOn}
@@ -21,11 +20,11 @@ lists_apart watcher.Idle e = cc
 lists_apart each e = cc
 
 module _ {X : Type 0} (read : X → Option HandleRecord) (make : HandleRecord → X) where
-  pub moved_done : (i k l j : Image X) (n m : ℕ) (w : WatcherKind) (d : Id) (t : ChainPlace) (pending : Bool) (u : Option RecordUndo)
-      → IsFirst i (yet_of w) d → IsUnlinked i k d t
-      → IsPushed k l (list_of w) d (members k (list_of w) ++ d.slot ∷ []) → IsWoken read make (counted l n) (counted j m) w d pending u
-      → IsMovedOn read make (counted i n) (counted j m) w d pending (record { unlinked = t; pushed = record { slot = d.slot }; woken = u })
-  moved_done i k l j n m w d t pending u f a b c =
+  pub moved_done : (i l j : Image X) (n m : ℕ) (w : WatcherKind) (d : Id) (pending : Bool) (u : Option RecordUndo)
+      → IsFirst i (yet_of w) d → IsRotated i l (yet_of w) (list_of w) d → IsWoken read make (counted l n) (counted j m) w d pending u
+      → IsMovedOn read make (counted i n) (counted j m) w d pending (record { kind = w; woken = u })
+  moved_done i l j n m w d pending u f r c =
+      let a = r.unlinked in let b = r.pushed in
       let same : record_at read l d ≡ record_at read i d = ap (option_and_then read) (b.slots.contents d ∙ a.slots.contents d) in
       let ne = lists_apart w in
       let list = c.lists (list_of w) ∙ b.lists ∙ ap (λ xs. xs ++ d.slot ∷ []) (a.lists (list_of w) ∙ f.others (list_of w) ne) in
@@ -44,12 +43,10 @@ module _ {X : Type 0} (read : X → Option HandleRecord) (make : HandleRecord �
         contents = λ e nd. c.contents e nd ∙ b.slots.contents e ∙ a.slots.contents e;
         kept = λ e nd. c.kept e ∙ b.kept e nd ∙ a.kept e nd;
         counts = c.counts;
-        undone = ap (λ (z : Counted X). counted (unlink_undone t (push_undone d.slot z.arena)) z.count) c.undone
-            ∙ ap (λ z. counted (unlink_undone t z) n) b.undone ∙ ap (λ z. counted z n) a.undone;
+        undone = ap (λ (z : Counted X). counted (rotate_undone (yet_of w) (list_of w) z.arena) z.count) c.undone
+            ∙ ap (λ z. counted z n) r.undone;
         can_undo = record {
           woken = c.can_undo;
-          pushed = subst (λ (z : Counted X). CanUndoPush z.arena d.slot) (sym c.undone) b.can_undo;
-          unlinked = subst (λ (z : Counted X). CanUndoUnlink (push_undone d.slot z.arena) t) (sym c.undone)
-              (subst (λ z. CanUndoUnlink z t) (sym b.undone) a.can_undo);
+          moved = subst (λ (z : Counted X). CanUndoRotate z.arena (yet_of w) (list_of w)) (sym c.undone) r.can_undo;
         };
       }

@@ -1,6 +1,6 @@
 //! What takes a change of a handle back.
 use uv_arena::{ChainPlace, InsertUndo, PushUndo, RemoveUndo};
-use uv_records::HandleRecord;
+use uv_records::{HandleRecord, WatcherKind};
 
 /// Takes a change of a record back: its slot, the count of active referenced handles, and the record from before.
 #[derive(Clone, Copy)]
@@ -39,11 +39,9 @@ pub struct TakeUndo {
     pub removed: RemoveUndo,
 }
 
-/// Takes one step of a walk back: where the handle stood among those yet to run, and the record of an async handle that was
-/// woken.
+/// Takes one step of a walk back: of which watchers it is, which tells the two lists, and the record of an async handle that was woken.
 #[derive(Clone, Copy)]
 pub struct WalkUndo {
-    pub unlinked: ChainPlace,
-    pub pushed: PushUndo,
+    pub kind: WatcherKind,
     pub woken: Option<RecordUndo>,
 }

@@ -36,15 +36,9 @@ pub fn move_on<T: HoldsHandle>(
         (counted slots.new.image handles.new) kind id result.0 result.1 }
     ensures pieces { slots.new.room ≡ slots.old.room }
 {
-    let unlinked = slots.unlink(id);
-    let pushed = slots.push_back(kind.list(), id);
+    slots.rotate(kind.yet(), kind.list(), id);
     let (pending, woken) = wake(handles, slots, kind, id);
-    let undo = WalkUndo {
-        unlinked,
-        pushed,
-        woken,
-    };
-    (pending, undo)
+    (pending, WalkUndo { kind, woken })
 }
 
 /// Wakes a handle of the async section, if it waits for its callback.
@@ -84,6 +78,5 @@ pub fn undo_take<T: HoldsHandle>(handles: &mut Handles, slots: &mut Slots<T>, un
     if let Some(woken) = undo.woken {
         handles.undo_change(slots, woken);
     }
-    slots.undo_push(undo.pushed);
-    slots.undo_unlink(undo.unlinked);
+    slots.undo_rotate(undo.kind.yet(), undo.kind.list());
 }

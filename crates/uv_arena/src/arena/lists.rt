@@ -1,9 +1,9 @@
 //! The lists: putting a slot on one, taking it off, and moving a whole list.
-ghost use Rattle.std.specs.Prelude.{◌≡◌, ◌<◌, ◌∷◌, ◌++◌, [], true, false, is_some};
+ghost use Rattle.std.specs.Prelude.{◌≡◌, ◌≢◌, ◌<◌, ◌∷◌, ◌++◌, [], true, false, is_some};
 ghost use Rattle.uv_records.specs.Lists.{number};
 ghost use Rattle.uv_arena.specs.Image.{name_at, front_place, back_place, place_at, put_in, taken_out, in_memory, members, held, on_list};
 ghost use Rattle.uv_arena.specs.Undo.{spliced};
-ghost use Rattle.uv_arena.specs.Calls.{IsPushed, IsUnlinked, IsSpliced};
+ghost use Rattle.uv_arena.specs.Calls.{IsPushed, IsUnlinked, IsSpliced, IsFirst, IsRotated};
 
 use crate::arena::Slots;
 use crate::links::ChainPlace;
@@ -42,6 +42,25 @@ impl<T: Pends> Slots<T> {
         let place = self.back_place(self.chain(list), id.slot);
         self.put(place);
         PushUndo { slot: id.slot }
+    }
+
+    /// Moves the front of a list to the end of another one.
+    #[inline(always)]
+    pub fn rotate(&mut self, from: ListName, to: ListName, id: Id)
+        requires apart { from ≢ to }
+        requires first { IsFirst self.old.image from id }
+        ensures rotated { IsRotated self.old.image self.new.image from to id }
+        ensures room { self.new.room ≡ self.old.room }
+    {
+        self.is_sound();
+        let front = ChainPlace {
+            list: self.chain(from),
+            before: None,
+            slot: id.slot,
+            after: self.links(id.slot).next,
+        };
+        let back = self.back_place(self.chain(to), id.slot);
+        self.shift(front, back);
     }
 
     /// Takes the slot of an id off its list; the place where it stood.

@@ -1,11 +1,11 @@
 //! The calls that take a change back. Each gives the very image from before its change, and takes no memory.
 ghost use Rattle.std.specs.Prelude.{◌≡◌};
-ghost use Rattle.uv_arena.specs.Undo.{insert_undone, remove_undone, set_undone, push_undone, unlink_undone, splice_undone, CanUndoInsert, CanUndoRemove, CanUndoSet, CanUndoPush, CanUndoUnlink, CanUndoSplice};
+ghost use Rattle.uv_arena.specs.Undo.{insert_undone, remove_undone, set_undone, push_undone, unlink_undone, splice_undone, CanUndoInsert, CanUndoRemove, CanUndoSet, CanUndoPush, CanUndoUnlink, CanUndoSplice, rotate_undone, CanUndoRotate};
 
 use crate::arena::Slots;
 use crate::links::{ChainPlace, FREE};
 use crate::undo::{InsertUndo, PushUndo, RemoveUndo, SpliceUndo};
-use uv_records::{Pends, Slot};
+use uv_records::{ListName, Pends, Slot};
 
 impl<T: Pends> Slots<T> {
     /// Takes an insert back.
@@ -90,6 +90,23 @@ impl<T: Pends> Slots<T> {
         ensures room { self.new.room ≡ self.old.room }
     {
         self.put(place);
+    }
+
+    /// Takes back that the front of a list was moved to the end of another one: the last of that is the front again.
+    #[inline(always)]
+    pub fn undo_rotate(&mut self, from: ListName, to: ListName)
+        requires { CanUndoRotate self.old.image from to }
+        ensures undone { self.new.image ≡ rotate_undone from to self.old.image }
+        ensures room { self.new.room ≡ self.old.room }
+    {
+        match self.tail(self.chain(to)) {
+            None => unreachable!(),
+            Some(slot) => {
+                let back = self.place(slot);
+                let front = self.front_place(self.chain(from), slot);
+                self.shift(back, front);
+            }
+        }
     }
 
     /// Takes a splice back.
