@@ -6,7 +6,7 @@ use uv_arena::{ChainPlace, PushUndo, RemoveUndo};
 use uv_handle::{DelistUndo, RecordUndo, WalkUndo};
 use uv_ids::{Kind, Var};
 use uv_memory::{Form, Large, LastStep, Medium, Naming, Trail};
-use uv_records::HandleRecord;
+use uv_records::{HandleRecord, WatcherKind};
 use uv_requests::CollectWorkUndo;
 use uv_timer::TimerUndo;
 use uv_work::{Request, Task};
@@ -23,8 +23,7 @@ fn called(last: &mut LastStep<u64>, place: u64) {
     last.note_walked(
         place,
         WalkUndo {
-            unlinked: PLACE,
-            pushed: PushUndo { slot: 7 },
+            kind: WatcherKind::Idle,
             woken: None,
         },
     );

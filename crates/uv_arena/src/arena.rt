@@ -410,6 +410,7 @@ impl<T: Pends> Slots<T> {
     }
 
     /// Takes a slot out of its place, and puts it in another one.
+    #[inline(always)]
     fn shift(&mut self, from: ChainPlace, to: ChainPlace)
         requires slot { from.slot ≡ to.slot }
         requires from { IsWithin from (length self.old.image.memory.row.items) }

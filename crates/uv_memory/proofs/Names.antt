@@ -37,7 +37,7 @@ pub use Rattle.uv_memory.specs.Does.{By, changed, closed_by, ended_by, moved_by}
 pub use Rattle.uv_memory.specs.Fit.{IsFit}
 pub use Rattle.uv_memory.specs.Forms.{change_of, larger, smaller}
 pub use Rattle.uv_memory.specs.Image.{Held, Image, counted_of, image_of, standing, timed_of, with_counted, with_timed, with_working}
-pub use Rattle.uv_memory.specs.Parts.{Bound, Part, PutOn, Stood, TakenOff, change_parts, edit_parts, naming_parts, off_parts, put_parts}
+pub use Rattle.uv_memory.specs.Parts.{Bound, Part, Passed, PutOn, Stood, change_parts, edit_parts, naming_parts, off_parts, put_parts}
 pub use Rattle.uv_memory.specs.Parts.{removed_parts, set_parts, timer_parts, undo, unwind, unwind_parts, was_bound, woken_parts}
 pub use Rattle.uv_memory.specs.Record.{Record, at_place}
 pub use Rattle.uv_memory.specs.Rows.{Fits, larges_of, mediums_of, of_large, of_medium, of_small, records_of, smalls_of}

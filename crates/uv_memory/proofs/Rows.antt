@@ -1,5 +1,5 @@
 -- The parts of each change, undone one by one, are what takes the change back.
-use Rattle.uv_memory.proofs.Names.{◌≡◌, ℕ, zero, suc, ◌<◌, Bool, true, false, List, [], ◌∷◌, ◌++◌, length, set, Option, Some, None, refl, sym, ap, ◌∙◌, subst, arith, Id, Var, Callback, ChainPlace, RecordUndo, delist_undone, HeapRemoveUndo, SetUndo, TimerUndo, CollectUndo, timer_undone, collect_undone, WalkUndo, walk_undone, Handle, Change, Naming, Record, Calls, Named, count_of, with_count, named, binding, calling, alive_count, working, idle_workers, IsWork, Content, handle_of, request_of, Image, counted_of, timed_of, with_counted, with_timed, standing, Part, Stood, Bound, TakenOff, PutOn, undo, unwind_parts, unwind, was_bound, edit_parts, woken_parts, off_parts, put_parts, removed_parts, set_parts, timer_parts, change_parts, naming_parts, CanRename, CanUndo, CanUnwind, Recorded, Extended, off_if, IsFit, changed, moved_by}
+use Rattle.uv_memory.proofs.Names.{◌≡◌, ℕ, zero, suc, ◌<◌, Bool, true, false, List, [], ◌∷◌, ◌++◌, length, set, Option, Some, None, refl, sym, ap, ◌∙◌, subst, arith, Id, Var, Callback, ChainPlace, RecordUndo, delist_undone, HeapRemoveUndo, SetUndo, TimerUndo, CollectUndo, timer_undone, collect_undone, WalkUndo, walk_undone, Handle, Change, Naming, Record, Calls, Named, count_of, with_count, named, binding, calling, alive_count, working, idle_workers, IsWork, Content, handle_of, request_of, Image, counted_of, timed_of, with_counted, with_timed, standing, Part, Stood, Bound, PutOn, Passed, WatcherKind, undo, unwind_parts, unwind, was_bound, edit_parts, woken_parts, off_parts, put_parts, removed_parts, set_parts, timer_parts, change_parts, naming_parts, CanRename, CanUndo, CanUnwind, Recorded, Extended, off_if, IsFit, changed, moved_by}
 use Rattle.uv_ids.specs.declared.seen.Callback.TheVariants as callback
 use Rattle.uv_memory.specs.Change as change
 use Rattle.uv_memory.specs.declared.record.Naming.TheVariants as naming
@@ -73,15 +73,14 @@ module _ {P : Type 0} where
   moved_back u i = let put : List (Part P) = PutOn u.pushed.slot ∷ [] in unwind_append (timer_parts u.timer) put i
       ∙ timer_back u.timer (unwind_parts put i)
 
-  walk_cases : (t : ChainPlace) (x : ℕ) (w : Option RecordUndo) (i : Image P)
-      → unwind_parts (TakenOff t ∷ PutOn x ∷ woken_parts w) i
-      ≡ with_counted (walk_undone handle_of Handle (record { unlinked = t; pushed = record { slot = x }; woken = w }) (counted_of i)) i
-  walk_cases t x None i = refl
-  walk_cases t x (Some u) i = refl
+  walk_cases : (k : WatcherKind) (w : Option RecordUndo) (i : Image P)
+      → unwind_parts (Passed k ∷ woken_parts w) i ≡ with_counted (walk_undone handle_of Handle (record { kind = k; woken = w }) (counted_of i)) i
+  walk_cases k None i = refl
+  walk_cases k (Some u) i = refl
 
   pub walk_back : (u : WalkUndo) (i : Image P)
       → unwind_parts (change_parts (change.Walked u)) i ≡ with_counted (walk_undone handle_of Handle u (counted_of i)) i
-  walk_back u i = walk_cases u.unlinked u.pushed.slot u.woken i
+  walk_back u i = walk_cases u.kind u.woken i
 
   -- ---- a step with its record
 

@@ -29,7 +29,7 @@ smaller (small.Iterated n b) = change.Iterated n b
 smaller (small.Added u) = change.Added u
 smaller (small.Begun u) = change.Begun u
 smaller (small.Polled u) = change.Polled u
-smaller (small.Passed put place) = change.Walked (record { unlinked = place; pushed = put; woken = None })
+smaller (small.Passed kind) = change.Walked (record { kind = kind; woken = None })
 smaller (small.Queued u) = change.Queued u
 smaller (small.Taken u) = change.Taken u
 smaller (small.Finished u) = change.Finished u
@@ -49,7 +49,7 @@ change_of (medium.Fired place u set) =
 change_of (medium.Started u set) = change.Timer (record { removed = None; delisted = record { unlinked = None; changed = u }; set = Some set })
 change_of (medium.Stopped r u) = change.Timer (taken_off r u)
 change_of (medium.Collected put r u) = change.Moved put (taken_off r u)
-change_of (medium.Woken put place u) = change.Walked (record { unlinked = place; pushed = put; woken = Some u })
+change_of (medium.Woken kind u) = change.Walked (record { kind = kind; woken = Some u })
 change_of (medium.Closed u h) = change.Closed u h
 change_of (medium.Cancelled u) = change.Cancelled u
 

@@ -7,7 +7,9 @@ use Rattle.uv_arena.specs.declared.links.ChainPlace.{ChainPlace}
 use Rattle.uv_arena.specs.declared.undo.InsertUndo.{InsertUndo}
 use Rattle.uv_arena.specs.declared.undo.RemoveUndo.{RemoveUndo}
 use Rattle.uv_arena.specs.declared.undo.SpliceUndo.{SpliceUndo}
-use Rattle.uv_arena.specs.Undo.{insert_undone, remove_undone, set_undone, push_undone, unlink_undone, splice_undone}
+use Rattle.uv_records.specs.declared.lists.WatcherKind.{WatcherKind}
+use Rattle.uv_records.specs.Lists.{list_of, yet_of}
+use Rattle.uv_arena.specs.Undo.{insert_undone, remove_undone, set_undone, push_undone, unlink_undone, splice_undone, rotate_undone}
 use Rattle.uv_handle.specs.declared.undo.RecordUndo.{RecordUndo}
 use Rattle.uv_handle.specs.declared.undo.DelistUndo.{DelistUndo}
 use Rattle.uv_heap.specs.declared.undo.HeapRemoveUndo.{HeapRemoveUndo}
@@ -56,6 +58,8 @@ pub data Part (P : Type 0) : Type 0 where
   PutOn : ℕ → Part P
   TakenOff : ChainPlace → Part P
   Moved : SpliceUndo → Part P
+  -- a watcher of this kind was called: the front of those yet to run became the last of its list
+  Passed : WatcherKind → Part P
   -- an entry was pushed on the heap and ended at a place, or was removed
   Pushed : ℕ → Part P
   Removed : HeapRemoveUndo → Part P
@@ -86,6 +90,7 @@ module _ {P : Type 0} where
   undo (PutOn x) i = record i { arena = push_undone x i.arena }
   undo (TakenOff t) i = record i { arena = unlink_undone t i.arena }
   undo (Moved u) i = record i { arena = splice_undone u i.arena }
+  undo (Passed k) i = record i { arena = rotate_undone (yet_of k) (list_of k) i.arena }
   undo (Pushed n) i = record i { heap = heap.push_undone i.heap n }
   undo (Removed u) i = record i { heap = heap.removal_undone i.heap u }
 
@@ -142,7 +147,7 @@ module _ {P : Type 0} where
   change_parts (change.Moved put t) = timer_parts t ++ PutOn put.slot ∷ []
   change_parts (change.Begun u) = Moved u ∷ []
   change_parts (change.Polled u) = Time u.time ∷ Moved u.spliced ∷ []
-  change_parts (change.Walked u) = TakenOff u.unlinked ∷ PutOn u.pushed.slot ∷ woken_parts u.woken
+  change_parts (change.Walked u) = Passed u.kind ∷ woken_parts u.woken
   change_parts (change.Closed u h) = TakenOff u.unlinked ∷ Freed u.removed (Handle h) ∷ Active u.active ∷ []
   change_parts (change.Queued u) = Taken u.inserted ∷ PutOn u.inserted.slot ∷ Open u.count ∷ []
   change_parts (change.Taken u) = TakenOff u.unlinked ∷ Ran u.worker None ∷ []

@@ -163,10 +163,8 @@ impl<P: Copy> LastStep<P> {
         ensures { self.new ≡ changed place (change.Walked walked) }
     {
         match walked.woken {
-            None => self.note_small(place, Small::Passed(walked.pushed, walked.unlinked)),
-            Some(woken) => {
-                self.note_medium(place, Medium::Woken(walked.pushed, walked.unlinked, woken));
-            }
+            None => self.note_small(place, Small::Passed(walked.kind)),
+            Some(woken) => self.note_medium(place, Medium::Woken(walked.kind, woken)),
         }
     }
 

@@ -6,7 +6,7 @@ ghost use Rattle.uv_memory.specs.Forms.{change_of};
 use uv_arena::{ChainPlace, PushUndo};
 use uv_handle::{DelistUndo, ListUndo, RecordUndo, TakeUndo};
 use uv_heap::HeapRemoveUndo;
-use uv_records::HandleRecord;
+use uv_records::{HandleRecord, WatcherKind};
 use uv_requests::CancelUndo;
 use uv_timer::{SetUndo, TimerUndo};
 
@@ -27,7 +27,7 @@ pub enum Medium {
     /// A timer that was on no list was taken off the heap, and put on a list.
     Collected(PushUndo, HeapRemoveUndo, RecordUndo),
     /// A watcher was called that a send had woken.
-    Woken(PushUndo, ChainPlace, RecordUndo),
+    Woken(WatcherKind, RecordUndo),
     Closed(TakeUndo, HandleRecord),
     Cancelled(CancelUndo),
 }

@@ -1,7 +1,8 @@
 //! The small changes.
 
 use crate::record::{Added, Polled};
-use uv_arena::{ChainPlace, PushUndo, SpliceUndo};
+use uv_arena::SpliceUndo;
+use uv_records::WatcherKind;
 use uv_requests::{FinishUndo, QueueUndo, TakeWorkUndo};
 
 /// A change of at most four words.
@@ -17,7 +18,7 @@ pub enum Small {
     Begun(SpliceUndo),
     Polled(Polled),
     /// A watcher was called that no send had woken.
-    Passed(PushUndo, ChainPlace),
+    Passed(WatcherKind),
     Queued(QueueUndo),
     Taken(TakeWorkUndo),
     Finished(FinishUndo),

@@ -16,11 +16,11 @@ use crate::medium::Medium;
 use crate::memory::Memory;
 use crate::record::{Added, Naming};
 use crate::small::Small;
-use uv_arena::{ChainPlace, PushUndo};
+use uv_arena::PushUndo;
 use uv_handle::{DelistUndo, RecordUndo, WalkUndo, undo_take};
 use uv_heap::HeapRemoveUndo;
 use uv_ids::{Id, Var};
-use uv_records::Named;
+use uv_records::{Named, WatcherKind};
 use uv_timer::{CollectUndo, TimerParts, TimerUndo, undo_collect_one, undo_reschedule};
 use uv_work::Content;
 
@@ -124,7 +124,7 @@ impl<P: Copy> Memory<P> {
                 self.slots.undo_splice(undo.spliced);
                 self.times.time = undo.time;
             }
-            Small::Passed(pushed, unlinked) => self.undo_passed(pushed, unlinked),
+            Small::Passed(kind) => self.undo_passed(kind),
             Small::Queued(undo) => self.requests.undo_queue(&mut self.slots, undo),
             Small::Taken(undo) => self.requests.undo_take(&mut self.slots, undo),
             Small::Finished(undo) => self.requests.undo_finish(&mut self.slots, undo),
@@ -169,9 +169,8 @@ impl<P: Copy> Memory<P> {
                 let timer = off_heap(removed, changed);
                 self.undo_moved(CollectUndo { timer, pushed });
             }
-            Medium::Woken(pushed, unlinked, woken) => self.undo_walked(WalkUndo {
-                unlinked,
-                pushed,
+            Medium::Woken(kind, woken) => self.undo_walked(WalkUndo {
+                kind,
                 woken: Some(woken),
             }),
             Medium::Closed(undo, handle) => {
@@ -252,15 +251,14 @@ impl<P: Copy> Memory<P> {
     }
 
     /// Of a watcher that no send had woken the slot alone is put back.
-    fn undo_passed(&mut self, pushed: PushUndo, unlinked: ChainPlace)
-        requires can { CanUndo (held self.old).room (smaller (passed pushed unlinked)) (held self.old).image }
-        requires fit { IsFit (unwind_parts (change_parts (smaller (passed pushed unlinked))) (held self.old).image) }
-        ensures image { (held self.new).image ≡ unwind_parts (change_parts (smaller (passed pushed unlinked))) (held self.old).image }
+    fn undo_passed(&mut self, kind: WatcherKind)
+        requires can { CanUndo (held self.old).room (smaller (passed kind)) (held self.old).image }
+        requires fit { IsFit (unwind_parts (change_parts (smaller (passed kind))) (held self.old).image) }
+        ensures image { (held self.new).image ≡ unwind_parts (change_parts (smaller (passed kind))) (held self.old).image }
         ensures room { (held self.new).room ≡ (held self.old).room }
         ensures pieces { self.new.slots.room ≡ self.old.slots.room }
     {
-        self.slots.undo_push(pushed);
-        self.slots.undo_unlink(unlinked);
+        self.slots.undo_rotate(kind.yet(), kind.list());
     }
 
     fn undo_walked(&mut self, undo: WalkUndo)
