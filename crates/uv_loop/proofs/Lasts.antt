@@ -37,6 +37,7 @@ undo_limits (part.Freed u v) i = removed_limits u v i.arena
 undo_limits (part.PutOn x) i = refl
 undo_limits (part.TakenOff t) i = refl
 undo_limits (part.Moved u) i = refl
+undo_limits (part.Passed kind) i = refl
 undo_limits (part.Pushed n) i = refl
 undo_limits (part.Removed u) i = refl
 
