@@ -2,7 +2,7 @@
 
 use std::process::Abort;
 use std::test::Fail;
-use uv_arena::{ChainPlace, PushUndo, RemoveUndo};
+use uv_arena::{ChainPlace, RemoveUndo};
 use uv_handle::{DelistUndo, RecordUndo, WalkUndo};
 use uv_ids::{Kind, Var};
 use uv_memory::{Form, Large, LastStep, Medium, Naming, Trail};
