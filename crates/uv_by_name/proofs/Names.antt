@@ -1,5 +1,6 @@
 -- The names that proofs of this crate bring in.
-pub use Rattle.std.proofs.Common.{◌≡◌, ℕ, zero, suc, ◌+◌, ◌==◌, ◌&&◌, ◌||◌, ◌++◌, List, [], ◌∷◌, Bool, true, false, Option, Some, None, refl, ap, ap₂, sym, subst, ◌∙◌, arith, inl, inr, length, option_and_then, slice_get}
+pub use Rattle.std.proofs.Common.{◌≡◌, ℕ, zero, suc, ◌+◌, ◌==◌, ◌&&◌, ◌||◌, ◌++◌, List, [], ◌∷◌, Bool, true, false, Option, Some, None, refl, ap, ap₂}
+pub use Rattle.std.proofs.Common.{sym, subst, ◌∙◌, arith, inl, inr, length, option_and_then, slice_get}
 pub use Rattle.std.specs.Prelude.{◌≤◌, ◌<◌, ◌^◌, map, option_map, option_to_list, unwrap_or}
 pub use Rattle.std.proofs.lemmas.Option.{slice_get-map, slice_get_past}
 pub use Rattle.std.proofs.lemmas.List.{map-append, length-map}

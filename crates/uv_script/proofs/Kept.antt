@@ -66,7 +66,8 @@ whole p read =
     let threads : All (IsThreadLine (length p.names)) p.threads = λ k d within.
     says_sound p _ _ (is.threads _ (Contains-get_or p.threads k d within)).says in
     let io : (at : Site) (o : Op) → op_at p at ≡ Some o → makes_io o ≡ true → has_io p ≡ true = λ at o said. (op_is_of p is at o said).may in
-    let named : (at : Site) (o : Op) (v : Var) → op_at p at ≡ Some o → op_name o ≡ Some v → v.0 < length p.names = λ at o v said. (op_is_of p is at o said).named v in
+    let named : (at : Site) (o : Op) (v : Var) → op_at p at ≡ Some o → op_name o ≡ Some v → v.0 < length p.names =
+    λ at o v said. (op_is_of p is at o said).named v in
     assumption
 
 -- how many lines count more

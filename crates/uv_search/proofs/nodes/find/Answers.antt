@@ -13,22 +13,22 @@ loop-at-init c =
 
 pub returns-then-is_same-clause-some : goal.returns-then-is_same-clause-some
 returns-then-is_same-clause-some c =
-    let row = c.loop-at.at - 1 in
-    slice_get-get_or c.args.pairs.now row (0, 0) (omega (arith, c.loop-at-test.true, c.loop-at.invariant.within))
+    let place = c.loop-at.at - 1 in
+    slice_get-get_or c.args.pairs.now place (0, 0) (omega (arith, c.loop-at-test.true, c.loop-at.invariant.within))
     ∙ ap Some (c.is_same.ensures.yes c.if-is_same.true)
 
 pub loop-at-smaller : goal.loop-at-smaller
 loop-at-smaller c =
-    let row = c.loop-at.at - 1 in
-    let below : row < length c.args.pairs.now = omega (arith, c.loop-at-test.true, c.loop-at.invariant.within) in
-    (goes_back (place_of (length c.args.last.now)) c.args.pairs.now c.args.pair (slice_index_or c.args.pairs.now row (0, 0)) c.requires.linked.linked
-    c.loop-at.invariant c.loop-at-test.true (slice_get-get_or c.args.pairs.now row (0, 0) below) (c.is_same.ensures.no c.if-is_same.false)
-    (slice_get-get_or c.args.before.now row 0 (omega (arith, below, c.requires.linked.long)))).1
+    let place = c.loop-at.at - 1 in
+    let below : place < length c.args.pairs.now = omega (arith, c.loop-at-test.true, c.loop-at.invariant.within) in
+    (goes_back (place_of (length c.args.last.now)) c.args.pairs.now c.args.pair (slice_index_or c.args.pairs.now place (0, 0)) c.requires.linked.linked
+    c.loop-at.invariant c.loop-at-test.true (slice_get-get_or c.args.pairs.now place (0, 0) below) (c.is_same.ensures.no c.if-is_same.false)
+    (slice_get-get_or c.args.before.now place 0 (omega (arith, below, c.requires.linked.long)))).1
 
 pub loop-at-preserved : goal.loop-at-preserved
 loop-at-preserved c =
-    let row = c.loop-at.at - 1 in
-    let below : row < length c.args.pairs.now = omega (arith, c.loop-at-test.true, c.loop-at.invariant.within) in
-    (goes_back (place_of (length c.args.last.now)) c.args.pairs.now c.args.pair (slice_index_or c.args.pairs.now row (0, 0)) c.requires.linked.linked
-    c.loop-at.invariant c.loop-at-test.true (slice_get-get_or c.args.pairs.now row (0, 0) below) (c.is_same.ensures.no c.if-is_same.false)
-    (slice_get-get_or c.args.before.now row 0 (omega (arith, below, c.requires.linked.long)))).0
+    let place = c.loop-at.at - 1 in
+    let below : place < length c.args.pairs.now = omega (arith, c.loop-at-test.true, c.loop-at.invariant.within) in
+    (goes_back (place_of (length c.args.last.now)) c.args.pairs.now c.args.pair (slice_index_or c.args.pairs.now place (0, 0)) c.requires.linked.linked
+    c.loop-at.invariant c.loop-at-test.true (slice_get-get_or c.args.pairs.now place (0, 0) below) (c.is_same.ensures.no c.if-is_same.false)
+    (slice_get-get_or c.args.before.now place 0 (omega (arith, below, c.requires.linked.long)))).0
