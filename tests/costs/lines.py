@@ -1,4 +1,4 @@
-"""What a line costs in instructions: tests/costs/lines [--program PATH] [--beside PATH]
+"""What a line costs in instructions: tests/costs/lines [--program PATH] [--beside PATH] [--steps]
 
 Each figure is what two sessions differ by (`valgrind --tool=callgrind`), of which one has more steps, handles or lines of script, divided
 by how many more. The steps are those of idle handles that spin, one or ten (as in tests/costs/instructions), and no list of them grows
@@ -8,7 +8,8 @@ handle of `state` has two lines in it, that of its name and that of its slot, an
 a script gives a handle three lines, of which one is its name's.
 
 The program is that of ./uvt build, or the one that is named. With --beside another program stands beside it, as the same one of an older
-version, and the ratio of the two.
+version, and the ratio of the two. With --steps the table of tests/costs/instructions stands in front: both are the tables of
+docs/BENCHMARKS.md.
 """
 
 from __future__ import annotations
@@ -20,7 +21,7 @@ import sys
 from pathlib import Path
 from typing import Callable
 
-from tests.costs.instructions import ROOT, Fault, collected, idle_handles, ratio, shown, text_of
+from tests.costs.instructions import COLUMNS, ROOT, Fault, Program, collected, idle_handles, ratio, show, shown, text_of
 
 # sessions of so many steps are compared: the lists of both have room for the same number
 FEW, MANY = 36_000, 60_000
@@ -107,12 +108,16 @@ def measure() -> int:
     reader = argparse.ArgumentParser(description=__doc__, formatter_class=argparse.RawDescriptionHelpFormatter)
     reader.add_argument("--program", metavar="PATH", default=str(ROOT / "out" / "uvt" / "uvt"), help="the program")
     reader.add_argument("--beside", metavar="PATH", help="beside it another program")
+    reader.add_argument("--steps", action="store_true", help="in front of it what steps cost, as tests/costs/instructions")
     asked = reader.parse_args()
     if not shutil.which("valgrind"):
         raise Fault("this needs valgrind")
     for path in [asked.program, asked.beside]:
         if path and not Path(path).is_file():
             raise Fault(f"there is no program {path}; ./uvt build makes one")
+    if asked.steps:
+        show(Program(asked.program, COLUMNS), Program(asked.beside, COLUMNS) if asked.beside else None, "beside" if asked.beside else "")
+        print(flush=True)
     print(f"| Instructions |  |{' beside | ratio |' if asked.beside else ''}\n|---|---|{'---|---|' if asked.beside else ''}", flush=True)
     for name, figure in FIGURES.items():
         own = figure(asked.program)
