@@ -1,6 +1,6 @@
 """What a state of the search costs: tests/find/costs [--find PROGRAM] [--instructions]
 
-Searches each script of measured/, and scripts of a timer and requests that grow by workers, requests and sends. A line says how many states
+Searches each script of measured/, servers without an end, and scripts of a timer and requests that grow by workers, requests and sends. A line says how many states
 there are; for those of measured/, also how many were searched in a second of the processor, how many bytes the whole program held for each,
 and with --instructions how many instructions each of the first 100,000 took (valgrind counts them). Those that may forget, or hold moves back,
 are searched with the line `full`, too. Nothing is held to a figure. For the hand."""
@@ -21,6 +21,8 @@ from tests.find.asked import read
 HERE = Path(__file__).resolve().parent
 COUNTED = 100_000
 BUILT = HERE.parent.parent / "crates/uvt_find/out/uvt_find"
+# (whole states of these have no end, so they are searched by their forms alone)
+ENDLESS = [HERE.parent.parent / "examples/server.find", HERE / "endless/sends.find"]
 GROWTH = [
     (1, 2, 0),
     (1, 4, 0),
@@ -63,6 +65,8 @@ def beside_whole(name: str, script: str, is_counted: bool) -> Iterator[tuple[str
 def scripts() -> Iterator[tuple[str, str, bool]]:
     for file in sorted((HERE / "measured").glob("*.find")):
         yield from beside_whole(file.stem, file.read_text(), True)
+    for file in ENDLESS:
+        yield f"without an end, {file.stem}", file.read_text(), False
     for workers, requests, sends in GROWTH:
         yield from beside_whole(f"workers {workers}, requests {requests}, sends {sends}", growing(workers, requests, sends), False)
 
