@@ -1,9 +1,9 @@
 """What a state of the search costs: tests/find/costs [--find PROGRAM] [--instructions]
 
-Searches each script of measured/, servers without an end, and scripts of a timer and requests that grow by workers, requests and sends. A line says how many states
-there are; for those of measured/, also how many were searched in a second of the processor, how many bytes the whole program held for each,
-and with --instructions how many instructions each of the first 100,000 took (valgrind counts them). Those that may forget, or hold moves back,
-are searched with the line `full`, too. Nothing is held to a figure. For the hand."""
+Searches each script of measured/, servers without an end, and scripts of a timer and requests that grow by workers, requests and sends. A
+line says how many states there are; for those of measured/, also how many were searched in a second of the processor, how many bytes the whole
+program held for each, and with --instructions how many instructions each of the first 100,000 took (valgrind counts them). Those that may
+forget, or hold moves back, are searched with the line `full`, too. Nothing is held to a figure. For the hand."""
 from __future__ import annotations
 
 import argparse
