@@ -5,7 +5,6 @@ pub mod Courses
 pub mod Events
 pub mod Finishes
 pub mod KeptLines
-pub mod KeptRecords
 pub mod Lasts
 pub mod Lies
 pub mod Lines

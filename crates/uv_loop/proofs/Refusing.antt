@@ -1,5 +1,5 @@
 -- What a step of the loop does, by where the memory stands.
-use Rattle.uv_loop.proofs.Names.{◌≡◌, ℕ, slice_get, Option, Result, Ok, Err, IfOk, sym, ap, ◌∙◌, Seen, Loop, Program, order_of, Place, Main, Running, Run, State, Next, loop_step, main_step, run_step, Record, Image, Held, StandsFor, Turns, place_is}
+use Rattle.uv_loop.proofs.Names.{◌≡◌, ℕ, slice_get, Option, Some, None, Result, Ok, Err, IfOk, refl, sym, ap, ◌∙◌, Seen, Loop, CallbackLine, Program, order_of, Body, Place, Main, Running, Run, State, Next, refusal_of, body_step, loop_step, main_step, run_step, Record, Image, Held, StandsFor, Turns, place_is}
 use Rattle.uv_model.specs.Next.{next}
 
 module _ (p : Program) (i : Image Place) (s : State) (h : StandsFor i s) where
@@ -10,6 +10,11 @@ module _ (p : Program) (i : Image Place) (s : State) (h : StandsFor i s) where
   pub run_there : (run : Run) → i.place ≡ Running run → next p s Loop ≡ run_step p s run run.body
   unfolding next
   run_there run is = ap (loop_step p s) (sym (place_is h) ∙ is)
+
+-- the next op of a body is never refused
+pub body_taken : (p : Program) (s : State) (run : Run) (body : Body) (line : Option CallbackLine) → refusal_of (body_step p s run body line) ≡ None
+body_taken p s run body None = refl
+body_taken p s run body (Some line) = refl
 
 -- a step that does the same to each state answers the same
 pub turns_by : (f g : State → Next) (r : Record Place) (h k : Held Place) (line : Option Seen)

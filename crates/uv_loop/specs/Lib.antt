@@ -6,5 +6,5 @@ pub mod Standing
 pub mod Taken
 pub mod Pooling
 pub mod Acting
-pub mod KeptPlaces
 pub mod Laid
+pub mod Staged

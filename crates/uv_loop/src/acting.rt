@@ -15,12 +15,12 @@ use crate::pooling::{cancel_named, finish_work, take_work};
 use crate::sending::send_to;
 use uv_ids::Seen;
 use uv_memory::Memory;
-use uv_model::Place;
 use uv_script::Script;
+use uv_stands::PackedPlace;
 use uv_work::WorkResult;
 
 /// Does what an event from outside asks for, which nothing refuses: what that appends. It wants no memory.
-pub(crate) fn act(memory: &mut Memory<Place>, script: &Script, plan: Plan) -> Seen
+pub(crate) fn act(memory: &mut Memory<PackedPlace>, script: &Script, plan: Plan) -> Seen
     requires ready { IsReady (held memory.old) }
     requires may { MayAct script.now (held memory.old).image plan }
     ensures returns { Returns memory.new.step_record (held memory.old) (held memory.new) }
@@ -48,7 +48,7 @@ pub(crate) fn act(memory: &mut Memory<Place>, script: &Script, plan: Plan) -> Se
 }
 
 /// The clock goes on by so many ms.
-fn go_on(memory: &mut Memory<Place>, ms: u64) -> Seen
+fn go_on(memory: &mut Memory<PackedPlace>, ms: u64) -> Seen
     requires may { (held memory.old).image.clock + ms ≤ LATEST }
     ensures returns { Returns memory.new.step_record (held memory.old) (held memory.new) }
     ensures leads { (p : Program) → Leads p (held memory.old).image (held memory.new).image (Tick ms) (Some result) }

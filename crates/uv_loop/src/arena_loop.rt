@@ -14,12 +14,13 @@ use std::marker::Model;
 use uv_memory::Memory;
 use uv_model::Place;
 use uv_script::Script;
-
-// A place has at most ten words, with which the head of a record has at most 16.
-const _: () = prove!(std::mem::size_of::<Place>() <= 80);
+use uv_stands::PackedPlace;
 
 /// The memory in which a script begins.
-pub(crate) fn fresh_memory(alloc: Global, script: &Script) -> Result<Memory<Place>, AllocError>
+pub(crate) fn fresh_memory(
+    alloc: Global,
+    script: &Script,
+) -> Result<Memory<PackedPlace>, AllocError>
     ensures image { IfOk result (λ m. (held m).image ≡ first_image script.now) }
     ensures fit { IfOk result (λ m. IsFit (held m).image) }
 {
@@ -27,7 +28,7 @@ pub(crate) fn fresh_memory(alloc: Global, script: &Script) -> Result<Memory<Plac
     let names = script.names().len();
     Memory::new(
         alloc,
-        Place::Main(0),
+        PackedPlace::main(0),
         names,
         size.slots,
         size.last_generation,
@@ -40,7 +41,7 @@ pub(crate) fn fresh_memory(alloc: Global, script: &Script) -> Result<Memory<Plac
 pub struct ArenaLoop {
     pub(crate) alloc: Global,
     pub(crate) script: Script,
-    pub(crate) memory: Memory<Place>,
+    pub(crate) memory: Memory<PackedPlace>,
     pub(crate) steps: Steps,
 }
 

@@ -16,9 +16,14 @@ use uv_model::{Body, Place, Run, body_from};
 use uv_ops::perform;
 use uv_script::{CallbackLine, MainOp, Op, Script};
 use uv_sections::{begin_run, stand_at};
+use uv_stands::PackedPlace;
 
 /// Does an op, after which the loop is at this place.
-fn perform_at(memory: &mut Memory<Place>, op: Op, place: Place) -> Result<Answer, AllocError>
+fn perform_at(
+    memory: &mut Memory<PackedPlace>,
+    op: Op,
+    place: PackedPlace,
+) -> Result<Answer, AllocError>
     requires ready { IsReady (held memory.old) }
     ensures returns { IfOk result (λ _. Returns memory.new.step_record (held memory.old) (held memory.new)) }
     ensures performs { IfOk result (λ answer. PerformsAt op place (held memory.old).image (held memory.new).image answer) }
@@ -31,14 +36,14 @@ fn perform_at(memory: &mut Memory<Place>, op: Op, place: Place) -> Result<Answer
 }
 
 /// The body under way is over.
-fn leave_body(memory: &mut Memory<Place>, run: &Run)
+fn leave_body(memory: &mut Memory<PackedPlace>, run: &Run)
     requires ready { IsReady (held memory.old) }
     ensures turns { (p : Program) → (body : Body) → Turns (λ s. body_step p s run.now body None)
         memory.new.step_record (held memory.old) (held memory.new) None }
     ensures pieces { memory.new.slots.room ≡ memory.old.slots.room }
 {
     memory.pass();
-    let place = Place::Running(Run { body: None, ..*run });
+    let place = PackedPlace::between(run.mode, run.line, run.stage);
     stand_at(memory, place);
 }
 
@@ -53,7 +58,7 @@ fn line_of(script: &Script, body: Body) -> Option<CallbackLine>
 
 /// The body under way does its next op.
 pub(crate) fn in_body(
-    memory: &mut Memory<Place>,
+    memory: &mut Memory<PackedPlace>,
     script: &Script,
     run: &Run,
     body: Body,
@@ -72,7 +77,7 @@ pub(crate) fn in_body(
         }
         Some(line) => {
             let rest = body_from(script, body.callback, body.name, body.call, body.next + 1);
-            let place = Place::Running(Run { body: rest, ..*run });
+            let place = PackedPlace::running(Run { body: rest, ..*run });
             let answer = perform_at(memory, line.op, place)?;
             let site = Site::In(body.callback, body.name, body.next);
             Ok(Some(Seen::Op(site, answer)))
@@ -82,7 +87,7 @@ pub(crate) fn in_body(
 
 /// The main program does its next line.
 pub(crate) fn in_main(
-    memory: &mut Memory<Place>,
+    memory: &mut Memory<PackedPlace>,
     script: &Script,
     line: usize,
 ) -> Result<Option<Seen>, AllocError>
@@ -98,7 +103,7 @@ pub(crate) fn in_main(
         None => unreachable!(),
         Some(MainOp::Run(mode)) => Ok(Some(begin_run(memory, script, line, mode))),
         Some(MainOp::Op(op)) => {
-            let answer = perform_at(memory, op, Place::Main(line + 1))?;
+            let answer = perform_at(memory, op, PackedPlace::main(line + 1))?;
             Ok(Some(Seen::Op(Site::Main(line), answer)))
         }
     }

@@ -18,10 +18,10 @@ use uv_model::{Place, Run, Stage};
 use uv_records::{ListName, WatcherKind};
 use uv_script::Script;
 use uv_sections::call_io;
-use uv_stands::{has_members, live_handle};
+use uv_stands::{PackedPlace, has_members, live_handle};
 
 /// Whether a callback of I/O may begin there.
-fn takes_io(memory: &Memory<Place>, run: Run) -> bool
+fn takes_io(memory: &Memory<PackedPlace>, run: Run) -> bool
     ensures { OfEach (held memory.now).image (λ s. takes_io s run.stage run.body ≡ result) }
 {
     match (run.body, run.stage) {
@@ -42,17 +42,17 @@ fn takes_io(memory: &Memory<Place>, run: Run) -> bool
 }
 
 /// The run under way, where a callback of I/O may begin.
-fn io_run(memory: &Memory<Place>, script: &Script) -> Option<Run>
+fn io_run(memory: &Memory<PackedPlace>, script: &Script) -> Option<Run>
     ensures { OfEach (held memory.now).image (λ s. io_run script.now s s.place ≡ result) }
 {
-    match memory.place() {
+    match memory.place().place() {
         Place::Main(_) => None,
         Place::Running(run) => (script.has_io() && takes_io(memory, run)).then_some(run),
     }
 }
 
 /// The handle of I/O of a name, if it is live and active.
-fn io_handle(memory: &Memory<Place>, name: Var) -> Option<Id>
+fn io_handle(memory: &Memory<PackedPlace>, name: Var) -> Option<Id>
     ensures { (s : State) → StandsFor (held memory.now).image s → io_handle (live_handle s name) ≡ result }
 {
     let (id, handle) = live_handle(memory, name).ok()?;
@@ -60,7 +60,7 @@ fn io_handle(memory: &Memory<Place>, name: Var) -> Option<Id>
 }
 
 /// There has to be such a name, and its handle has to wait for I/O where its callback may begin.
-pub(crate) fn io_plan(memory: &Memory<Place>, script: &Script, name: Var) -> Result<Plan, Why>
+pub(crate) fn io_plan(memory: &Memory<PackedPlace>, script: &Script, name: Var) -> Result<Plan, Why>
     ensures { Plans script.now (held memory.now).image (Io name) result }
 {
     check_name(memory, name)?;
@@ -75,7 +75,7 @@ pub(crate) fn io_plan(memory: &Memory<Place>, script: &Script, name: Var) -> Res
 
 /// Has the handle of I/O of a name called.
 pub(crate) fn call_named(
-    memory: &mut Memory<Place>,
+    memory: &mut Memory<PackedPlace>,
     script: &Script,
     run: Run,
     name: Var,

@@ -12,12 +12,13 @@ use std::alloc::{AllocError, Global};
 use uv_arena::Slots;
 use uv_ids::Id;
 use uv_memory::Memory;
-use uv_model::{LaidSlot, Layout, ListEnds, Numbers, Place};
+use uv_model::{LaidSlot, Layout, ListEnds, Numbers};
 use uv_records::{Ends, ListName};
+use uv_stands::PackedPlace;
 use uv_work::Content;
 
 /// A slot that was used, with its links and its place on the heap.
-fn laid_slot(memory: &Memory<Place>, number: u32) -> LaidSlot
+fn laid_slot(memory: &Memory<PackedPlace>, number: u32) -> LaidSlot
     requires { number < length (held memory.now).image.arena.memory.row.items }
     ensures { ShowsSlot (held memory.now).image number result }
 {
@@ -31,7 +32,7 @@ fn laid_slot(memory: &Memory<Place>, number: u32) -> LaidSlot
 }
 
 /// All slots that were used.
-fn laid_slots(memory: &Memory<Place>, alloc: Global) -> Result<Vec<LaidSlot>, AllocError>
+fn laid_slots(memory: &Memory<PackedPlace>, alloc: Global) -> Result<Vec<LaidSlot>, AllocError>
     ensures { IfOk result (λ slots. ShowsSlots (held memory.now).image slots.items) }
 {
     let mut slots = Vec::new(alloc);
@@ -84,11 +85,11 @@ fn free_ends(slots: &Slots<Content>) -> Ends
 }
 
 /// How the memory lies.
-pub(crate) fn layout_of(memory: &Memory<Place>, alloc: Global) -> Result<Layout, AllocError>
+pub(crate) fn layout_of(memory: &Memory<PackedPlace>, alloc: Global) -> Result<Layout, AllocError>
     ensures { IfOk result (λ layout. ShowsAll layout (held memory.now).image) }
 {
     Ok(Layout {
-        place: memory.place(),
+        place: memory.place().place(),
         numbers: Numbers {
             time: memory.times().time,
             clock: memory.clock(),

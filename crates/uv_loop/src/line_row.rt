@@ -1,88 +1,10 @@
 //! What the steps that stand appended to the trace, in two rows by its width.
-ghost use Rattle.std.specs.Prelude.{◌≡◌, ◌<◌, ◌≤◌, ◌+◌, ◌++◌, ◌∷◌, [], OnOk, IfOk, IfErr, Some, length, slice_get, take, pred};
-ghost use Rattle.uv_loop.specs.LineRows.{said, is_wide, Says};
+ghost use Rattle.std.specs.Prelude.{◌≡◌, ◌<◌, ◌≤◌, ◌+◌, ◌++◌, ◌∷◌, [], OnOk, Some, length, slice_get, take, pred};
 
 use std::alloc::{AllocError, Global};
 use std::marker::Model;
-use uv_ids::{Code, Id, Mode, Phase, Seen, Var};
-
-/// What a step appended to the trace: a line that fits in two words, or where a wider one stands in a row of its own.
-#[derive(Clone, Copy)]
-pub(crate) enum Line {
-    /// The step appended nothing.
-    Nothing,
-    Run(Mode),
-    Section(Phase),
-    /// The poll began, and its timeout in ms.
-    Poll(u64),
-    PollForever,
-    Call(Var, Id),
-    Io(Var, Id),
-    Closed(Var, Id),
-    End(bool),
-    Take(u16, Var, Id),
-    Finish(u16, Var, Id),
-    Send(Var, Code),
-    Tick(u64),
-    /// The place among the wide ones.
-    Wide(usize),
-}
-
-// A line takes two words for each step.
-const _: () = prove!(std::mem::size_of::<Line>() <= 16);
-
-impl Line {
-    /// This in two words, or the line that is wider.
-    fn narrow(line: Option<Seen>) -> Result<Line, Seen>
-        ensures ok { IfOk result (Says line) }
-        ensures err { IfErr result (λ wide. line ≡ Some wide) }
-    {
-        Ok(match line {
-            None => Line::Nothing,
-            Some(Seen::Run(mode)) => Line::Run(mode),
-            Some(Seen::Section(section)) => Line::Section(section),
-            Some(Seen::Poll(Some(ms))) => Line::Poll(ms),
-            Some(Seen::Poll(None)) => Line::PollForever,
-            Some(Seen::Call(name, id)) => Line::Call(name, id),
-            Some(Seen::Io(name, id)) => Line::Io(name, id),
-            Some(Seen::Closed(name, id)) => Line::Closed(name, id),
-            Some(Seen::End(alive)) => Line::End(alive),
-            Some(Seen::Take(worker, name, id)) => Line::Take(worker, name, id),
-            Some(Seen::Finish(worker, name, id)) => Line::Finish(worker, name, id),
-            Some(Seen::Send(name, code)) => Line::Send(name, code),
-            Some(Seen::Tick(ms)) => Line::Tick(ms),
-            Some(wide) => return Err(wide),
-        })
-    }
-
-    fn is_wide(self) -> bool
-        ensures { result ≡ is_wide self }
-    {
-        matches!(self, Line::Wide(_))
-    }
-
-    /// What it says, where these are the wide ones.
-    fn said(self, wides: &[Seen]) -> Option<Seen>
-        ensures { result ≡ said wides.now self }
-    {
-        match self {
-            Line::Nothing => None,
-            Line::Run(mode) => Some(Seen::Run(mode)),
-            Line::Section(section) => Some(Seen::Section(section)),
-            Line::Poll(ms) => Some(Seen::Poll(Some(ms))),
-            Line::PollForever => Some(Seen::Poll(None)),
-            Line::Call(name, id) => Some(Seen::Call(name, id)),
-            Line::Io(name, id) => Some(Seen::Io(name, id)),
-            Line::Closed(name, id) => Some(Seen::Closed(name, id)),
-            Line::End(alive) => Some(Seen::End(alive)),
-            Line::Take(worker, name, id) => Some(Seen::Take(worker, name, id)),
-            Line::Finish(worker, name, id) => Some(Seen::Finish(worker, name, id)),
-            Line::Send(name, code) => Some(Seen::Send(name, code)),
-            Line::Tick(ms) => Some(Seen::Tick(ms)),
-            Line::Wide(at) => wides.get(at).copied(),
-        }
-    }
-}
+use uv_ids::Seen;
+use uv_stands::{Line, PackedLine};
 
 /// What each step appended to the trace, the first step's first.
 #[derive(Drop)]
@@ -153,6 +75,16 @@ impl LineRow {
                 self.wides.push_reserved(wide);
             }
         }
+    }
+
+    /// One more, which fits in two words. It takes no memory.
+    #[inline(always)]
+    pub(crate) fn push_packed(&mut self, line: &PackedLine)
+        requires { 0 < self.old.room }
+        ensures items { self.new.items ≡ self.old.items ++ line.now ∷ [] }
+        ensures room { self.old.room ≤ self.new.room + 1 }
+    {
+        self.lines.push_reserved(line.line());
     }
 
     /// The last one goes, if there is one.

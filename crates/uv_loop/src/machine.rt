@@ -14,6 +14,7 @@ use crate::listing::{free_slots, listed_ids};
 use crate::plan::outside_of;
 use crate::pooling::finish_work;
 use crate::showing::{run_at, shown, shown_name, shown_slot, shown_worker};
+use crate::staging::is_staged;
 use crate::steps::Steps;
 use std::alloc::Global;
 use uv_ids::{Event, Fault, Id, Seen, Var, Why};
@@ -56,7 +57,13 @@ impl Machine for ArenaLoop {
         ensures records { Adds result self.old self.new }
     {
         match outside_of(event) {
-            None => self.go_on(),
+            None => {
+                if is_staged(self.memory.place()) {
+                    self.go_on()
+                } else {
+                    self.go_on_wide()
+                }
+            }
             Some(outside) => self.meet(outside),
         }
     }
@@ -116,7 +123,7 @@ impl Machine for ArenaLoop {
     }
 
     fn place(&self) -> Place {
-        self.memory.place()
+        self.memory.place().place()
     }
 
     fn numbers(&self) -> Numbers {

@@ -2,21 +2,22 @@
 ghost use Rattle.std.specs.Prelude.{◌≡◌, ◌+◌, ◌<◌, ◌≤◌, IfSome, IfNone, IfOk, IfErr, is_some, true, slice_get, length};
 ghost use Rattle.uv_ids.specs.declared.event.Event.TheVariants.{Loop, Take, Finish, Cancel, Send, Tick};
 ghost use Rattle.uv_ids.specs.declared.fault.Why.TheVariants.{Range};
-ghost use Rattle.uv_model.specs.Next.{main_step, run_step, stage_step, next};
+ghost use Rattle.uv_model.specs.Next.{main_step, stage_step, next};
 ghost use Rattle.uv_model.specs.After.{refusal_of};
 ghost use Rattle.uv_model.specs.State.{State};
+ghost use Rattle.uv_model.specs.declared.place.Run.{Run};
 ghost use Rattle.uv_script.specs.Program.{Program, order_of};
 ghost use Rattle.uv_memory.specs.Image.{held};
 ghost use Rattle.uv_stands.specs.Doing.{OfEach};
-ghost use Rattle.uv_loop.specs.Acting.{MayBehind, MayIn, MayAt, Plans, outside_event};
+ghost use Rattle.uv_loop.specs.Acting.{MayBehind, MayAt, Plans, outside_event};
 
 use crate::io::io_plan;
 use crate::plan::{Outside, Plan};
 use uv_ids::{Var, Why};
 use uv_memory::Memory;
-use uv_model::{LATEST, Place, Run, Stage};
+use uv_model::{LATEST, Stage};
 use uv_script::Script;
-use uv_stands::may_leave;
+use uv_stands::{PackedPlace, PlaceForm, may_leave};
 
 /// What the clock shows so many ms later; none past its limit.
 fn later(clock: u64, ms: u64) -> Option<u64>
@@ -29,7 +30,7 @@ fn later(clock: u64, ms: u64) -> Option<u64>
 
 /// What is to be done of an event from outside, or why it is refused. Nothing else refuses it.
 pub(crate) fn plan_of(
-    memory: &Memory<Place>,
+    memory: &Memory<PackedPlace>,
     script: &Script,
     outside: Outside,
 ) -> Result<Plan, Why>
@@ -46,7 +47,7 @@ pub(crate) fn plan_of(
 }
 
 /// The clock has a limit.
-fn tick_plan(memory: &Memory<Place>, ms: u64) -> Result<Plan, Why>
+fn tick_plan(memory: &Memory<PackedPlace>, ms: u64) -> Result<Plan, Why>
     ensures { (p : Program) → Plans p (held memory.now).image (Tick ms) result }
 {
     match later(memory.clock(), ms) {
@@ -56,7 +57,7 @@ fn tick_plan(memory: &Memory<Place>, ms: u64) -> Result<Plan, Why>
 }
 
 /// The name has to be one that the loop has.
-pub(crate) fn check_name(memory: &Memory<Place>, name: Var) -> Result<(), Why>
+pub(crate) fn check_name(memory: &Memory<PackedPlace>, name: Var) -> Result<(), Why>
     ensures ok { IfOk result (λ _. name.0 < length (held memory.now).image.names) }
     ensures err { IfErr result (λ why. (why ≡ Range) × (length (held memory.now).image.names ≤ name.0)) }
 {
@@ -67,7 +68,7 @@ pub(crate) fn check_name(memory: &Memory<Place>, name: Var) -> Result<(), Why>
 }
 
 /// A cancel is never refused but for its name.
-fn cancel_plan(memory: &Memory<Place>, name: Var) -> Result<Plan, Why>
+fn cancel_plan(memory: &Memory<PackedPlace>, name: Var) -> Result<Plan, Why>
     ensures { (p : Program) → Plans p (held memory.now).image (Cancel name) result }
 {
     check_name(memory, name)?;
@@ -75,7 +76,7 @@ fn cancel_plan(memory: &Memory<Place>, name: Var) -> Result<Plan, Why>
 }
 
 /// Nor is a send.
-fn send_plan(memory: &Memory<Place>, name: Var) -> Result<Plan, Why>
+fn send_plan(memory: &Memory<PackedPlace>, name: Var) -> Result<Plan, Why>
     ensures { (p : Program) → Plans p (held memory.now).image (Send name) result }
 {
     check_name(memory, name)?;
@@ -83,7 +84,7 @@ fn send_plan(memory: &Memory<Place>, name: Var) -> Result<Plan, Why>
 }
 
 /// A worker takes a request where it runs none, and one waits.
-fn take_plan(memory: &Memory<Place>, worker: u16) -> Result<Plan, Why>
+fn take_plan(memory: &Memory<PackedPlace>, worker: u16) -> Result<Plan, Why>
     ensures { (p : Program) → Plans p (held memory.now).image (Take worker) result }
 {
     let (id, request) = memory.next_work(worker)?;
@@ -91,22 +92,25 @@ fn take_plan(memory: &Memory<Place>, worker: u16) -> Result<Plan, Why>
 }
 
 /// A worker finishes what it runs.
-fn finish_plan(memory: &Memory<Place>, worker: u16) -> Result<Plan, Why>
+fn finish_plan(memory: &Memory<PackedPlace>, worker: u16) -> Result<Plan, Why>
     ensures { (p : Program) → Plans p (held memory.now).image (Finish worker) result }
 {
     let (id, request) = memory.work_of(worker)?;
     Ok(Plan::Finish(worker, id, request))
 }
 
-/// Why the loop's next step is to be refused, if it is: the main program is at its end, or the poll can't be left yet.
+/// Why the loop's next step is to be refused, if it is: the main program is at its end, or the poll can't be left yet. The next op of a
+/// body never is.
 #[inline(always)]
-pub(crate) fn loop_refusal(memory: &Memory<Place>, script: &Script) -> Option<Why>
+pub(crate) fn loop_refusal(memory: &Memory<PackedPlace>, script: &Script) -> Option<Why>
     ensures why { OfEach (held memory.now).image (λ s. refusal_of (next script.now s Loop) ≡ result) }
     ensures may { IfNone result (MayAt script.now (held memory.now).image.place (held memory.now).image) }
 {
-    match memory.place() {
-        Place::Main(line) => main_refusal(script, line),
-        Place::Running(run) => run_refusal(memory, run),
+    match memory.place().form() {
+        PlaceForm::Main(line) => main_refusal(script, line),
+        PlaceForm::Between(_, _, stage) => stage_refusal(memory, stage),
+        PlaceForm::Within(_, _, _, _) => None,
+        PlaceForm::WithinPoll { .. } => None,
     }
 }
 
@@ -121,24 +125,13 @@ fn main_refusal(script: &Script, line: usize) -> Option<Why>
     }
 }
 
-/// The next op of a body is never refused, and so is no stage but the poll.
-fn run_refusal(memory: &Memory<Place>, run: Run) -> Option<Why>
-    ensures why { (p : Program) → OfEach (held memory.now).image (λ s. refusal_of (run_step p s run run.body) ≡ result) }
-    ensures may { IfNone result (MayIn run.body run.stage (held memory.now).image) }
-{
-    match run.body {
-        Some(_) => None,
-        None => stage_refusal(memory, run),
-    }
-}
-
 /// The poll isn't left before its deadline unless a request is done or an async handle was sent to.
 #[tactic(auto, using(uv_model::proofs::Refusals::run_moves))]
-fn stage_refusal(memory: &Memory<Place>, run: Run) -> Option<Why>
-    ensures why { (p : Program) → OfEach (held memory.now).image (λ s. refusal_of (stage_step p s run run.stage) ≡ result) }
-    ensures may { IfNone result (MayBehind run.stage (held memory.now).image) }
+fn stage_refusal(memory: &Memory<PackedPlace>, stage: Stage) -> Option<Why>
+    ensures why { (p : Program) → (run : Run) → OfEach (held memory.now).image (λ s. refusal_of (stage_step p s run stage) ≡ result) }
+    ensures may { IfNone result (MayBehind stage (held memory.now).image) }
 {
-    match run.stage {
+    match stage {
         Stage::Poll(deadline) => {
             if may_leave(memory, deadline) {
                 return None;

@@ -12,12 +12,17 @@ ghost use Rattle.uv_loop.specs.Pooling.{MayTake, MayFinish};
 
 use uv_ids::{Answer, Id, Seen, Var};
 use uv_memory::Memory;
-use uv_model::Place;
 use uv_ops::cancel;
+use uv_stands::PackedPlace;
 use uv_work::{Request, WorkResult};
 
 /// A worker takes a request: what that appends.
-pub(crate) fn take_work(memory: &mut Memory<Place>, worker: u16, id: Id, request: Request) -> Seen
+pub(crate) fn take_work(
+    memory: &mut Memory<PackedPlace>,
+    worker: u16,
+    id: Id,
+    request: Request,
+) -> Seen
     requires may { MayTake (held memory.old).image worker id request }
     ensures recorded { Recorded memory.new.step_record (held memory.old) (held memory.new) }
     ensures leads { (p : Program) → Leads p (held memory.old).image (held memory.new).image (Take worker) (Some result) }
@@ -29,7 +34,7 @@ pub(crate) fn take_work(memory: &mut Memory<Place>, worker: u16, id: Id, request
 
 /// A worker finishes the request that it runs, of whose job this is the result: what that appends.
 pub(crate) fn finish_work(
-    memory: &mut Memory<Place>,
+    memory: &mut Memory<PackedPlace>,
     worker: u16,
     id: Id,
     request: Request,
@@ -46,7 +51,7 @@ pub(crate) fn finish_work(
 }
 
 /// Cancels the request of a name: what that answers.
-pub(crate) fn cancel_named(memory: &mut Memory<Place>, name: Var) -> Answer
+pub(crate) fn cancel_named(memory: &mut Memory<PackedPlace>, name: Var) -> Answer
     requires name { name.0 < length (held memory.old).image.names }
     ensures returns { Returns memory.new.step_record (held memory.old) (held memory.new) }
     ensures leads { (p : Program)

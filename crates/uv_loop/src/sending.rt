@@ -9,11 +9,11 @@ ghost use Rattle.uv_loop.specs.Course.{Leads};
 
 use uv_ids::{Code, Var};
 use uv_memory::Memory;
-use uv_model::Place;
 use uv_ops::send;
+use uv_stands::PackedPlace;
 
 /// Sends to the async handle of a name: what that answers.
-pub(crate) fn send_to(memory: &mut Memory<Place>, name: Var) -> Code
+pub(crate) fn send_to(memory: &mut Memory<PackedPlace>, name: Var) -> Code
     requires name { name.0 < length (held memory.old).image.names }
     ensures returns { Returns memory.new.step_record (held memory.old) (held memory.new) }
     ensures leads { (p : Program)

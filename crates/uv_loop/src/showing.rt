@@ -8,19 +8,20 @@ ghost use Rattle.uv_stands.specs.Stands.{StandsFor};
 
 use uv_ids::{Id, Var};
 use uv_memory::Memory;
-use uv_model::{Place, runner_of};
+use uv_model::runner_of;
 use uv_records::{Named, Slot};
+use uv_stands::PackedPlace;
 use uv_work::Content;
 
 /// What a name is bound to, and how often its callbacks were called.
-pub(crate) fn shown_name(memory: &Memory<Place>, name: Var) -> Named
+pub(crate) fn shown_name(memory: &Memory<PackedPlace>, name: Var) -> Named
     ensures { (s : State) → StandsFor (held_by memory.now).image s → named s name ≡ result }
 {
     memory.named(name)
 }
 
 /// A slot that was used: its generation, and what it holds.
-pub(crate) fn shown_slot(memory: &Memory<Place>, number: u32) -> Option<Slot<Content>>
+pub(crate) fn shown_slot(memory: &Memory<PackedPlace>, number: u32) -> Option<Slot<Content>>
     ensures { (s : State) → StandsFor (held_by memory.now).image s → slice_get s.arena.slots number ≡ result }
 {
     let slots = memory.slots();
@@ -31,7 +32,7 @@ pub(crate) fn shown_slot(memory: &Memory<Place>, number: u32) -> Option<Slot<Con
 }
 
 /// What is held under an id.
-pub(crate) fn shown(memory: &Memory<Place>, id: Id) -> Option<Content>
+pub(crate) fn shown(memory: &Memory<PackedPlace>, id: Id) -> Option<Content>
     ensures { (s : State) → StandsFor (held_by memory.now).image s → held s.arena.slots id ≡ result }
 {
     memory.slots().get(id)
@@ -46,7 +47,7 @@ pub(crate) fn run_at(running: &[Option<Id>], worker: usize) -> Option<Id>
 
 /// The first of the workers that runs a request. What is on a list none of them runs, so that none is looked at for those that wait or are
 /// done.
-pub(crate) fn shown_worker(memory: &Memory<Place>, id: Id) -> Option<usize>
+pub(crate) fn shown_worker(memory: &Memory<PackedPlace>, id: Id) -> Option<usize>
     ensures { (s : State) → StandsFor (held_by memory.now).image s → worker_of s id ≡ result }
 {
     memory.is_fit();

@@ -1,27 +1,30 @@
-//! A step is taken: what refuses it, the room that it needs, and then what it does, with its line and its record. One of the loop stands
-//! apart from one from outside: what most steps go through is compiled alone then, and hands on no more than it has to.
-ghost use Rattle.std.specs.Prelude.{◌≡◌, ◌<◌, ◌≤◌, OnOk, length};
+//! A step is taken: what refuses it, the room that it needs, and then what it does, with its line and its record. One of the loop whose
+//! line fits in two words stands apart from any other one, and from one from outside: what most steps go through is compiled alone then,
+//! and hands on no more than it has to.
+ghost use Rattle.std.specs.Prelude.{◌≡◌, ◌<◌, ◌≤◌, OnOk, length, true, false};
 ghost use Rattle.uv_ids.specs.declared.event.Event.TheVariants.{Loop};
 ghost use Rattle.uv_model.specs.After.{Answers, STEPS};
 ghost use Rattle.uv_memory.specs.Image.{held};
 ghost use Rattle.uv_loop.specs.Course.{Adds};
 ghost use Rattle.uv_loop.specs.Acting.{outside_event};
+ghost use Rattle.uv_loop.specs.Staged.{is_staged};
 ghost use Rattle.uv_loop.specs.Taken.{AreRoomier};
 
 use crate::acting::act;
 use crate::arena_loop::ArenaLoop;
-use crate::looping::turn;
+use crate::looping::{stage_on, turn};
 use crate::plan::Outside;
 use crate::planning::{loop_refusal, plan_of};
 use crate::steps::Steps;
 use std::alloc::AllocError;
 use uv_ids::Fault;
 use uv_memory::Memory;
-use uv_model::{Outcome, Place, STEPS};
+use uv_model::{Outcome, STEPS};
+use uv_stands::PackedPlace;
 
 /// Makes room for one step more, and on the heap for the timer of each slot that is used.
 #[inline(always)]
-fn make_room(steps: &mut Steps, memory: &mut Memory<Place>) -> Result<(), AllocError>
+fn make_room(steps: &mut Steps, memory: &mut Memory<PackedPlace>) -> Result<(), AllocError>
     ensures same { AreRoomier steps.old steps.new (held memory.old) (held memory.new) }
     ensures pieces { memory.new.slots.room ≡ memory.old.slots.room }
     ensures steps { OnOk result (0 < steps.new.ready) }
@@ -32,9 +35,34 @@ fn make_room(steps: &mut Steps, memory: &mut Memory<Place>) -> Result<(), AllocE
 }
 
 impl ArenaLoop {
-    /// The loop does its next step.
+    /// The loop does its next step in a stage but the done section.
     #[inline(never)]
     pub(crate) fn go_on(&mut self) -> Result<Outcome, Fault>
+        requires staged { is_staged self.old.walk.image.place ≡ true }
+        ensures program { self.new.program ≡ self.old.program }
+        ensures answer { Answers STEPS self.old.program self.old.standing Loop result self.new.standing }
+        ensures records { Adds result self.old self.new }
+    {
+        if self.steps.len() >= STEPS {
+            return Err(Fault::StepsFull);
+        }
+        match loop_refusal(&self.memory, &self.script) {
+            Some(why) => return Err(Fault::Refused(why)),
+            None => {}
+        }
+        if make_room(&mut self.steps, &mut self.memory).is_err() {
+            return Err(Fault::Memory);
+        }
+        self.memory.is_sound();
+        let line = stage_on(&mut self.memory, &self.script);
+        self.steps.push_packed(&line, self.memory.step_record());
+        Ok(Outcome { seen: line.seen() })
+    }
+
+    /// The loop does its next step in the main program, in a body or in the done section: its line may be a wide one.
+    #[inline(never)]
+    pub(crate) fn go_on_wide(&mut self) -> Result<Outcome, Fault>
+        requires other { is_staged self.old.walk.image.place ≡ false }
         ensures program { self.new.program ≡ self.old.program }
         ensures answer { Answers STEPS self.old.program self.old.standing Loop result self.new.standing }
         ensures records { Adds result self.old self.new }

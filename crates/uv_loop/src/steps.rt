@@ -4,12 +4,11 @@ ghost use Rattle.uv_memory.specs.Record.{at_place};
 ghost use Rattle.uv_loop.specs.Taken.{AreSame, IsOneMore};
 
 use crate::line_row::LineRow;
-use crate::record_row::RecordRow;
 use std::alloc::{AllocError, Global};
 use std::marker::Model;
 use uv_ids::Seen;
-use uv_memory::LastStep;
-use uv_model::Place;
+use uv_memory::{LastStep, Trail};
+use uv_stands::{PackedLine, PackedPlace};
 
 /// For how many steps room is made at once.
 const BATCH: usize = 64;
@@ -18,7 +17,7 @@ const BATCH: usize = 64;
 #[derive(Drop)]
 pub(crate) struct Steps {
     pub(crate) seen: LineRow,
-    pub(crate) trail: RecordRow,
+    pub(crate) trail: Trail<PackedPlace>,
     /// For so many more there is room for sure: one look in place of one at each row.
     ready: usize,
 }
@@ -41,7 +40,7 @@ impl Steps {
     {
         Steps {
             seen: LineRow::new(alloc),
-            trail: RecordRow::new(alloc),
+            trail: Trail::new(alloc),
             ready: 0,
         }
     }
@@ -92,13 +91,24 @@ impl Steps {
 
     /// One more. It takes no memory.
     #[inline(always)]
-    pub(crate) fn push(&mut self, line: Option<Seen>, last: &LastStep<Place>)
+    pub(crate) fn push(&mut self, line: Option<Seen>, last: &LastStep<PackedPlace>)
         requires { 0 < self.old.ready }
         ensures { IsOneMore self.old self.new line last.now }
     {
         self.ready -= 1;
         self.seen.push(line);
-        self.trail.push(last);
+        self.trail.push_at(last.place(), last);
+    }
+
+    /// One more, whose line fits in two words. It takes no memory.
+    #[inline(always)]
+    pub(crate) fn push_packed(&mut self, line: &PackedLine, last: &LastStep<PackedPlace>)
+        requires { 0 < self.old.ready }
+        ensures { IsOneMore self.old self.new line.now last.now }
+    {
+        self.ready -= 1;
+        self.seen.push_packed(line);
+        self.trail.push_at(last.place(), last);
     }
 
     pub(crate) fn is_empty(&self) -> bool
@@ -109,13 +119,16 @@ impl Steps {
     }
 
     /// The last one of some goes: this takes it back, and the loop stood at the place that is answered.
-    pub(crate) fn pop(&mut self, last: &mut LastStep<Place>) -> Place
+    pub(crate) fn pop(&mut self, last: &mut LastStep<PackedPlace>) -> PackedPlace
         requires some { 0 < length self.old.trail.records }
         requires each { length self.old.seen.items ≡ length self.old.trail.records }
         ensures records { self.old.trail.records ≡ self.new.trail.records ++ at_place result last.new ∷ [] }
         ensures seen { self.new.seen.items ≡ take (length self.new.trail.records) self.old.seen.items }
     {
         self.seen.pop();
-        self.trail.pop(last)
+        match self.trail.pop_at(last) {
+            None => unreachable!(),
+            Some(place) => place,
+        }
     }
 }

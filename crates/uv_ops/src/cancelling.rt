@@ -7,11 +7,10 @@ ghost use Rattle.uv_ops.specs.Outside.{Cancels};
 
 use uv_ids::{Answer, Code, Var};
 use uv_memory::Memory;
-use uv_model::Place;
-use uv_stands::bound_id;
+use uv_stands::{PackedPlace, bound_id};
 
 /// Cancels a request (uv_cancel), for an op or from outside.
-pub fn cancel(memory: &mut Memory<Place>, name: Var) -> Answer
+pub fn cancel(memory: &mut Memory<PackedPlace>, name: Var) -> Answer
     ensures returns { Returns memory.new.step_record (held memory.old) (held memory.new) }
     ensures cancels { Cancels name (held memory.old).image (held memory.new).image result }
     ensures performs { Performs (op.Cancel name) (held memory.old).image (held memory.new).image result }

@@ -13,12 +13,11 @@ ghost use Rattle.uv_ops.specs.Passed.{HasPassed, answered};
 
 use uv_ids::{Answer, Code, Id, Var};
 use uv_memory::Memory;
-use uv_model::Place;
 use uv_records::HandleRecord;
-use uv_stands::{Ask, allowed};
+use uv_stands::{Ask, PackedPlace, allowed};
 
 /// Gives a handle another record.
-pub(crate) fn edit(memory: &mut Memory<Place>, id: Id, from: HandleRecord, to: HandleRecord)
+pub(crate) fn edit(memory: &mut Memory<PackedPlace>, id: Id, from: HandleRecord, to: HandleRecord)
     requires found { record_at handle_of (held memory.old).image.arena id ≡ Some from }
     ensures returns { Returns memory.new.step_record (held memory.old) (held memory.new) }
     ensures stands { (s : State) → StandsFor (held memory.old).image s → StandsFor (held memory.new).image (with_handle s id to) }
@@ -29,7 +28,7 @@ pub(crate) fn edit(memory: &mut Memory<Place>, id: Id, from: HandleRecord, to: H
 
 /// References a handle, or not (uv_ref, uv_unref).
 pub(crate) fn set_ref(
-    memory: &mut Memory<Place>,
+    memory: &mut Memory<PackedPlace>,
     name: Var,
     referenced: bool,
 ) -> Result<Answer, Code>
@@ -45,7 +44,11 @@ pub(crate) fn set_ref(
 }
 
 /// Gives a timer another repeat in ms (uv_timer_set_repeat).
-pub(crate) fn set_repeat(memory: &mut Memory<Place>, name: Var, repeat: u64) -> Result<Answer, Code>
+pub(crate) fn set_repeat(
+    memory: &mut Memory<PackedPlace>,
+    name: Var,
+    repeat: u64,
+) -> Result<Answer, Code>
     requires { HasPassed memory.old }
     ensures returns { Returns memory.new.step_record (held memory.old) (held memory.new) }
     ensures performs { Performs (op.SetRepeat name repeat) (held memory.old).image (held memory.new).image (answered result) }

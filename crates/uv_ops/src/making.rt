@@ -10,13 +10,16 @@ use std::alloc::AllocError;
 use uv_arena::InsertFault;
 use uv_ids::{Answer, Code, Kind, Var};
 use uv_memory::Memory;
-use uv_model::Place;
-use uv_stands::{bind_name, is_live};
+use uv_stands::{PackedPlace, bind_name, is_live};
 use uv_work::{Request, Task};
 
 /// Makes a handle, to which the name is bound (uv_timer_init and the like). Where there is no memory for its slot it makes none, and the
 /// answer isn't that there is no slot.
-pub(crate) fn init(memory: &mut Memory<Place>, name: Var, kind: Kind) -> Result<Answer, AllocError>
+pub(crate) fn init(
+    memory: &mut Memory<PackedPlace>,
+    name: Var,
+    kind: Kind,
+) -> Result<Answer, AllocError>
     requires { HasPassed memory.old }
     ensures returns { IfOk result (λ _. Returns memory.new.step_record (held memory.old) (held memory.new)) }
     ensures performs { IfOk result (λ answer. Performs (op.Init name kind) (held memory.old).image (held memory.new).image answer) }
@@ -37,7 +40,11 @@ pub(crate) fn init(memory: &mut Memory<Place>, name: Var, kind: Kind) -> Result<
 }
 
 /// Asks a worker to do a task, for which the name is bound to a request (uv_queue_work). It wants memory as `init` does.
-pub(crate) fn queue(memory: &mut Memory<Place>, name: Var, task: Task) -> Result<Answer, AllocError>
+pub(crate) fn queue(
+    memory: &mut Memory<PackedPlace>,
+    name: Var,
+    task: Task,
+) -> Result<Answer, AllocError>
     requires { HasPassed memory.old }
     ensures returns { IfOk result (λ _. Returns memory.new.step_record (held memory.old) (held memory.new)) }
     ensures performs { IfOk result (λ answer. Performs (op.Queue name task) (held memory.old).image (held memory.new).image answer) }

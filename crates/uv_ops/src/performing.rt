@@ -17,8 +17,8 @@ use crate::watchers::start_watcher;
 use std::alloc::AllocError;
 use uv_ids::{Answer, Code};
 use uv_memory::Memory;
-use uv_model::Place;
 use uv_script::Op;
+use uv_stands::PackedPlace;
 
 /// What an op answers that may be refused.
 fn answered(done: Result<Answer, Code>) -> Answer
@@ -31,7 +31,7 @@ fn answered(done: Result<Answer, Code>) -> Answer
 }
 
 /// Does an op: its answer. One that changes nothing leaves the record of a step that does so. Only what takes a slot wants memory.
-pub fn perform(memory: &mut Memory<Place>, op: Op) -> Result<Answer, AllocError>
+pub fn perform(memory: &mut Memory<PackedPlace>, op: Op) -> Result<Answer, AllocError>
     requires { IsReady (held memory.old) }
     ensures returns { IfOk result (λ _. Returns memory.new.step_record (held memory.old) (held memory.new)) }
     ensures performs { IfOk result (λ answer. Performs op (held memory.old).image (held memory.new).image answer) }

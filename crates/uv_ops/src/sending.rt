@@ -9,11 +9,10 @@ ghost use Rattle.uv_ops.specs.Outside.{Sends};
 use crate::edits::edit;
 use uv_ids::{Code, Var};
 use uv_memory::Memory;
-use uv_model::Place;
-use uv_stands::{Ask, allowed};
+use uv_stands::{Ask, PackedPlace, allowed};
 
 /// Has an async handle called (uv_async_send), for an op or from outside.
-pub fn send(memory: &mut Memory<Place>, name: Var) -> Code
+pub fn send(memory: &mut Memory<PackedPlace>, name: Var) -> Code
     ensures returns { Returns memory.new.step_record (held memory.old) (held memory.new) }
     ensures sends { Sends name (held memory.old).image (held memory.new).image result }
     ensures performs { Performs (op.Send name) (held memory.old).image (held memory.new).image (answer.Code result) }

@@ -15,14 +15,13 @@ ghost use Rattle.uv_ops.specs.Passed.{HasPassed, answered};
 use crate::watchers::stop_watcher;
 use uv_ids::{Answer, Code, Id, Var};
 use uv_memory::Memory;
-use uv_model::Place;
 use uv_records::HandleRecord;
-use uv_stands::{Ask, allowed};
+use uv_stands::{Ask, PackedPlace, allowed};
 use uv_timer::TimerChange;
 
 /// Starts a timer, which is stopped and then due the timeout from now; both times in ms (uv_timer_start).
 pub(crate) fn start(
-    memory: &mut Memory<Place>,
+    memory: &mut Memory<PackedPlace>,
     name: Var,
     timeout: u64,
     repeat: u64,
@@ -41,7 +40,7 @@ pub(crate) fn start(
 }
 
 /// Stops a timer, and starts it again if it repeats (uv_timer_again).
-pub(crate) fn again(memory: &mut Memory<Place>, name: Var) -> Result<Answer, Code>
+pub(crate) fn again(memory: &mut Memory<PackedPlace>, name: Var) -> Result<Answer, Code>
     requires { HasPassed memory.old }
     ensures returns { Returns memory.new.step_record (held memory.old) (held memory.new) }
     ensures performs { Performs (op.Again name) (held memory.old).image (held memory.new).image (answered result) }
@@ -56,7 +55,7 @@ pub(crate) fn again(memory: &mut Memory<Place>, name: Var) -> Result<Answer, Cod
 }
 
 /// Stops a timer. One that closes stays on the list of those that close.
-fn stop_timer(memory: &mut Memory<Place>, id: Id, handle: HandleRecord)
+fn stop_timer(memory: &mut Memory<PackedPlace>, id: Id, handle: HandleRecord)
     requires ready { IsReady (held memory.old) }
     requires found { record_at handle_of (held memory.old).image.arena id ≡ Some handle }
     requires timer { is_timer handle.kind ≡ true }
@@ -69,7 +68,7 @@ fn stop_timer(memory: &mut Memory<Place>, id: Id, handle: HandleRecord)
 }
 
 /// Stops a handle of any kind.
-fn stop_handle(memory: &mut Memory<Place>, id: Id, handle: HandleRecord)
+fn stop_handle(memory: &mut Memory<PackedPlace>, id: Id, handle: HandleRecord)
     requires ready { IsReady (held memory.old) }
     requires found { record_at handle_of (held memory.old).image.arena id ≡ Some handle }
     ensures returns { Returns memory.new.step_record (held memory.old) (held memory.new) }
@@ -84,7 +83,7 @@ fn stop_handle(memory: &mut Memory<Place>, id: Id, handle: HandleRecord)
 }
 
 /// Stops a handle (uv_timer_stop and the like).
-pub(crate) fn stop(memory: &mut Memory<Place>, name: Var) -> Result<Answer, Code>
+pub(crate) fn stop(memory: &mut Memory<PackedPlace>, name: Var) -> Result<Answer, Code>
     requires { HasPassed memory.old }
     ensures returns { Returns memory.new.step_record (held memory.old) (held memory.new) }
     ensures performs { Performs (op.Stop name) (held memory.old).image (held memory.new).image (answered result) }
@@ -96,7 +95,7 @@ pub(crate) fn stop(memory: &mut Memory<Place>, name: Var) -> Result<Answer, Code
 }
 
 /// Closes a handle (uv_close): it is stopped, and goes to the front of the closing list.
-pub(crate) fn close(memory: &mut Memory<Place>, name: Var) -> Result<Answer, Code>
+pub(crate) fn close(memory: &mut Memory<PackedPlace>, name: Var) -> Result<Answer, Code>
     requires { HasPassed memory.old }
     ensures returns { Returns memory.new.step_record (held memory.old) (held memory.new) }
     ensures performs { Performs (op.Close name) (held memory.old).image (held memory.new).image (answered result) }

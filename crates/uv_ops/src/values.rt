@@ -7,10 +7,10 @@ ghost use Rattle.uv_stands.specs.Ready.{IsReady};
 
 use uv_ids::{Answer, Code};
 use uv_memory::Memory;
-use uv_model::Place;
+use uv_stands::PackedPlace;
 
 /// Has the run end before its next iteration (uv_stop).
-pub(crate) fn stop_loop(memory: &mut Memory<Place>) -> Answer
+pub(crate) fn stop_loop(memory: &mut Memory<PackedPlace>) -> Answer
     requires { IsReady (held memory.old) }
     ensures returns { Returns memory.new.step_record (held memory.old) (held memory.new) }
     ensures performs { Performs op.StopLoop (held memory.old).image (held memory.new).image result }
@@ -21,7 +21,7 @@ pub(crate) fn stop_loop(memory: &mut Memory<Place>) -> Answer
 }
 
 /// Sets the loop's time to the clock (uv_update_time).
-pub(crate) fn update_time(memory: &mut Memory<Place>) -> Answer
+pub(crate) fn update_time(memory: &mut Memory<PackedPlace>) -> Answer
     requires { IsReady (held memory.old) }
     ensures returns { Returns memory.new.step_record (held memory.old) (held memory.new) }
     ensures performs { Performs op.UpdateTime (held memory.old).image (held memory.new).image result }

@@ -16,12 +16,11 @@ ghost use Rattle.uv_ops.specs.Passed.{HasPassed, answered};
 use crate::edits::edit;
 use uv_ids::{Answer, Code, Id, Var};
 use uv_memory::Memory;
-use uv_model::Place;
 use uv_records::{HandleRecord, WatcherKind};
-use uv_stands::{Ask, allowed};
+use uv_stands::{Ask, PackedPlace, allowed};
 
 /// Starts a handle that isn't active: an idle, prepare or check handle goes to the front of its list, and one of I/O on none.
-fn start_inactive(memory: &mut Memory<Place>, id: Id, handle: HandleRecord)
+fn start_inactive(memory: &mut Memory<PackedPlace>, id: Id, handle: HandleRecord)
     requires ready { IsReady (held memory.old) }
     requires found { record_at handle_of (held memory.old).image.arena id ≡ Some handle }
     requires allowed { start_watcher_refusal handle ≡ None }
@@ -37,7 +36,7 @@ fn start_inactive(memory: &mut Memory<Place>, id: Id, handle: HandleRecord)
 }
 
 /// Starts an idle, prepare, check or I/O handle, if it isn't active (uv_idle_start and the like; uv_read_start).
-pub(crate) fn start_watcher(memory: &mut Memory<Place>, name: Var) -> Result<Answer, Code>
+pub(crate) fn start_watcher(memory: &mut Memory<PackedPlace>, name: Var) -> Result<Answer, Code>
     requires { HasPassed memory.old }
     ensures returns { Returns memory.new.step_record (held memory.old) (held memory.new) }
     ensures performs { Performs (op.StartWatcher name) (held memory.old).image (held memory.new).image (answered result) }
@@ -52,7 +51,7 @@ pub(crate) fn start_watcher(memory: &mut Memory<Place>, name: Var) -> Result<Ans
 }
 
 /// Stops a handle that is no timer (uv_idle_stop and the like; uv_read_stop).
-pub(crate) fn stop_watcher(memory: &mut Memory<Place>, id: Id, handle: HandleRecord)
+pub(crate) fn stop_watcher(memory: &mut Memory<PackedPlace>, id: Id, handle: HandleRecord)
     requires ready { IsReady (held memory.old) }
     requires found { record_at handle_of (held memory.old).image.arena id ≡ Some handle }
     requires no_timer { is_timer handle.kind ≡ false }

@@ -15,71 +15,77 @@ ghost use Rattle.uv_stands.specs.Stands.{StandsFor};
 use crate::standing::stand_in;
 use uv_ids::{Mode, Order, Phase, Seen};
 use uv_memory::Memory;
-use uv_model::{Place, Run, Stage};
+use uv_model::{Run, Stage};
 use uv_records::WatcherKind;
 use uv_script::Script;
+use uv_stands::{PackedLine, PackedPlace};
 
 /// Begins a section of watchers.
-pub fn begin_walk(memory: &mut Memory<Place>, run: Run, kind: WatcherKind) -> Seen
+pub fn begin_walk(memory: &mut Memory<PackedPlace>, run: Run, kind: WatcherKind) -> PackedLine
     requires empty { members (held memory.old).image.arena (yet_of kind) ≡ [] }
     ensures returns { Returns memory.new.step_record (held memory.old) (held memory.new) }
-    ensures goes { Goes (λ s. begin_walk s run kind) (held memory.old).image (held memory.new).image (Some result) }
+    ensures goes { Goes (λ s. begin_walk s run kind) (held memory.old).image (held memory.new).image result }
     ensures pieces { memory.new.slots.room ≡ memory.old.slots.room }
 {
     memory.begin(kind);
     stand_in(memory, run, Stage::Walking(kind));
-    Seen::Section(kind.phase())
+    PackedLine::section(kind.phase())
 }
 
 /// Begins the closing section.
-pub fn begin_closing(memory: &mut Memory<Place>, run: Run) -> Seen
+pub fn begin_closing(memory: &mut Memory<PackedPlace>, run: Run) -> PackedLine
     requires empty { members (held memory.old).image.arena ClosingYet ≡ [] }
     ensures returns { Returns memory.new.step_record (held memory.old) (held memory.new) }
-    ensures goes { Goes (λ s. begin_closing s run) (held memory.old).image (held memory.new).image (Some result) }
+    ensures goes { Goes (λ s. begin_closing s run) (held memory.old).image (held memory.new).image result }
     ensures pieces { memory.new.slots.room ≡ memory.old.slots.room }
 {
     memory.begin_closing();
     stand_in(memory, run, Stage::Closing);
-    Seen::Section(Phase::Closing)
+    PackedLine::section(Phase::Closing)
 }
 
 /// Begins the done section.
-pub(crate) fn begin_done(memory: &mut Memory<Place>, run: Run) -> Seen
+pub(crate) fn begin_done(memory: &mut Memory<PackedPlace>, run: Run) -> PackedLine
     requires empty { members (held memory.old).image.arena DoneYet ≡ [] }
     ensures returns { Returns memory.new.step_record (held memory.old) (held memory.new) }
-    ensures goes { Goes (λ s. begin_done s run) (held memory.old).image (held memory.new).image (Some result) }
+    ensures goes { Goes (λ s. begin_done s run) (held memory.old).image (held memory.new).image result }
     ensures pieces { memory.new.slots.room ≡ memory.old.slots.room }
 {
     memory.begin_done();
     stand_in(memory, run, Stage::Done);
-    Seen::Section(Phase::Done)
+    PackedLine::section(Phase::Done)
 }
 
 /// Leaves the poll: the time is refreshed, and the done section begins.
-pub fn leave_poll(memory: &mut Memory<Place>, run: Run) -> Seen
+pub fn leave_poll(memory: &mut Memory<PackedPlace>, run: Run) -> PackedLine
     requires empty { members (held memory.old).image.arena DoneYet ≡ [] }
     ensures returns { Returns memory.new.step_record (held memory.old) (held memory.new) }
-    ensures goes { Goes (λ s. begin_done (refreshed s) run) (held memory.old).image (held memory.new).image (Some result) }
+    ensures goes { Goes (λ s. begin_done (refreshed s) run) (held memory.old).image (held memory.new).image result }
     ensures pieces { memory.new.slots.room ≡ memory.old.slots.room }
 {
     memory.leave_poll();
     stand_in(memory, run, Stage::Done);
-    Seen::Section(Phase::Done)
+    PackedLine::section(Phase::Done)
 }
 
 /// Begins a section in which nobody is called.
-pub(crate) fn begin_empty(memory: &mut Memory<Place>, run: Run, stage: Stage, phase: Phase) -> Seen
+pub(crate) fn begin_empty(
+    memory: &mut Memory<PackedPlace>,
+    run: Run,
+    stage: Stage,
+    phase: Phase,
+) -> PackedLine
     ensures returns { Returns memory.new.step_record (held memory.old) (held memory.new) }
-    ensures goes { Goes (λ s. begins s run stage phase) (held memory.old).image (held memory.new).image (Some result) }
+    ensures goes { Goes (λ s. begins s run stage phase) (held memory.old).image (held memory.new).image result }
     ensures pieces { memory.new.slots.room ≡ memory.old.slots.room }
 {
     memory.pass();
     stand_in(memory, run, stage);
-    Seen::Section(phase)
+    PackedLine::section(phase)
 }
 
 /// The loop's time is that of the clock.
-fn refresh(memory: &mut Memory<Place>)
+fn refresh(memory: &mut Memory<PackedPlace>)
     ensures recorded { Recorded memory.new.step_record (held memory.old) (held memory.new) }
     ensures stands { (s : State) → StandsFor (held memory.old).image s → StandsFor (held memory.new).image (refreshed s) }
     ensures pieces { memory.new.slots.room ≡ memory.old.slots.room }
@@ -88,7 +94,7 @@ fn refresh(memory: &mut Memory<Place>)
 }
 
 /// The loop's time is that of the clock in a default run in the order of 1.45, and stays in another one.
-fn refresh_in(memory: &mut Memory<Place>, order: Order, mode: Mode)
+fn refresh_in(memory: &mut Memory<PackedPlace>, order: Order, mode: Mode)
     ensures recorded { Recorded memory.new.step_record (held memory.old) (held memory.new) }
     ensures stands { (s : State) → StandsFor (held memory.old).image s
         → StandsFor (held memory.new).image (if refreshes order mode then refreshed s else s) }
@@ -104,7 +110,7 @@ fn refresh_in(memory: &mut Memory<Place>, order: Order, mode: Mode)
 }
 
 /// Begins a run of a line of the main program (uv_run).
-pub fn begin_run(memory: &mut Memory<Place>, script: &Script, line: usize, mode: Mode) -> Seen
+pub fn begin_run(memory: &mut Memory<PackedPlace>, script: &Script, line: usize, mode: Mode) -> Seen
     ensures returns { Returns memory.new.step_record (held memory.old) (held memory.new) }
     ensures goes { Goes (λ s. main_step (order_of script.now) s line (Some (run_line mode)))
         (held memory.old).image (held memory.new).image (Some result) }

@@ -18,11 +18,12 @@ use uv_ids::{Callback, Id, Seen, Var};
 use uv_memory::Memory;
 use uv_model::{Place, Run, body_from};
 use uv_script::Script;
-use uv_stands::call_name;
+use uv_stands::{PackedPlace, call_name};
 
 /// The last step begins a callback of a name as well: one call more, and the body of that call is under way.
+#[inline(always)]
 pub(crate) fn begin_body(
-    memory: &mut Memory<Place>,
+    memory: &mut Memory<PackedPlace>,
     script: &Script,
     run: Run,
     callback: Callback,
@@ -38,12 +39,18 @@ pub(crate) fn begin_body(
 {
     let count = call_name(memory, name, callback);
     let body = body_from(script, callback, name, count, 0);
-    let place = Place::Running(Run { body, ..run });
+    let place = PackedPlace::running(Run { body, ..run });
     memory.stand_at(place);
 }
 
 /// What a handle of I/O waits for has come, and its callback begins. Where the run is in the poll, that leaves it.
-pub fn call_io(memory: &mut Memory<Place>, script: &Script, run: Run, name: Var, id: Id) -> Seen
+pub fn call_io(
+    memory: &mut Memory<PackedPlace>,
+    script: &Script,
+    run: Run,
+    name: Var,
+    id: Id,
+) -> Seen
     requires ready { IsReady (held memory.old) }
     ensures returns { Returns memory.new.step_record (held memory.old) (held memory.new) }
     ensures goes { Goes (λ s. calls script.now (record s { time = time_polled s run.stage })

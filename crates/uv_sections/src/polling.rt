@@ -17,14 +17,14 @@ ghost use Rattle.uv_stands.specs.Stands.{StandsFor};
 
 use crate::beginning::{begin_done, begin_empty};
 use crate::standing::stand_in;
-use uv_ids::{Phase, Seen};
+use uv_ids::Phase;
 use uv_memory::Memory;
-use uv_model::{Place, Run, Stage};
+use uv_model::{Run, Stage};
 use uv_records::WatcherKind;
-use uv_stands::{is_woken, poll_timeout};
+use uv_stands::{PackedLine, PackedPlace, is_woken, poll_timeout};
 
 /// When the poll is over, at the latest, in ms; none is never.
-fn deadline_of(memory: &Memory<Place>, timeout: Option<u64>) -> Option<u64>
+fn deadline_of(memory: &Memory<PackedPlace>, timeout: Option<u64>) -> Option<u64>
     requires time { (held memory.now).image.times.time < 2 ^ 63 }
     requires short { IfSome timeout (λ ms. ms ≤ LONGEST_POLL) }
     ensures { OfEach (held memory.now).image (λ s. deadline_of s timeout ≡ result) }
@@ -36,22 +36,22 @@ fn deadline_of(memory: &Memory<Place>, timeout: Option<u64>) -> Option<u64>
 }
 
 /// Begins the poll, with its timeout.
-pub fn begin_poll(memory: &mut Memory<Place>, run: Run) -> Seen
+pub fn begin_poll(memory: &mut Memory<PackedPlace>, run: Run) -> PackedLine
     requires ready { IsReady (held memory.old) }
     ensures returns { Returns memory.new.step_record (held memory.old) (held memory.new) }
-    ensures goes { Goes (λ s. begin_poll s run) (held memory.old).image (held memory.new).image (Some result) }
+    ensures goes { Goes (λ s. begin_poll s run) (held memory.old).image (held memory.new).image result }
     ensures pieces { memory.new.slots.room ≡ memory.old.slots.room }
 {
     let timeout = poll_timeout(memory, run.mode);
     let deadline = deadline_of(memory, timeout);
     memory.pass();
     stand_in(memory, run, Stage::Poll(deadline));
-    Seen::Poll(timeout)
+    PackedLine::poll(timeout)
 }
 
 /// Leaves the poll, where the run is in it, as a callback of I/O begins: the time is refreshed, and it is kept whether the poll was
 /// woken before.
-pub(crate) fn polled(memory: &mut Memory<Place>, run: Run) -> Run
+pub(crate) fn polled(memory: &mut Memory<PackedPlace>, run: Run) -> Run
     ensures recorded { Recorded memory.new.step_record (held memory.old) (held memory.new) }
     ensures run { OfEach (held memory.old).image (λ s. record run { stage = stage_polled s run.stage } ≡ result) }
     ensures stands { (s : State) → StandsFor (held memory.old).image s
@@ -72,10 +72,10 @@ pub(crate) fn polled(memory: &mut Memory<Place>, run: Run) -> Run
 }
 
 /// Goes on behind a poll that a callback of I/O left: where nobody woke it, nobody is called in the done section.
-pub fn leave_polled(memory: &mut Memory<Place>, run: Run, woken: bool) -> Seen
+pub fn leave_polled(memory: &mut Memory<PackedPlace>, run: Run, woken: bool) -> PackedLine
     requires empty { members (held memory.old).image.arena DoneYet ≡ [] }
     ensures returns { Returns memory.new.step_record (held memory.old) (held memory.new) }
-    ensures goes { Goes (λ s. leave_polled s run woken) (held memory.old).image (held memory.new).image (Some result) }
+    ensures goes { Goes (λ s. leave_polled s run woken) (held memory.old).image (held memory.new).image result }
     ensures pieces { memory.new.slots.room ≡ memory.old.slots.room }
 {
     if woken {
@@ -86,9 +86,9 @@ pub fn leave_polled(memory: &mut Memory<Place>, run: Run, woken: bool) -> Seen
 }
 
 /// Begins the async section of an iteration whose poll nobody woke: nobody is called there.
-pub fn begin_unwoken_async(memory: &mut Memory<Place>, run: Run) -> Seen
+pub fn begin_unwoken_async(memory: &mut Memory<PackedPlace>, run: Run) -> PackedLine
     ensures returns { Returns memory.new.step_record (held memory.old) (held memory.new) }
-    ensures goes { Goes (λ s. begins s run (Walking async) phase.Async) (held memory.old).image (held memory.new).image (Some result) }
+    ensures goes { Goes (λ s. begins s run (Walking async) phase.Async) (held memory.old).image (held memory.new).image result }
     ensures pieces { memory.new.slots.room ≡ memory.old.slots.room }
 {
     let stage = Stage::Walking(WatcherKind::Async);

@@ -17,34 +17,35 @@ use crate::polling::begin_poll;
 use crate::walking::{walk, walk_async};
 use uv_ids::Seen;
 use uv_memory::Memory;
-use uv_model::{Place, Run, Turn};
+use uv_model::{Run, Turn};
 use uv_records::WatcherKind;
 use uv_script::Script;
+use uv_stands::{PackedLine, PackedPlace};
 
 /// Goes on in the done section: the front of the requests that are done calls back, or the async handles begin.
-pub fn in_done(memory: &mut Memory<Place>, script: &Script, run: Run) -> Seen
+pub fn in_done(memory: &mut Memory<PackedPlace>, script: &Script, run: Run) -> Option<Seen>
     requires ready { IsReady (held memory.old) }
     requires last { (held memory.old).image.arena.last ≡ (arena_size script.now).last_generation }
     requires empty { members (held memory.old).image.arena AsyncYet ≡ [] }
     ensures returns { Returns memory.new.step_record (held memory.old) (held memory.new) }
     ensures goes { Goes (λ s. collect_request script.now s run)
-        (held memory.old).image (held memory.new).image (Some result) }
+        (held memory.old).image (held memory.new).image result }
     ensures pieces { memory.new.slots.room ≡ memory.old.slots.room }
 {
     match collect_request(memory, script, run) {
-        Some(called) => called,
-        None => begin_walk(memory, run, WatcherKind::Async),
+        Some(called) => Some(called),
+        None => begin_walk(memory, run, WatcherKind::Async).seen(),
     }
 }
 
 /// Goes on in the closing section: the close callback of the front of the closing handles is called, or the section is over.
-pub fn in_closing(memory: &mut Memory<Place>, script: &Script, run: Run) -> Seen
+pub fn in_closing(memory: &mut Memory<PackedPlace>, script: &Script, run: Run) -> PackedLine
     requires ready { IsReady (held memory.old) }
     requires last { (held memory.old).image.arena.last ≡ (arena_size script.now).last_generation }
     requires line { run.line < 2 ^ 63 }
     ensures returns { Returns memory.new.step_record (held memory.old) (held memory.new) }
     ensures goes { Goes (λ s. close_front script.now s run)
-        (held memory.old).image (held memory.new).image (Some result) }
+        (held memory.old).image (held memory.new).image result }
     ensures pieces { memory.new.slots.room ≡ memory.old.slots.room }
 {
     match close_front(memory, script, run) {
@@ -54,11 +55,11 @@ pub fn in_closing(memory: &mut Memory<Place>, script: &Script, run: Run) -> Seen
 }
 
 /// Goes on behind the section of a kind.
-fn after_walk(memory: &mut Memory<Place>, run: &Run, kind: WatcherKind) -> Seen
+fn after_walk(memory: &mut Memory<PackedPlace>, run: &Run, kind: WatcherKind) -> PackedLine
     requires ready { IsReady (held memory.old) }
     requires empty { IsClearAfter kind (held memory.old).image.arena }
     ensures returns { Returns memory.new.step_record (held memory.old) (held memory.new) }
-    ensures goes { Goes (λ s. after_walk s run.now kind) (held memory.old).image (held memory.new).image (Some result) }
+    ensures goes { Goes (λ s. after_walk s run.now kind) (held memory.old).image (held memory.new).image result }
     ensures pieces { memory.new.slots.room ≡ memory.old.slots.room }
 {
     match kind {
@@ -71,13 +72,18 @@ fn after_walk(memory: &mut Memory<Place>, run: &Run, kind: WatcherKind) -> Seen
 
 /// Goes on in the section of the idle, prepare or check handles: the front of those that are yet to run is called, or the next part begins.
 #[inline(always)]
-fn in_plain(memory: &mut Memory<Place>, script: &Script, run: &Run, kind: WatcherKind) -> Seen
+fn in_plain(
+    memory: &mut Memory<PackedPlace>,
+    script: &Script,
+    run: &Run,
+    kind: WatcherKind,
+) -> PackedLine
     requires ready { IsReady (held memory.old) }
     requires other { kind ≢ async }
     requires empty { IsClearAfter kind (held memory.old).image.arena }
     ensures returns { Returns memory.new.step_record (held memory.old) (held memory.new) }
     ensures goes { Goes (λ s. walk script.now s run.now kind)
-        (held memory.old).image (held memory.new).image (Some result) }
+        (held memory.old).image (held memory.new).image result }
     ensures pieces { memory.new.slots.room ≡ memory.old.slots.room }
 {
     match walk(memory, script, run, kind) {
@@ -88,7 +94,7 @@ fn in_plain(memory: &mut Memory<Place>, script: &Script, run: &Run, kind: Watche
 
 /// Goes on in the async section: the front of the async handles that are yet to run is called or passed by, or the check handles
 /// begin.
-fn in_async(memory: &mut Memory<Place>, script: &Script, run: &Run) -> Option<Seen>
+fn in_async(memory: &mut Memory<PackedPlace>, script: &Script, run: &Run) -> PackedLine
     requires ready { IsReady (held memory.old) }
     requires empty { IsClearAfter async (held memory.old).image.arena }
     ensures returns { Returns memory.new.step_record (held memory.old) (held memory.new) }
@@ -98,17 +104,17 @@ fn in_async(memory: &mut Memory<Place>, script: &Script, run: &Run) -> Option<Se
 {
     match walk_async(memory, script, run) {
         Some(passed) => passed,
-        None => Some(after_walk(memory, run, WatcherKind::Async)),
+        None => after_walk(memory, run, WatcherKind::Async),
     }
 }
 
 /// Goes on in the section of a kind: the front of its handles that are yet to run is called or passed by, or the next part begins.
 pub fn in_walk(
-    memory: &mut Memory<Place>,
+    memory: &mut Memory<PackedPlace>,
     script: &Script,
     run: &Run,
     kind: WatcherKind,
-) -> Option<Seen>
+) -> PackedLine
     requires ready { IsReady (held memory.old) }
     requires empty { IsClearAfter kind (held memory.old).image.arena }
     ensures returns { Returns memory.new.step_record (held memory.old) (held memory.new) }
@@ -117,9 +123,9 @@ pub fn in_walk(
     ensures pieces { memory.new.slots.room ≡ memory.old.slots.room }
 {
     match kind {
-        WatcherKind::Idle => Some(in_plain(memory, script, run, kind)),
-        WatcherKind::Prepare => Some(in_plain(memory, script, run, kind)),
-        WatcherKind::Check => Some(in_plain(memory, script, run, kind)),
+        WatcherKind::Idle => in_plain(memory, script, run, kind),
+        WatcherKind::Prepare => in_plain(memory, script, run, kind),
+        WatcherKind::Check => in_plain(memory, script, run, kind),
         WatcherKind::Async => in_async(memory, script, run),
     }
 }

@@ -12,18 +12,24 @@ use crate::calling::begin_body;
 use crate::iterating::turn;
 use crate::standing::stand_in;
 use uv_handle::handle_at;
-use uv_ids::{Callback, Id, Seen};
+use uv_ids::{Callback, Id};
 use uv_memory::Memory;
-use uv_model::{Place, Run, Stage, TimersOf, Timing, Turn};
+use uv_model::{Run, Stage, TimersOf, Timing, Turn};
 use uv_script::Script;
+use uv_stands::{PackedLine, PackedPlace};
 use uv_timer::{TimerChange, first_due};
 
 /// Calls the front of the timers that are set aside, which is set again if it repeats. None, and nothing changed, where there is none.
-fn call_timer(memory: &mut Memory<Place>, script: &Script, run: Run, part: TimersOf) -> Option<Seen>
+fn call_timer(
+    memory: &mut Memory<PackedPlace>,
+    script: &Script,
+    run: Run,
+    part: TimersOf,
+) -> Option<PackedLine>
     requires ready { IsReady (held memory.old) }
     ensures returns { IfSome result (λ _. Returns memory.new.step_record (held memory.old) (held memory.new)) }
     ensures goes { IfSome result (λ line. Goes (λ s. fire script.now s run part)
-        (held memory.old).image (held memory.new).image (Some line)) }
+        (held memory.old).image (held memory.new).image line) }
     ensures same { IfNone result (held memory.new ≡ held memory.old) }
     ensures none { IfNone result (FiresNone (held memory.old).image) }
     ensures pieces { memory.new.slots.room ≡ memory.old.slots.room }
@@ -39,19 +45,19 @@ fn call_timer(memory: &mut Memory<Place>, script: &Script, run: Run, part: Timer
                     ..run
                 };
                 begin_body(memory, script, firing, Callback::Handle, handle.name);
-                Some(Seen::Call(handle.name, id))
+                Some(PackedLine::call(handle.name, id))
             }
         },
     }
 }
 
 /// Calls the front of the timers that are set aside, or leaves the section.
-fn fire(memory: &mut Memory<Place>, script: &Script, run: Run, part: TimersOf) -> Seen
+fn fire(memory: &mut Memory<PackedPlace>, script: &Script, run: Run, part: TimersOf) -> PackedLine
     requires ready { IsReady (held memory.old) }
     requires line { run.line < 2 ^ 63 }
     ensures returns { Returns memory.new.step_record (held memory.old) (held memory.new) }
     ensures goes { Goes (λ s. fire script.now s run part)
-        (held memory.old).image (held memory.new).image (Some result) }
+        (held memory.old).image (held memory.new).image result }
     ensures pieces { memory.new.slots.room ≡ memory.old.slots.room }
 {
     match call_timer(memory, script, run, part) {
@@ -61,7 +67,7 @@ fn fire(memory: &mut Memory<Place>, script: &Script, run: Run, part: TimersOf) -
 }
 
 /// Sets the first timer aside, if it is due: its id. None, and nothing changed, where none is.
-fn set_aside(memory: &mut Memory<Place>, run: Run, part: TimersOf) -> Option<Id>
+fn set_aside(memory: &mut Memory<PackedPlace>, run: Run, part: TimersOf) -> Option<Id>
     requires ready { IsReady (held memory.old) }
     ensures returns { IfSome result (λ _. Returns memory.new.step_record (held memory.old) (held memory.new)) }
     ensures goes { IfSome result (λ _. (p : Program)
@@ -83,7 +89,12 @@ fn set_aside(memory: &mut Memory<Place>, run: Run, part: TimersOf) -> Option<Id>
 }
 
 /// Sets the first timer aside, without a line, if it is due; else begins to call those that are.
-fn collect(memory: &mut Memory<Place>, script: &Script, run: Run, part: TimersOf) -> Option<Seen>
+fn collect(
+    memory: &mut Memory<PackedPlace>,
+    script: &Script,
+    run: Run,
+    part: TimersOf,
+) -> PackedLine
     requires ready { IsReady (held memory.old) }
     requires line { run.line < 2 ^ 63 }
     ensures returns { Returns memory.new.step_record (held memory.old) (held memory.new) }
@@ -92,22 +103,22 @@ fn collect(memory: &mut Memory<Place>, script: &Script, run: Run, part: TimersOf
     ensures pieces { memory.new.slots.room ≡ memory.old.slots.room }
 {
     match set_aside(memory, run, part) {
-        Some(_) => None,
-        None => Some(fire(memory, script, run, part)),
+        Some(_) => PackedLine::nothing(),
+        None => fire(memory, script, run, part),
     }
 }
 
 /// Calls the first timer, if it is due, straight from the heap, and sets it again if it repeats. None, and nothing changed, where none is due.
 fn call_from_heap(
-    memory: &mut Memory<Place>,
+    memory: &mut Memory<PackedPlace>,
     script: &Script,
     run: Run,
     part: TimersOf,
-) -> Option<Seen>
+) -> Option<PackedLine>
     requires ready { IsReady (held memory.old) }
     ensures returns { IfSome result (λ _. Returns memory.new.step_record (held memory.old) (held memory.new)) }
     ensures goes { IfSome result (λ line. Goes (λ s. call_due script.now s run part)
-        (held memory.old).image (held memory.new).image (Some line)) }
+        (held memory.old).image (held memory.new).image line) }
     ensures same { IfNone result (held memory.new ≡ held memory.old) }
     ensures none { IfNone result (CollectsNone (held memory.old).image) }
     ensures pieces { memory.new.slots.room ≡ memory.old.slots.room }
@@ -124,18 +135,23 @@ fn call_from_heap(
                 ..run
             };
             begin_body(memory, script, calling, Callback::Handle, handle.name);
-            Some(Seen::Call(handle.name, id))
+            Some(PackedLine::call(handle.name, id))
         }
     }
 }
 
 /// Calls the first timer, if it is due, straight from the heap, or leaves the section.
-fn call_due(memory: &mut Memory<Place>, script: &Script, run: Run, part: TimersOf) -> Seen
+fn call_due(
+    memory: &mut Memory<PackedPlace>,
+    script: &Script,
+    run: Run,
+    part: TimersOf,
+) -> PackedLine
     requires ready { IsReady (held memory.old) }
     requires line { run.line < 2 ^ 63 }
     ensures returns { Returns memory.new.step_record (held memory.old) (held memory.new) }
     ensures goes { Goes (λ s. call_due script.now s run part)
-        (held memory.old).image (held memory.new).image (Some result) }
+        (held memory.old).image (held memory.new).image result }
     ensures pieces { memory.new.slots.room ≡ memory.old.slots.room }
 {
     match call_from_heap(memory, script, run, part) {
@@ -145,7 +161,12 @@ fn call_due(memory: &mut Memory<Place>, script: &Script, run: Run, part: TimersO
 }
 
 /// What is done first in a timers section, where due timers are called straight from the heap, or else set aside.
-fn next_due(memory: &mut Memory<Place>, script: &Script, run: Run, part: TimersOf) -> Option<Seen>
+fn next_due(
+    memory: &mut Memory<PackedPlace>,
+    script: &Script,
+    run: Run,
+    part: TimersOf,
+) -> PackedLine
     requires ready { IsReady (held memory.old) }
     requires line { run.line < 2 ^ 63 }
     ensures returns { Returns memory.new.step_record (held memory.old) (held memory.new) }
@@ -154,7 +175,7 @@ fn next_due(memory: &mut Memory<Place>, script: &Script, run: Run, part: TimersO
     ensures pieces { memory.new.slots.room ≡ memory.old.slots.room }
 {
     if script.timers_from_heap() {
-        Some(call_due(memory, script, run, part))
+        call_due(memory, script, run, part)
     } else {
         collect(memory, script, run, part)
     }
@@ -162,12 +183,12 @@ fn next_due(memory: &mut Memory<Place>, script: &Script, run: Run, part: TimersO
 
 /// Goes on in a section of timers.
 pub fn in_timers(
-    memory: &mut Memory<Place>,
+    memory: &mut Memory<PackedPlace>,
     script: &Script,
     run: Run,
     part: TimersOf,
     timing: Timing,
-) -> Option<Seen>
+) -> PackedLine
     requires ready { IsReady (held memory.old) }
     requires line { run.line < 2 ^ 63 }
     ensures returns { Returns memory.new.step_record (held memory.old) (held memory.new) }
@@ -177,6 +198,6 @@ pub fn in_timers(
 {
     match timing {
         Timing::Collecting => next_due(memory, script, run, part),
-        Timing::Firing => Some(fire(memory, script, run, part)),
+        Timing::Firing => fire(memory, script, run, part),
     }
 }

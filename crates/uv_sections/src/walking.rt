@@ -11,15 +11,16 @@ ghost use Rattle.uv_sections.specs.Moved.{NamedMoved};
 
 use crate::calling::begin_body;
 use crate::standing::stand_in;
-use uv_ids::{Callback, Id, Seen, Var};
+use uv_ids::{Callback, Id, Var};
 use uv_memory::Memory;
-use uv_model::{Place, Run, Stage};
+use uv_model::{Run, Stage};
 use uv_records::WatcherKind;
 use uv_script::Script;
+use uv_stands::{PackedLine, PackedPlace};
 
 /// Moves the front of those that are yet to run to the end of its list: its name, and whether a callback of it was pending, which then
 /// isn't any more. None, and nothing changed, where there is none.
-fn move_on(memory: &mut Memory<Place>, kind: WatcherKind) -> Option<(Id, Var, bool)>
+fn move_on(memory: &mut Memory<PackedPlace>, kind: WatcherKind) -> Option<(Id, Var, bool)>
     ensures recorded { IfSome result (λ _. Recorded memory.new.step_record (held memory.old) (held memory.new)) }
     ensures moved { IfSome result (λ r. OfEach (held memory.old).image
         (λ s. NamedMoved kind (held memory.new).image s r.0 r.1 r.2)) }
@@ -36,16 +37,16 @@ fn move_on(memory: &mut Memory<Place>, kind: WatcherKind) -> Option<(Id, Var, bo
 /// Calls the front of the idle, prepare or check handles that are yet to run. None, and nothing changed, where there is none.
 #[inline(always)]
 pub(crate) fn walk(
-    memory: &mut Memory<Place>,
+    memory: &mut Memory<PackedPlace>,
     script: &Script,
     run: &Run,
     kind: WatcherKind,
-) -> Option<Seen>
+) -> Option<PackedLine>
     requires ready { IsReady (held memory.old) }
     requires other { kind ≢ async }
     ensures returns { IfSome result (λ _. Returns memory.new.step_record (held memory.old) (held memory.new)) }
     ensures goes { IfSome result (λ line. Goes (λ s. walk script.now s run.now kind)
-        (held memory.old).image (held memory.new).image (Some line)) }
+        (held memory.old).image (held memory.new).image line) }
     ensures same { IfNone result (held memory.new ≡ held memory.old) }
     ensures none { IfNone result (OfEach (held memory.old).image (λ s. front s (watched s kind).yet ≡ None)) }
     ensures pieces { memory.new.slots.room ≡ memory.old.slots.room }
@@ -54,7 +55,7 @@ pub(crate) fn walk(
         None => None,
         Some((id, name, _)) => {
             begin_body(memory, script, *run, Callback::Handle, name);
-            Some(Seen::Call(name, id))
+            Some(PackedLine::call(name, id))
         }
     }
 }
@@ -62,10 +63,10 @@ pub(crate) fn walk(
 /// Calls the front of the async handles that are yet to run, if it was sent to, or passes it by. None, and nothing changed, where there
 /// is none.
 pub(crate) fn walk_async(
-    memory: &mut Memory<Place>,
+    memory: &mut Memory<PackedPlace>,
     script: &Script,
     run: &Run,
-) -> Option<Option<Seen>>
+) -> Option<PackedLine>
     requires ready { IsReady (held memory.old) }
     ensures returns { IfSome result (λ _. Returns memory.new.step_record (held memory.old) (held memory.new)) }
     ensures goes { IfSome result (λ line. Goes (λ s. walk_async script.now s run.now)
@@ -79,10 +80,10 @@ pub(crate) fn walk_async(
         Some((id, name, pending)) => {
             if pending {
                 begin_body(memory, script, *run, Callback::Handle, name);
-                Some(Some(Seen::Call(name, id)))
+                Some(PackedLine::call(name, id))
             } else {
                 stand_in(memory, *run, Stage::Walking(WatcherKind::Async));
-                Some(None)
+                Some(PackedLine::nothing())
             }
         }
     }

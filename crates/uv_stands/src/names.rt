@@ -11,21 +11,21 @@ ghost use Rattle.uv_stands.specs.Asking.{Asked};
 ghost use Rattle.uv_stands.specs.Stands.{StandsFor};
 
 use crate::ask::Ask;
+use crate::packed_place::PackedPlace;
 use uv_handle::handle_at;
 use uv_ids::{Callback, Code, Id, Var};
 use uv_memory::Memory;
-use uv_model::Place;
 use uv_records::HandleRecord;
 
 /// What a name is bound to.
-pub fn bound_id(memory: &Memory<Place>, name: Var) -> Option<Id>
+pub fn bound_id(memory: &Memory<PackedPlace>, name: Var) -> Option<Id>
     ensures { result ≡ (named (held memory.now).image.names name.0).id }
 {
     memory.named(name).id
 }
 
 /// The handle of a name, for an op on handles: ESTALE if the name isn't live, EKIND if it is a request's.
-pub fn live_handle(memory: &Memory<Place>, name: Var) -> Result<(Id, HandleRecord), Code>
+pub fn live_handle(memory: &Memory<PackedPlace>, name: Var) -> Result<(Id, HandleRecord), Code>
     ensures found { IfOk result (λ t. record_at handle_of (held memory.now).image.arena t.0 ≡ Some t.1) }
     ensures is { (s : State) → StandsFor (held memory.now).image s → live_handle s name ≡ result }
 {
@@ -39,7 +39,11 @@ pub fn live_handle(memory: &Memory<Place>, name: Var) -> Result<(Id, HandleRecor
 }
 
 /// The handle of a name, for an op that asks this of it, or why the op is refused.
-pub fn allowed(memory: &Memory<Place>, name: Var, ask: Ask) -> Result<(Id, HandleRecord), Code>
+pub fn allowed(
+    memory: &Memory<PackedPlace>,
+    name: Var,
+    ask: Ask,
+) -> Result<(Id, HandleRecord), Code>
     ensures { Asked (held memory.now).image name ask result }
 {
     match live_handle(memory, name) {
@@ -52,7 +56,7 @@ pub fn allowed(memory: &Memory<Place>, name: Var, ask: Ask) -> Result<(Id, Handl
 }
 
 /// Whether a name is live: still bound to the handle or the request that it was bound to.
-pub fn is_live(memory: &Memory<Place>, name: Var) -> bool
+pub fn is_live(memory: &Memory<PackedPlace>, name: Var) -> bool
     ensures { (s : State) → StandsFor (held memory.now).image s → is_some (live s name) ≡ result }
 {
     match bound_id(memory, name) {
@@ -62,7 +66,7 @@ pub fn is_live(memory: &Memory<Place>, name: Var) -> bool
 }
 
 /// The last step binds a name to this as well. A name that the loop doesn't have is bound to nothing.
-pub fn bind_name(memory: &mut Memory<Place>, name: Var, id: Id)
+pub fn bind_name(memory: &mut Memory<PackedPlace>, name: Var, id: Id)
     requires can { CanUnwind (held memory.old).room memory.old.step_record (held memory.old).image }
     requires unnamed { memory.old.step_record.naming ≡ same }
     ensures image { (held memory.new).image
@@ -78,7 +82,7 @@ pub fn bind_name(memory: &mut Memory<Place>, name: Var, id: Id)
 
 /// The last step calls a callback of a name as well: how often it was called by then. It isn't counted for a name that the
 /// loop doesn't have.
-pub fn call_name(memory: &mut Memory<Place>, name: Var, callback: Callback) -> u32
+pub fn call_name(memory: &mut Memory<PackedPlace>, name: Var, callback: Callback) -> u32
     requires can { CanUnwind (held memory.old).room memory.old.step_record (held memory.old).image }
     requires unnamed { memory.old.step_record.naming ≡ same }
     requires few { count_of callback (named (held memory.old).image.names name.0).calls < 2 ^ 32 - 1 }

@@ -7,16 +7,16 @@ ghost use Rattle.uv_requests.specs.Working.{id_in};
 ghost use Rattle.uv_memory.specs.Image.{held};
 ghost use Rattle.uv_stands.specs.Doing.{OfEach};
 
+use crate::packed_place::PackedPlace;
 use std::alloc::{AllocError, Global};
 use uv_arena::Slots;
 use uv_heap::{Entry, TimerHeap};
 use uv_ids::Id;
 use uv_memory::Memory;
-use uv_model::Place;
 use uv_work::Content;
 
 /// The active timers, in the order in which they are due.
-pub fn timer_ids(memory: &Memory<Place>, alloc: Global) -> Result<Vec<Id>, AllocError>
+pub fn timer_ids(memory: &Memory<PackedPlace>, alloc: Global) -> Result<Vec<Id>, AllocError>
     ensures { IfOk result (λ ids. OfEach (held memory.now).image (λ s. ids.items ≡ timer_ids s)) }
 {
     let entries = in_order(memory.heap(), alloc)?;

@@ -6,4 +6,4 @@ pub returns-clause-goes : goal.returns-clause-goes
 returns-clause-goes c s h reached =
     let b = c.begin_done in
     let begun = done_begun (image_of c.args.memory.now) (image_of b.new.self) b.ensures.frame _ b.ensures.does.does s h in
-    (_, refl, c.stand_in.ensures.stands _ begun)
+    (_, rw (c.section.ensures) refl, c.stand_in.ensures.stands _ begun)

@@ -8,6 +8,6 @@ returns-clause-goes c s h reached =
     let b = c.begin in
     let begun = walk_begun (image_of c.args.memory.now) (image_of b.new.self) b.ensures.frame c.args.kind _ b.ensures.does.does s h in (
       at m c.args.run (Walking c.args.kind),
-      (λ l. Moves (at m c.args.run (Walking c.args.kind)) (Some (Section (sym c.phase.ensures l)))),
+      rw (c.section.ensures) (λ l. Moves (at m c.args.run (Walking c.args.kind)) (Some (Section (sym c.phase.ensures l)))),
       c.stand_in.ensures.stands _ begun,
     )

@@ -6,4 +6,4 @@ pub returns-clause-goes : goal.returns-clause-goes
 returns-clause-goes c s h reached =
     let b = c.leave_poll in
     let left = poll_left (image_of c.args.memory.now) (image_of b.new.self) b.ensures.frame _ b.ensures.does.does s h in
-    (_, refl, c.stand_in.ensures.stands _ left)
+    (_, rw (c.section.ensures) refl, c.stand_in.ensures.stands _ left)

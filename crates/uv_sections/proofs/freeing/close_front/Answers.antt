@@ -16,5 +16,5 @@ pub returns-in-Some-clause-goes : goal.returns-in-Some-clause-goes
 returns-in-Some-clause-goes c s h reached =
     let old = image_of c.args.memory.now in let new = image_of c.end_handle.new.self in
     let did = c.in-Some.ensures in let id = c.in-Some.id in let handle = c.in-Some.handle in
-    close_goes c.args.script.now c.args.run new (image_of c.begin_body.new.memory) s id handle
-    (handle_gone old new _ c.requires.last id did.frame handle _ did.does.does s h reached) c.begin_body.ensures.calls
+    rw (c.closed.ensures) (close_goes c.args.script.now c.args.run new (image_of c.begin_body.new.memory) s id handle
+    (handle_gone old new _ c.requires.last id did.frame handle _ did.does.does s h reached) c.begin_body.ensures.calls)

@@ -19,5 +19,5 @@ returns-in-Some-clause-goes c =
     let calls = first_called c.reschedule.new.self.step_record (held c.args.memory.now) (held c.reschedule.new.self) c.in-Some.id c.in-Some.handle
     _ c.is_fit.ensures did.frame did.does (rw c.times-in-Some.ensures at c.again-change.ensures)
     (rw (c.slots.ensures, c.heap.ensures, c.times.ensures) at c.in-Some.ensures.some) in
-    due_goes c.args.script.now c.args.run c.args.part (image_of c.args.memory.now) (image_of c.reschedule.new.self)
-    (image_of c.begin_body.new.memory) c.in-Some.id c.in-Some.handle.name calls c.begin_body.ensures.calls
+    rw (c.call.ensures) (due_goes c.args.script.now c.args.run c.args.part (image_of c.args.memory.now) (image_of c.reschedule.new.self)
+    (image_of c.begin_body.new.memory) c.in-Some.id c.in-Some.handle.name calls c.begin_body.ensures.calls)

@@ -16,5 +16,5 @@ returns-in-Ok-clause-goes c =
     let did = c.in-Some.ensures in
     let fires = timer_fires (held c.args.memory.now) (held c.fire_timer.new.self) c.in-Some.id _ did.does.does did.frame c.in-Ok.handle
     (rw c.slots.ensures at c.in-Ok.ensures.ok.0) in
-    fire_goes c.args.script.now c.args.run c.args.part (image_of c.args.memory.now) (image_of c.fire_timer.new.self)
-    (image_of c.begin_body.new.memory) c.in-Some.id c.in-Ok.handle.name fires c.begin_body.ensures.calls
+    rw (c.call.ensures) (fire_goes c.args.script.now c.args.run c.args.part (image_of c.args.memory.now) (image_of c.fire_timer.new.self)
+    (image_of c.begin_body.new.memory) c.in-Some.id c.in-Ok.handle.name fires c.begin_body.ensures.calls)

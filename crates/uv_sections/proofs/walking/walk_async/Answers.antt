@@ -9,5 +9,5 @@ begin_body-requires-clause-few c =
 
 pub returns-then-pending-clause-goes : goal.returns-then-pending-clause-goes
 returns-then-pending-clause-goes c s h reached =
-    async_goes c.args.script.now c.args.run.now (image_of c.move_on.new.memory) (image_of c.begin_body.new.memory) s c.in-Some.id
-    c.in-Some.name c.in-Some.pending (c.in-Some.ensures.moved s h reached) c.if-pending.true c.begin_body.ensures.calls
+    rw (c.call.ensures) (async_goes c.args.script.now c.args.run.now (image_of c.move_on.new.memory) (image_of c.begin_body.new.memory) s c.in-Some.id
+    c.in-Some.name c.in-Some.pending (c.in-Some.ensures.moved s h reached) c.if-pending.true c.begin_body.ensures.calls)
