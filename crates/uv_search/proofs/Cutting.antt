@@ -176,11 +176,6 @@ module _ (parts more : List (List ℕ)) (pairs : List (ℕ × ℕ)) (kept : Keep
     keys_more = one_key_more more pairs a b key is_front is_back (halves_of (length key / 2) key)
         ∙ ap (λ ks. ks ++ key ∷ []) (same_keys parts pairs more kept cut)
 
-    pub absent_pair : (Has (map (joined parts) pairs) key → ⊥) → (i : ℕ) → slice_get pairs i ≡ Some (a, b) → ⊥
-    absent_pair none i e = none (has_at (map (joined parts) pairs) i key
-        (ap (λ ks. slice_get ks i) (sym (same_keys parts pairs more kept cut)) ∙ of_parts more pairs i a b _ _ is_front is_back e
-        ∙ ap Some (halves_of (length key / 2) key)))
-
     module _ (pairs' : List (ℕ × ℕ)) where
       pub entered_cut : IsEntered pairs (a, b) pairs' → IsCut more pairs'
       entered_cut (inl same) = subst (IsCut more) (sym same) (still_cut parts pairs more kept cut)

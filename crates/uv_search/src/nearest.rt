@@ -26,9 +26,9 @@ enum Leads {
     ToAnswer,
 }
 
-/// The moves to a place that was reached.
-fn way_to(alloc: Global, reached: &[Reaching], place: usize) -> Result<Vec<usize>, AllocError> {
-    let mut way = Vec::new(alloc);
+/// Makes of this way the moves to a place that was reached.
+fn way_to(reached: &[Reaching], place: usize, way: &mut Vec<usize>) -> Result<(), AllocError> {
+    way.clear();
     let mut at = place;
     'moves: for _ in 0..reached.len() {
         if at == 0 || at > reached.len() {
@@ -39,7 +39,7 @@ fn way_to(alloc: Global, reached: &[Reaching], place: usize) -> Result<Vec<usize
         at = step.from;
     }
     way.reverse();
-    Ok(way)
+    Ok(())
 }
 
 /// Makes these moves as far as they are accepted, up to the first that answers, and says how many were made.
@@ -138,6 +138,39 @@ fn visit<M: Maze>(
     Ok(found)
 }
 
+/// Looks from one place after another, in the order in which they were reached, for a move that answers, and makes the way that ends in it.
+/// Whether there is one. So many moves are made for it at most, and those of one way more. Nothing changes.
+fn look_around<M: Maze>(
+    maze: &mut M,
+    seen: &mut Seen,
+    reached: &mut Vec<Reaching>,
+    key: &mut Key,
+    way: &mut Vec<usize>,
+    effort: usize,
+) -> Result<bool, AllocError>
+    ensures rules { M.rules maze.new ≡ M.rules maze.old }
+    ensures same { OnOk result ((M.place maze.new ≡ M.place maze.old) × (M.before maze.new ≡ M.before maze.old)) }
+{
+    maze.key(&mut key.bytes)?;
+    let _ = seen.enter(key, usize::MAX)?;
+    let mut left = effort;
+    let mut from = 0;
+    'places: while left > 0 {
+        left -= 1;
+        if from > reached.len() {
+            break;
+        }
+        way_to(reached, from, way)?;
+        left = left.saturating_sub(way.len());
+        if let Some(number) = visit(maze, seen, reached, key, way, from)? {
+            way.push(number)?;
+            return Ok(true);
+        }
+        from += 1;
+    }
+    Ok(false)
+}
+
 /// A way of the fewest moves that answers, by a search of one layer of places after another. So many moves are made for it at most, and
 /// those of one way more; then it gives up. Nothing changes, and it says nothing of the way: who wants to know makes its moves.
 fn nearest<M: Maze>(
@@ -153,29 +186,12 @@ fn nearest<M: Maze>(
     };
     let mut seen = Seen::new(alloc);
     let mut reached: Vec<Reaching> = Vec::new(alloc);
-    maze.key(&mut key.bytes)?;
-    keep(
-        &mut seen,
-        &mut Vec::new(alloc),
-        &key,
-        Reaching { from: 0, number: 0 },
-    )?;
-    let mut left = effort;
-    let mut from = 0;
-    'places: while left > 0 {
-        left -= 1;
-        if from > reached.len() {
-            break;
-        }
-        let mut way = way_to(alloc, &reached, from)?;
-        left = left.saturating_sub(way.len());
-        if let Some(number) = visit(maze, &mut seen, &mut reached, &mut key, &way, from)? {
-            way.push(number)?;
-            return Ok(Some(way));
-        }
-        from += 1;
+    let mut way = Vec::new(alloc);
+    match look_around(maze, &mut seen, &mut reached, &mut key, &mut way, effort) {
+        Ok(true) => Ok(Some(way)),
+        Ok(false) => Ok(None),
+        Err(error) => Err(error),
     }
-    Ok(None)
 }
 
 /// Makes the moves of a way of the fewest, if one is found by so many moves. It is none, and nothing changes, where none is.

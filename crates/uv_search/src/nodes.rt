@@ -1,5 +1,5 @@
 //! Pairs of numbers in a row, and where each is.
-ghost use Rattle.std.specs.Prelude.{◌≡◌, ◌<◌, ◌≤◌, ◌^◌, ◌++◌, ◌∷◌, [], ℕ, true, false, Some, length, map, slice_get, OnOk, OnErr, IfOk, IfSome, IfNone};
+ghost use Rattle.std.specs.Prelude.{◌≡◌, ◌<◌, ◌≤◌, ◌^◌, ◌++◌, ◌∷◌, [], ℕ, true, false, Some, length, map, slice_get, OnOk, OnErr, IfOk, IfSome, IfNone, vec_len, vec_capacity};
 ghost use Rattle.uv_search.specs.Chains.{AreLinked, Linked, place_of};
 ghost use Rattle.uv_search.specs.Cuts.{IsEntered};
 
@@ -91,6 +91,45 @@ fn widen(
     Ok(())
 }
 
+/// Makes room for one pair more.
+#[inline(always)]
+fn make_room(
+    alloc: Global,
+    pairs: &mut Vec<(u32, u32)>,
+    before: &mut Vec<u32>,
+    last: &mut Vec<u32>,
+) -> Result<(), AllocError>
+    requires linked { AreLinked last.old.items before.old.items pairs.old.items }
+    requires few { length pairs.old.items < 0xFFFF_FFFF }
+    ensures linked { AreLinked last.new.items before.new.items pairs.new.items }
+    ensures same { pairs.new.items ≡ pairs.old.items }
+    ensures places { OnOk result (length pairs.new.items < length last.new.items) }
+    ensures pairs { OnOk result (vec_len pairs.new < vec_capacity pairs.new) }
+    ensures before { OnOk result (vec_len before.new < vec_capacity before.new) }
+{
+    pairs.reserve(1)?;
+    before.reserve(1)?;
+    widen(alloc, pairs.as_slice(), before.as_mut_slice(), last)
+}
+
+/// One pair more, behind the others. There is room for it.
+#[inline(always)]
+fn put(pairs: &mut Vec<(u32, u32)>, before: &mut Vec<u32>, last: &mut Vec<u32>, pair: (u32, u32))
+    requires linked { AreLinked last.old.items before.old.items pairs.old.items }
+    requires few { length pairs.old.items < 0xFFFF_FFFF }
+    requires places { length pairs.old.items < length last.old.items }
+    requires pairs { vec_len pairs.old < vec_capacity pairs.old }
+    requires before { vec_len before.old < vec_capacity before.old }
+    ensures linked { AreLinked last.new.items before.new.items pairs.new.items }
+    ensures pairs { pairs.new.items ≡ pairs.old.items ++ pair ∷ [] }
+{
+    let count = pairs.len();
+    let place = place(pair, last.len());
+    before.push_reserved(last[place]);
+    pairs.push_reserved(pair);
+    last[place] = count as u32 + 1;
+}
+
 /// The number of this pair among these.
 fn find(pairs: &[(u32, u32)], before: &[u32], last: &[u32], pair: (u32, u32)) -> Option<u32>
     requires linked { AreLinked last.now before.now pairs.now }
@@ -152,18 +191,13 @@ impl Nodes {
         if count >= MOST {
             return Err(AllocError);
         }
-        self.pairs.reserve(1)?;
-        self.before.reserve(1)?;
-        widen(
+        make_room(
             self.alloc,
-            self.pairs.as_slice(),
-            self.before.as_mut_slice(),
+            &mut self.pairs,
+            &mut self.before,
             &mut self.last,
         )?;
-        let place = place(pair, self.last.len());
-        self.before.push_reserved(self.last[place]);
-        self.pairs.push_reserved(pair);
-        self.last[place] = count as u32 + 1;
+        put(&mut self.pairs, &mut self.before, &mut self.last, pair);
         Ok(count as u32)
     }
 

@@ -1,8 +1,9 @@
 //! Byte strings, each once.
 ghost use Rattle.std.specs.Prelude.{◌≡◌, ◌++◌, ◌∷◌, [], ℕ, Some, slice_get, IfOk, IfSome, IfNone, nat_eq};
+ghost use Rattle.std.specs.Cmp.{on_equiv, partial_equiv_from_equiv};
 ghost use Rattle.std.specs.Cmp.Lexicographic.{pointwise, bytes_decides, nat_list_eq_equiv};
 ghost use Rattle.std.proofs.Common.{rules, ap};
-ghost use Rattle.std.specs.Cmp.Rules.{comparing, hashing};
+ghost use Rattle.std.specs.Cmp.Rules.{hashing};
 ghost use Rattle.uv_search.specs.Cuts.{IsOnce, KeepsNumbers};
 
 use crate::nodes::MOST;
@@ -20,7 +21,7 @@ struct Part {
 impl PartialEq for Part {
     ghost eq = { λ a b. pointwise nat_eq a.bytes.items b.bytes.items };
 
-    ghost laws = { Prim.search (comparing, rules) };
+    ghost laws = { partial_equiv_from_equiv (on_equiv (λ a. a.bytes.items) nat_list_eq_equiv) };
 
     fn eq(&self, other: &Part) -> bool {
         self.bytes == other.bytes
@@ -28,7 +29,7 @@ impl PartialEq for Part {
 }
 
 impl Eq for Part {
-    ghost laws = { Prim.search (comparing, rules) };
+    ghost laws = { on_equiv (λ a. a.bytes.items) nat_list_eq_equiv };
 }
 
 impl Hash for Part {
@@ -50,7 +51,7 @@ struct Asked<'a> {
 impl<'a> PartialEq for Asked<'a> {
     ghost eq = { λ a b. pointwise nat_eq a.bytes.now b.bytes.now };
 
-    ghost laws = { Prim.search (comparing, rules) };
+    ghost laws = { partial_equiv_from_equiv (on_equiv (λ a. a.bytes.now) nat_list_eq_equiv) };
 
     fn eq(&self, other: &Asked<'a>) -> bool {
         self.bytes == other.bytes
@@ -58,7 +59,7 @@ impl<'a> PartialEq for Asked<'a> {
 }
 
 impl<'a> Eq for Asked<'a> {
-    ghost laws = { Prim.search (comparing, rules) };
+    ghost laws = { on_equiv (λ a. a.bytes.now) nat_list_eq_equiv };
 }
 
 impl<'a> Hash for Asked<'a> {

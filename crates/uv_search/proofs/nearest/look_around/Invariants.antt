@@ -1,5 +1,5 @@
 use Rattle.std.proofs.Common.{◌≡◌}
-use Rattle.uv_search.proofs.nearest.nearest.Given as goal
+use Rattle.uv_search.proofs.nearest.look_around.Given as goal
 
 abbrev pub invariant-places : goal.invariant-places
 invariant-places g l =

@@ -3,22 +3,21 @@ use Rattle.std.proofs.lemmas.Grind.{common_steps}
 use Rattle.std.proofs.lemmas.Option.{slice_get-get_or}
 use Rattle.uv_search.specs.Chains.{place_of}
 use Rattle.uv_search.proofs.Linking.{linked_as, linked_more}
-use Rattle.uv_search.proofs.nodes.Nodes.add.Goals as goal
+use Rattle.uv_search.proofs.nodes.put.Goals as goal
 
-pub invariant_of-self-2 : goal.invariant_of-self-2
-invariant_of-self-2 c =
-    let last = c.widen.new.last.items in
-    let pairs = c.as_slice.result.now in
-    let linked = c.in_ok-widen.ensures.linked in
+pub returns-clause-linked : goal.returns-clause-linked
+returns-clause-linked c =
+    let last = c.args.last.now.items in
+    let pairs = c.args.pairs.now.items in
+    let linked = c.requires.linked in
     let below : c.place-place.result < length last = omega (arith, c.len.ensures, c.place-place.ensures.below) in
     let long : c.len.result ≡ length last = omega (arith, c.len.ensures) in
     let is : c.place-place.result ≡ place_of (length last) c.args.pair =
     subst (λ m. c.place-place.result ≡ place_of m c.args.pair) long c.place-place.ensures.value in
     let at = slice_get-get_or last c.place-place.result 0 below in
-    let more = linked_more c.args.pair (slice_index_or last c.place-place.result 0) linked c.in_ok-widen.ensures.room
+    let more = linked_more c.args.pair (slice_index_or last c.place-place.result 0) linked c.requires.places
     (subst (λ p. slice_get last p ≡ Some (slice_index_or last c.place-place.result 0)) is at) in
-    let same : pairs ≡ c.self.inside.pairs.items = grind (arith, common_steps, c.as_slice.ensures.value, c.in_ok-reserve.ensures.items) in
-    let count : c.len-count.result ≡ length pairs = omega (arith, c.len-count.ensures, ap length same) in
+    let count : c.len-count.result ≡ length pairs = omega (arith, c.len-count.ensures) in
     linked_as (ap (λ n. slice_set last c.place-place.result (n + 1)) count ∙ ap (λ p. slice_set last p (length pairs + 1)) is)
     (grind (arith, common_steps, c.push_reserved.ensures.items, c.index.ensures))
-    (grind (arith, common_steps, c.push_reserved-2.ensures.items, same)) more
+    (grind (arith, common_steps, c.push_reserved-2.ensures.items)) more
