@@ -112,10 +112,17 @@ fn make_room(
     widen(alloc, pairs.as_slice(), before.as_mut_slice(), last)
 }
 
-/// One pair more, behind the others. There is room for it.
+/// One pair more, behind the others, which are so many. There is room for it.
 #[inline(always)]
-fn put(pairs: &mut Vec<(u32, u32)>, before: &mut Vec<u32>, last: &mut Vec<u32>, pair: (u32, u32))
+fn put(
+    pairs: &mut Vec<(u32, u32)>,
+    before: &mut Vec<u32>,
+    last: &mut Vec<u32>,
+    pair: (u32, u32),
+    count: usize,
+)
     requires linked { AreLinked last.old.items before.old.items pairs.old.items }
+    requires count { count ≡ length pairs.old.items }
     requires few { length pairs.old.items < 0xFFFF_FFFF }
     requires places { length pairs.old.items < length last.old.items }
     requires pairs { vec_len pairs.old < vec_capacity pairs.old }
@@ -123,7 +130,6 @@ fn put(pairs: &mut Vec<(u32, u32)>, before: &mut Vec<u32>, last: &mut Vec<u32>, 
     ensures linked { AreLinked last.new.items before.new.items pairs.new.items }
     ensures pairs { pairs.new.items ≡ pairs.old.items ++ pair ∷ [] }
 {
-    let count = pairs.len();
     let place = place(pair, last.len());
     before.push_reserved(last[place]);
     pairs.push_reserved(pair);
@@ -197,7 +203,13 @@ impl Nodes {
             &mut self.before,
             &mut self.last,
         )?;
-        put(&mut self.pairs, &mut self.before, &mut self.last, pair);
+        put(
+            &mut self.pairs,
+            &mut self.before,
+            &mut self.last,
+            pair,
+            count,
+        );
         Ok(count as u32)
     }
 

@@ -17,7 +17,7 @@ returns-clause-linked c =
     let at = slice_get-get_or last c.place-place.result 0 below in
     let more = linked_more c.args.pair (slice_index_or last c.place-place.result 0) linked c.requires.places
     (subst (λ p. slice_get last p ≡ Some (slice_index_or last c.place-place.result 0)) is at) in
-    let count : c.len-count.result ≡ length pairs = omega (arith, c.len-count.ensures) in
+    let count : c.args.count ≡ length pairs = c.requires.count in
     linked_as (ap (λ n. slice_set last c.place-place.result (n + 1)) count ∙ ap (λ p. slice_set last p (length pairs + 1)) is)
     (grind (arith, common_steps, c.push_reserved.ensures.items, c.index.ensures))
     (grind (arith, common_steps, c.push_reserved-2.ensures.items)) more
