@@ -8,7 +8,8 @@ returns-in-Main-clause-turns c =
     turns_where (λ s. main_step (order_of c.args.script.now) s c.in-Main.line (slice_get c.args.script.now.main c.in-Main.line))
     (λ s. next c.args.script.now s Loop)
     c.in_main.new.memory.step_record (held c.args.memory.now) (held c.in_main.new.memory) c.in_main.result
-    (λ s h. main_there c.args.script.now (image_of c.args.memory.now) s h c.in-Main.line (sym c.place.ensures ∙ sym c.place-place.ensures ∙ c.in-Main.is))
+    (λ s h. main_there c.args.script.now (image_of c.args.memory.now) s h c.in-Main.line
+    (sym c.place.ensures ∙ sym c.place-place.ensures ∙ c.in-Main.is))
     c.in_main.ensures.turns
 
 pub returns-in-Running-clause-turns : goal.returns-in-Running-clause-turns

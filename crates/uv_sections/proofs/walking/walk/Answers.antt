@@ -9,5 +9,6 @@ begin_body-requires-clause-few c =
 
 pub returns-in-Some-clause-goes : goal.returns-in-Some-clause-goes
 returns-in-Some-clause-goes c s h reached =
-    rw (c.call.ensures) (walk_goes c.args.script.now c.args.run.now (image_of c.move_on.new.memory) (image_of c.begin_body.new.memory) s c.args.kind c.in-Some.id
+    rw (c.call.ensures) (walk_goes c.args.script.now c.args.run.now (image_of c.move_on.new.memory) (image_of c.begin_body.new.memory) s
+    c.args.kind c.in-Some.id
     c.in-Some.name _ (c.in-Some.ensures.moved s h reached) c.requires.other c.begin_body.ensures.calls)

@@ -35,10 +35,12 @@ stage_on-line-requires-clause-clear c = course_clear _ _ _ _ _ (begun Loop c.sel
 
 pub invariant_of-self-2 : goal.invariant_of-self-2
 invariant_of-self-2 c =
-    stands Loop c.self.invariant c.self.view_is c.make_room.ensures.same (held c.stage_on-line.new.memory) (omega arith) c.stage_on-line.ensures.turns.1
+    stands Loop c.self.invariant c.self.view_is c.make_room.ensures.same (held c.stage_on-line.new.memory) (omega arith)
+    c.stage_on-line.ensures.turns.1
     (rw c.step_record.ensures at c.push_packed.ensures) c.stage_on-line.ensures.turns.0
 
 pub returns-clause-answer : goal.returns-clause-answer
 returns-clause-answer c =
-    rw (c.seen.ensures) (answers Loop c.self.invariant c.self.view_is c.make_room.ensures.same (held c.stage_on-line.new.memory) (omega arith) c.stage_on-line.ensures.turns.1
+    rw (c.seen.ensures) (answers Loop c.self.invariant c.self.view_is c.make_room.ensures.same (held c.stage_on-line.new.memory) (omega arith)
+    c.stage_on-line.ensures.turns.1
     (rw c.step_record.ensures at c.push_packed.ensures))
