@@ -1,4 +1,5 @@
 use Rattle.uv_requests.proofs.Names.{sym, ap, ◌∙◌, Job, text_of, set_done}
+use Rattle.std.proofs.lemmas.Option.{slice_get_within}
 use Rattle.uv_work.specs.Digests.{digest_of}
 use Rattle.uv_requests.proofs.Ending.{finish_done}
 use Rattle.uv_requests.proofs.requests.Requests.hand_in.Goals as goal
@@ -12,3 +13,6 @@ returns-clause-finished g c =
     (finish_done K.gives_back c.is_sound.ensures c.requires.work c.requires.runs c.requires.found (rw (c.of.ensures, c.finished.ensures) at done)
     c.push_back.ensures.pushed c.requires.job
     (c.args.work.is_digest ∙ ap (λ (job : Job). digest_of job.task.rounds (text_of job.task)) (sym c.requires.job)))
+
+pub set_running-requires : goal.set_running-requires
+set_running-requires g c = slice_get_within _ _ _ c.requires.runs
