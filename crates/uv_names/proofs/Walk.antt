@@ -74,7 +74,8 @@ pub record SeesAlike (p : Program) (f : Named → Named) (c : ℕ → ℕ) (r : 
       → left (Moves (record (changed f c r u) { place = Running (record run { body = steps.body_from p kind v (c call) number }) }) (Some line))
       ≡ right (Moves (record u { place = Running (record run { body = steps.body_from p kind v call number }) }) (Some line))
 
-module _ (p : Program) (f : Named → Named) (c : ℕ → ℕ) (r : List (Option Id) → List (Option Id)) (left right : Next → Next) (sees : SeesAlike p f c r left right) where
+module _ (p : Program) (f : Named → Named) (c : ℕ → ℕ) (r : List (Option Id) → List (Option Id)) (left right : Next → Next)
+    (sees : SeesAlike p f c r left right) where
   -- ---- where no callback begins
 
   at_alike : (u : State) (run : Run) (stage : Stage) (line : Option Seen) →
@@ -353,7 +354,8 @@ module _ (p : Program) (f : Named → Named) (c : ℕ → ℕ) (r : List (Option
 
     pub io_alike : (v : Var) → left (steps.io p (changed f c r s) v) ≡ right (steps.io p s v)
     io_alike v = declared_alike s v
-        (ap₂ (λ run o. left (steps.call_io p (changed f c r s) v run o)) (io_run_same s s.place) (ap steps.io_handle (live_handle_changed f c r s hides v))
+        (ap₂ (λ run o. left (steps.call_io p (changed f c r s) v run o)) (io_run_same s s.place)
+        (ap steps.io_handle (live_handle_changed f c r s hides v))
         ∙ call_io_alike s v (steps.io_run p s s.place) (steps.io_handle (live_handle s v)))
 
 -- ---- where workers run the same

@@ -82,4 +82,5 @@ module _ (o : Relabel) where
 pub record CanRelabel (o : Relabel) (p : Program) (s : State) : Type 0 where
   pub fits : o.Fits s.arena
   pub frees : (id : Id) (x : Content) → held s.arena.slots id ≡ Some x
-      → freed (arena_size p).last_generation (o.id id) (relabeled_arena o s.arena) ≡ relabeled_arena o (freed (arena_size p).last_generation id s.arena)
+      → freed (arena_size p).last_generation (o.id id) (relabeled_arena o s.arena)
+      ≡ relabeled_arena o (freed (arena_size p).last_generation id s.arena)

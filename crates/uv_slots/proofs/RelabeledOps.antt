@@ -121,7 +121,8 @@ cancel_relabeled o s (Ok t) fits = if_shift (relabeled_done o) (list_any (same_i
 by_send : (o : Relabel) (s : State) (w : Option Code) (id : Id) (h : HandleRecord) → o.Fits s.arena →
     found_or w (λ code. record { state = relabeled o s; code = code })
     (record { state = with_handle (relabeled o s) (o.id id) (records.sent h); code = Success })
-    ≡ relabeled_coded o (found_or w (λ code. record { state = s; code = code }) (record { state = with_handle s id (records.sent h); code = Success }))
+    ≡ relabeled_coded o (found_or w (λ code. record { state = s; code = code })
+    (record { state = with_handle s id (records.sent h); code = Success }))
 by_send o s None id h fits = ap (λ (x : State). record { state = x; code = Success }) (with_handle_relabeled o s id (records.sent h) fits)
 by_send o s (Some code) id h fits = refl
 

@@ -39,7 +39,8 @@ way_relabeled o V144 s run (ToTimers timers_of.Iteration) fits = refl
 way_relabeled o V145 s run ToPending fits = simp some_relabeled
 way_relabeled o V144 s run ToPending fits = refl
 way_relabeled o x s run ToEnd fits =
-    ap (λ (b : Bool). Moves (record (relabeled o s) { place = Main (run.line + 1); stop_flag = false }) (Some (seen.End b))) (alive_relabeled o s fits)
+    ap (λ (b : Bool). Moves (record (relabeled o s) { place = Main (run.line + 1); stop_flag = false }) (Some (seen.End b)))
+    (alive_relabeled o s fits)
 
 turn_relabeled : (o : Relabel) (x : Order) (s : State) (run : Run) (turn : Turn) → o.Fits s.arena →
     steps.turns x (relabeled o s) run turn ≡ relabeled_next o (steps.turns x s run turn)

@@ -374,7 +374,8 @@ fn push_handle_line(
     id: Id,
     handle: &HandleRecord,
 ) -> Result<(), AllocError>
-    ensures { Writes result text.old.items (codes "slot " ++ id_text id ++ codes " " ++ record_text script.now handle.now ++ codes "\n") text.new.items }
+    ensures { Writes result text.old.items (codes "slot " ++ id_text id ++ codes " " ++ record_text script.now handle.now ++ codes "\n")
+        text.new.items }
 {
     push_handle(text, script, id, handle)?;
     push_kind(text, handle)?;

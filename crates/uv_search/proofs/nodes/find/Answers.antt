@@ -21,14 +21,16 @@ pub loop-at-smaller : goal.loop-at-smaller
 loop-at-smaller c =
     let place = c.loop-at.at - 1 in
     let below : place < length c.args.pairs.now = omega (arith, c.loop-at-test.true, c.loop-at.invariant.within) in
-    (goes_back (place_of (length c.args.last.now)) c.args.pairs.now c.args.pair (slice_index_or c.args.pairs.now place (0, 0)) c.requires.linked.linked
-    c.loop-at.invariant c.loop-at-test.true (slice_get-get_or c.args.pairs.now place (0, 0) below) (c.is_same.ensures.no c.if-is_same.false)
+    (goes_back (place_of (length c.args.last.now)) c.args.pairs.now c.args.pair (slice_index_or c.args.pairs.now place (0, 0))
+    c.requires.linked.linked c.loop-at.invariant c.loop-at-test.true (slice_get-get_or c.args.pairs.now place (0, 0) below)
+    (c.is_same.ensures.no c.if-is_same.false)
     (slice_get-get_or c.args.before.now place 0 (omega (arith, below, c.requires.linked.long)))).1
 
 pub loop-at-preserved : goal.loop-at-preserved
 loop-at-preserved c =
     let place = c.loop-at.at - 1 in
     let below : place < length c.args.pairs.now = omega (arith, c.loop-at-test.true, c.loop-at.invariant.within) in
-    (goes_back (place_of (length c.args.last.now)) c.args.pairs.now c.args.pair (slice_index_or c.args.pairs.now place (0, 0)) c.requires.linked.linked
-    c.loop-at.invariant c.loop-at-test.true (slice_get-get_or c.args.pairs.now place (0, 0) below) (c.is_same.ensures.no c.if-is_same.false)
+    (goes_back (place_of (length c.args.last.now)) c.args.pairs.now c.args.pair (slice_index_or c.args.pairs.now place (0, 0))
+    c.requires.linked.linked c.loop-at.invariant c.loop-at-test.true (slice_get-get_or c.args.pairs.now place (0, 0) below)
+    (c.is_same.ensures.no c.if-is_same.false)
     (slice_get-get_or c.args.before.now place 0 (omega (arith, below, c.requires.linked.long)))).0

@@ -11,7 +11,8 @@ returns-in_err-push_handle c =
     let script = c.args.script.now in
     let handle = c.args.handle.now in
     let front = codes "slot " ++ id_text c.args.id ++ codes " " ++ front_text script handle in
-    let there : front ++ (kind_text handle.kind handle ++ codes "\n") ≡ codes "slot " ++ id_text c.args.id ++ codes " " ++ record_text script handle ++ codes "\n" =
+    let there : front ++ (kind_text handle.kind handle ++ codes "\n")
+    ≡ codes "slot " ++ id_text c.args.id ++ codes " " ++ record_text script handle ++ codes "\n" =
     grind (arith, append_assoc) in
     let exit = c.from_residual in
     let p = err_from_is_err_and exit.result exit.ensures.1 in
