@@ -16,7 +16,7 @@ launcher:
     with `..` between them, stands in its output in this order
   - over an open pipe each line is answered before the next one is sent
   - at a terminal, `debug FILE` goes on with what is typed, and what may be typed is said once
-  - words that are no command line, one of them not UTF-8, and what the launcher says of them
+  - words that are no command line, one of them not UTF-8, and what the launcher says of them (called.py)
   - each command with a file, and with one that isn't there
   - of each bad line of a file, why it is bad
   - with a stand-in for the kit's command: first answers, builds that are stopped, that fail, and two at once (launcher.py)
@@ -33,6 +33,7 @@ launcher:
     a build takes (asked.py)
   - what tests by hand edit stands there yet: the program over the plain loop, the wrong loops, the wrong edits
   - each function of the libraries is called by a program, or has a reason (reached.py)
+  - no line of code is wider than 150 columns, and no file of it longer than 800 lines (widths.py)
   - the tools of tools/ that talk with the program (tests/tools)
   - the program and the tools as they are installed, and their packages (tests/package), where the program is a proved one
   - each allocation is refused in turn (tests/refused-allocations)
@@ -54,6 +55,7 @@ from tests.helper import Tries
 from tests.libuv import cases
 from tests.machines import build
 from tests.program import asked
+from tests.program import called
 from tests.program import images
 from tests.program import launcher
 from tests.program import lives
@@ -61,6 +63,7 @@ from tests.program import names
 from tests.program import pages
 from tests.program import reached
 from tests.program import scripts
+from tests.program import widths
 
 ROOT = os.path.dirname(os.path.dirname(HERE))
 SECONDS = 60
@@ -538,11 +541,11 @@ def try_all(uvt, folder, room):
     try_cases(uvt)
     try_live(uvt)
     try_faults(uvt)
-    launcher.try_words(check, uvt)
-    launcher.try_files(check, uvt, room)
-    launcher.try_reasons(check, uvt, room)
-    launcher.try_recordings(check, uvt, room)
-    launcher.try_terminal(check, uvt, room)
+    called.try_words(check, uvt)
+    called.try_files(check, uvt, room)
+    called.try_reasons(check, uvt, room)
+    called.try_recordings(check, uvt, room)
+    called.try_terminal(check, uvt, room)
     launcher.try_with_stand_in(check, os.path.join(folder, "out", "uvt", "uvt"))
     pages.try_commands(check, folder, room, is_proved(folder))
     try_claims(folder)
@@ -551,6 +554,7 @@ def try_all(uvt, folder, room):
     try_by_hand()
     left = reached.wrong()
     check("what no program calls", not left, "\n".join(left))
+    widths.try_widths(check, folder)
     try_packages(folder)
     tools = subprocess.run(
         [os.path.join(folder, "tests", "tools", "run"), "--program", os.path.join(folder, "out", "uvt", "uvt")],

@@ -43,7 +43,8 @@ __asm__(".text\n"
         " mov %edi,%eax\n ret\n");
 
 #define FUNCTION(name) int name(int x);
-#define HOOKED(DO) DO(b_rip) DO(b_rip_word) DO(b_jump_if) DO(b_call) DO(b_tail) DO(b_short_tail) DO(b_branch) DO(b_guard) DO(b_pushes) DO(b_early_return)
+#define HOOKED(DO) DO(b_rip) DO(b_rip_word) DO(b_jump_if) DO(b_call) DO(b_tail) DO(b_short_tail) DO(b_branch) DO(b_guard) DO(b_pushes) \
+    DO(b_early_return)
 #define REFUSED(DO) DO(b_again) DO(b_loops) DO(b_too_short)
 HOOKED(FUNCTION)
 REFUSED(FUNCTION)

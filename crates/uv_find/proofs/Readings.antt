@@ -110,7 +110,8 @@ module _ {Y : Type 0} (f : Option Content → Y) (none : Y) where
       frees = λ k s. ap (λ (x : Named). of_bound (more k s) x.id) (named_renamed k s v) ∙ bound_freed k s (named s v).id;
       buries = λ dead s below. ap (λ (x : Named). of_bound (buried dead s) x.id) (named_buried dead s v)
           ∙ bound_buried dead s below (named s v).id;
-      arranges = λ o s fits. ap (λ (x : Named). of_bound (arranged o s) x.id) (named_arranged o s v fits.order) ∙ bound_arranged o s fits (named s v).id;
+      arranges = λ o s fits. ap (λ (x : Named). of_bound (arranged o s) x.id) (named_arranged o s v fits.order)
+          ∙ bound_arranged o s fits (named s v).id;
     };
     runs = λ s. refl;
   }

@@ -112,8 +112,8 @@ void lock(void);
 void unlock(void);
 bool is_locked_here(void);
 /* `LOOP TYPE NOW ..`, and behind NOW the clock where a callback, a run or work begins or ends, somebody sends, or a request of a
- * stream begins (types B, E, R, T, F, S and G). At the end of an op, a send and a request stands the place that called it, and at that of a callback or
- * work that took long enough how long its thread was on the processor.
+ * stream begins (types B, E, R, T, F, S and G). At the end of an op, a send and a request stands the place that called it, and at that
+ * of a callback or work that took long enough how long its thread was on the processor.
  * The format knows %d, %u (64 bits), %x (64 bits) and %s. */
 void write_line(struct loop *loop, char type, const char *format, ...);
 /* How many workers the pool has, by the environment as it is now; the line that says so where that isn't what the first line has. */

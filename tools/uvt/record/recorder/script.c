@@ -1,5 +1,5 @@
-/* What a hook in an interpreter (tools/uvt/record/python, tools/uvt/record/lua) tells: lines J of a loop, by default of the one that runs in its thread,
- * or that was seen there last. */
+/* What a hook in an interpreter (tools/uvt/record/python, tools/uvt/record/lua) tells: lines J of a loop, by default of the one that
+ * runs in its thread, or that was seen there last. */
 #define _GNU_SOURCE
 #include "recorder.h"
 
