@@ -5,5 +5,6 @@ pub mod Longer
 mod Names
 pub mod Rooms
 pub mod Rows
+pub mod Spare
 pub mod Steps
 pub mod Trails

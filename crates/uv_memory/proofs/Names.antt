@@ -33,10 +33,11 @@ pub use Rattle.uv_ids.specs.declared.id.Var.{Var}
 pub use Rattle.uv_ids.specs.declared.phase.Kind.{Kind}
 pub use Rattle.uv_ids.specs.declared.seen.Callback.{Callback}
 pub use Rattle.uv_memory.specs.Change.{Change}
-pub use Rattle.uv_memory.specs.Does.{By, changed, closed_by, ended_by, moved_by}
+pub use Rattle.uv_memory.specs.Does.{By, FirstIs, NoHandleFirst, changed, closed_by, ended_by, moved_by}
 pub use Rattle.uv_memory.specs.Fit.{IsFit}
 pub use Rattle.uv_memory.specs.Forms.{change_of, larger, smaller}
 pub use Rattle.uv_memory.specs.Image.{Held, Image, counted_of, image_of, standing, timed_of, with_counted, with_timed, with_working}
+pub use Rattle.uv_memory.specs.Kept.{Kept}
 pub use Rattle.uv_memory.specs.Parts.{Bound, Part, Passed, PutOn, Stood, change_parts, edit_parts, naming_parts, off_parts, put_parts}
 pub use Rattle.uv_memory.specs.Parts.{removed_parts, set_parts, timer_parts, undo, unwind, unwind_parts, was_bound, woken_parts}
 pub use Rattle.uv_memory.specs.Record.{Record, at_place}

@@ -1,5 +1,6 @@
 use Rattle.std.proofs.Common.{rules, ◌≡◌, length, sym, ap, ◌∙◌}
 use Rattle.uv_memory.proofs.Longer.{small_popped, small_there, small_records, small_taken, medium_popped, medium_there, medium_records, medium_taken, large_popped, large_there, large_records, large_taken}
+use Rattle.uv_memory.proofs.Spare.{freed, stays, least_more}
 use Rattle.uv_memory.proofs.trail.Trail.pop_at.Goals as goal
 
 pub invariant_of-self-in-Smalls : goal.invariant_of-self-in-Smalls
@@ -65,3 +66,21 @@ returns-in-Some-pop-2-clause-some g c = ap (λ t. t.records) (sym c.self.view_is
     (large_popped c.pop.new.self.items c.self.inside.rows.items c.self.inside.smalls.items c.self.inside.mediums.items
     c.pop-in-Larges.new.self.items c.self.inside.larges.items c.in-Some-pop-2.step c.in_ok-pop.field-0 c.in_ok-pop.ensures.items
     c.in-Larges.is c.in-Some-pop-2.ensures.items c.self.invariant)
+
+pub returns-in-Some-clause-room : goal.returns-in-Some-clause-room
+returns-in-Some-clause-room g c =
+    rw (← c.self.view_is) (least_more _ _ _ _ _ _ _ _
+    (freed _ _ _ _ c.in_ok-pop.ensures.capacity c.in_ok-pop.ensures.cases)
+    (freed _ _ _ _ c.in-Some.ensures.capacity c.in-Some.ensures.cases) (stays _) (stays _))
+
+pub returns-in-Some-pop-clause-room : goal.returns-in-Some-pop-clause-room
+returns-in-Some-pop-clause-room g c =
+    rw (← c.self.view_is) (least_more _ _ _ _ _ _ _ _
+    (freed _ _ _ _ c.in_ok-pop.ensures.capacity c.in_ok-pop.ensures.cases) (stays _)
+    (freed _ _ _ _ c.in-Some-pop.ensures.capacity c.in-Some-pop.ensures.cases) (stays _))
+
+pub returns-in-Some-pop-2-clause-room : goal.returns-in-Some-pop-2-clause-room
+returns-in-Some-pop-2-clause-room g c =
+    rw (← c.self.view_is) (least_more _ _ _ _ _ _ _ _
+    (freed _ _ _ _ c.in_ok-pop.ensures.capacity c.in_ok-pop.ensures.cases) (stays _) (stays _)
+    (freed _ _ _ _ c.in-Some-pop-2.ensures.capacity c.in-Some-pop-2.ensures.cases))
