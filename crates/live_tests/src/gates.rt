@@ -1,45 +1,59 @@
 //! A gate that sets an order.
 
-use crate::noting::Flags;
 use std::alloc::Global;
-use std::sync::atomic::{AtomicBool, Ordering};
+use std::sync::atomic::{AtomicBool, AtomicU32, Ordering};
 use std::sync::{Mutex, Wait};
 use std::thread;
 use std::time::{Clock, Duration};
 use uv_ids::Id;
 use uv_pool::Gate;
 
-/// Waits for a flag, for some 20 seconds at most: whether it was set. A test has 60.
-fn is_set<R: Clock + Wait>(rt: &R, flag: &AtomicBool) -> bool {
-    for _ in 0..20_000u32 {
-        if flag.load(Ordering::SeqCst) {
-            return true;
-        }
-        thread::sleep(rt, Duration::from_millis(1));
-    }
-    false
+/// What is waited for.
+#[derive(Clone, Copy)]
+pub enum Moment {
+    /// The job of a request has begun.
+    Begun(Id),
+    /// It has ended.
+    Ended(Id),
+    /// A sender is about to send.
+    Sending(u8),
+    /// A second has gone by.
+    Second,
 }
 
-/// Holds the job of one request until another one has ended, and each of two senders until the other one is there.
+impl Moment {
+    /// The bit of a moment that a gate is told of; none of a time. Jobs have one of their own in the first four slots, and senders the
+    /// first eight.
+    fn bit(self) -> u32 {
+        match self {
+            Moment::Begun(id) => 1u32.wrapping_shl(place(id)),
+            Moment::Ended(id) => 1u32.wrapping_shl(place(id).wrapping_add(8)),
+            Moment::Sending(s) => 1u32.wrapping_shl(u32::from(s).wrapping_add(16)),
+            Moment::Second => 0,
+        }
+    }
+}
+
+fn place(id: Id) -> u32 {
+    id.slot.wrapping_mul(2).wrapping_add(id.generation)
+}
+
+/// Holds who tells of a moment until another one is there.
 #[derive(Drop)]
 pub struct Ordered<'a, R: Clock + Wait> {
     rt: &'a R,
-    held: Id,
-    ended: AtomicBool,
-    first: AtomicBool,
-    second: AtomicBool,
+    holds: &'a [(Moment, Moment)],
+    there: AtomicU32,
     late: AtomicBool,
     begun: Mutex<Vec<(u16, Id)>>,
 }
 
 impl<'a, R: Clock + Wait> Ordered<'a, R> {
-    pub fn new(rt: &'a R, alloc: Global, held: Id) -> Ordered<'a, R> {
+    pub fn new(rt: &'a R, alloc: Global, holds: &'a [(Moment, Moment)]) -> Ordered<'a, R> {
         Ordered {
             rt,
-            held,
-            ended: AtomicBool::new(false),
-            first: AtomicBool::new(false),
-            second: AtomicBool::new(false),
+            holds,
+            there: AtomicU32::new(0),
             late: AtomicBool::new(false),
             begun: Mutex::new(Vec::new(alloc)),
         }
@@ -55,9 +69,39 @@ impl<'a, R: Clock + Wait> Ordered<'a, R> {
         self.begun.into_inner()
     }
 
-    fn wait_for(&self, flag: &AtomicBool) {
-        if !is_set(self.rt, flag) {
-            self.late.store(true, Ordering::SeqCst);
+    fn sleep(&self, millis: u64) {
+        thread::sleep(self.rt, Duration::from_millis(millis));
+    }
+
+    /// Waits for a moment, for some 20 seconds at most. A test has 60.
+    fn wait_for(&self, bit: u32) {
+        for _ in 0..20_000u32 {
+            if self.there.load(Ordering::SeqCst) & bit != 0 {
+                return;
+            }
+            self.sleep(1);
+        }
+        self.late.store(true, Ordering::SeqCst);
+    }
+
+    fn hold(&self, until: Moment) {
+        match until {
+            Moment::Second => self.sleep(1000),
+            told => self.wait_for(told.bit()),
+        }
+    }
+
+    fn tell(&self, moment: Moment) {
+        let bit = moment.bit();
+        self.there.fetch_or(bit, Ordering::SeqCst);
+        for (held, until) in self.holds {
+            if until.bit() == bit {
+                // Who is told before a result is handed in hands it in too late.
+                self.sleep(50);
+            }
+            if held.bit() == bit {
+                self.hold(*until);
+            }
         }
     }
 }
@@ -71,128 +115,14 @@ impl<'s, 'a, R: Clock + Wait> Gate for &'s Ordered<'a, R> {
 
     fn begun(&mut self, k: u16, id: Id) {
         let _ = self.begun.lock(self.rt).push((k, id));
-        if id == self.held {
-            self.wait_for(&self.ended);
-        }
+        self.tell(Moment::Begun(id));
     }
 
     fn ended(&mut self, _k: u16, id: Id) {
-        // Who is told before the result is handed in hands it in too late.
-        if id != self.held {
-            self.ended.store(true, Ordering::SeqCst);
-            thread::sleep(self.rt, Duration::from_millis(50));
-        }
+        self.tell(Moment::Ended(id));
     }
 
     fn sending(&mut self, s: u8) {
-        if s == 0 {
-            self.first.store(true, Ordering::SeqCst);
-            self.wait_for(&self.second);
-        } else {
-            self.second.store(true, Ordering::SeqCst);
-            self.wait_for(&self.first);
-        }
-    }
-}
-
-/// Holds the first job until the sender is there, and the sender until the second job has begun.
-#[derive(Drop)]
-pub struct Between<'a, R: Clock + Wait> {
-    rt: &'a R,
-    there: AtomicBool,
-    again: AtomicBool,
-    late: AtomicBool,
-}
-
-impl<'a, R: Clock + Wait> Between<'a, R> {
-    pub fn new(rt: &'a R) -> Between<'a, R> {
-        Between {
-            rt,
-            there: AtomicBool::new(false),
-            again: AtomicBool::new(false),
-            late: AtomicBool::new(false),
-        }
-    }
-
-    /// Whether somebody waited in vain.
-    pub fn is_late(&self) -> bool {
-        self.late.load(Ordering::SeqCst)
-    }
-
-    fn wait_for(&self, flag: &AtomicBool) {
-        if !is_set(self.rt, flag) {
-            self.late.store(true, Ordering::SeqCst);
-        }
-    }
-}
-
-impl<'s, 'a, R: Clock + Wait> Gate for &'s Between<'a, R> {
-    ghost begins = { λ g k id after. Unit {0} };
-
-    ghost ends = { λ g k id after. Unit {0} };
-
-    ghost sends = { λ g s after. Unit {0} };
-
-    fn begun(&mut self, _k: u16, id: Id) {
-        if id.generation > 0 {
-            self.again.store(true, Ordering::SeqCst);
-        }
-        self.wait_for(&self.there);
-    }
-
-    fn ended(&mut self, _k: u16, _id: Id) {}
-
-    fn sending(&mut self, _s: u8) {
-        self.there.store(true, Ordering::SeqCst);
-        self.wait_for(&self.again);
-    }
-}
-
-/// Holds each job until the loop is at its end, and the second sender until a send was recorded.
-#[derive(Drop)]
-pub struct Held<'a, R: Clock + Wait> {
-    rt: &'a R,
-    flags: &'a Flags,
-    late: AtomicBool,
-}
-
-impl<'a, R: Clock + Wait> Held<'a, R> {
-    pub fn new(rt: &'a R, flags: &'a Flags) -> Held<'a, R> {
-        Held {
-            rt,
-            flags,
-            late: AtomicBool::new(false),
-        }
-    }
-
-    /// Whether somebody waited in vain.
-    pub fn is_late(&self) -> bool {
-        self.late.load(Ordering::SeqCst)
-    }
-
-    fn wait_for(&self, flag: &AtomicBool) {
-        if !is_set(self.rt, flag) {
-            self.late.store(true, Ordering::SeqCst);
-        }
-    }
-}
-
-impl<'s, 'a, R: Clock + Wait> Gate for &'s Held<'a, R> {
-    ghost begins = { λ g k id after. Unit {0} };
-
-    ghost ends = { λ g k id after. Unit {0} };
-
-    ghost sends = { λ g s after. Unit {0} };
-
-    fn begun(&mut self, _k: u16, _id: Id) {
-        self.wait_for(&self.flags.ended);
-    }
-
-    fn ended(&mut self, _k: u16, _id: Id) {}
-
-    fn sending(&mut self, s: u8) {
-        if s > 0 {
-            self.wait_for(&self.flags.sent);
-        }
+        self.tell(Moment::Sending(s));
     }
 }

@@ -22,6 +22,32 @@ impl Gate for Quiet {
     fn sending(&mut self, _s: u8) {}
 }
 
+pub const FIRST: Id = Id {
+    slot: 0,
+    generation: 0,
+};
+
+pub const SECOND: Id = Id {
+    slot: 1,
+    generation: 0,
+};
+
+pub const THIRD: Id = Id {
+    slot: 2,
+    generation: 0,
+};
+
+pub const FOURTH: Id = Id {
+    slot: 3,
+    generation: 0,
+};
+
+/// The second slot's next request.
+pub const AGAIN: Id = Id {
+    slot: 1,
+    generation: 1,
+};
+
 pub fn id(slot: u32) -> Id {
     Id {
         slot,
@@ -29,11 +55,16 @@ pub fn id(slot: u32) -> Id {
     }
 }
 
-pub fn job<R: Abort>(rt: &R, slot: u32) -> Job {
+/// A job of so many rounds.
+pub fn long_job<R: Abort>(rt: &R, slot: u32, rounds: u16) -> Job {
     Job {
         req: id(slot),
-        task: Task::new(1, b"abc").expect(rt, "within the limits"),
+        task: Task::new(rounds, b"abc").expect(rt, "within the limits"),
     }
+}
+
+pub fn job<R: Abort>(rt: &R, slot: u32) -> Job {
+    long_job(rt, slot, 1)
 }
 
 pub fn put<T: Drop>(all: &mut Vec<T>, item: T) -> Result<(), Fault> {

@@ -2,7 +2,7 @@
 #![tactic(auto)]
 
 #[cfg(test)]
-mod asked;
+mod cases;
 #[cfg(test)]
 mod gates;
 #[cfg(test)]
@@ -11,8 +11,6 @@ mod given;
 mod hashing;
 #[cfg(test)]
 mod live_examples;
-#[cfg(test)]
-mod noting;
 #[cfg(test)]
 mod pool_examples;
 #[cfg(test)]

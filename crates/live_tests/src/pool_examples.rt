@@ -1,19 +1,19 @@
 //! The calls by example.
 ghost use Rattle.std.specs.Prelude.{◌≡◌, ◌<◌};
 
-use crate::given::{Quiet, id, job};
+use crate::given::{FIRST, FOURTH, Quiet, SECOND, THIRD, id, job};
 use std::alloc::Global;
 use std::marker::Brand;
 use std::process::Abort;
 use std::sync::Wait;
 use std::sync::ledger::{Blank, Ledger};
-use uv_ids::{Code, Fault, Id, Why};
+use uv_ids::{Code, Fault, Why};
 use uv_pool::{PoolBook, worker};
 use uv_work::{PoolEvent, WorkResult};
 
 /// A call of the book, by the slot of its request and the number of its worker, and what it has to answer.
 #[derive(Clone, Copy)]
-enum Step {
+pub enum Step {
     Reserves,
     Submits(u32),
     IsSubmitted(u32),
@@ -97,38 +97,47 @@ fn answers_further<L: Ledger, R: Abort>(rt: &R, book: &mut PoolBook<L>, step: St
     }
 }
 
-/// Makes the calls in their order, and compares the log.
-fn answer_all<L: Ledger, R: Abort + Wait>(
+/// Makes the calls in their order: whether each answers what it has to.
+pub fn answer_all<L: Ledger, R: Abort + Wait>(
     rt: &R,
     alloc: Global,
     book: &mut PoolBook<L>,
     steps: &[Step],
-    log: &[PoolEvent],
-) {
-    let mut place: u32 = 0;
+) -> bool {
+    let mut right = true;
     for step in steps {
-        assert!(rt; answers(rt, alloc, book, *step), "call {place}");
-        place = place.wrapping_add(1);
+        right = right && answers(rt, alloc, book, *step);
     }
-    assert!(rt; book.log() == log);
+    right
 }
 
-/// Makes the calls on a book for so many workers.
+/// Calls of a book for so many workers, and its log.
+struct Calls {
+    name: &'static str,
+    workers: u16,
+    steps: &'static [Step],
+    log: &'static [PoolEvent],
+}
+
+/// Whether the calls of a book answer what they have to, and its log is that.
 fn answers_in_turn<L: Ledger, R: Abort + Wait>(
     rt: &R,
     alloc: Global,
     blank: Blank,
-    workers: u16,
-    steps: &[Step],
-    log: &[PoolEvent],
-) -> Result<(), Fault>
+    calls: &Calls,
+) -> Result<bool, Fault>
     requires name { blank.name ≡ L.name }
     requires parts { blank.parts ≡ L.parts }
-    requires more { workers < blank.parts }
+    requires more { calls.now.workers < blank.parts }
 {
-    let mut book = PoolBook::<L>::new(alloc, blank, workers)?;
-    answer_all(rt, alloc, &mut book, steps, log);
-    Ok(())
+    let mut book = PoolBook::<L>::new(alloc, blank, calls.workers)?;
+    Ok(answer_all(rt, alloc, &mut book, calls.steps) && book.log() == calls.log)
+}
+
+/// The same, of a book of its own.
+fn are_right<R: Abort + Wait>(rt: &R, alloc: Global, calls: &Calls) -> bool {
+    let blank = Blank::new(u64::from(calls.workers) + 1);
+    answers_in_turn::<Brand, _>(rt, alloc, blank, calls) == Ok(true)
 }
 
 const REFUSALS: [Step; 12] = [
@@ -146,43 +155,12 @@ const REFUSALS: [Step; 12] = [
     Step::Cancels(0, Code::Estale),
 ];
 
-const FIRST: Id = Id {
-    slot: 0,
-    generation: 0,
-};
-
-const SECOND: Id = Id {
-    slot: 1,
-    generation: 0,
-};
-
-const THIRD: Id = Id {
-    slot: 2,
-    generation: 0,
-};
-
-const FOURTH: Id = Id {
-    slot: 3,
-    generation: 0,
-};
-
 const ONE_JOB: [PoolEvent; 4] = [
     PoolEvent::Queue(FIRST),
     PoolEvent::Take(0, FIRST),
     PoolEvent::Finish(0, FIRST),
     PoolEvent::Collect(FIRST),
 ];
-
-/// The calls and their log: behind a function, since a proof writes out a constant where it meets it.
-fn refusals() -> (&'static [Step], &'static [PoolEvent]) {
-    (&REFUSALS, &ONE_JOB)
-}
-
-#[test]
-fn each_refusal_in_its_place(rt: HostRuntime) -> Result<(), Fault> {
-    let (steps, log) = refusals();
-    answers_in_turn::<Brand, _>(&rt, rt.alloc(), Blank::new(3), 2, steps, log)
-}
 
 const CANCELS: [Step; 27] = [
     Step::Reserves,
@@ -232,16 +210,6 @@ const IN_THEIR_ORDER: [PoolEvent; 15] = [
     PoolEvent::Take(0, THIRD),
 ];
 
-fn cancels() -> (&'static [Step], &'static [PoolEvent]) {
-    (&CANCELS, &IN_THEIR_ORDER)
-}
-
-#[test]
-fn cancelled_ones_come_in_their_order(rt: HostRuntime) -> Result<(), Fault> {
-    let (steps, log) = cancels();
-    answers_in_turn::<Brand, _>(&rt, rt.alloc(), Blank::new(2), 1, steps, log)
-}
-
 const WORKS: [Step; 4] = [
     Step::Submits(0),
     Step::Submits(1),
@@ -261,12 +229,36 @@ const THREE_JOBS: [PoolEvent; 9] = [
     PoolEvent::Finish(0, THIRD),
 ];
 
-fn three_jobs() -> (&'static [Step], &'static [PoolEvent]) {
-    (&WORKS, &THREE_JOBS)
+static CALLS: [Calls; 3] = [
+    Calls {
+        name: "each_refusal_in_its_place",
+        workers: 2,
+        steps: &REFUSALS,
+        log: &ONE_JOB,
+    },
+    Calls {
+        name: "cancelled_ones_come_in_their_order",
+        workers: 1,
+        steps: &CANCELS,
+        log: &IN_THEIR_ORDER,
+    },
+    Calls {
+        name: "a_worker_does_three_jobs",
+        workers: 1,
+        steps: &WORKS,
+        log: &THREE_JOBS,
+    },
+];
+
+/// The calls: behind a function, since a proof writes them out where it meets them.
+fn all_calls() -> &'static [Calls] {
+    &CALLS
 }
 
 #[test]
-fn a_worker_does_three_jobs(rt: HostRuntime) -> Result<(), Fault> {
-    let (steps, log) = three_jobs();
-    answers_in_turn::<Brand, _>(&rt, rt.alloc(), Blank::new(2), 1, steps, log)
+fn each_call_answers_what_it_has_to(rt: HostRuntime) {
+    for calls in all_calls() {
+        let name = calls.name;
+        assert!(&rt; are_right(&rt, rt.alloc(), calls), "{name}");
+    }
 }

@@ -1,4 +1,4 @@
-use Rattle.live_tests.proofs.pool_examples.each_refusal_in_its_place.Given as goal
+use Rattle.live_tests.proofs.pool_examples.are_right.Given as goal
 
 abbrev pub ghosts-answers_in_turn : goal.ghosts-answers_in_turn
 ghosts-answers_in_turn g a = record { name = a.blank.name; parts = a.blank.parts }

@@ -1,4 +1,0 @@
-use Rattle.live_tests.proofs.pool_examples.cancelled_ones_come_in_their_order.Given as goal
-
-abbrev pub ghosts-answers_in_turn : goal.ghosts-answers_in_turn
-ghosts-answers_in_turn g a = record { name = a.blank.name; parts = a.blank.parts }
