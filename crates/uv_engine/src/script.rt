@@ -72,25 +72,39 @@ pub(crate) fn read_front<R: Source>(
         (R.given reader.new)) (R.failures reader.old) (R.failures reader.new) }
 {
     let mut text = Vec::new(alloc);
+    let end = gather_front(&mut text, input, reader)?;
+    Ok(Front { text, end })
+}
+
+/// Gathers the lines in front of the line `begin`, and says what ends them.
+fn gather_front<R: Source>(
+    text: &mut Vec<u8>,
+    input: &mut Input,
+    reader: &mut R,
+) -> Result<FrontEnd, Fault>
+    requires end { R.Tells → EndIsSeen input.old (R.remaining reader.old) }
+    requires nothing { text.old.items ≡ [] }
+    ensures front { IfOk result (λ end. R.Tells → ReadsFront (left input.old (R.remaining reader.old)) text.new.items end
+        (left input.new (R.remaining reader.new))) }
+    ensures near { OnOk result (R.Tells → ReadsNear (left input.old (R.remaining reader.old)) (R.remaining reader.new)) }
+    ensures size { OnOk result (size input.new ≤ size input.old) }
+    ensures end { OnOk result (R.Tells → EndIsSeen input.new (R.remaining reader.new)) }
+    ensures budget { OnOk result (R.Tells → SpendsBudget input.old (R.remaining reader.old) input.new (R.remaining reader.new)) }
+    ensures given { OnOk result (SpendsGiven input.old (R.given reader.old) input.new (R.given reader.new)) }
+    ensures err { IfErr result IsReadFault }
+    ensures reader { ReaderCounts result (IsTooLong R.Tells input.old.budget (R.remaining reader.old) (R.given reader.old)
+        (R.given reader.new)) (R.failures reader.old) (R.failures reader.new) }
+{
     'lines: loop {
         let line = match input.next_line(reader)? {
             Taken::Line(line) => line,
-            Taken::Long => return Ok(Front {
-                text,
-                end: FrontEnd::Long,
-            }),
-            Taken::End => return Ok(Front {
-                text,
-                end: FrontEnd::Input,
-            }),
+            Taken::Long => return Ok(FrontEnd::Long),
+            Taken::End => return Ok(FrontEnd::Input),
         };
         if is_begin(&line) {
-            return Ok(Front {
-                text,
-                end: FrontEnd::Begin,
-            });
+            return Ok(FrontEnd::Begin);
         }
-        push_line(&mut text, &line)?;
+        push_line(text, &line)?;
         input.reuse(line);
     }
 }

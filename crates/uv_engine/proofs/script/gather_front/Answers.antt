@@ -2,13 +2,13 @@ use Rattle.std.proofs.Common.{arith, refl, ◌∙◌}
 use Rattle.uv_engine.proofs.LongLines.{front_long, whole_more, whole_none}
 use Rattle.uv_engine.proofs.Near.{near_start, near_more, near_end, near_here, near_line, near_long}
 use Rattle.uv_engine.proofs.Starting.{can_start, can_go_on, front_begun, front_missing}
-use Rattle.uv_engine.proofs.script.read_front.Goals as goal
+use Rattle.uv_engine.proofs.script.gather_front.Goals as goal
 
 pub lines-init : goal.lines-init
 lines-init g c = record {
   end = c.requires.end;
-  text = λ reads. rw c.new-text.ensures.items (can_start _);
-  whole = λ reads. rw c.new-text.ensures.items (whole_none _);
+  text = λ reads. rw c.requires.nothing (can_start _);
+  whole = λ reads. rw c.requires.nothing (whole_none _);
   near = λ reads. near_start _;
   budget = λ reads. refl;
   given = λ few. refl;

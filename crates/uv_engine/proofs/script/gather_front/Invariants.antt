@@ -2,7 +2,7 @@ use Rattle.uv_engine.proofs.Names.{◌≡◌, ◌≤◌, left, size, EndIsSeen, 
 use Rattle.uv_engine.proofs.LongLines.{AreWhole}
 use Rattle.uv_engine.proofs.Near.{GoesOnNear}
 use Rattle.uv_engine.proofs.Starting.{CanBegin}
-use Rattle.uv_engine.proofs.script.read_front.Given as goal
+use Rattle.uv_engine.proofs.script.gather_front.Given as goal
 
 -- the lines so far, none of which is `begin`, are the front of the script
 abbrev pub invariant-lines : goal.invariant-lines
