@@ -23,7 +23,7 @@ use uv_session::Session;
 use uv_text::{Asked, Command, every_line_asks, read_command};
 
 /// How a conversation ended.
-#[derive(Clone, Copy, PartialEq, Eq)]
+#[derive(Clone, Copy)]
 pub enum Ended {
     /// At the command `quit`.
     Quit,

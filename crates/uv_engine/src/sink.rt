@@ -8,7 +8,7 @@ ghost use Rattle.uv_engine.specs.Gather.{Gathers};
 use uv_ids::Fault;
 
 /// A write or a flush failed.
-#[derive(Clone, Copy, PartialEq, Eq)]
+#[derive(Clone, Copy)]
 pub struct WriteFailed;
 
 /// A writer, as the bytes that were written to it and the number of its failures.

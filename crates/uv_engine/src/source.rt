@@ -6,7 +6,7 @@ ghost use Rattle.uv_engine.specs.Devices.{Counted, Gave};
 pub const LIMIT: u64 = 1_073_741_824;
 
 /// A read failed.
-#[derive(Clone, Copy, PartialEq, Eq)]
+#[derive(Clone, Copy)]
 pub struct ReadFailed;
 
 /// A reader, as the bytes that are left, the number of those that it gave, and the number of its failures.

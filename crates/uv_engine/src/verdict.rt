@@ -13,7 +13,7 @@ use uv_ids::{Fault, Why};
 use uv_script::push_number;
 
 /// What the rerun of a recording comes to.
-#[derive(Clone, Copy, PartialEq, Eq)]
+#[derive(Clone, Copy)]
 pub enum Verdict {
     /// The rerun's callbacks are those that are recorded.
     Same,
