@@ -29,7 +29,8 @@ pub use Rattle.uv_engine.specs.Recordings.{calls, ends, in_script, none, one, st
 pub use Rattle.uv_engine.specs.Reply.{Full, Reply, Took, add_after, add_text, at_text, back_after, back_text, break_back_after, break_back_text}
 pub use Rattle.uv_engine.specs.Reply.{break_text, forward_after, forward_text, last_break, last_match, may_follow, reply, reply_after, reply_text}
 pub use Rattle.uv_engine.specs.Reply.{reply_to, stop_text}
-pub use Rattle.uv_engine.specs.Rerun.{FailsAt, HasCalls, HasSteps, IsReadingFault, IsTellingFault, Met, MetSo, RanSo, ReadsTo, called_from}
+pub use Rattle.uv_engine.specs.Rerun.{FailsAt, HasCalls, HasSteps, IsJudged, IsReadingFault, IsTellingFault, Judges, JudgesRest, Met, MetSo, RanSo}
+pub use Rattle.uv_engine.specs.Rerun.{ReadsTo, called_from}
 pub use Rattle.uv_script.specs.Writes.{CutShort}
 pub use Rattle.uv_engine.specs.Start.{FindsSkipped, HasScript, IsBeforeLong, IsFirstBad, IsFirstSkipped, IsFront, IsStartFault, MissesBegin}
 pub use Rattle.uv_engine.specs.Start.{NoLineBegins, NoScript, NoneSkipped, ParsesFront, ParsesNone, ReadsFront, ReadsScript, after_last, at_line}

@@ -1,5 +1,5 @@
 -- The parts of a recording, as a replay reads and runs them.
-use Rattle.uv_engine.proofs.Names.{◌≡◌, ◌≢◌, ℕ, ◌+◌, List, [], ◌∷◌, ◌++◌, Bool, length, Option, None, Ok, Err, refl, ap, sym, subst, arith, append-nil, codes, Event, Fault, Program, lines_of, SaysStep, IsCallbackLine, Verdict, Version, TakesLine, version_line, unread_in, Part, Start, InScript, InSteps, InCalls, Whole, Reads, version, step, calls, callback, ends, IsBadFrom, FrontEnd, Begin, Input, Long, ReadsFront, ParsesFront, NoneSkipped, CutShort, CutOff, IsVerdict, HasVerdict, verdict_text, Tells, cut_short, Replays, ReadsTo, RanSo, HasSteps, Met, HasCalls, FailsAt, IsReadingFault, RefusesLong, Draft}
+use Rattle.uv_engine.proofs.Names.{◌≡◌, ◌≢◌, ℕ, ◌+◌, List, [], ◌∷◌, ◌++◌, Bool, length, Option, None, Result, Ok, Err, refl, ap, sym, subst, arith, append-nil, codes, Event, Fault, Program, lines_of, SaysStep, IsCallbackLine, Verdict, Version, TakesLine, version_line, unread_in, Part, Start, InScript, InSteps, InCalls, Whole, Reads, version, step, calls, callback, ends, IsBadFrom, FrontEnd, Begin, Input, Long, ReadsFront, ParsesFront, NoneSkipped, CutShort, CutOff, IsVerdict, HasVerdict, verdict_text, Tells, cut_short, Replays, ReadsTo, RanSo, HasSteps, Met, HasCalls, FailsAt, IsJudged, Judges, JudgesRest, IsReadingFault, RefusesLong, Draft}
 use Rattle.uv_ids.specs.declared.fault.Fault.TheVariants as fault
 use Rattle.uv_engine.specs.Verdict as verdict
 use Rattle.uv_engine.specs.Recordings as grammar
@@ -76,6 +76,11 @@ steps_bad {p} {a} {b} {old} {mid} {xs} {h} c line new fed so n takes other none 
     bad_then (InSteps p []) (InSteps p so.steps) a b c old mid so.reads
     (bad_line (InSteps p so.steps) b c mid line new fed n takes (grind arith))
 
+pub steps_missing : {p : Program} {a b : ℕ} {old mid : List ℕ} {xs : List Event} {h : Option Verdict} (c : ℕ) →
+    StepsSo p a old b mid xs h → c ≡ b + 1 → mid ≡ [] → IsBadFrom (InSteps p []) a old c
+steps_missing {p} {a} {b} {old} {mid} {xs} {h} c so k e =
+    bad_then (InSteps p []) (InSteps p so.steps) a b c old mid so.reads (bad_end (InSteps p so.steps) b c mid k e tt)
+
 -- the next line couldn't be had
 pub steps_fail : {p : Program} {a b : ℕ} {old mid : List ℕ} {xs : List Event} {h : Option Verdict} (new : List ℕ) (f : Fault) →
     StepsSo p a old b mid xs h → IsReadingFault f → RefusesLong f b mid new → FailsAt (InSteps p []) a old f
@@ -151,21 +156,32 @@ end_read p es called a b old n e = record {
 
 -- ---- the whole
 
-pub has_verdict : {p : Program} {b1 b2 b3 b4 b5 : ℕ} {input r1 r2 r3 r4 : List ℕ} {standing : List Event} {halted : Option Verdict}
-    {looked count : ℕ} {parted : Option ℕ} (s : Draft) (v : Verdict) → ReadsTo Start 0 input (InScript s) b1 r1 →
-    ReadsTo (InScript s) b1 r1 (InSteps p []) b2 r2 → (steps : HasSteps p b2 r2 b3 r3 standing halted) →
+pub rest_judged : {p : Program} {b2 b3 b4 b5 : ℕ} {r2 r3 r4 : List ℕ} {standing : List Event} {halted : Option Verdict}
+    {looked count : ℕ} {parted : Option ℕ} (v : Verdict) → (steps : HasSteps p b2 r2 b3 r3 standing halted) →
     (met_calls : HasCalls p steps.steps standing halted b3 r3 b4 r4 looked count parted) →
     ReadsTo (Whole p steps.steps met_calls.called) b4 r4 (Whole p steps.steps met_calls.called) b5 [] →
     ((es : List Event) → (called : List (List ℕ)) → RanSo p es standing halted → Met p standing halted called looked count parted →
-    IsVerdict p es called v) → HasVerdict input v
-has_verdict {p} {b1} {b2} {b3} {b4} {b5} {input} {r1} {r2} {r3} {r4} {standing} {halted} {looked} {count} {parted} s v h1 h2 steps met_calls h5 is =
+    IsVerdict p es called v) → IsJudged p b2 r2 v
+rest_judged {p} {b2} {b3} {b4} {b5} {r2} {r3} {r4} {standing} {halted} {looked} {count} {parted} v steps met_calls end is =
     let es = steps.steps in
     let whole = Whole p es met_calls.called in
-    let front = reads_then Start (InScript s) (InSteps p []) 0 b1 b2 input r1 r2 h1 h2 in
-    let ran = reads_then Start (InSteps p []) (InCalls p es []) 0 b2 b3 input r2 r3 front steps.reads in
-    let met = reads_then Start (InCalls p es []) whole 0 b3 b4 input r3 r4 ran met_calls.reads in
-    let all = reads_then Start whole whole 0 b4 b5 input r4 [] met h5 in
+    let met = reads_then (InSteps p []) (InCalls p es []) whole b2 b3 b4 r2 r3 r4 steps.reads met_calls.reads in
+    record {
+      steps = es;
+      called = met_calls.called;
+      taken = b5;
+      reads = reads_then (InSteps p []) whole whole b2 b4 b5 r2 r4 [] met end;
+      verdict = is es met_calls.called steps.ran met_calls.met;
+    }
+
+pub judges : {p : Program} {a b : ℕ} {input mid rest : List ℕ} (s : Draft) (r : Result Verdict Fault) → ReadsTo Start 0 input (InScript s) a mid →
+    ReadsTo (InScript s) a mid (InSteps p []) b rest → JudgesRest p b rest r → Judges input r
+judges {p} {a} {b} {input} {mid} {rest} s (Ok v) h k is =
+    let front = reads_then Start (InScript s) (InSteps p []) 0 a b input mid rest h k in
+    let all = reads_then Start (InSteps p []) (Whole p is.steps is.called) 0 b is.taken input rest [] front is.reads in
     grind (arith, append-nil)
+judges {p} {a} {b} {input} {mid} {rest} s (Err f) h k is =
+    fails_then Start (InSteps p []) 0 b input rest f (reads_then Start (InScript s) (InSteps p []) 0 a b input mid rest h k) is
 
 pub fails_replay : (input old : List ℕ) (f : Fault) → FailsAt Start 0 input f → Replays input (Err f) old old
 fails_replay input old (fault.Script line) h = verdict.bad_line line refl h refl

@@ -13,7 +13,7 @@ use Rattle.uv_text.specs.Recording.{is_callback, callback_lines}
 use Rattle.uv_engine.specs.declared.verdict.Verdict.{Verdict}
 use Rattle.uv_engine.specs.Input.{Buffered, size}
 use Rattle.uv_engine.specs.Recordings.{Part, Start, InSteps, InCalls, Whole, ReadsAll, IsBadFrom}
-use Rattle.uv_engine.specs.Verdict.{IsHalt, AllTaken, PartAt, HasVerdict}
+use Rattle.uv_engine.specs.Verdict.{IsHalt, AllTaken, PartAt, IsVerdict, HasVerdict}
 
 -- behind so many lines, these were read and took one part to another
 pub record ReadsTo (x : Part) (a : ℕ) (old : List ℕ) (y : Part) (b : ℕ) (new : List ℕ) : Type 0 where
@@ -91,6 +91,19 @@ ReadsCalls p es standing halted a old (Ok done) b new looked count parted = HasC
 ReadsCalls p es standing halted a old (Err f) b new looked count parted = FailsAt (InCalls p es []) a old f
 
 -- ---- the whole
+
+-- what is behind the script was read to its end, and this is the verdict
+pub record IsJudged (p : Program) (a : ℕ) (old : List ℕ) (v : Verdict) : Type 0 where
+  pub steps : List Event
+  pub called : List (List ℕ)
+  pub taken : ℕ
+  pub reads : ReadsTo (InSteps p []) a old (Whole p steps called) taken []
+  pub verdict : IsVerdict p steps called v
+
+-- the verdict on what is behind the script, or the first bad line there
+abbrev pub JudgesRest : Program → ℕ → List ℕ → Result Verdict Fault → Type 0
+JudgesRest p a old (Ok v) = IsJudged p a old v
+JudgesRest p a old (Err f) = FailsAt (InSteps p []) a old f
 
 -- the verdict, or the first bad line
 abbrev pub Judges : List ℕ → Result Verdict Fault → Type 0

@@ -8,7 +8,7 @@ ghost use Rattle.uv_engine.specs.declared.verdict.Verdict.{Verdict};
 ghost use Rattle.uv_engine.specs.declared.verdict.Verdict.TheVariants.{Same};
 ghost use Rattle.uv_engine.specs.Devices.{ReaderCounts, IsTooLong, WriterCounts, OnAnswer, TakesWithin};
 ghost use Rattle.uv_engine.specs.Input.{left, EndIsSeen, size};
-ghost use Rattle.uv_engine.specs.Rerun.{CanCount, ReadsSteps, ReadsCalls, Judges, IsReadingFault};
+ghost use Rattle.uv_engine.specs.Rerun.{CanCount, ReadsSteps, ReadsCalls, Judges, JudgesRest, IsReadingFault};
 ghost use Rattle.uv_engine.specs.Taking.{SpendsBudget, SpendsGiven};
 ghost use Rattle.uv_engine.specs.Verdict.{AllTaken, HasVerdict, HasOneVerdict, Replays, IsReplayFault};
 
@@ -141,9 +141,32 @@ fn judge<M: Machine, R: Source>(alloc: Global, limit: u64, reader: &mut R) -> Re
         count: 0,
         parted: None,
     };
-    read_steps(&mut rerun, &mut input, reader)?;
     let mut room = Vec::new(alloc);
-    read_calls(&mut rerun, &mut room, &mut input, reader)?;
+    judge_rest(&mut rerun, &mut room, &mut input, reader)
+}
+
+/// Reads what is behind the script of a recording. There is room for the text of each callback.
+fn judge_rest<M: Machine, R: Source>(
+    rerun: &mut Rerun<M>,
+    room: &mut Vec<u8>,
+    input: &mut Numbered,
+    reader: &mut R,
+) -> Result<Verdict, Fault>
+    requires end { R.Tells → EndIsSeen input.old.input (R.remaining reader.old) }
+    requires few { CanCount input.old.taken input.old.input }
+    requires fresh { M.standing rerun.old.machine ≡ [] }
+    requires running { rerun.old.halted ≡ None }
+    requires looked { rerun.old.looked ≡ 0 }
+    requires count { rerun.old.count ≡ 0 }
+    requires parted { rerun.old.parted ≡ None }
+    ensures verdict { R.Tells → JudgesRest (M.program rerun.old.machine) input.old.taken (left input.old.input (R.remaining reader.old)) result }
+    ensures budget { OnAnswer result (R.Tells → SpendsBudget input.old.input (R.remaining reader.old) input.new.input (R.remaining reader.new)) }
+    ensures err { IfErr result IsReadingFault }
+    ensures reader { ReaderCounts result (IsTooLong R.Tells input.old.input.budget (R.remaining reader.old) (R.given reader.old)
+        (R.given reader.new)) (R.failures reader.old) (R.failures reader.new) }
+{
+    read_steps(rerun, input, reader)?;
+    read_calls(rerun, room, input, reader)?;
     input.expect_end(reader)?;
     Ok(rerun.verdict())
 }
