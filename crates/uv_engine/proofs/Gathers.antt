@@ -88,6 +88,23 @@ short_of_cut {w} {t} {v} h = record {
   written = h.grown.is;
 }
 
+-- what was cut short is cut off with nothing to come
+pub cut_of_short : (w t v : List ℕ) → CutShort w t v → CutOff w ((w ++ t) ++ []) v
+cut_of_short w t v h = record {
+  grown = record { part = h.part; is = h.written };
+  rest = h.rest;
+  whole = ap (λ (xs : List ℕ). xs ++ h.rest) h.written ∙ append_assoc w h.part h.rest ∙ ap (λ (xs : List ℕ). w ++ xs) h.whole
+      ∙ sym (append-nil (w ++ t));
+}
+
+-- all was written, and nothing is passed on
+pub cut_behind : (w t v : List ℕ) → v ≡ w ++ t → CutOff w ((w ++ t) ++ []) v
+cut_behind w t v e = record { grown = record { part = t; is = e }; rest = []; whole = ap (λ (xs : List ℕ). xs ++ []) e }
+
+-- all is written, and nothing is kept
+pub all_written : (w t v u : List ℕ) → v ≡ w ++ t → u ≡ [] → Gathers (Ok tt) w t [] v u
+all_written w t v u e none = (record { part = t; is = e }, ap (λ (xs : List ℕ). v ++ xs) none ∙ ap (λ (xs : List ℕ). xs ++ []) e)
+
 -- what was gathered is written
 pub few_left : {A : Type 0} (r : Result A Fault) (gathered : List ℕ) → OnOk r (gathered ≡ []) → OnOk r (length gathered < 8192)
 few_left r gathered e = grind arith

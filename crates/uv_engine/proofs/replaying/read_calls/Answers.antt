@@ -76,5 +76,5 @@ pub returns-in_err-line-clause-reader : goal.returns-in_err-line-clause-reader
 returns-in_err-line-clause-reader g c =
     let p = err_from_is_err_and c.from_residual.result c.from_residual.ensures.1 in
     rw (p.1, p.2)
-    (fault_counts (Option Line) (Unit {0}) c.in_err-line.field-0.0 g.R.Source.Tells _ _ _ _ _ _ _ _ _ _ c.lines.invariant.budget c.lines.invariant.given
-    c.lines.invariant.none_failed c.in_err-line.ensures.reader)
+    (fault_counts (Option Line) (Unit {0}) c.in_err-line.field-0.0 g.R.Source.Tells _ _ _ _ _ _ _ _ _ _ c.lines.invariant.budget
+    c.lines.invariant.given c.lines.invariant.none_failed c.in_err-line.ensures.reader)
