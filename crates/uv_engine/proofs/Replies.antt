@@ -1,5 +1,5 @@
 -- What a session answers, as a reply.
-use Rattle.uv_engine.proofs.Names.{◌≡◌, ℕ, suc, zero, inl, inr, ◌<◌, ◌≤◌, List, [], ◌∷◌, length, true, false, take, codes, ◌-◌, ◌++◌, length-take, length-append, Some, None, Ok, Err, refl, ap, sym, subst, ◌∙◌, arith, cases_order, nat_tests, Event, Outcome, Why, Program, Break, Shown, TakesEvent, moved_back, moved_forward, BREAKS, stops_at, NoneFrom, IsLastBreak, Took, Full, reply, break_text, at_text, back_text, back_after, forward_text, forward_after, add_text, add_after, last_match, last_break, break_back_text, break_back_after}
+use Rattle.uv_engine.proofs.Names.{◌≡◌, ℕ, suc, zero, inl, inr, ◌<◌, ◌≤◌, List, [], ◌∷◌, length, true, false, take, codes, ◌-◌, ◌++◌, length-take, length-append, Some, None, Ok, Err, refl, ap, sym, subst, ◌∙◌, arith, cases_order, nat_tests, Event, Outcome, Why, Program, Break, Shown, TakesEvent, moved_back, moved_forward, BREAKS, stops_at, NoneFrom, IsLastBreak, Took, Full, reply, break_text, at_text, back_text, back_after, forward_text, forward_after, add_text, add_after, last_match, last_break, break_back_text, break_back_after, append_assoc, append-nil, Option, Seen, stops, appended_text, stop_text}
 use Rattle.std.proofs.Common.{nat_lt, nat_le}
 use Rattle.uv_ids.specs.declared.fault.Fault.TheVariants as fault
 use Rattle.uv_engine.specs.Reply.{Refused}
@@ -27,6 +27,16 @@ pub full : (s t : Shown) (e : Event) → TakesEvent s e (Err fault.StepsFull) t 
 full s t e h = grind arith
 
 -- ---- one step
+
+-- its line is told, and that it matches a break
+pub told_stop : (p : Program) (t : Shown) (seen : Option Seen) (old mid new : List ℕ) → stops t.breaks seen ≡ true →
+    mid ≡ old ++ appended_text p seen → new ≡ mid ++ break_text (length t.standing) → new ≡ old ++ (appended_text p seen ++ stop_text t seen)
+told_stop p t seen old mid new on e f = rw (f, e, on) (append_assoc old (appended_text p seen) (break_text (length t.standing)))
+
+-- its line is told, and it matches none
+pub told_on : (p : Program) (t : Shown) (seen : Option Seen) (old mid : List ℕ) → stops t.breaks seen ≡ false → mid ≡ old ++ appended_text p seen →
+    mid ≡ old ++ (appended_text p seen ++ stop_text t seen)
+told_on p t seen old mid off e = rw (e, off, append-nil (appended_text p seen)) refl
 
 pub ruleset replies = (took, refused, full)
 
