@@ -117,6 +117,7 @@ static CASES: [Case; 14] = [
         answer: Ok(true),
         facts: &[
             Fact::Are(Kind::Call, &[]),
+            // Behind two ops, eight sections, a poll, the run's end, and the take.
             Fact::Step(13, 14, Event::Finish(0)),
         ],
     },
