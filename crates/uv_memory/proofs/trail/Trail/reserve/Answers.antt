@@ -82,11 +82,11 @@ pub returns-clause-ok : goal.returns-clause-ok
 returns-clause-ok g c =
     fits_both c.args.count _ _
     (fits_both c.args.count _ _
-      (fits c.args.count _ _ (went_well c.reserve.result _ c.is_err.ensures.value c.if-is_err.false c.reserve.ensures.ok))
-      (fits c.args.count _ _ (went_well c.reserve-2.result _ c.is_err-2.ensures.value c.if-is_err-2.false c.reserve-2.ensures.ok)))
+    (fits c.args.count _ _ (went_well c.reserve.result _ c.is_err.ensures.value c.if-is_err.false c.reserve.ensures.ok))
+    (fits c.args.count _ _ (went_well c.reserve-2.result _ c.is_err-2.ensures.value c.if-is_err-2.false c.reserve-2.ensures.ok)))
     (fits_both c.args.count _ _
-      (fits c.args.count _ _ (went_well c.reserve-3.result _ c.is_err-3.ensures.value c.if-is_err-3.false c.reserve-3.ensures.ok))
-      (fits c.args.count _ _ (went_well c.reserve-4.result _ c.is_err-4.ensures.value c.if-is_err-4.false c.reserve-4.ensures.ok)))
+    (fits c.args.count _ _ (went_well c.reserve-3.result _ c.is_err-3.ensures.value c.if-is_err-3.false c.reserve-3.ensures.ok))
+    (fits c.args.count _ _ (went_well c.reserve-4.result _ c.is_err-4.ensures.value c.if-is_err-4.false c.reserve-4.ensures.ok)))
 
 pub invariant_of-self : goal.invariant_of-self
 invariant_of-self g c = fit_still _ _ _ _ _ _ _ _ c.reserve.ensures.items refl refl refl c.self.invariant
