@@ -1,4 +1,4 @@
-"""No line of code is wider than 150 columns, but for imports of proofs, and no file of code is longer than 800 lines."""
+"""No line of code is wider than 150 columns, except for imports of proofs, and no file of code is longer than 800 lines."""
 import glob
 import os
 from typing import List
