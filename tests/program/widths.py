@@ -1,7 +1,10 @@
-"""No line of code is wider than 150 columns, except for imports of proofs, and no file of code is longer than 800 lines."""
+"""No line of code is wider than 150 columns, except for imports of proofs, and no file of code is longer than 800 lines.
+
+How wide Python is has its own test (tests/tools/formed.py).
+"""
 import glob
 import os
-from typing import List
+from typing import Iterable, List
 
 from tests.helper import Check
 
@@ -9,31 +12,31 @@ MOST_COLUMNS = 150
 MOST_LINES = 800
 # what may be wider: one import is one line
 IMPORTS = ("use ", "pub use ", "ghost use ")
-CODE = (
-    "crates/*/src/**/*.rt",
-    "crates/*/specs/**/*.antt",
-    "crates/*/proofs/**/*.antt",
-    "tools/**/*.py",
-    "tools/**/*.[ch]",
-    "tests/**/*.py",
-    "tests/**/*.c",
-)
+CODE = ("crates/*/src/**/*.rt", "crates/*/specs/**/*.antt", "crates/*/proofs/**/*.antt", "tools/**/*.[ch]", "tests/**/*.c")
+PYTHON = ("tools/**/*.py", "tests/**/*.py")
 
 
-def too_much(folder: str, path: str) -> List[str]:
-    """What is wrong with a file: each wide line, and its length."""
+def lines_of(path: str) -> List[str]:
     with open(path, encoding="utf-8") as file:
-        lines = file.read().splitlines()
-    name = os.path.relpath(path, folder)
-    wide = [
-        "%s:%d has %d columns" % (name, at, len(line))
-        for at, line in enumerate(lines, 1)
+        return file.read().splitlines()
+
+
+def paths_of(folder: str, forms: Iterable[str]) -> List[str]:
+    return sorted({path for form in forms for path in glob.glob(os.path.join(folder, form), recursive=True) if os.path.isfile(path)})
+
+
+def wide(path: str) -> List[str]:
+    """Each line that is too wide, with its length."""
+    return [
+        "%s:%d has %d columns" % (path, at, len(line))
+        for at, line in enumerate(lines_of(path), 1)
         if len(line) > MOST_COLUMNS and not line.lstrip().startswith(IMPORTS)
     ]
-    return wide + ["%s has %d lines" % (name, len(lines))] * (len(lines) > MOST_LINES)
 
 
 def try_widths(check: Check, folder: str) -> None:
-    paths = sorted({path for form in CODE for path in glob.glob(os.path.join(folder, form), recursive=True) if os.path.isfile(path)})
-    wrong = [it for path in paths for it in too_much(folder, path)]
-    check("the widths of code", len(paths) > 500 and not wrong, "\n".join(wrong))
+    code = paths_of(folder, CODE)
+    wrong = [line for path in code for line in wide(path)]
+    check("the widths of code", len(code) > 500 and not wrong, "\n".join(wrong))
+    long = [path for path in code + paths_of(folder, PYTHON) if len(lines_of(path)) > MOST_LINES]
+    check("the lengths of files", not long, "more than %d lines: %s" % (MOST_LINES, ", ".join(long)))
