@@ -21,6 +21,7 @@ HEAD = re.compile(r"uvt-log ([12]) (1\.\d{1,4}\.\d{1,4}\S*) (\d{1,9}) (\d{1,9}) 
 ADDRESS = re.compile(r"- A (\d{1,9}) ([0-9a-f]{1,16}) (\S+) (.*)")
 WORKERS = re.compile(r"- N (\d{1,9})")
 ENDED = re.compile(r"- X (SIG[A-Z0-9]{1,12})")
+TURNED = re.compile(r"- W ([1-9]\d{0,9})")
 UNSEEN = re.compile(r"- U (-|uv_[a-z_0-9]+) (.+)")
 PLACE = re.compile(r"- J place (\d{1,9}) (.*)")
 HOME = re.compile(r"- J home (.*)")
@@ -145,6 +146,8 @@ class Log:
     later: dict[int, int] = field(default_factory=dict)
     # the signal that ended the program, `` where none did
     ended: str = ""
+    # it is a ring's, whose first window isn't the program's first one
+    turned: bool = False
     # why nothing of the program's libuv can be seen, in a sentence
     blind: str = ""
 
@@ -237,6 +240,8 @@ def read_log(data: bytes) -> Log:
             log.stacks[int(stack[1])] = int(stack[2]), int(stack[3]), int(stack[4])
         elif workers := WORKERS.fullmatch(text):
             log.workers = within(int(workers[1]))
+        elif turned := TURNED.fullmatch(text):
+            log.turned = int(turned[1]) > 1
         elif ended := ENDED.fullmatch(text):
             log.ended = ended[1]
         elif unseen := UNSEEN.fullmatch(text):

@@ -12,7 +12,7 @@ import struct
 import subprocess
 import sys
 import tempfile
-from dataclasses import dataclass
+from dataclasses import dataclass, replace
 from pathlib import Path
 
 from uvt.conversation import INSTALLED, OUT, Fault, built_program
@@ -24,9 +24,10 @@ from uvt.record.lift import CantLift, NothingToLift, lift
 from uvt.record.log import NO_CLOCK, Event, Log, read_log
 from uvt.record.names import name_addresses, named_log
 from uvt.record.polls import Polls, compare
+from uvt.record.ring import is_ring, log_of
 from uvt.record.script import Call, Done, End, Program, program_of
 from uvt.record.steps import Steps
-from uvt.record.window import NoPart, window
+from uvt.record.window import NoPart, begin_of, starts_of, window
 from uvt.record.worst import around
 
 RECORDER = Path(__file__).resolve().parent / "recorder"
@@ -118,6 +119,16 @@ def followed(program: Program, workers: int) -> Outcome:
 def chosen(log: Log, events: list[Event], part: Part) -> tuple[list[Event], str, str]:
     """The part of a loop's events that is asked for; where it begins and where it is cut, in a sentence each."""
     began = cut = ""
+    if log.turned and part.begin is None and part.last is None:
+        # (nothing before the first place where all of it was written down)
+        known = [at for at in starts_of(events) if begin_of(events, at) >= 0]
+        if not known:
+            raise NoPart("no recording can begin in what was kept of it: there is no place where all that the loop had was written down")
+        begin = events[known[0] - 1].now
+        if not part.worst or sum(it.type == "B" for it in events) <= part.most:
+            part = replace(part, begin=begin)
+        else:
+            events = events[next(it for it in range(known[0] - 1, -1, -1) if events[it].words == "all") :]
     if part.worst and sum(it.type == "B" for it in events) > part.most:
         return around(log, events, part.most)
     time = part.begin if part.last is None else max(0, events[-1].now - part.last)
@@ -381,9 +392,15 @@ def from_data(data: bytes, log: Log, name: str, part: Part = Part(), lifts: bool
 def from_log(path: Path, name: str | None, part: Part, lifts: bool = False) -> int:
     """A log that was kept."""
     try:
-        data = path.read_bytes()
+        data = log_of(path) if is_ring(path) else path.read_bytes()
     except OSError as fault:
         raise Fault(f"{path}: {fault.strerror}") from None
+    if is_ring(path):
+        # (kept as a log, with its symbols)
+        log = read_log(data)
+        name_addresses(log)
+        data = named_log(data, log)
+        write(Path(f"{name or path.name.removesuffix('.ring')}.log"), data)
     lines, whole = from_data(data, read_log(data), name or path.name.removesuffix(".log"), part, lifts)
     print("\n".join(lines), flush=True)
     return 0 if whole else 1

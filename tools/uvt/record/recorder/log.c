@@ -29,6 +29,14 @@ static char prefix[3072];
 static int file = -1;
 static char *window;
 static size_t used, windows;
+/* A ring (UVT_KEEP=MIB): so many windows are kept, and the next one is written over the oldest. 0: all are. What lines refer to (places, which libuv) stands
+ * in a file of its own then, PREFIX.PID.words, and the windows, each with its number in front, in PREFIX.PID.ring. Both can be copied at any time.
+ * UVT_LATE=MS: behind a callback that took so long, or a wait that ended so much later, the ring stays as PREFIX.PID.late-N.ring, and another one begins. */
+static size_t keep, number, late;
+static int words = -1;
+static uint64_t late_at;
+static int late_count;
+enum { MOST_LATE = 16, BEHIND_LATE = 1000 };
 static struct text {
     uintptr_t from, to;
 } texts[8]; /* of libuv */
@@ -69,8 +77,50 @@ static bool may_grow_to(size_t size) {
     return getrlimit(RLIMIT_FSIZE, &limit) != 0 || limit.rlim_cur == RLIM_INFINITY || size <= limit.rlim_cur;
 }
 
+size_t ring_window(void) {
+    return keep ? number : 0;
+}
+
+/* The next window of the ring. */
+static bool turn(void) {
+    size_t at = windows % keep;
+    char *next = MAP_FAILED;
+    if (windows >= keep || (may_grow_to((at + 1) * WINDOW) && posix_fallocate(file, (off_t)(at * WINDOW), WINDOW) == 0))
+        next = mmap(NULL, WINDOW, PROT_READ | PROT_WRITE, MAP_SHARED, file, (off_t)(at * WINDOW));
+    if (next == MAP_FAILED) {
+        if (window) strcpy(window + used, "- ! no room\n");
+        off = true;
+        return false;
+    }
+    if (window) munmap(window, WINDOW);
+    memset(next, 0, WINDOW);
+    window = next;
+    windows++;
+    used = (size_t)snprintf(window, NOTE, "- W %zu\n", ++number);
+    return true;
+}
+
+/* The ring stays as it is, and another one begins. */
+static void keep_late(void) {
+    char name[4096], other[4096];
+    late_at = 0;
+    if (++late_count > MOST_LATE) return;
+    snprintf(name, sizeof name, "%s.%d.ring", prefix, (int)getpid());
+    snprintf(other, sizeof other, "%s.%d.late-%d.ring", prefix, (int)getpid(), late_count);
+    rename(name, other);
+    close(file);
+    file = open(name, O_RDWR | O_CREAT | O_TRUNC | O_CLOEXEC, 0644);
+    windows = 0;
+    if (file < 0 || !turn()) off = true;
+}
+
+void note_late(uint64_t clock, uint64_t took) {
+    if (late && took >= late && !late_at) late_at = clock;
+}
+
 /* The next window. Without room for it the last one says so at its end, and nothing is recorded any more. */
 static bool next_window(void) {
+    if (keep) return turn();
     size_t size = (windows + 1) * (size_t)WINDOW;
     char *next = MAP_FAILED;
     if (may_grow_to(size) && posix_fallocate(file, (off_t)(size - WINDOW), WINDOW) == 0)
@@ -85,6 +135,10 @@ static bool next_window(void) {
     used = 0;
     windows++;
     return true;
+}
+
+static void write_words(const char *text, size_t length) {
+    if (write(words, text, length) != (ssize_t)length) off = true;
 }
 
 static void write_text(const char *text, size_t length) {
@@ -123,10 +177,12 @@ static void write_head(void) {
     program[length < 0 ? 0 : length] = 0;
     int size = snprintf(text, sizeof text, "uvt-log 2 %s %d %d %s\n", CALL(uv_version_string)(), (int)getpid(),
                         first_workers, program);
-    write_text(text, (size_t)size);
+    if (keep) write_words(text, (size_t)size);
+    else write_text(text, (size_t)size);
     for (int at = 0; at < unseen_count; at++) {
         size = snprintf(text, sizeof text, "- U %s %s\n", unseen[at].function, unseen[at].why);
-        write_text(text, (size_t)size);
+        if (keep) write_words(text, (size_t)size);
+        else write_text(text, (size_t)size);
     }
 }
 
@@ -134,6 +190,19 @@ static void write_head(void) {
 static bool open_log(void) {
     char name[4096];
     if (window) return true;
+    if (keep) {
+        snprintf(name, sizeof name, "%s.%d.words", prefix, (int)getpid());
+        words = open(name, O_WRONLY | O_CREAT | O_TRUNC | O_APPEND | O_CLOEXEC, 0644);
+        snprintf(name, sizeof name, "%s.%d.ring", prefix, (int)getpid());
+        file = open(name, O_RDWR | O_CREAT | O_TRUNC | O_CLOEXEC, 0644);
+        if (words < 0 || file < 0 || !turn()) {
+            off = true;
+            return false;
+        }
+        write_head();
+        if (getcwd(name, sizeof name)) write_line(NULL, 'J', "home %s", name);
+        return true;
+    }
     snprintf(name, sizeof name, "%s.%d.log", prefix, (int)getpid());
     for (int more = 2; (file = open(name, O_RDWR | O_CREAT | O_EXCL | O_CLOEXEC, 0644)) < 0 && errno == EEXIST; more++)
         snprintf(name, sizeof name, "%s.%d-%d.log", prefix, (int)getpid(), more);
@@ -256,7 +325,8 @@ static int note_time(struct loop *loop, char type, uint64_t clock) {
     bool ends = type == 'E' && times->begun == loop->begun && !times->end;
     if (type == 'B') *times = (struct times){.begun = loop->begun, .begin = clock, .processor = processor_time(clock, false)};
     if (type == 'T') here.work_clock = clock, here.work_processor = processor_time(clock, false);
-    if (ends) times->end = clock;
+    if (ends) times->end = clock, note_late(clock, clock - times->begin);
+    if (late_at && type == 'B' && clock >= late_at + BEHIND_LATE) keep_late();
     if (ends) return on_processor(clock, times->begin, times->processor);
     return type == 'F' ? on_processor(clock, here.work_clock, here.work_processor) : -1;
 }
@@ -313,7 +383,9 @@ void write_line(struct loop *loop, char type, const char *format, ...) {
     }
     line.text[line.length++] = '\n';
     if (loop) loop->lines++;
-    write_text(line.text, line.length);
+    /* (what other lines refer to) */
+    if (keep && (!loop || type == 'L')) write_words(line.text, line.length);
+    else write_text(line.text, line.length);
 }
 
 const char *answer_text(int answer) {
@@ -420,6 +492,9 @@ static void __attribute__((constructor)) begin(void) {
     const char *named = getenv("UVT_LOG");
     if (!named || strlen(named) >= sizeof prefix) return;
     strcpy(prefix, named);
+    if (getenv("UVT_KEEP")) keep = (size_t)atoi(getenv("UVT_KEEP"));
+    if (getenv("UVT_LATE")) late = (size_t)atoi(getenv("UVT_LATE"));
+    if (keep == 1) keep = 2;
     pthread_atfork(before_fork, after_fork, in_child);
     off = false;
     hook_program();
@@ -428,5 +503,6 @@ static void __attribute__((constructor)) begin(void) {
 static void __attribute__((destructor)) end(void) {
     if (off || !window) return;
     off = true;
+    if (keep) return;
     if (ftruncate(file, (off_t)((windows - 1) * (size_t)WINDOW + used)) != 0) return;
 }

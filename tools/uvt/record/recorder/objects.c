@@ -222,5 +222,14 @@ void name_callback(struct object *object, void *callback, enum role role, const 
     if (!object || !callback || object->named[role] == callback) return;
     int place = address_number(callback);
     object->named[role] = callback;
+    object->whats[role] = what;
     if (place >= 0) write_line(object->loop, 'C', "%d %d %s", object->id, place, what);
+}
+
+void name_again(struct object *object) {
+    name_place(object);
+    for (int role = 0; role < ROLES; role++) {
+        int place = object->named[role] ? address_number(object->named[role]) : -1;
+        if (place >= 0) write_line(object->loop, 'C', "%d %d %s", object->id, place, object->whats[role]);
+    }
 }

@@ -35,11 +35,15 @@ static void tell_one(struct object *it) {
 }
 
 static void tell_all(struct loop *loop) {
-    if (loop->lines - loop->counted < OFTEN + MANY * object_total()) return;
+    size_t in = ring_window();
+    long since = loop->lines - loop->counted;
+    if (in ? in == loop->told_in || since < MANY * object_total() : since < OFTEN + MANY * object_total()) return;
+    if (in) each(loop, name_again);
     write_line(loop, 'K', "all");
     each(loop, tell_one);
     write_line(loop, 'K', "end");
     loop->counted = loop->lines;
+    loop->told_in = in;
 }
 
 /* ---- the poll: what libuv asks of the system */

@@ -30,6 +30,7 @@ struct loop {
     struct object *looked; /* one of its handles, which lie in a ring: the next one whose memory is looked at (memory.c) */
     uint64_t looked_at; /* the loop's time as that was done last */
     int looks; /* how often, up to FEW */
+    size_t told_in; /* the window of the ring in which all of it was written down last */
     long lines, counted; /* of it in the log; and how many there were as all of it was last written down */
     uv_run_mode mode; /* of the uv_run that is under way */
     long begun, away; /* how many callbacks and runs have begun, and how many of them in no poll */
@@ -61,6 +62,7 @@ struct object {
     bool unreferenced; /* and it is unreferenced, and none is */
     int size; /* of its type: elements of an array lie so far apart */
     void *named[ROLES]; /* the callbacks that the log has of it */
+    const char *whats[ROLES]; /* and what they are for */
     int requests; /* of a watcher: writes, connects, .. that are under way */
     uint64_t bytes; /* of such a request */
     void *callback;
@@ -102,6 +104,8 @@ int caller_number(int place, const void *from);
 /* The lines that say where it lies, and which its callback is: `what` as in the line at which that begins. */
 void name_place(struct object *object);
 void name_callback(struct object *object, void *callback, enum role role, const char *what);
+/* The same lines once more. */
+void name_again(struct object *object);
 
 /* ---- the log (log.c) */
 
@@ -116,6 +120,10 @@ bool is_locked_here(void);
  * of a callback or work that took long enough how long its thread was on the processor.
  * The format knows %d, %u (64 bits), %x (64 bits) and %s. */
 void write_line(struct loop *loop, char type, const char *format, ...);
+/* Where the log is a ring: the number of its window, from 1; else 0. */
+size_t ring_window(void);
+/* Something took so long. */
+void note_late(uint64_t clock, uint64_t took);
 /* How many workers the pool has, by the environment as it is now; the line that says so where that isn't what the first line has. */
 int workers(void);
 void write_workers(void);
