@@ -41,6 +41,12 @@ def few(words: Sequence[object]) -> str:
     return shown[0] if len(shown) == 1 else f"{', '.join(shown[:-1])} and {shown[-1]}"
 
 
+# What libuv has only a part of its workers do at a time.
+SLOW = ("addrinfo", "nameinfo")
+# As many workers a recording has where requests were passed by later ones (record/follow.py).
+MANY_WORKERS = 64
+
+
 def steps_of(steps: list[int]) -> str:
     return f"step {steps[0]}" if len(steps) == 1 else f"steps {few(steps)}"
 
@@ -69,6 +75,25 @@ def in_javascript(walk: Walk, took: Took, begin: int, end: int) -> str:
     first, last = took.pieces[0][0], took.pieces[-1][1]
     found = walk.notes.javascript.told(first, last, (max(begin, first), min(end, last))) if begin < end else []
     return f": {'; '.join(found)}" if found else ""
+
+
+# Of a stretch of time so many causes are told one by one.
+ONE_BY_ONE = 6
+
+
+def longest_of(causes: list[Took], begin: int, end: int) -> tuple[list[Took], list[str]]:
+    """Of many causes the longest ones, and the others together, by their functions."""
+    if len(causes) <= ONE_BY_ONE:
+        return causes, []
+    longest = sorted(causes, key=lambda it: it.between(begin, end), reverse=True)
+    shown = [it for it in causes if it in longest[: ONE_BY_ONE // 2] or it.is_poll()]
+    rest: dict[str, list[int]] = {}
+    for it in causes:
+        if it not in shown:
+            whose = f"of {it.function}" if it.function else "of the callbacks" if it.is_callback() else "outside of callbacks"
+            rest.setdefault(whose, []).append(it.between(begin, end))
+    found = sorted(rest.items(), key=lambda it: -sum(it[1]))
+    return shown, [f"others {whose} took {sum(took)} ms in all" for whose, took in found]
 
 
 # Of a stretch of time the part that a callback of node's own has to have taken to be told.
@@ -273,12 +298,13 @@ class Why:
         """Where the clock went on between two times of it."""
         found, causes = [], self.walk.causes(begin, end)
         causes = [it for it in causes if is_told(it, begin, end)] or causes
-        for took in causes:
+        shown, rest = longest_of(causes, begin, end)
+        for took in shown:
             if took.is_poll() and begin < end:
-                found.append(self.in_poll(took, begin, end, causes))
+                found.append(self.in_poll(took, begin, end, shown))
             else:
                 found.append(sentence(self.walk, took, begin, end))
-        return "; ".join(found)
+        return "; ".join(found + rest)
 
     def in_poll(self, took: Took, begin: int, end: int, told_already: list[Took]) -> str:
         """A poll waits as long as it is asked to, reckoned from the loop's time. Where the clock was farther then, who made it so is why it
@@ -493,6 +519,10 @@ class Why:
         kind = f" ({kind})" if kind and kind != "work" else ""
         return f"called {away} ms after it was queued; when a worker took it and was through nobody knows{kind}", details
 
+    def worker(self, number: int) -> str:
+        """Which worker; in a recording of which the pool has more of them than the program's, since libuv passes by slow work, that isn't known."""
+        return "a worker" if self.notes.names and self.walk.pool.workers == MANY_WORKERS else f"worker {number}"
+
     def waited(self, wait: Wait) -> str:
         step, worker = wait.taken
         state = self.walk.state(wait.asked)
@@ -503,7 +533,9 @@ class Why:
         behind = (f": the workers had {times(len(had), 'request') if asked else few(had)}{asked}" if had else "") + (
             f", behind {few(before)}" if before and not asked else ""
         )
-        took = f"worker {worker} took it at step {step}"
+        if away > 1 and self.notes.kind(self.name) in SLOW:
+            behind += " (libuv has half of its workers at the most do lookups at a time, however many are free)"
+        took = f"{self.worker(worker)} took it at step {step}"
         if step in self.notes.guessed:
             return f"waited for a worker from step {wait.asked} on{behind}; when one took it nobody knows"
         return f"waited for a worker from step {wait.asked} to {step}, {away} ms{behind}; {took}"
@@ -516,7 +548,7 @@ class Why:
             return f"it was through at step {wait.finished}"
         ran = self.walk.happened(wait.finished) - self.walk.happened(step)
         processor = processor_told(self.notes.processor.get(("work", self.name, wait.call), -1), ran)
-        return f"worker {worker} ran it{called} from step {step} to {wait.finished}, {ran} ms{processor}"
+        return f"{self.worker(worker)} ran it{called} from step {step} to {wait.finished}, {ran} ms{processor}"
 
     def handed(self, wait: Wait) -> str:
         before = self.before(self.walk.state(wait.finished).lists["done"])
