@@ -77,6 +77,8 @@ def in_javascript(walk: Walk, took: Took, begin: int, end: int) -> str:
     return f": {'; '.join(found)}" if found else ""
 
 
+# A timer that was started so much before its due time was reckoned is told.
+TOO_EARLY = 3
 # Of a stretch of time so many causes are told one by one.
 ONE_BY_ONE = 6
 
@@ -276,7 +278,16 @@ class Why:
         """The loop's time as a timer was started."""
         numbers = self.walk.state(wait.asked).numbers
         now, clock = numbers["now"], numbers["clock"]
-        return f", when the loop's time was {now} ms{f' (the clock was at {clock} ms already)' if now != clock else ''},"
+        already = f" (the clock was at {clock} ms already)" if now != clock else ""
+        return f", when the loop's time was {now} ms{already or self.stood_still(wait, clock)},"
+
+    def stood_still(self, wait: Wait, clock: int) -> str:
+        """Of a timer that a callback started which took long: nobody knows when in it, and the loop's time doesn't go on in it."""
+        inside = [it for it in self.walk.causes(clock, self.walk.clock(wait.ended or wait.asked)) if it.is_callback() and it.first <= wait.asked <= it.last]
+        took = inside[0].took() if inside and self.notes.names else 0
+        if took < TOO_EARLY or self.walk.lines[wait.asked].startswith("call "):
+            return ""
+        return f" (and stood still through that callback, which took {took} ms: so it is due up to {took} ms too early, reckoned from its start)"
 
     def by_javascript(self, wait: Wait) -> list[str]:
         """Which line of JavaScript asked for a request."""
