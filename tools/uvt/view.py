@@ -16,6 +16,7 @@ from uvt.notes import Request
 from uvt.places import MEANT, Place, next_line, read_place
 from uvt.waits import Wait
 from uvt.walk import Took, Walk
+from uvt.overview import Overview
 from uvt.why import FIFTH, Why
 from uvt.why_javascript import WhyJavaScript
 from uvt.why_requests import under_way
@@ -237,6 +238,8 @@ class Page:
             "lanes": [{"name": it.name, "what": it.what, "parts": it.parts} for it in lanes],
             "late": late,
             "why": whys,
+            "overview": [it for it in Overview(self.walk).answer("") if not it.startswith(("names: ", "ask next"))],
+            "recorded": bool(self.walk.notes.names),
             "heaps": self.heaps,
             "long": self.long(),
             "part": "\n".join(self.walk.notes.loud()),
