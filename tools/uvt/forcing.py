@@ -25,7 +25,7 @@ SECTIONS = {"pending", "idle", "prepare", "done", "async", "check", "closing", "
 ASKS = {"now", "alive", "timeout", "due", "hasref", "active", "closing"}
 CALLS = {"call": "on", "after": "after", "closed": "closed"}
 # A sanitizer's own words. (A leak is none of an order: nobody looks for it, unless the user asks.)
-REPORT = re.compile(r"(?:ERROR|WARNING): (\w+Sanitizer: [\w-]+)")
+REPORT = re.compile(r"(?:ERROR|WARNING): (\w+Sanitizer: (?:attempting )?[\w-]+)")
 # So many departures are listed.
 SHOWN = 8
 # How long a run may take, in seconds: so often the time of the first run, and as long at the least. Where that didn't end by itself: so long, and
