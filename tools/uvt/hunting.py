@@ -10,7 +10,7 @@ import tempfile
 import time
 import zlib
 from collections.abc import Callable, Iterator
-from dataclasses import dataclass, field
+from dataclasses import dataclass, field, replace
 from pathlib import Path
 
 from uvt.conversation import Fault, read_bytes, read_input
@@ -286,8 +286,20 @@ class Hunt:
         ran = self.force(Order(asked, commands, self.loop))
         self.counts.departed += ran.departures > 0 or not (ran.done or ran.ended())
         if how := badly(ran, self.first):
-            return self.again(self.bad(ran, how, f"the order of `{text}`", session), Order(asked, commands, self.loop))
+            return self.kept(self.bad(ran, how, f"the order of `{text}`", session), ran, Order(asked, commands, self.loop))
         return self.recorded(ran)
+
+    def kept(self, bad: Bad, ran: Ran, order: Order) -> Bad:
+        """The order that ends badly again. What find has found ends with the step that was asked: what comes behind it came as it liked. The
+        recording of the run has all of it, where that is worth more."""
+        bad = self.again(bad, order)
+        if Path(f"{ran.name}.log").exists():
+            remake(ran.name)
+        whole = recording_of(ran.name, self.loop)
+        if bad.bad_again == bad.again or not whole.exists():
+            return bad
+        other = self.again(replace(bad, order=whole.read_text(), again=0, bad_again=0), Order(*read_input(whole), self.loop))
+        return other if other.bad_again > bad.bad_again else bad
 
     def searched(self, lines: list[str]) -> str:
         """The session that is found, or ``."""
