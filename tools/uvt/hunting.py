@@ -150,6 +150,15 @@ def place_of(output: str) -> str:
     return f"{found[1]} ({Path(found[2]).name}:{found[3]})" if found else ""
 
 
+def other_output(output: str, first: str) -> str:
+    """The first line in which the two differ, `` where none does."""
+    for one, two in itertools.zip_longest(output.splitlines(), first.splitlines()):
+        if one != two:
+            said = "has no more output" if one is None else f"said `{one[:60]}`"
+            return f"{said}, where the first run {'said nothing more' if two is None else f'said `{two[:60]}`'}"
+    return ""
+
+
 class TimeOver(Exception):
     """No time is left."""
 
@@ -158,8 +167,16 @@ class Hunt:
     """Questions of a program's recordings, and orders at random, until one ends badly."""
 
     def __init__(
-        self, words: list[str], search: str, folder: Path, seconds: float | None, part: tuple[int, int], tell: Callable[[str], None]
+        self,
+        words: list[str],
+        search: str,
+        folder: Path,
+        seconds: float | None,
+        part: tuple[int, int],
+        tell: Callable[[str], None],
+        same_output: bool = False,
     ) -> None:
+        self.same_output = same_output
         self.words, self.search, self.folder, self.part, self.tell = words, search, folder, part, tell
         self.began = time.monotonic()
         self.until = None if seconds is None else self.began + seconds
@@ -181,6 +198,13 @@ class Hunt:
         if left <= 0:
             raise TimeOver
         return left
+
+    def badly(self, ran: Ran) -> str:
+        """How a run ended, where that is bad: `` where it ended well. Where it is asked so, one that says something else than the first run did
+        is bad, too."""
+        if how := badly(ran, self.first):
+            return how
+        return other_output(ran.output, self.first.output) if self.same_output and not ran.late else ""
 
     def force(self, order: Order, records: bool = True) -> Ran:
         self.left()
@@ -285,7 +309,7 @@ class Hunt:
         asked, commands = read_bytes(session.encode(), None)
         ran = self.force(Order(asked, commands, self.loop))
         self.counts.departed += ran.departures > 0 or not (ran.done or ran.ended())
-        if how := badly(ran, self.first):
+        if how := self.badly(ran):
             return self.kept(self.bad(ran, how, f"the order of `{text}`", session), ran, Order(asked, commands, self.loop))
         return self.recorded(ran)
 
@@ -323,7 +347,7 @@ class Hunt:
         self.tell(f"order {seed} at random")
         stall = STALL if seed % 2 else 0
         ran = self.force(Order(seed=seed, stall=stall, loop=self.loop))
-        if not (how := badly(ran, self.first)):
+        if not (how := self.badly(ran)):
             return self.recorded(ran)
         by, path = f"order {seed} at random", recording_of(ran.name, self.loop)
         if Path(f"{ran.name}.log").exists():
@@ -340,7 +364,7 @@ class Hunt:
         """The same order, twice more."""
         with contextlib.suppress(TimeOver):
             for _ in range(2):
-                ended = badly(self.force(order, False), self.first)
+                ended = self.badly(self.force(order, False))
                 bad.again += 1
                 bad.bad_again += bool(ended)
         return bad

@@ -1,6 +1,6 @@
 """Hunts for an order in which a program on libuv ends badly: it records it, asks find, forces what was found, and learns from that.
 
-  ./uvt hunt [-o NAME] [--for TIME] [--part K/N] [--] PROGRAM [ARG..]
+  ./uvt hunt [-o NAME] [--for TIME] [--part K/N] [--same-output] [--] PROGRAM [ARG..]
   ./uvt hunt --join FILE..
 
 A run ends badly by a signal, with a report of AddressSanitizer (build the program with -fsanitize=address), with another status than the first
@@ -190,10 +190,10 @@ def part_of(text: str) -> tuple[int, int]:
     return int(found[1]), int(found[2])
 
 
-def hunted(words: list[str], name: str, seconds: float | None, part: tuple[int, int]) -> int:
+def hunted(words: list[str], name: str, seconds: float | None, part: tuple[int, int], same_output: bool) -> int:
     search, teller = prepare(), Teller()
     folder = Path(tempfile.mkdtemp(prefix="uvt-hunt."))
-    hunt = Hunt(words, search, folder, seconds, part, teller.tell)
+    hunt = Hunt(words, search, folder, seconds, part, teller.tell, same_output)
     teller.counts = hunt.counts
     bad, ended = None, ""
     for it in (signal.SIGTERM, signal.SIGHUP):
@@ -221,6 +221,7 @@ def main() -> int:
     reader.add_argument("-o", dest="name", help="the name of what is written")
     reader.add_argument("--for", dest="seconds", type=seconds_of, metavar="TIME", help="how long: 60s, 10m, 2h")
     reader.add_argument("--part", type=part_of, default=(1, 1), metavar="K/N", help="this part of the questions and seeds")
+    reader.add_argument("--same-output", action="store_true", help="a run that says something else than the first one ends badly, too")
     reader.add_argument("--join", action="store_true", help="the reports of the parts")
     reader.add_argument("program", nargs=argparse.REMAINDER)
     asked = reader.parse_args()
@@ -230,7 +231,7 @@ def main() -> int:
 
     def hunt() -> int:
         try:
-            return join(words, asked.name) if asked.join else hunted(words, asked.name or f"{Path(words[0]).name}.hunt", asked.seconds, asked.part)
+            return join(words, asked.name) if asked.join else hunted(words, asked.name or f"{Path(words[0]).name}.hunt", asked.seconds, asked.part, asked.same_output)
         except ValueError as fault:
             raise Fault(str(fault)) from None
 
