@@ -118,9 +118,13 @@ bool poll_at_random(int descriptor, struct epoll_event *events, int room, int ti
         if (chosen < count) choices(chosen);
         pthread_mutex_unlock(&gate);
         if (chosen >= count && timeout > 0) moved = until - began / 1000000;
-        else if (chosen >= count) syscall(SYS_epoll_pwait, descriptor, events, room, 5, NULL, 8), idle++;
+        else if (chosen >= count) {
+            /* (nobody of whom we know brings anything: another thread may wait for the clock, which goes on here as the real one does) */
+            if (syscall(SYS_epoll_pwait, descriptor, events, room, 5, NULL, 8) == 0) moved += 5;
+            idle++;
+        }
         lock_again(held);
-        if (idle > 2000) return false;
+        if (idle > 2000) return set_free(NULL), false;
     }
 }
 
