@@ -322,8 +322,10 @@ def run_at(words: list[str], environment: dict[str, str], folder: Path, seconds:
     return ran.pid, ran.returncode, Ran(ran.returncode, time.monotonic() - began, text, late)
 
 
-def run(words: list[str], order: Order, name: str, seconds: float | None = None, records: bool = True, part: Part = Part()) -> Ran:
-    """Runs the program in this order, and records it, or this part of it: NAME.rec."""
+def run(
+    words: list[str], order: Order, name: str, seconds: float | None = None, records: bool | Callable[[Ran], object] = True, part: Part = Part()
+) -> Ran:
+    """Runs the program in this order, and records it, or this part of it: NAME.rec. RECORDS may ask how it ended: that takes most of the time."""
     with folder_for(name) as folder:
         environment = environment_of(words, folder, order)
         started = words
@@ -337,7 +339,7 @@ def run(words: list[str], order: Order, name: str, seconds: float | None = None,
         ran.steps, ran.departures, ran.done, _ = read_page(folder / "at")
         ran.name = name
         logs = sorted(folder.glob("log.*.log"), key=lambda it: (not it.name.startswith(f"log.{pid}."), it.stat().st_mtime_ns))
-        if logs and records:
+        if logs and (records(ran) if callable(records) else records):
             said = io.StringIO()
             with contextlib.redirect_stdout(said):
                 from_fresh(logs[0], name, False, part, signal_of(-status) if status < 0 and not ran.late else "")

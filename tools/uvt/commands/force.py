@@ -23,6 +23,7 @@ status says nothing of how the program ended.
 from __future__ import annotations
 
 import argparse
+import tempfile
 from pathlib import Path
 
 from launch.tool import run_tool
@@ -59,18 +60,27 @@ def in_order(words: list[str], order: Order, name: str, records: bool) -> int:
     return BADLY if bad else WELL if good else DEPARTS
 
 
-def at_random(words: list[str], runs: int, stall: int, seed: int, name: str) -> int:
+def busiest(words: list[str], folder: Path) -> tuple[Ran, int]:
+    """A run that nobody forces, and its loop that has the most steps: the first ones of node are its own."""
+    first = run(words, Order(), str(folder / "first"), FIRST)
+    steps = {it: len(read_input(it)[1]) for it in folder.glob("first*.rec")}
+    return first, read_input(max(steps, key=lambda it: steps[it]))[0].notes.loop if steps else 0
+
+
+def at_random(words: list[str], runs: int, stall: int, seed: int, name: str, loop: int | None) -> int:
     """Runs it in orders at random until it ends badly."""
-    first = run(words, Order(), name, FIRST, False)
+    with tempfile.TemporaryDirectory() as folder:
+        first, busy = busiest(words, Path(folder))
+    loop = busy if loop is None else loop
     if first.ended():
         print(f"a run that nobody forces {first.ended()}", flush=True)
     for number in range(1, runs + 1):
         endless = int(1000 * first.seconds) if first.late else 0
-        ran = run(words, Order(seed=seed + number - 1, stall=stall, endless=endless), name, limit(first))
+        ran = run(words, Order(seed=seed + number - 1, stall=stall, endless=endless, loop=loop), name, limit(first), lambda it: badly(it, first))
         if bad := badly(ran, first):
             print(f"run {number} {bad}")
             print("\n".join(ran.output.splitlines()[:LINES]))
-            print(f"its order: {FORCE} {recording_of(name, 0)} {' '.join(words)}", flush=True)
+            print(f"its order: {FORCE} {recording_of(name, loop)} {' '.join(words)}", flush=True)
             return BADLY
     print(f"{counted(runs, 'run')}, and each ended {'as that did' if first.ended() else 'well'}")
     return WELL
@@ -97,7 +107,7 @@ def main() -> int:
 
     def force() -> int:
         if asked.random is not None:
-            return at_random(words, asked.random, asked.stall, asked.seed, asked.name or f"{Path(words[0]).name}.random")
+            return at_random(words, asked.random, asked.stall, asked.seed, asked.name or f"{Path(words[0]).name}.random", asked.loop)
         script, commands = read_input(Path(asked.session))
         loop = script.notes.loop if asked.loop is None else asked.loop
         return in_order(words, Order(script, commands, loop, asked.stop, asked.early), asked.name or f"{Path(words[0]).name}.forced", not asked.quiet)

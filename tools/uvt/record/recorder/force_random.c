@@ -15,13 +15,6 @@ static uint64_t last; /* nothing is forced once it has moved so far, in ms: 0 is
 static int waiting[WAITING]; /* requests that no worker has yet */
 static int waiting_count;
 
-void begin_random(uint64_t number, int jumps, uint64_t until) {
-    seed = (number + 1) * 0x9E3779B97F4A7C15u;
-    stall = jumps;
-    last = until;
-    at_random = true;
-}
-
 static unsigned up_to(unsigned count) {
     seed ^= seed << 13, seed ^= seed >> 7, seed ^= seed << 17;
     return (unsigned)((seed >> 11) % count);
@@ -35,52 +28,114 @@ static void no_more_waiting(int id) {
         }
 }
 
+/* ---- ranks
+ *
+ * Where each choice is by lot, who is to be last of a chain of five is so once in hundreds of runs. So in three of four orders each request has
+ * a rank by lot, and so has each thread that sends to a handle, and the clock: the highest one that can go goes. The first
+ * request that is asked for in the after callback of another one has its rank, mostly: such a chain goes as a whole (PCT, and PCTCP, which has it
+ * for chains). Now and then who has gone gets another rank. */
+
+enum { RANKS = 4096, CHANGES = 32 };
+static bool ranked;
+static unsigned rank_of[RANKS], clock_rank, chain_rank;
+static int of_worker[1024]; /* the request that it has */
+
+static unsigned new_rank(void) {
+    return 1 + up_to(1u << 20);
+}
+
+static unsigned *rank_at(int id) {
+    unsigned *rank = &rank_of[(unsigned)id % RANKS];
+    if (!*rank) *rank = new_rank();
+    return rank;
+}
+
+void begin_random(uint64_t number, int jumps, uint64_t until) {
+    seed = (number + 1) * 0x9E3779B97F4A7C15u;
+    stall = jumps;
+    last = until;
+    ranked = number % 4 != 0;
+    clock_rank = new_rank();
+    at_random = true;
+}
+
+/* What can come from outside. */
+struct choice {
+    enum { A_TAKE, A_FINISH, A_SEND, THE_CLOCK } what;
+    struct worker *worker;
+    struct sender *sender;
+    unsigned *rank;
+};
+
+enum { CHOICES = 256 };
+
 static bool can_finish(const struct worker *worker) {
     return worker->place >= TAKEN && worker->place <= AT_FINISH && !worker->may_finish;
 }
 
-/* (with the gate's mutex) How many steps from outside there could be; the one of this number is done where `at` is one. */
-static int choices(int at) {
+/* (with the gate's mutex) */
+static int all_choices(struct choice *found) {
     int count = 0;
-    if (waiting_count && worker_at(AT_TAKE) && count++ == at) {
-        struct worker *worker = worker_at(AT_TAKE);
-        int id = waiting[0];
-        no_more_waiting(id);
-        worker->may_take = true;
-        pthread_cond_broadcast(&changed);
-        WAIT(worker->place >= TAKEN);
-        pthread_mutex_unlock(&gate);
-        write_taken(id);
-        pthread_mutex_lock(&gate);
-        return -1;
-    }
-    for (int it = 0; it < pool_count; it++)
-        if (can_finish(&pool[it]) && count++ == at) {
-            pool[it].may_run = pool[it].may_finish = true;
-            waits_for = &pool[it];
-            pthread_cond_broadcast(&changed);
-            WAIT(pool[it].place == AT_TAKE);
-            waits_for = NULL;
-            return -1;
-        }
-    for (struct sender *it = senders; it; it = it->next)
-        if (!it->may_send && count++ == at) {
-            long before = sent;
-            it->may_send = true;
-            pthread_cond_broadcast(&changed);
-            WAIT(sent != before);
-            return -1;
-        }
+    struct worker *free = worker_at(AT_TAKE);
+    /* (the pool takes them in their order: the first one keeps back who stands behind it) */
+    if (waiting_count && free) found[count++] = (struct choice){A_TAKE, free, NULL, rank_at(waiting[0])};
+    for (int it = 0; it < pool_count && count < CHOICES - 2; it++)
+        if (can_finish(&pool[it])) found[count++] = (struct choice){A_FINISH, &pool[it], NULL, rank_at(of_worker[it])};
+    for (struct sender *it = senders; it && count < CHOICES - 2; it = it->next)
+        if (!it->may_send) found[count++] = (struct choice){A_SEND, NULL, it, rank_at(names[it->name].id)};
     return count;
 }
 
+/* (with the gate's mutex) */
+static void come(const struct choice *choice) {
+    if (choice->what == A_TAKE) {
+        int id = waiting[0];
+        no_more_waiting(id);
+        of_worker[choice->worker - pool] = id;
+        choice->worker->may_take = true;
+        pthread_cond_broadcast(&changed);
+        WAIT(choice->worker->place >= TAKEN);
+        pthread_mutex_unlock(&gate);
+        write_taken(id);
+        pthread_mutex_lock(&gate);
+    } else if (choice->what == A_FINISH) {
+        choice->worker->may_run = choice->worker->may_finish = true;
+        waits_for = choice->worker;
+        pthread_cond_broadcast(&changed);
+        WAIT(choice->worker->place == AT_TAKE);
+        waits_for = NULL;
+    } else if (choice->what == A_SEND) {
+        long before = sent;
+        choice->sender->may_send = true;
+        pthread_cond_broadcast(&changed);
+        WAIT(sent != before);
+    }
+}
+
+/* The highest rank of these, or one by lot. */
+static const struct choice *one_of(const struct choice *all, int count) {
+    if (!count) return NULL;
+    const struct choice *found = &all[up_to((unsigned)count)];
+    if (!ranked) return found;
+    for (int at = 0; at < count; at++)
+        /* (a request that a worker only takes runs nothing: that comes first, so that those behind it can be taken) */
+        if (all[at].what == A_TAKE) return &all[at];
+        else if (*all[at].rank > *found->rank) found = &all[at];
+    if (up_to(CHANGES) == 0) *found->rank = new_rank();
+    return found;
+}
+
 static bool choose(void) {
+    struct choice all[CHOICES];
     pthread_mutex_lock(&gate);
-    int count = choices(-1);
-    if (count > 0) choices((int)up_to((unsigned)count));
+    int count = all_choices(all);
+    if (ranked && count) all[count++] = (struct choice){THE_CLOCK, NULL, NULL, &clock_rank};
+    const struct choice *found = one_of(all, count);
+    if (found && found->what == THE_CLOCK) found = NULL; /* (that is the poll's) */
+    if (found) come(found);
     pthread_mutex_unlock(&gate);
     progress++;
-    return count > 0;
+    return found != NULL;
 }
 
 void maybe_choose(void) {
@@ -114,11 +169,16 @@ bool poll_at_random(int descriptor, struct epoll_event *events, int room, int ti
         }
         int held = unlock_all();
         pthread_mutex_lock(&gate);
-        int count = choices(-1), chosen = (int)up_to((unsigned)(count + (timeout > 0 ? 1 : 0) + (count == 0 && timeout < 0 ? 1 : 0)));
-        if (chosen < count) choices(chosen);
+        struct choice all[CHOICES];
+        int count = all_choices(all);
+        if (timeout > 0 || count == 0) all[count++] = (struct choice){THE_CLOCK, NULL, NULL, &clock_rank};
+        const struct choice *found_one = one_of(all, count);
+        bool is_clock = found_one->what == THE_CLOCK;
+        if (!is_clock) come(found_one);
         pthread_mutex_unlock(&gate);
-        if (chosen >= count && timeout > 0) moved = until - began / 1000000;
-        else if (chosen >= count) {
+        if (is_clock && timeout > 0) {
+            moved = until - began / 1000000;
+        } else if (is_clock) {
             /* (nobody of whom we know brings anything: another thread may wait for the clock, which goes on here as the real one does) */
             if (syscall(SYS_epoll_pwait, descriptor, events, room, 5, NULL, 8) == 0) moved += 5;
             idle++;
@@ -130,10 +190,15 @@ bool poll_at_random(int descriptor, struct epoll_event *events, int room, int ti
 
 void random_event(char type, const char *words) {
     struct shown shown = read_shown(words);
-    if (type == 'B') depth++, behind_poll = false;
-    if (type == 'E' && --depth == 0) maybe_choose();
+    if (type == 'B' && depth++ == 0) chain_rank = strncmp(words, "after ", 6) == 0 ? *rank_at(atoi(words + 6)) : 0;
+    if (type == 'B') behind_poll = false;
+    if (type == 'E' && --depth == 0) chain_rank = 0, maybe_choose();
     if (type != 'O') return;
-    if (strcmp(shown.word, "queue") == 0 && waiting_count < WAITING) waiting[waiting_count++] = shown.id;
+    if (strcmp(shown.word, "queue") == 0 && waiting_count < WAITING) {
+        waiting[waiting_count++] = shown.id;
+        rank_of[(unsigned)shown.id % RANKS] = chain_rank && up_to(4) ? chain_rank : new_rank();
+        chain_rank = 0;
+    }
     if (strcmp(shown.word, "cancel") == 0 && strcmp(shown.answer, "ok") == 0) no_more_waiting(shown.id);
     if (strcmp(shown.word, "init") == 0 && strcmp(shown.rest, "async") == 0) {
         struct object *object = object_by_id(shown.id);
