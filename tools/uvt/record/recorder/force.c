@@ -149,16 +149,27 @@ static void do_send(const struct item *item) {
     pthread_mutex_unlock(&gate);
 }
 
+/* The handle of this name, where it is that of node's platform. */
+static struct object *platform_of(int name) {
+    lock();
+    struct object *object = name >= 0 && names[name].id >= 0 ? object_by_id(names[name].id) : NULL;
+    bool is = object && strcmp(object->kind, "async") == 0 && is_nodes_own(object->callback);
+    unlock();
+    return is ? object : NULL;
+}
+
 /* The loop's wake of the handle `wake`, which the program doesn't have. */
 REAL(uv_async_send)
 
 static void do_item(const struct item *item) {
+    struct object *object;
     switch (item->type) {
     case TICK: moved += (uint64_t)item->number; break;
     case TAKE: do_take(item); break;
     case FINISH: do_finish(item); break;
     case SEND:
         if (strcmp(name_of(item->name), "wake") == 0 && names[item->name].id < 0) CALL(uv_async_send)(&forced->uv->wq_async);
+        else if ((object = platform_of(item->name))) let_held_go(object);
         else do_send(item);
         break;
     case CANCEL: depart("`%s` comes from outside, and no program does that", item->text); break;

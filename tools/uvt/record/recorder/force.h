@@ -145,6 +145,10 @@ extern const struct worker *waits_for; /* the leader, for this one's finish */
 extern struct sender *senders;
 extern long sent; /* how many sends were done that waited at a gate. (A thread may be gone, or send again, as soon as it has sent) */
 
+/* A send of V8's threads that is kept back: its handle, NULL where none is. No thread waits for it. */
+extern struct object *volatile held_send;
+void let_held_go(struct object *object);
+
 struct worker *worker_at(enum place place);
 struct worker *worker_of(long number);
 struct sender *sender_of(int name);

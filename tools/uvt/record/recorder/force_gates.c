@@ -135,6 +135,7 @@ void set_free(const char *why) {
     page->free = 1;
     pthread_cond_broadcast(&changed);
     pthread_mutex_unlock(&gate);
+    if (held_send) let_held_go(held_send);
     if (why) say("%s", why);
 }
 
@@ -326,6 +327,28 @@ void force_sent(struct sender *sender) {
     progress++;
     pthread_cond_broadcast(&changed);
     pthread_mutex_unlock(&gate);
+}
+
+/* ---- sends of V8's threads
+ *
+ * Such a thread sends when it likes, and the loop's thread may wait for it in V8 (a collection of garbage does): it waits at no gate. Its
+ * send is kept back; where the session has one, the loop's thread sends, whether or not one was kept: the callback looks for tasks, and finds
+ * none. */
+
+struct object *volatile held_send;
+static uint64_t held_by = 1;
+
+bool force_hold(struct object *object) {
+    if (state != FORCING || object->loop != forced) return false;
+    held_by = (uint64_t)pthread_self();
+    held_send = object;
+    progress++;
+    return true;
+}
+
+void let_held_go(struct object *object) {
+    if (object == held_send) held_send = NULL;
+    send_held(object, held_by);
 }
 
 int uv_thread_join(uv_thread_t *thread) {

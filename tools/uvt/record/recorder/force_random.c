@@ -61,7 +61,7 @@ void begin_random(uint64_t number, int jumps, uint64_t until) {
 
 /* What can come from outside. */
 struct choice {
-    enum { A_TAKE, A_FINISH, A_SEND, THE_CLOCK } what;
+    enum { A_TAKE, A_FINISH, A_SEND, A_HELD, THE_CLOCK } what;
     struct worker *worker;
     struct sender *sender;
     unsigned *rank;
@@ -83,6 +83,7 @@ static int all_choices(struct choice *found) {
         if (can_finish(&pool[it])) found[count++] = (struct choice){A_FINISH, &pool[it], NULL, rank_at(of_worker[it])};
     for (struct sender *it = senders; it && count < CHOICES - 2; it = it->next)
         if (!it->may_send) found[count++] = (struct choice){A_SEND, NULL, it, rank_at(names[it->name].id)};
+    if (held_send) found[count++] = (struct choice){A_HELD, NULL, NULL, rank_at(held_send->id)};
     return count;
 }
 
@@ -104,6 +105,10 @@ static void come(const struct choice *choice) {
         pthread_cond_broadcast(&changed);
         WAIT(choice->worker->place == AT_TAKE);
         waits_for = NULL;
+    } else if (choice->what == A_HELD) {
+        pthread_mutex_unlock(&gate);
+        let_held_go(held_send);
+        pthread_mutex_lock(&gate);
     } else if (choice->what == A_SEND) {
         long before = sent;
         choice->sender->may_send = true;

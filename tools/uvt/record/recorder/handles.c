@@ -2,6 +2,7 @@
 #define _GNU_SOURCE
 #include "recorder.h"
 
+#include <dlfcn.h>
 #include <stdio.h>
 #include <string.h>
 
@@ -414,6 +415,26 @@ int uv_async_init(uv_loop_t *uv, uv_async_t *handle, uv_async_cb callback) {
     return answer;
 }
 
+/* The wake of node's platform: V8's threads send to it when they like, and no JavaScript asks for it. */
+bool is_nodes_own(void *callback) {
+    static void *known, *other;
+    if (callback == known) return true;
+    if (callback == other) return false;
+    Dl_info info;
+    bool is = dladdr(callback, &info) && info.dli_sname && strstr(info.dli_sname, "PerIsolatePlatformData");
+    if (is) known = callback;
+    else other = callback;
+    return is;
+}
+
+/* A send that force_hold has kept back: by the loop's thread, where its step is. */
+void send_held(struct object *object, uint64_t thread) {
+    lock();
+    write_line(object->loop, 'S', "%d %u", object->id, thread);
+    unlock();
+    REALLY(CALL(uv_async_send)((uv_async_t *)object->address));
+}
+
 /* By the loop's thread it is an op; by another one it is a line of its own, before the send. (A signal's handler may send
  * while its thread is at a line: that send isn't recorded.) */
 int uv_async_send(uv_async_t *handle) {
@@ -424,7 +445,9 @@ int uv_async_send(uv_async_t *handle) {
     bool own = object && pthread_equal(object->loop->thread, here);
     struct sender *sender = NULL;
     if (!own && forces()) {
+        bool held = object && is_nodes_own(object->callback) && force_hold(object);
         unlock();
+        if (held) return 0;
         force_send(handle, &sender);
         lock();
         object = find(handle);
