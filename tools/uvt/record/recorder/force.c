@@ -149,6 +149,12 @@ static void do_send(const struct item *item) {
     pthread_mutex_unlock(&gate);
 }
 
+bool has_own_send = true;
+
+bool force_sends(void) {
+    return at_random || state != FORCING || has_own_send;
+}
+
 /* The handle of this name, where it is that of node's platform. */
 static struct object *platform_of(int name) {
     lock();
@@ -281,8 +287,18 @@ static const char *told_of(const struct shown *shown, char *room, size_t size) {
     return room;
 }
 
+/* An op of the session that the program doesn't do. V8 sends to its own handle when it likes: then it is sent here. */
+static bool passes_by(const struct item *it) {
+    struct object *object = strcmp(it->word, "send") == 0 ? platform_of(it->name) : NULL;
+    if (object) let_held_go(object);
+    return object || is_soft(it);
+}
+
 static void did_op(const char *words) {
     struct shown shown = read_shown(words);
+    int sent_to = strcmp(shown.word, "send") == 0 ? name_by_id(shown.id) : -1;
+    bool is_own = sent_to >= 0 && platform_of(sent_to);
+    has_own_send = false;
     char room[400];
     const struct item *it = at_cursor();
     if (!it) return;
@@ -296,13 +312,15 @@ static void did_op(const char *words) {
             break;
         }
     }
+    has_own_send = found >= 0;
+    if (found < 0 && is_own) return;
     if (found < 0) {
         depart("the program does %s, where the session has `%s`", told_of(&shown, room, sizeof room), it->text);
         return;
     }
     while (cursor < found && state == FORCING) {
         it = at_cursor();
-        if (it->type == OP && !is_soft(it))
+        if (it->type == OP && !passes_by(it))
             depart("the program does %s, where the session has `%s` first", told_of(&shown, room, sizeof room), it->text);
         if (is_outside(it)) advance(false);
         else step_done();
@@ -336,7 +354,7 @@ static void pass_ops(void) {
     const struct item *it;
     advance(false);
     while (state == FORCING && (it = at_cursor()) && it->type == OP) {
-        if (!is_soft(it) && !(it->answer && strcmp(it->answer, "ESTALE") == 0))
+        if (!passes_by(it) && !(it->answer && strcmp(it->answer, "ESTALE") == 0))
             depart("the session has `%s` there, and the program doesn't do it", it->text);
         step_done();
         advance(false);

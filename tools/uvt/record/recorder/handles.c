@@ -453,6 +453,14 @@ int uv_async_send(uv_async_t *handle) {
         object = find(handle);
     }
     touch(handle);
+    if (own && forces() && is_nodes_own(object->callback)) {
+        write_op(object, "send", "", 0);
+        int answer = 0;
+        if (force_sends()) answer = REALLY(CALL(uv_async_send)(handle));
+        else force_hold(object);
+        unlock();
+        return answer;
+    }
     struct loop *by = running_here();
     if (object && !own && by) write_line(object->loop, 'S', "%d %u %d", object->id, (uint64_t)here, by->number);
     else if (object && !own) write_line(object->loop, 'S', "%d %u", object->id, (uint64_t)here);

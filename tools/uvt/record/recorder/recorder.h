@@ -189,6 +189,8 @@ void force_sent(struct sender *sender);
 bool is_nodes_own(void *callback);
 /* (with the lock) a send of V8's threads, which wait for nobody: true where it is kept back until its step comes */
 bool force_hold(struct object *object);
+/* (behind the line of the loop's own send to it) does the session have that send? */
+bool force_sends(void);
 void send_held(struct object *object, uint64_t thread);
 uint64_t force_clock(uint64_t real_ms);
 bool force_poll(struct loop *loop, int descriptor, struct epoll_event *events, int room, int timeout, int *got);
@@ -200,6 +202,7 @@ static inline void force_before(const char *function) { (void)function; }
 static inline void force_event(struct loop *loop, char type, const char *words) { (void)loop, (void)type, (void)words; }
 static inline bool force_send(void *handle, struct sender **handed) { return (void)handle, (void)handed, false; }
 static inline void force_sent(struct sender *sender) { (void)sender; }
+static inline bool force_sends(void) { return true; }
 static inline bool force_hold(struct object *object) { return (void)object, false; }
 static inline uint64_t force_clock(uint64_t real_ms) { return real_ms; }
 static inline bool force_poll(struct loop *loop, int descriptor, struct epoll_event *events, int room, int timeout, int *got) {
