@@ -9,6 +9,7 @@
 #include <link.h>
 #include <pthread.h>
 #include <stdarg.h>
+#include <stdatomic.h>
 #include <stdio.h>
 #include <stdlib.h>
 #include <string.h>
@@ -45,14 +46,18 @@ REAL(uv_now)
 REAL(uv_err_name)
 REAL(uv_version_string)
 
+/* (counted before the mutex is taken, and until it is given back: a signal's handler that comes in between, and sends, must not wait for
+ * what it has interrupted) */
 void lock(void) {
-    pthread_mutex_lock(&mutex);
     locked++;
+    atomic_signal_fence(memory_order_seq_cst);
+    pthread_mutex_lock(&mutex);
 }
 
 void unlock(void) {
-    locked--;
     pthread_mutex_unlock(&mutex);
+    atomic_signal_fence(memory_order_seq_cst);
+    locked--;
 }
 
 int unlock_all(void) {
