@@ -10,8 +10,9 @@
 #include <string.h>
 #include <unistd.h>
 
-static struct loop **loops;
-static int loop_count, loop_room;
+static struct loop **loops; /* of the closed ones those alone that were closed since the last one was made */
+static int loop_count, loop_room, loops_made;
+static uint64_t first_base;
 static struct object **buckets, *unused;
 static size_t bucket_count, object_count;
 static int ids;
@@ -30,8 +31,9 @@ static struct loop *add_loop(uv_loop_t *uv) {
     }
     struct loop *loop = calloc(1, sizeof *loop);
     if (!loop) return NULL;
-    *loop = (struct loop){.uv = uv, .number = loop_count, .base = CALL(uv_now)(uv), .thread = pthread_self()};
-    loop->behind = (int)((int64_t)loop->base - (int64_t)(loop_count ? loops[0]->base : loop->base));
+    *loop = (struct loop){.uv = uv, .number = loops_made++, .base = CALL(uv_now)(uv), .thread = pthread_self()};
+    if (loop->number == 0) first_base = loop->base;
+    loop->behind = (int)((int64_t)loop->base - (int64_t)first_base);
     loops[loop_count++] = loop;
     force_loop(loop);
     return loop;
@@ -39,8 +41,13 @@ static struct loop *add_loop(uv_loop_t *uv) {
 
 /* A loop that is made, maybe where one that was never closed has been. */
 struct loop *new_loop(uv_loop_t *uv) {
-    for (int at = loop_count - 1; at >= 0; at--)
+    int open = 0;
+    for (int at = 0; at < loop_count; at++) {
         if (loops[at]->uv == uv) loops[at]->uv = NULL;
+        /* (a program may make and close as many as it likes) */
+        if (loops[at]->uv) loops[open++] = loops[at];
+    }
+    loop_count = open;
     return last = add_loop(uv);
 }
 
