@@ -230,7 +230,7 @@ def harmless(text: str) -> str:
     return text.translate(CONTROL)
 
 
-def signal_name(number: str) -> str:
+def signal_name(number: str | int) -> str:
     """`SIGTERM`, or `signal 77` where it has no name."""
     try:
         return signal.Signals(int(number)).name

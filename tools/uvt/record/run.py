@@ -16,7 +16,7 @@ from dataclasses import dataclass, replace
 from pathlib import Path
 
 from uvt.conversation import INSTALLED, OUT, Fault, built_program
-from uvt.notes import Notes
+from uvt.notes import Notes, signal_name
 from uvt.progress import Teller
 from uvt.record.differences import PAGE, heading_of, says
 from uvt.record.follow import CALLS, MANY_WORKERS, Follower, NeedsWake, Outcome
@@ -511,7 +511,7 @@ def nothing_recorded(program: str, status: int) -> str:
 def ended(status: int) -> str:
     """How the program ended, where that is worth a word."""
     if status < 0:
-        return f"the program was ended by {signal.Signals(-status).name}: its log goes up to its last event"
+        return f"the program was ended by {signal_name(-status)}: its log goes up to its last event"
     return f"the program ended with status {status}" if status else ""
 
 
@@ -578,7 +578,7 @@ def from_program(words: list[str], name: str | None, part: Part, bare: bool = Fa
         whole = True
         for path in logs:
             process = name if len(logs) == 1 else f"{name}.{path.name.split('.')[1]}"
-            by = signal.Signals(-status).name if status < 0 and path in last_of(logs, pid) else ""
+            by = signal_name(-status) if status < 0 and path in last_of(logs, pid) else ""
             whole &= from_fresh(path, process, len(logs) > 1, part, by, lifts)
         return 0 if whole else 1
     finally:
