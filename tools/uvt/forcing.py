@@ -9,6 +9,7 @@ import contextlib
 import io
 import os
 import re
+import shlex
 import shutil
 import signal
 import struct
@@ -332,7 +333,8 @@ def run(
         if Path(words[0]).name == "gdb":
             # (the program is to have it, and not gdb)
             environment["ASAN_OPTIONS"] = f"{environment['ASAN_OPTIONS']}:abort_on_error=1"
-            wrapper = " ".join(f"'{a}={b}'" for a, b in environment.items())
+            # (a shell reads it: a folder may have any name)
+            wrapper = " ".join(shlex.quote(f"{a}={b}") for a, b in environment.items())
             started, environment = [words[0], "-ex", f"set exec-wrapper env {wrapper}", *words[1:]], {}
         pid, status, ran = run_at(started, environment, folder, seconds, lambda: order.endless > 0 and read_page(folder / "at")[3])
         ran.told = told(folder / "said")
