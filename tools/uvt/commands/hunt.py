@@ -46,6 +46,8 @@ WELL, FAULT, BADLY, INTERRUPTED = 0, 2, 3, 130
 FORCE = "uvt force" if INSTALLED else "./uvt force"
 TIMES = {"": 1, "s": 1, "m": 60, "h": 3600}
 REPORT = "uvt-hunt 1"
+# Into so many parts a hunt is cut at the most.
+MOST_PARTS = 1_000_000
 
 
 def prepare() -> str:
@@ -136,17 +138,26 @@ def read_report(path: str) -> dict[str, Any]:
         found: dict[str, Any] = json.loads(Path(path).read_text(encoding="utf-8"))
         if found["form"] != REPORT:
             raise ValueError
-        Counts(**found["counts"])
         mine, of = found["part"]
-        if not all(isinstance(it, str) for it in found["program"]) or not 1 <= mine <= of:
+        words = found["program"]
+        if not (type(mine) is type(of) is int and 1 <= mine <= of <= MOST_PARTS) or not words or not all(isinstance(it, str) for it in words):
             raise ValueError
+        are_typed(Counts(**found["counts"]))
         if found["bad"]:
-            Bad(**found["bad"])
+            are_typed(Bad(**found["bad"]))
         return found
     except OSError as fault:
         raise Fault(f"{path}: {fault.strerror}") from None
-    except (ValueError, TypeError, KeyError):
+    except (ValueError, TypeError, KeyError, RecursionError):
         raise Fault(f"{path}: this is no report of a part of a hunt") from None
+
+
+def are_typed(found: Counts | Bad) -> None:
+    """Refuses a report whose numbers are none, or whose texts are none."""
+    for it in dataclasses.fields(found):
+        value = getattr(found, it.name)
+        if not isinstance(value, str if it.type == "str" else (int, float)):
+            raise ValueError
 
 
 def join(paths: list[str], name: str | None) -> int:
