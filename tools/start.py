@@ -8,9 +8,23 @@ uvt/uvt-why, make/claims and their like are scripts of one line that call it.
 
 from __future__ import annotations
 
+import os
 import sys
 
-sys.dont_write_bytecode = True
+# What Python compiles of a tool is kept below the repository's out/, and nowhere beside the sources: without that each call compiles some
+# 5,000 lines, which is half of what a small answer takes. Installed tools keep nothing.
+_OUT = os.path.join(os.path.dirname(os.path.dirname(os.path.realpath(__file__))), "out")
+_SHIM = os.environ.pop("UVT_SHIM", "")
+sys.dont_write_bytecode = not os.path.isdir(_OUT)
+if not sys.dont_write_bytecode:
+    sys.pycache_prefix = os.path.join(_OUT, "pyc")
+    if _SHIM:
+        # (the launcher takes this interpreter from now on, and not the script that looks for it)
+        try:
+            with open(os.path.join(_OUT, "python"), "w") as _file:
+                _file.write(sys.executable + "\n")
+        except OSError:
+            pass
 import launch.tool  # noqa: E402, F401 (first: an interrupt has no traceback while the rest is loaded)
 
 import importlib
