@@ -73,7 +73,7 @@ holds_fresh p = search (fresh_kept, sent_fresh, fresh_working, stands_fresh, kno
 -- ---- all steps
 
 -- steps from a state to another, with their lines
-data Course (p : Program) : Told → List Seen → State → Position → List Line → State → Type 0 where
+pub data Course (p : Program) : Told → List Seen → State → Position → List Line → State → Type 0 where
   stop : {told : Told} {past : List Seen} {s : State} {at : Position} → Holds p told past s at → Course p told past s at [] s
   move : {told : Told} {past : List Seen} {s t u : State} {at : Position} {l : Seen} {ls : List Line} (f : HoldsLine p told past s at l t)
       → Course p (told_by p told (names_by p past) l) (l ∷ past) t f.to ls u
@@ -92,7 +92,7 @@ course_from p (e ∷ es) told past s at k = by (next p s e) (holds_next p told p
   by (Moves t None) f more = quiet f (more _ _ t at f.holds)
   by (Refuses why) f more = more _ _ s at f
 
-course : (p : Program) (es : List Event) → Course p nothing_told [] (fresh p) (Between 0) (history p es) (after.after p es)
+pub course : (p : Program) (es : List Event) → Course p nothing_told [] (fresh p) (Between 0) (history p es) (after.after p es)
 unfolding history after.after
 course p es = course_from p es nothing_told [] (fresh p) (Between 0) (holds_fresh p)
 

@@ -18,6 +18,7 @@ mod IoFollows
 mod Keeping
 mod KeptSteps
 mod Known
+pub mod Leading
 mod Lemmas
 mod Lined
 mod Lives

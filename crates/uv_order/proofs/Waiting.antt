@@ -30,7 +30,7 @@ at_place : (p : Program) (s : State) (place : Place) → refusal_of (step.loop_s
 at_place p s (Main line) = in_main p s line (slice_get p.main line)
 at_place p s (Running run) = in_run p s run run.body
 
-from : (p : Program) (s : State) → refusal_of (step.next p s Loop) ≡ order.waits p s s.place
+pub from : (p : Program) (s : State) → refusal_of (step.next p s Loop) ≡ order.waits p s s.place
 unfolding step.next
 from p s = at_place p s s.place
 
