@@ -25,4 +25,4 @@ pub use reached::lists_agree;
 pub use refused::orders_refuse;
 pub use told::handles_told;
 pub use turns::called_in_turn;
-pub use waits::{goes_on_told, loop_goes_on};
+pub use waits::{goes_on_told, loop_goes_on, steps_get_on};

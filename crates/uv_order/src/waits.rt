@@ -4,8 +4,10 @@ ghost use Rattle.uv_ids.specs.declared.event.Event.{Event};
 ghost use Rattle.uv_ids.specs.declared.event.Event.TheVariants.{Loop};
 ghost use Rattle.uv_script.specs.Program.{Program};
 ghost use Rattle.uv_model.specs.After.{after, refusal_of};
+ghost use Rattle.uv_model.specs.State.{State};
 ghost use Rattle.uv_model.specs.Next.{next};
 ghost use Rattle.uv_order.specs.History.{history};
+ghost use Rattle.uv_order.specs.GettingOn.{quiet, Lessens};
 ghost use Rattle.uv_order.specs.Waits as order;
 ghost use Rattle.uv_order.specs.Waits.{GoesOnFrom};
 
@@ -21,4 +23,11 @@ pub fn loop_goes_on()
 /// own line. So what the loop says of itself isn't asked. It does nothing, and is called for its clause.
 pub fn goes_on_told()
     ensures { (p : Program) (es : List Event) → GoesOnFrom p (history p es) (after p es) (refusal_of (next p (after p es) Loop)) }
+{}
+
+/// For every script, every state and every step: a step without a line leaves fewer such steps to take, which are a timer that is set aside, an
+/// async handle that is passed by, and the end of a body. So a loop that isn't refused comes to a line, and stands still nowhere. It does
+/// nothing, and is called for its clause.
+pub fn steps_get_on()
+    ensures { (p : Program) (s : State) (e : Event) → Lessens (quiet s) (next p s e) }
 {}
