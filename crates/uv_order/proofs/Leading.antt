@@ -1,14 +1,13 @@
 -- Where the lines lead, and that the state stands there.
-use Rattle.uv_order.proofs.Names.{arith, ◌≡◌, ◌∙◌, refl, sym, ap, List, [], ◌∷◌, Option, Some, None, Event, Seen, Program, State, Body, Run, Stage, Place, Line, Told, nothing_told, told_by, names_by, Lasting, lasting, at_first, Position, Between, Running, Standing, Answering, Begun, Within, Polling, history, next}
+use Rattle.uv_order.proofs.Names.{◌≡◌, ◌∙◌, refl, List, Option, Some, None, Event, Seen, Program, State, Body, Run, Stage, Place, Line, Told, Lasting, lasting, at_first, Position, Running, Standing, Answering, Begun, Within, Polling, history, next}
 use Rattle.uv_ids.specs.declared.event.Event.TheVariants.{Loop}
-use Rattle.uv_ids.specs.declared.fault.Why.{Why}
 use Rattle.uv_model.specs.After as after
 use Rattle.uv_model.specs.After.{refusal_of}
 use Rattle.uv_order.specs.Waits as order
 use Rattle.uv_order.specs.Waits.{LeadsTo, GoesOnFrom, there, line}
 use Rattle.uv_order.proofs.Lemmas.{IsBody}
 use Rattle.uv_order.proofs.Standing.{StandsIn, StandsAt, begun, pending, walking, polls, polled, done, unwoken, closing, collects, fires, calls_due, between, running, sites_at}
-use Rattle.uv_order.proofs.Documents.{Course, Holds, stop, move, quiet, course}
+use Rattle.uv_order.proofs.Documents.{Course, stop, move, quiet, course}
 use Rattle.uv_order.proofs.Waiting.{from}
 
 -- where the lines of a course lead

@@ -9,6 +9,7 @@ mod Did
 pub mod Documents
 pub mod DueTold
 mod Follows
+pub mod FromOutside
 pub mod GettingOn
 mod Gone
 pub mod Histories
