@@ -102,7 +102,7 @@ CLAIMS = (
     ),
     Claim("The verdict on a recording is that of one definition.", (Clause("uv_engine", "replaying", "replay", "text"),)),
     Claim(
-        "A live run that ends well gives a session of its script whose events are what its threads did.",
+        "A live run that ends well gives a session of its script, with which a book, shifts and sends of such threads agree.",
         (Clause("uv_run", "running", "live", ""),),
         ("uv_session", "Session"),
     ),
