@@ -283,7 +283,8 @@ class Why:
 
     def stood_still(self, wait: Wait, clock: int) -> str:
         """Of a timer that a callback started which took long: nobody knows when in it, and the loop's time doesn't go on in it."""
-        inside = [it for it in self.walk.causes(clock, self.walk.clock(wait.ended or wait.asked)) if it.is_callback() and it.first <= wait.asked <= it.last]
+        causes = self.walk.causes(clock, self.walk.clock(wait.ended or wait.asked))
+        inside = [it for it in causes if it.is_callback() and it.first <= wait.asked <= it.last]
         took = inside[0].took() if inside and self.notes.names else 0
         if took < TOO_EARLY or self.walk.lines[wait.asked].startswith("call "):
             return ""

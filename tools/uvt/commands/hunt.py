@@ -156,7 +156,7 @@ def are_typed(found: Counts | Bad) -> None:
     """Refuses a report whose numbers are none, or whose texts are none."""
     for it in dataclasses.fields(found):
         value = getattr(found, it.name)
-        if not isinstance(value, str if it.type == "str" else (int, float)):
+        if not isinstance(value, str if str(it.type) == "str" else (int, float)):
             raise ValueError
 
 
@@ -242,7 +242,9 @@ def main() -> int:
 
     def hunt() -> int:
         try:
-            return join(words, asked.name) if asked.join else hunted(words, asked.name or f"{Path(words[0]).name}.hunt", asked.seconds, asked.part, asked.same_output)
+            if asked.join:
+                return join(words, asked.name)
+            return hunted(words, asked.name or f"{Path(words[0]).name}.hunt", asked.seconds, asked.part, asked.same_output)
         except ValueError as fault:
             raise Fault(str(fault)) from None
 
