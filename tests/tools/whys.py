@@ -461,7 +461,7 @@ def io_session(draw: random.Random) -> tuple[list[str], list[str]]:
 def unblocking_differences(slow: SlowWhy, walk: Walk) -> list[str]:
     """And of who was an active idle handle, or closed, at each poll."""
     found = []
-    for step in walk.words.get("poll", []):
+    for step in walk.steps_of("poll"):
         for word, spans in walk.unblocking.items():
             ours = {name for begin, end, name in spans if begin <= step < end}
             if ours != (theirs := set(slow.looks[step].rows[word])):

@@ -65,7 +65,7 @@ def called_between(walk: Walk, first: int, last: int) -> list[str]:
 
 def section_behind(walk: Walk, it: LeftByIo, section: str) -> int:
     """The step at which this section comes behind such a poll; 0 where the session ends before it."""
-    rows = walk.words.get(section, [])
+    rows = walk.steps_of(section)
     at = bisect.bisect_right(rows, it.call)
     return rows[at] if at < len(rows) else 0
 
@@ -86,7 +86,7 @@ def waited(walk: Walk, it: LeftByIo) -> list[str]:
     were sent to by its section `async`. None where somebody had."""
     done, sent = section_behind(walk, it, "done"), section_behind(walk, it, "async")
     # (a state is asked for only where a line says that there may be somebody)
-    if it.woken or not any(walk.lines[at].startswith(WAKES) for at in range(it.call + 1, (sent or walk.length) + 1)):
+    if it.woken or not any(at.startswith(WAKES) for at in walk.lines_between(it.call + 1, sent or walk.length)):
         return []
     found = list(walk.state(done).lists["done"]) if done else []
     return found + [slot.name for slot in walk.state(sent).slots if slot.values.get("pending") == "1"] if sent else found

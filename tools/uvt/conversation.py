@@ -7,6 +7,7 @@ from __future__ import annotations
 
 import functools
 import io
+import itertools
 import os
 import re
 import signal
@@ -48,6 +49,9 @@ OUT = out_folder()
 END_COMMANDS = b"back 0\n?\n"
 AT = re.compile(r"at (\d+)$")
 BAD = "bad command"
+AT_LINE = re.compile(rb"^at (\d+)$", re.M)
+# So many steps are done before the program says how many stand.
+MANY_STEPS = 10_000
 # as many bytes as every pipe holds at least
 PIPE = 4096
 
@@ -281,6 +285,17 @@ def started(work: Callable[..., None], *words: object) -> threading.Thread:
     return thread
 
 
+def packed(commands: list[str]) -> str:
+    """Steps as commands, those of the loop in a row together."""
+    found = []
+    for command, those in itertools.groupby(commands):
+        if command == "loop":
+            found.append(f"loop {len(list(those))}\n")
+        else:
+            found += [f"{it}\n" for it in those]
+    return "".join(found)
+
+
 class Conversation:
     """A running `uvt debug`, with its script read. One command is asked at a time."""
 
@@ -388,6 +403,30 @@ class Conversation:
                 else:
                     lines.append(row.decode("ascii", "replace"))
 
+    def do_all(self, commands: list[str], tell: Callable[[int], None]) -> None:
+        """Does steps as far as they are not refused, and passes over all that they print. `length` is how many stand then; `tell` hears it on the way."""
+        parts = [packed(commands[at : at + MANY_STEPS]) for at in range(0, len(commands), MANY_STEPS)]
+        writer = started(self.send_quietly, "".join(f"{it}back 0\n" for it in parts))
+        left, rest = len(parts), b""
+        while left:
+            part = self.read_some()
+            if not part:
+                self.ended()
+            part = rest + part
+            end = part.rfind(b"\n") + 1
+            rest = part[end:]
+            for at in AT_LINE.findall(part, 0, end):
+                self.length = int(at)
+                tell(self.length)
+                left -= 1
+        writer.join()
+
+    def walk(self) -> bytes:
+        """The lines of the standing steps, each with its step in front."""
+        self.send("walk\nback 0\n")
+        said = self.bytes_until(b"at ")
+        return bytes(said[: said.rfind(b"\n", 0, -1) + 1])
+
     def ask_all(self, commands: list[str]) -> list[str]:
         """Asks many commands that do steps, and answers all their lines, without saying which are whose."""
         writer = started(self.send_quietly, "\n".join([*commands, "back 0", ""]))
@@ -405,13 +444,17 @@ class Conversation:
 
     def lines_until(self, last: bytes) -> list[str]:
         """All lines up to one that begins so, which is the last one that comes."""
+        return self.bytes_until(last).decode("ascii", "replace").split("\n")[:-1]
+
+    def bytes_until(self, last: bytes) -> bytearray:
+        """The same as bytes."""
         said = bytearray()
         while not said.endswith(b"\n") or not said.startswith(last, said.rfind(b"\n", 0, -1) + 1):
             part = self.read_some()
             if not part:
                 self.ended()
             said += part
-        return said.decode("ascii", "replace").split("\n")[:-1]
+        return said
 
     def send_quietly(self, text: str) -> None:
         """Sends, where the reader is the one who tells that the program has ended."""

@@ -244,7 +244,7 @@ class Overview:
         walk, found = self.walk, []
         waits = {it.first for it in walk.tooks if it.is_poll()}
         row: list[int] = []
-        for step in [*walk.words.get("poll", []), 0]:
+        for step in [*walk.steps_of("poll"), 0]:
             if step and step not in waits:
                 row.append(step)
                 continue
@@ -278,7 +278,7 @@ class Overview:
         """Did something come in this round that is over when it is done: bytes, a connection, a signal, a request, a send of somebody else?"""
         walk = self.walk
         outside = walk.steps_between("out", poll, behind - 1)
-        if walk.steps_between("after", poll, behind - 1) or any(walk.lines[it].startswith("out send ") for it in outside):
+        if walk.steps_between("after", poll, behind - 1) or any(walk.line(it).startswith("out send ") for it in outside):
             return True
         calls = (walk.calls[it] for it in walk.steps_between("call", poll, behind - 1) if walk.steps[it - 1].startswith("io "))
         return any(walk.notes.what.get(name, {}).get(call, "").split(":")[0] not in STAYS for _, name, call in calls)
@@ -314,8 +314,8 @@ class Overview:
     def busy(self) -> list[str]:
         """Who was in the way where the loop was to be closed."""
         found = []
-        for step in self.walk.words.get("closeloop", []):
-            if self.walk.lines[step] == "closeloop = EBUSY":
+        for step in self.walk.steps_of("closeloop"):
+            if self.walk.line(step) == "closeloop = EBUSY":
                 left = [(it.name, it.values.get("closing") == "1", self.kind(it.name, it.kind)) for it in self.walk.state(step).slots if it.name]
                 said = [f"{name} ({kind}{', closed, and its close callback is to come' if closing else ''})" for name, closing, kind in left]
                 found.append(f"step {step}: uv_loop_close returns EBUSY, for {few(said)} {'is' if len(said) == 1 else 'are'} there still")

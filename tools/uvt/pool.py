@@ -48,7 +48,7 @@ class Pool:
         guessed, running = self.walk.notes.guessed, {}
         begun = 0
         for step in self.walk.steps_between("out", 1, self.walk.length):
-            words = self.walk.lines[step].split(" ")
+            words = self.walk.line(step).split(" ")
             if words[1] == "take" and step not in guessed:
                 running[words[3]] = Ran(words[3], step, self.walk.length)
                 self.rans.append(running[words[3]])

@@ -76,8 +76,11 @@ class History:
         return self.counts[what]
 
 
+KINDS_OF_CALLS = {"close": "closed", "work": "after"}
+
+
 def kind_of_call(what: str) -> str:
-    return {"close": "closed", "work": "after"}.get(what, "call")
+    return KINDS_OF_CALLS.get(what, "call")
 
 
 class Follower:

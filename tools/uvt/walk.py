@@ -6,10 +6,11 @@ import array
 import bisect
 import collections
 import functools
+import re
 from dataclasses import dataclass, field
 from typing import Any, Callable, Iterator
 
-from uvt.conversation import Conversation, Fault, Script, Slot, State
+from uvt.conversation import MANY_STEPS, Conversation, Fault, Script, Slot, State
 from uvt.node_names import InNode
 from uvt.places import Place, next_line, read_place
 from uvt.pool import Pool
@@ -23,7 +24,11 @@ LISTS = {"call": "on", "after": "after", "closed": "closed"}
 WORDS = {"on": "the callback", "after": "the after callback", "closed": "the close callback"}
 CALLBACKS = tuple(f"{it} of " for it in WORDS.values())
 POLL = "the poll"
-MANY_STEPS = 10000
+# The lines of sections. What is left are the lines that the tools look at; a section is looked for where somebody asks for it.
+SECTIONS = ("timers", "pending", "idle", "prepare", "done", "async", "check", "closing")
+PASSED = f"(?:\\d+ (?:{'|'.join(SECTIONS)})\n)*"
+LOOKED_AT = re.compile(rf"{PASSED}(\d+) (.*)\n".encode())
+ANY = re.compile(rb"(\d+) (.*)\n")
 # So many lines of states are kept, and so many are asked for without waiting.
 MANY_LINES = 1_000_000
 AT_ONCE = 200
@@ -93,6 +98,14 @@ class Took:
         return sum(max(0, min(end, b) - max(begin, a)) for a, b in self.pieces)
 
 
+class Lines(dict[bytes, str]):
+    """Lines as texts: of those that are alike one is kept."""
+
+    def __missing__(self, line: bytes) -> str:
+        self[line] = text = line.decode("ascii", "replace")
+        return text
+
+
 class Walk:
     """The steps of a session, from 1, with their lines. A length is how many steps stand."""
 
@@ -103,8 +116,6 @@ class Walk:
         self.notes = script.notes
         self.talk = Conversation(script, program)
         self.steps: list[str] = []
-        # (a step has no line where the program prints none; there is no step 0)
-        self.lines = [""]
         self.states: dict[int, State] = {}
         self.kept_lines = 0
         try:
@@ -114,23 +125,60 @@ class Walk:
             raise
 
     def go_through(self, steps: list[str], tell: Callable[[int, int], None] | None) -> None:
-        # (of lines and steps that are alike one is kept)
-        same: dict[str, str] = {}
-        for at, (step, answer) in enumerate(zip(steps, self.talk.ask_each(steps))):
-            if self.talk.length == len(self.lines):
-                self.steps.append(same.setdefault(step, step))
-                line = answer[0] if answer else ""
-                self.lines.append(same.setdefault(line, line))
-            elif self.script.is_recorded():
-                raise Fault(f"step {len(self.lines)} of the recording is `{step}`, and the program answers `{answer[-1]}`")
-            if tell and at % MANY_STEPS == 0:
-                tell(at, len(steps))
+        self.talk.do_all(steps, lambda done: tell(done, len(steps)) if tell else None)
+        self.steps = steps
+        if self.talk.length < len(steps):
+            self.talk.ask(f"back {self.talk.length}")
+            self.steps = list(self.taken(steps))
         self.length = len(self.steps)
+        # the lines of the steps, each behind its step; a step has none where the program prints none, and there is no step 0
+        self.walked = self.talk.walk()
+        self.known = Lines()
+        # (behind the last of them there is one more, so that no section stands there)
+        found = LOOKED_AT.findall(self.walked + b"0 \n")[:-1]
+        # of all lines but those of sections: the steps, and their lines
+        self.told_at = array.array("i", [int(it) for it, _ in found])
+        self.told = [self.known[it] for _, it in found]
+        self.word_of = {it: it.split(" ", 1)[0] for it in self.known.values()}
+        self.words: dict[str, list[int]] = {it: [] for it in self.word_of.values()}
+        for step, line in zip(self.told_at, self.told):
+            self.words[self.word_of[line]].append(step)
         self.after = self.ask_after()
-        self.clocks = self.all_clocks()
-        self.ticks = [at for at in range(1, self.length + 1) if self.clocks[at] > self.clocks[at - 1]]
-        self.tick_ends = [self.clocks[at] for at in self.ticks]
+        self.go_by_clock()
         self.look_through()
+
+    def taken(self, steps: list[str]) -> Iterator[str]:
+        """Does the steps one by one, and gives those that were not refused."""
+        before = 0
+        for step, answer in zip(steps, self.talk.ask_each(steps)):
+            if self.talk.length > before:
+                yield step
+            elif self.script.is_recorded():
+                raise Fault(f"step {before + 1} of the recording is `{step}`, and the program answers `{answer[-1]}`")
+            before = self.talk.length
+
+    def line(self, step: int) -> str:
+        """The line of a step; `` where it has none, and of a section."""
+        at = bisect.bisect_left(self.told_at, step)
+        return self.told[at] if at < len(self.told_at) and self.told_at[at] == step else ""
+
+    def lines_between(self, first: int, last: int) -> list[str]:
+        """The lines from one step to another, but those of sections."""
+        return self.told[bisect.bisect_left(self.told_at, first) : bisect.bisect_right(self.told_at, last)]
+
+    @functools.cached_property
+    def lines(self) -> list[str]:
+        """The line of each step, those of sections too."""
+        found = [""] * (self.length + 1)
+        for step, line in ANY.findall(self.walked):
+            found[int(step)] = self.known[line]
+        return found
+
+    def steps_of(self, word: str) -> list[int]:
+        """The steps whose line begins with this word."""
+        if word in SECTIONS and word not in self.words:
+            self.words[word] = [int(it) for it in re.findall(rb"^(\d+) %b$" % word.encode(), self.walked, re.M)]
+        return self.words.get(word, [])
 
     def ask_after(self) -> str:
         """Why the loop can't go on behind the last step: `blocked` or `ended`; empty where it can."""
@@ -169,15 +217,20 @@ class Walk:
                 yield looks[at], state.slot_at(looks[at].id)
                 at += 1
 
-    def all_clocks(self) -> array.array:
-        """The clock at each length: a line `out tick MS` says that it went on."""
+    def go_by_clock(self) -> None:
+        """The clock at each length, and the steps at which it goes on: a line `out tick MS` says that it does."""
         clock = self.state(0).numbers["clock"]
-        found = array.array("q", [clock])
-        for line in self.lines[1:]:
-            if line.startswith("out tick "):
-                clock += int(line[9:])
-            found.append(clock)
-        return found
+        self.clocks = array.array("q")
+        self.ticks: list[int] = []
+        self.tick_ends: list[int] = []
+        for step in self.steps_of("out"):
+            line = self.line(step)
+            if line.startswith("out tick ") and (ms := int(line[9:])):
+                self.clocks.extend(array.array("q", [clock]) * (step - len(self.clocks)))
+                clock += ms
+                self.ticks.append(step)
+                self.tick_ends.append(clock)
+        self.clocks.extend(array.array("q", [clock]) * (self.length + 1 - len(self.clocks)))
 
     def clock(self, length: int) -> int:
         return self.clocks[length]
@@ -193,44 +246,63 @@ class Walk:
 
     def look_through(self) -> None:
         """Which callback each step is in, where each tick is, and at which steps a line begins with a word."""
-        # the step that begins the callback in which a step is done, or behind whose last op it comes; 0 where there is none
-        self.inside = array.array("i", bytes(4 * (self.length + 1)))
+        # the steps that begin a callback, and those with which the loop goes on behind it
+        self.called: list[int] = []
+        self.called_until: list[int] = []
         # by that step: the last op; and which call of its list and name it is
         self.last_op: dict[int, int] = {}
         self.calls: dict[int, tuple[str, str, int]] = {}
         # the callbacks of I/O that left a poll, each with the step that began that; and the step that left each poll
         self.leaving: dict[int, int] = {}
         self.left_by_step: dict[int, int] = {}
-        self.words: dict[str, list[int]] = {}
         self.tooks: list[Took] = []
         self.took_at: dict[int, Took] = {}
         counts: collections.Counter[tuple[str, str]] = collections.Counter()
-        first, poll, runs = 0, 0, False
-        for step in range(1, self.length + 1):
-            line = self.lines[step]
-            word = line.split(" ", 1)[0]
-            self.words.setdefault(word, []).append(step)
-            if kind := LISTS.get(word):
+        kinds = {line: (kind, line.split(" ", 2)[1]) for line, word in self.word_of.items() if (kind := LISTS.get(word))}
+        first, poll, runs, before = 0, 0, False, 0
+        for step, line in zip(self.told_at, self.told):
+            if step > before + 1 and (first or poll):
+                # (between two such lines the loop goes on, to a section or to a step without a line)
+                if poll:
+                    self.left_by_step[poll] = before + 1
+                else:
+                    self.called_until.append(before + 1)
+                first = poll = 0
+            before = step
+            if line in kinds:
                 if poll:
                     self.leaving[step], self.left_by_step[poll] = poll, step
-                first, poll, name = step, 0, line.split(" ", 2)[1]
-                counts[kind, name] += 1
-                self.calls[step] = kind, name, counts[kind, name]
+                elif first:
+                    self.called_until.append(step)
+                first, poll, call = step, 0, kinds[line]
+                self.called.append(step)
+                counts[call] += 1
+                self.calls[step] = *call, counts[call]
                 self.last_op[step] = step
-            elif self.steps[step - 1] == "loop":
-                if " = " in line:
-                    self.last_op[first] = step
-                else:
-                    if poll:
-                        self.left_by_step[poll] = step
-                    first, poll, runs = 0, step if word == "poll" else 0, word != "end" and (runs or word == "run")
-            elif word == "out" and self.clocks[step] > self.clocks[step - 1]:
-                self.note_tick(step, first, poll, runs)
-            self.inside[step] = first
-        if first and self.place(self.length).callback:
+            elif (word := self.word_of[line]) == "out":
+                if self.clocks[step] > self.clocks[step - 1]:
+                    self.note_tick(step, first, poll, runs)
+            elif " = " in line:
+                self.last_op[first] = step
+            else:
+                if poll:
+                    self.left_by_step[poll] = step
+                elif first:
+                    self.called_until.append(step)
+                first, poll, runs = 0, step if word == "poll" else 0, word != "end" and (runs or word == "run")
+        if poll and self.length > before:
+            self.left_by_step[poll] = before + 1
+        if first:
+            self.called_until.append(before + 1)
+        if first and self.length == before and self.place(self.length).callback:
             self.last_op[first] = self.length
         for took in self.tooks:
             took.last = max(took.last, self.last_op.get(took.first, 0))
+
+    def inside(self, step: int) -> int:
+        """The step that begins the callback in which a step is done, or behind whose last op it comes; 0 where there is none."""
+        at = bisect.bisect_right(self.called, step) - 1
+        return self.called[at] if at >= 0 and step < self.called_until[at] else 0
 
     def note_tick(self, step: int, first: int, poll: int, runs: bool) -> None:
         if first and step in self.notes.outside:
@@ -269,7 +341,7 @@ class Walk:
         function = self.notes.foreign.get(at + self.script.first)
         if function:
             return f"by ANOTHER THREAD, with {function}, while the loop ran; in the recording it stands in {line}"
-        inside = self.calls.get(self.inside[step])
+        inside = self.calls.get(self.inside(step))
         told = self.notes.function(*inside) if inside else ""
         if place := self.notes.place(step):
             # (a place says its function: that of the callback is told where it is another one)
@@ -278,12 +350,12 @@ class Walk:
 
     def last_line(self, words: tuple[str, ...], length: int) -> int | None:
         """The last step, of so many, whose line begins with one of these words."""
-        found = [rows[at - 1] for it in words if (rows := self.words.get(it)) and (at := bisect.bisect_right(rows, length))]
+        found = [rows[at - 1] for it in words if (rows := self.steps_of(it)) and (at := bisect.bisect_right(rows, length))]
         return max(found, default=None)
 
     def next_line(self, word: str, step: int) -> int:
         """The next step behind this one whose line begins with this word, or the one behind the last of all."""
-        rows = self.words.get(word, [])
+        rows = self.steps_of(word)
         at = bisect.bisect_right(rows, step)
         return rows[at] if at < len(rows) else self.length + 1
 
@@ -308,15 +380,16 @@ class Walk:
     def someone_waits(self, steps: list[int]) -> Iterator[bool]:
         """At each of these steps, in order: may there be somebody who was sent to, or a request that is done, and wasn't called yet?"""
         waiting: set[str] = set()
-        at = 1
+        at = 0
         for step in steps:
-            for line in self.lines[at:step]:
+            end = bisect.bisect_left(self.told_at, step)
+            for line in self.told[at:end]:
                 if line.startswith(WAKES):
                     words = line.split(" ")
                     waiting.add(words[3] if words[1] == "finish" else words[2] if words[0] == "out" else words[1])
                 elif waiting and line.startswith(("call ", "after ", "close ")):
                     waiting.discard(line.split(" ", 2)[1])
-            at = step
+            at = end
             yield bool(waiting)
 
     @functools.cached_property
@@ -325,7 +398,7 @@ class Walk:
         names = set(self.script.names())
         found: dict[str, list[tuple[int, list[str]]]] = {}
         known: dict[str, tuple[str, list[str]] | None] = {}
-        for step, line in enumerate(self.lines):
+        for step, line in zip(self.told_at, self.told):
             if line not in known:
                 words = line.split(" ")
                 name = next((it for it in words[1:4] if it in names), None)
@@ -359,10 +432,10 @@ class Walk:
 
     def unblocked(self, spans: list[tuple[int, int, str]], first: int, last: int) -> Iterator[tuple[str, list[int]]]:
         """Of each of these the polls from one step to another that didn't wait."""
-        rows = self.words.get("poll", [])
+        rows = self.steps_of("poll")
         for begin, end, name in spans:
             a, b = max(begin, first), min(end - 1, last)
-            if a <= b and (steps := [it for it in rows[bisect.bisect_left(rows, a) : bisect.bisect_right(rows, b)] if self.lines[it] == "poll 0"]):
+            if a <= b and (steps := [it for it in rows[bisect.bisect_left(rows, a) : bisect.bisect_right(rows, b)] if self.line(it) == "poll 0"]):
                 yield name, steps
 
     @functools.cached_property
@@ -371,7 +444,7 @@ class Walk:
 
     def steps_between(self, word: str, first: int, last: int) -> list[int]:
         """The steps from one to another whose line begins with this word."""
-        rows = self.words.get(word, [])
+        rows = self.steps_of(word)
         return rows[bisect.bisect_left(rows, first) : bisect.bisect_right(rows, last)]
 
     # ---- where the clock went on
@@ -416,7 +489,7 @@ def longest_way(script: Script, commands: list[str]) -> list[str]:
 
     Where each of them is one step they are answered as they are.
     """
-    if all(it == "loop" or it.split(" ")[0] in OUTSIDE for it in commands):
+    if all(it == "loop" or it.split(" ")[0] in OUTSIDE for it in set(commands)):
         return commands
     best: list[str] = []
     longest = 0

@@ -200,8 +200,8 @@ class Why:
         """A timer that was started again and again before it was due."""
         asked: dict[tuple[tuple[str, str], str], list[int]] = {}
         for it in run:
-            who = self.walk.calls.get(self.walk.inside[it.ended], ("", "", 0))[:2] if self.walk.steps[it.ended - 1] == "loop" else ("", "")
-            asked.setdefault((who, self.walk.lines[it.ended]), []).append(it.ended)
+            who = self.walk.calls.get(self.walk.inside(it.ended), ("", "", 0))[:2] if self.walk.steps[it.ended - 1] == "loop" else ("", "")
+            asked.setdefault((who, self.walk.line(it.ended)), []).append(it.ended)
         first, last = run[0], run[-1]
         return [
             f"steps {first.ended} to {last.ended}: {len(run)} times no call: each time started again before it was due",
@@ -216,7 +216,7 @@ class Why:
 
     def is_plain(self, wait: Wait) -> bool:
         """Was it asked for by a callback of its own, and called in its time? In a recording that is within a millisecond."""
-        mine = self.walk.lines[self.begun_by(wait)].startswith(f"call {self.name} ")
+        mine = self.walk.line(self.begun_by(wait)).startswith(f"call {self.name} ")
         if wait.how != "called" or not mine or wait.more:
             return False
         allowed = 1 if self.notes.names else 0
@@ -227,11 +227,11 @@ class Why:
 
     def begun_by(self, wait: Wait) -> int:
         """The step that began the callback in which it was asked for; 0 where it was in none."""
-        return self.walk.inside[wait.asked]
+        return self.walk.inside(wait.asked)
 
     def is_again(self, wait: Wait) -> bool:
         """Whether a call asked for the next one: of a timer that repeats, of a watcher or a handle of I/O, which stays active."""
-        return self.walk.lines[wait.asked].startswith("call ")
+        return self.walk.line(wait.asked).startswith("call ")
 
     def is_late(self, wait: Wait, allowed: int = 0) -> bool:
         return wait.due is not None and self.walk.clock(wait.ended) > wait.due + allowed
@@ -268,7 +268,7 @@ class Why:
         """Who asked for it, and when. (What nobody saw come is put where it needs to be.)"""
         if wait.what == "async" and wait.asked in self.notes.guessed:
             return f"in the recording that is the send at step {wait.asked}"
-        if self.walk.lines[wait.asked].startswith("call "):
+        if self.walk.line(wait.asked).startswith("call "):
             how = "it repeats, and was started again" if wait.what == "timer" else "it stayed active"
             return f"{how} by the call at step {wait.asked}"
         at = self.loops_time(wait) if wait.what == "timer" else ""
@@ -487,7 +487,7 @@ class Why:
 
     def close(self, wait: Wait) -> tuple[str, list[str]]:
         details = []
-        busy = [at for at in self.walk.steps_between("closeloop", wait.asked, wait.ended - 1) if self.walk.lines[at] == "closeloop = EBUSY"]
+        busy = [at for at in self.walk.steps_between("closeloop", wait.asked, wait.ended - 1) if self.walk.line(at) == "closeloop = EBUSY"]
         if busy:
             details.append(f"until then the loop had it: `closeloop` at {steps_of(busy)} returns EBUSY")
         turn = self.walk.last_line(("closing",), wait.ended)
@@ -589,7 +589,7 @@ class Why:
         state = self.walk.state(step - 1)
         if state.numbers["stop"] == 1:
             return "stop"
-        if self.walk.lines[step] != "end 0":
+        if self.walk.line(step) != "end 0":
             return "mode"
         slot = state.slot_of(self.name)
         return "unreferenced" if slot and slot.values.get("active") == "1" and slot.values.get("ref") == "0" else "not alive"
@@ -747,7 +747,7 @@ class Why:
     def gone(self, step: int) -> int:
         """The last step before this one at which the name's handle or request went."""
         found = self.walk.steps_between("closed", 1, step - 1) + self.walk.steps_between("after", 1, step - 1)
-        return max(at for at in found if self.walk.lines[at].split(" ")[1] == self.name)
+        return max(at for at in found if self.walk.line(at).split(" ")[1] == self.name)
 
     def why_busy(self, it: Refusal, outcome: str) -> str:
         wait = next(at for at in reversed(self.history.waits) if at.what == "work" and at.asked < it.step)

@@ -66,7 +66,7 @@ def asked(walk: Walk, it: Request) -> str:
 
 def cancelled(walk: Walk, it: Request) -> str:
     """By which close."""
-    closes = [at for at in walk.steps_between("close", 1, it.done_step) if walk.lines[at] == f"close {it.stream} = ok"]
+    closes = [at for at in walk.steps_between("close", 1, it.done_step) if walk.line(at) == f"close {it.stream} = ok"]
     return f": the close at step {closes[-1]} cancelled it, {walk.by(closes[-1])}" if closes else ""
 
 

@@ -96,4 +96,4 @@ pub use Rattle.uv_text.specs.Trace.{appended_text, line_text, seen_text}
 pub use Rattle.uv_text.specs.declared.command.Asked.{Asked}
 pub use Rattle.uv_text.specs.declared.command.Asked.TheVariants.{Bad, Do, Nothing}
 pub use Rattle.uv_text.specs.declared.command.Command.TheVariants.{AddBreak, Back, BackToBreak, ClearBreaks, Forward, Image, Loop, Quit, Record}
-pub use Rattle.uv_text.specs.declared.command.Command.TheVariants.{State, StateOf, Step, Trace}
+pub use Rattle.uv_text.specs.declared.command.Command.TheVariants.{State, StateOf, Step, Trace, Walk}

@@ -1,5 +1,5 @@
 -- The answers to lines, one line after another.
-use Rattle.uv_engine.proofs.Names.{◌≡◌, ◌≢◌, ℕ, List, [], ◌∷◌, ◌++◌, Result, Ok, Err, suc, ◌==◌, arith, Bool, false, refl, ap, sym, ◌∙◌, subst, append_assoc, append-nil, Fault, Shown, Loop, Step, Back, Forward, AddBreak, ClearBreaks, BackToBreak, Trace, State, StateOf, Image, Record, Quit, Asked, Nothing, Do, Bad, Asks, asked_of, lines_of, TakesLine, NoFeed, Ended, append_cancel_left, Grown, CutOff, Gathers, GathersOne, Talks, input_ends, quits, goes_on, IsAnswer, asked_after, TalksCut, TalksOn, Finishes, cond_both, has_step, PrintsFor, Event}
+use Rattle.uv_engine.proofs.Names.{◌≡◌, ◌≢◌, ℕ, List, [], ◌∷◌, ◌++◌, Result, Ok, Err, suc, ◌==◌, arith, Bool, false, refl, ap, sym, ◌∙◌, subst, append_assoc, append-nil, Fault, Shown, Loop, Step, Back, Forward, AddBreak, ClearBreaks, BackToBreak, Trace, Walk, State, StateOf, Image, Record, Quit, Asked, Nothing, Do, Bad, Asks, asked_of, lines_of, TakesLine, NoFeed, Ended, append_cancel_left, Grown, CutOff, Gathers, GathersOne, Talks, input_ends, quits, goes_on, IsAnswer, asked_after, TalksCut, TalksOn, Finishes, cond_both, has_step, PrintsFor, Event}
 use Rattle.uv_engine.specs.declared.conversation.Ended.TheVariants as ended
 use Rattle.uv_engine.specs.Out.{refused}
 use Rattle.uv_engine.proofs.Gathers.{grown_more}
@@ -44,6 +44,7 @@ some_talk every (line ∷ lines) s = at (asked_of s.program.names line) (every s
   at (Do ClearBreaks) a k = on_line line lines s (Do ClearBreaks) _ a (λ e. cc e) refl (k _)
   at (Do BackToBreak) a k = on_line line lines s (Do BackToBreak) _ a (λ e. cc e) refl (k _)
   at (Do Trace) a k = on_line line lines s (Do Trace) _ a (λ e. cc e) refl (k s)
+  at (Do Walk) a k = on_line line lines s (Do Walk) _ a (λ e. cc e) refl (k s)
   at (Do (StateOf v)) a k = on_line line lines s (Do (StateOf v)) _ a (λ e. cc e) refl (k s)
   at (Do State) a k = on_line line lines s (Do State) _ a (λ e. cc e) refl (k s)
   at (Do Image) a k = on_line line lines s (Do Image) _ a (λ e. cc e) (refused refl) (k s)

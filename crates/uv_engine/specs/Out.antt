@@ -8,7 +8,7 @@ use Rattle.uv_script.specs.Grammar.{IsScript, IsBadLine}
 use Rattle.uv_model.specs.After.{STEPS}
 use Rattle.uv_session.specs.Shown.{Shown}
 use Rattle.uv_text.specs.declared.command.Command.{Command}
-use Rattle.uv_text.specs.declared.command.Command.TheVariants.{Loop, Step, Back, Forward, AddBreak, ClearBreaks, BackToBreak, Trace, State, StateOf, Image, Record, Quit}
+use Rattle.uv_text.specs.declared.command.Command.TheVariants.{Loop, Step, Back, Forward, AddBreak, ClearBreaks, BackToBreak, Trace, Walk, State, StateOf, Image, Record, Quit}
 use Rattle.uv_text.specs.declared.command.Asked.{Asked}
 use Rattle.uv_text.specs.declared.command.Asked.TheVariants.{Nothing, Do, Bad}
 use Rattle.uv_text.specs.Commands.{Asks, asked_in}
@@ -19,7 +19,7 @@ use Rattle.uv_engine.specs.declared.conversation.Ended.{Ended}
 use Rattle.uv_engine.specs.declared.conversation.Ended.TheVariants as ended
 use Rattle.uv_engine.specs.Input.{NoFeed}
 use Rattle.uv_script.specs.Writes.{CutShort}
-use Rattle.uv_engine.specs.Reply.{reply, reply_text, reply_after, loop_text, loop_after, back_text, back_after, forward_text, forward_after, add_text, add_after, last_break, break_back_text, break_back_after, trace_text}
+use Rattle.uv_engine.specs.Reply.{reply, reply_text, reply_after, loop_text, loop_after, back_text, back_after, forward_text, forward_after, add_text, add_after, last_break, break_back_text, break_back_after, trace_text, walk_text}
 
 -- what `image` prints: the text of a memory that stands for the state, or that the machine has no one memory. Which of these it is, and how
 -- the memory lies, is left open
@@ -37,6 +37,7 @@ Prints (AddBreak b) s text = text ≡ add_text s
 Prints ClearBreaks s text = text ≡ codes "break ok\n"
 Prints BackToBreak s text = text ≡ break_back_text (last_break s)
 Prints Trace s text = text ≡ trace_text s
+Prints Walk s text = text ≡ walk_text s
 Prints State s text = text ≡ state_text s
 Prints (StateOf v) s text = text ≡ named_text s v
 Prints Image s text = PrintsImage s text
@@ -53,6 +54,7 @@ command_after (AddBreak b) s = add_after b s
 command_after ClearBreaks s = record s { breaks = [] }
 command_after BackToBreak s = break_back_after s (last_break s)
 command_after Trace s = s
+command_after Walk s = s
 command_after State s = s
 command_after (StateOf v) s = s
 command_after Image s = s

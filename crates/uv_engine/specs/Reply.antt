@@ -13,7 +13,8 @@ use Rattle.uv_session.specs.declared.breaks.Break.{Break}
 use Rattle.uv_session.specs.Shown.{Shown, moved_back}
 use Rattle.uv_session.specs.Breaks.{stops}
 use Rattle.uv_session.specs.Moving.{moved_forward, BREAKS, stops_at}
-use Rattle.uv_text.specs.Trace.{seen_text, appended_text}
+use Rattle.uv_text.specs.Trace.{seen_text, appended_text, walk_part}
+use Rattle.uv_text.specs.Parts.{in_parts}
 
 -- what a session answers to an event
 pub data Reply : Type 0 where
@@ -116,3 +117,7 @@ break_back_after s None = s
 -- `trace`: the lines of the standing steps
 abbrev pub trace_text : Shown → List ℕ
 trace_text s = flat_map (seen_text s.program) (lines s.program s.standing)
+
+-- `walk`: the same, each line with its step in front
+abbrev pub walk_text : Shown → List ℕ
+walk_text s = in_parts (walk_part s.program s.standing) (length s.standing)

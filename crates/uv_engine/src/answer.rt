@@ -58,6 +58,7 @@ impl<M: Machine> Conversation<M> {
         match command {
             Command::Loop(n) => self.run_loop(writer, n),
             Command::Trace => self.show_trace(writer),
+            Command::Walk => self.show_walk(writer),
             Command::Step(event) => {
                 tell(&mut self.session, &mut self.text, event)?;
                 Ok(())

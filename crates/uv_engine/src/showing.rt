@@ -7,7 +7,7 @@ ghost use Rattle.uv_text.specs.Recording.{recording_text};
 ghost use Rattle.uv_engine.specs.Devices.{WriterCounts};
 ghost use Rattle.uv_engine.specs.Gather.{Gathers, GathersOne, IsWriteFault};
 ghost use Rattle.uv_engine.specs.Out.{PrintsImage};
-ghost use Rattle.uv_engine.specs.Reply.{trace_text};
+ghost use Rattle.uv_engine.specs.Reply.{trace_text, walk_text};
 
 use crate::answer::spill;
 use crate::conversation::Conversation;
@@ -15,7 +15,7 @@ use crate::reply::push_refused;
 use crate::sink::Sink;
 use uv_ids::Fault;
 use uv_model::{Layout, Machine};
-use uv_text::{LayoutParts, Parts, RecordingParts, StateParts, TraceParts};
+use uv_text::{LayoutParts, Parts, RecordingParts, StateParts, TraceParts, WalkParts};
 
 /// Gathers a text, and writes what is gathered as soon as there is much of it.
 fn show_parts<P: Parts, W: Sink>(parts: &P, writer: &mut W, text: &mut Vec<u8>) -> Result<(), Fault>
@@ -45,6 +45,21 @@ impl<M: Machine> Conversation<M> {
     {
         self.session.is_documented();
         let parts = TraceParts {
+            session: &self.session,
+        };
+        show_parts(&parts, writer, &mut self.text)
+    }
+
+    /// The same lines, each with its step in front.
+    pub(crate) fn show_walk<W: Sink>(&mut self, writer: &mut W) -> Result<(), Fault>
+        ensures text { W.Tells → Gathers result (W.written writer.old) self.old.text.items (walk_text self.old.session)
+            (W.written writer.new) self.new.text.items }
+        ensures few { OnOk result (length self.old.text.items < 8192 → length self.new.text.items < 8192) }
+        ensures session { self.new.session ≡ self.old.session }
+        ensures err { IfErr result IsWriteFault }
+        ensures writer { WriterCounts result (W.failures writer.old) (W.failures writer.new) }
+    {
+        let parts = WalkParts {
             session: &self.session,
         };
         show_parts(&parts, writer, &mut self.text)

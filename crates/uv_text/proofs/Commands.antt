@@ -35,10 +35,11 @@ alone_right names word =
     cond_both (bytes_eq word (codes "loop")) _ _ P (λ a. is.one_step (alone word _ (same _ _ a)))
     (λ _. cond_both (bytes_eq word (codes "rback")) _ _ P (λ a. is.back_to_break (alone word _ (same _ _ a)))
     (λ _. cond_both (bytes_eq word (codes "trace")) _ _ P (λ a. is.trace (alone word _ (same _ _ a)))
+    (λ _. cond_both (bytes_eq word (codes "walk")) _ _ P (λ a. is.walk (alone word _ (same _ _ a)))
     (λ _. cond_both (bytes_eq word (codes "state")) _ _ P (λ a. is.state (alone word _ (same _ _ a)))
     (λ _. cond_both (bytes_eq word (codes "image")) _ _ P (λ a. is.image (alone word _ (same _ _ a)))
     (λ _. cond_both (bytes_eq word (codes "record")) _ _ P (λ a. is.recording (alone word _ (same _ _ a)))
-    (λ _. cond_both (bytes_eq word (codes "quit")) _ _ P (λ a. is.quit (alone word _ (same _ _ a))) (λ _. tt)))))))
+    (λ _. cond_both (bytes_eq word (codes "quit")) _ _ P (λ a. is.quit (alone word _ (same _ _ a))) (λ _. tt))))))))
 
 -- what was found for a word and what follows it is right
 abbrev RightStep : List (List ℕ) → List ℕ → List ℕ → Option Event → Type 0
@@ -281,6 +282,7 @@ reads_command names fields c (is.add_break what argument b e h) =
 reads_command names fields c (is.clear_breaks e) = reads names fields c (ap (command_of names) e)
 reads_command names fields c (is.back_to_break e) = reads names fields c (ap (command_of names) e)
 reads_command names fields c (is.trace e) = reads names fields c (ap (command_of names) e)
+reads_command names fields c (is.walk e) = reads names fields c (ap (command_of names) e)
 reads_command names fields c (is.state e) = reads names fields c (ap (command_of names) e)
 reads_command names fields c (is.state_of name v e held) =
     let p = place names name v held in
@@ -329,6 +331,7 @@ says_something names line c (is.add_break what argument b e h) = line_begins lin
 says_something names line c (is.clear_breaks e) = line_begins line _ _ _ e
 says_something names line c (is.back_to_break e) = line_begins line _ _ _ e
 says_something names line c (is.trace e) = line_begins line _ _ _ e
+says_something names line c (is.walk e) = line_begins line _ _ _ e
 says_something names line c (is.state e) = line_begins line _ _ _ e
 says_something names line c (is.state_of name v e held) = line_begins line _ _ _ e
 says_something names line c (is.image e) = line_begins line _ _ _ e

@@ -13,7 +13,7 @@ use Rattle.uv_model.specs.After.{STEPS}
 use Rattle.uv_session.specs.declared.breaks.Break.{Break}
 use Rattle.uv_session.specs.declared.breaks.Break.TheVariants as at
 use Rattle.uv_text.specs.declared.command.Command.{Command}
-use Rattle.uv_text.specs.declared.command.Command.TheVariants.{Loop, Step, Back, Forward, AddBreak, ClearBreaks, BackToBreak, Trace, State, StateOf, Image, Record, Quit}
+use Rattle.uv_text.specs.declared.command.Command.TheVariants.{Loop, Step, Back, Forward, AddBreak, ClearBreaks, BackToBreak, Trace, Walk, State, StateOf, Image, Record, Quit}
 use Rattle.uv_text.specs.declared.command.Asked.{Asked}
 use Rattle.uv_text.specs.declared.command.Asked.TheVariants.{Nothing, Do, Bad}
 
@@ -55,6 +55,7 @@ pub data IsCommand (names fields : List (List ℕ)) : Command → Type 0 where
   clear_breaks : fields ≡ codes "break" ∷ codes "clear" ∷ [] → IsCommand names fields ClearBreaks
   back_to_break : fields ≡ codes "rback" ∷ [] → IsCommand names fields BackToBreak
   trace : fields ≡ codes "trace" ∷ [] → IsCommand names fields Trace
+  walk : fields ≡ codes "walk" ∷ [] → IsCommand names fields Walk
   state : fields ≡ codes "state" ∷ [] → IsCommand names fields State
   state_of : (name : List ℕ) (v : Var) → fields ≡ codes "state" ∷ name ∷ [] → IsDeclared names name v → IsCommand names fields (StateOf v)
   image : fields ≡ codes "image" ∷ [] → IsCommand names fields Image

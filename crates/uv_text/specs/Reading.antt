@@ -11,7 +11,7 @@ use Rattle.uv_script.specs.Reading.{place_of}
 use Rattle.uv_session.specs.declared.breaks.Break.{Break}
 use Rattle.uv_session.specs.declared.breaks.Break.TheVariants as at
 use Rattle.uv_text.specs.declared.command.Command.{Command}
-use Rattle.uv_text.specs.declared.command.Command.TheVariants.{Loop, Step, Back, Forward, AddBreak, ClearBreaks, BackToBreak, Trace, State, StateOf, Image, Record, Quit}
+use Rattle.uv_text.specs.declared.command.Command.TheVariants.{Loop, Step, Back, Forward, AddBreak, ClearBreaks, BackToBreak, Trace, Walk, State, StateOf, Image, Record, Quit}
 use Rattle.uv_text.specs.declared.command.Asked.{Asked}
 use Rattle.uv_text.specs.declared.command.Asked.TheVariants.{Nothing, Do, Bad}
 use Rattle.uv_text.specs.Commands.{MOST, LAST_WORKER}
@@ -33,10 +33,11 @@ command_alone word =
     if bytes_eq word (codes "loop") then Some (Loop 1)
     else (if bytes_eq word (codes "rback") then Some BackToBreak
     else (if bytes_eq word (codes "trace") then Some Trace
+    else (if bytes_eq word (codes "walk") then Some Walk
     else (if bytes_eq word (codes "state") then Some State
     else (if bytes_eq word (codes "image") then Some Image
     else (if bytes_eq word (codes "record") then Some Record
-    else (if bytes_eq word (codes "quit") then Some Quit else None))))))
+    else (if bytes_eq word (codes "quit") then Some Quit else None)))))))
 
 abbrev pub loops : ℕ → Option Command
 loops n = if nat_le 1 n && nat_le n MOST then Some (Loop n) else None

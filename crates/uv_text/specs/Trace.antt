@@ -1,5 +1,5 @@
 -- The text of a trace line.
-use Rattle.std.specs.Prelude.{ℕ, List, [], ◌++◌, true, false, Option, Some, None, slice_get, codes, decimal}
+use Rattle.std.specs.Prelude.{ℕ, suc, List, [], ◌++◌, true, false, Option, Some, None, slice_get, codes, decimal}
 use Rattle.hex.specs.Hex.{encode_lower}
 use Rattle.uv_ids.specs.Words.{mode_word, phase_word, code_word}
 use Rattle.uv_ids.specs.declared.id.Id.{Id}
@@ -95,3 +95,12 @@ appended_part p None = []
 
 unfoldable pub trace_part : Program → List Event → ℕ → List ℕ
 trace_part p es n = appended_part p (slice_get (seen_by p es) n)
+
+-- ---- the same with the number of its step in front of each line
+
+abbrev pub numbered_part : Program → ℕ → Option (Option Seen) → List ℕ
+numbered_part p step (Some (Some seen)) = decimal step ++ codes " " ++ seen_text p seen
+numbered_part p step _ = []
+
+unfoldable pub walk_part : Program → List Event → ℕ → List ℕ
+walk_part p es n = numbered_part p (suc n) (slice_get (seen_by p es) n)

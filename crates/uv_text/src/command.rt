@@ -29,6 +29,8 @@ pub enum Command {
     BackToBreak,
     /// `trace`: shows the lines of the standing steps.
     Trace,
+    /// `walk`: shows the same lines, each with its step in front.
+    Walk,
     /// `state`: shows the state.
     State,
     /// `state NAME`: shows what one name is bound to.
@@ -106,6 +108,8 @@ fn alone(word: &[u8]) -> Option<Command>
         Some(Command::BackToBreak)
     } else if is(word, b"trace") {
         Some(Command::Trace)
+    } else if is(word, b"walk") {
+        Some(Command::Walk)
     } else if is(word, b"state") {
         Some(Command::State)
     } else if is(word, b"image") {

@@ -23,4 +23,4 @@ pub use recorded::{is_callback_line, read_step};
 pub use recording::{RecordingParts, is_callback, push_step, recording_text};
 pub use state::{StateParts, push_named, state_text};
 pub use trace::{push_line, push_seen, seen_text};
-pub use traced::{TraceParts, push_appended};
+pub use traced::{TraceParts, WalkParts, push_appended};

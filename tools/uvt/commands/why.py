@@ -55,7 +55,7 @@ def known(script: Script, name: str) -> str:
 
 
 # A recording of so many steps is long for the program before its proofs.
-MANY = 20_000
+MANY = 1_000_000
 
 
 def log_of(path: Path) -> bytes:
