@@ -2,11 +2,12 @@
 
 from __future__ import annotations
 
+import array
 import bisect
 import collections
 import heapq
 
-from uvt.record.script import Call, End, Finish, Item, Op, Poll, Send
+from uvt.record.script import Call, End, Finish, Item, Op, Poll, Run, Send
 
 # So many items ahead are near.
 FAR = 40
@@ -35,6 +36,7 @@ class Ahead:
             if isinstance(it, Op) and it.text.startswith("close "):
                 self.closes[it.text.split(" ")[1]].append(at)
         self.calls_before = calls_before(items, self.calls)
+        self.later = with_later_times(items)
 
     def has_end_near(self, at: int) -> bool:
         """Does a run end within the next items?"""
@@ -65,6 +67,23 @@ class Ahead:
         found = bisect.bisect_left(calls, at)
         item = self.items[calls[found]] if found < len(calls) else None
         return item.number if isinstance(item, Call) else 0
+
+
+def with_later_times(items: list[Item]) -> array.array:
+    """Of each item the first behind it that looks at the clock, or shows that this was looked at, and has a later time; where there is none, a
+    number behind all items, and far."""
+    found = array.array("i", [len(items) + FAR]) * len(items)
+    # those behind the item that none with the same time or a later one stands before: the next one last, and so by their times
+    row: list[int] = []
+    for at in range(len(items) - 1, -1, -1):
+        now = items[at].now
+        if isinstance(items[at], (Call, Poll, Run, End)):
+            while row and items[row[-1]].now <= now:
+                row.pop()
+        found[at] = next((it for it in reversed(row) if items[it].now > now), found[at])
+        if isinstance(items[at], (Call, Poll, Run, End)):
+            row.append(at)
+    return found
 
 
 def calls_before(items: list[Item], calls: dict[str, list[int]]) -> dict[int, int]:

@@ -7,8 +7,9 @@ first one on that went otherwise, the steps are taken back, and the follower loo
 
 from __future__ import annotations
 
-import bisect
+import array
 import itertools
+import re
 from dataclasses import dataclass
 from typing import TYPE_CHECKING
 
@@ -37,18 +38,19 @@ class Tick:
 
 
 @dataclass
-class Step:
-    """A step that the loop does, or a send, and the line that it has."""
+class Steps:
+    """The steps from one tick to the next: their commands, their lines, and which of these have to be the same to the end."""
 
-    command: str
-    line: str
+    commands: list[str]
+    lines: list[str]
+    whole: list[bool]
 
 
 @dataclass
 class Way:
     """The steps through a unit, and where the loop is behind it."""
 
-    parts: list[Tick | Step]
+    parts: list[Tick | Steps]
     where: str
     wakes: int
     # to whom is sent on it in a thread's place
@@ -62,8 +64,9 @@ class Asked:
     end: int
     way: Way
     commands: list[str]
-    # how the line of each is to begin, `` where it is to have none
+    # how the line of each is to begin, `` where it is to have none; and whether it has nothing behind that
     wanted: list[str]
+    whole: list[bool]
     # which of them, from 1, are ticks when no callback is under way
     outside: list[int]
     # behind it
@@ -72,9 +75,12 @@ class Asked:
     def lines(self, said: list[str]) -> list[str] | None:
         """The line of each of its steps. None where it went otherwise."""
         answers = iter(said)
-        lines = [next(answers, "") if it else "" for it in self.wanted]
-        right = all(line.startswith(want) and (want.endswith(" ") or line == want) for line, want in zip(lines, self.wanted))
-        return lines if right and next(answers, None) is None else None
+        lines = said if "" not in self.wanted else [next(answers, "") if it else "" for it in self.wanted]
+        if len(lines) != len(self.wanted) or lines is not said and next(answers, None) is not None:
+            return None
+        right = all(map(str.startswith, lines, self.wanted))
+        same = list(itertools.compress(lines, self.whole)) == list(itertools.compress(self.wanted, self.whole))
+        return lines if right and same else None
 
 
 def alike(line: str) -> str:
@@ -85,6 +91,13 @@ def alike(line: str) -> str:
     if words[0] == "poll":
         return "poll "
     return line.rsplit(" = ", 1)[0] + " = " if words[0] == "init" else line
+
+
+def add_step(steps: Steps, command: str, line: str) -> None:
+    """A step that the loop does, or a send, and how its line begins."""
+    steps.commands.append(command)
+    steps.lines.append(line)
+    steps.whole.append(not line.endswith(" "))
 
 
 def first_sends(items: list[Item]) -> list[int]:
@@ -112,15 +125,52 @@ def happens(item: Item) -> tuple:
     return (type(item),)
 
 
+# What an item is to a unit, as a letter: a callback, a poll, an op, and the end of a callback; and how a unit is made of these.
+LETTERS = {Poll: b"P", Done: b"D"}
+NO_UNIT = b"-"
+UNIT = re.compile(rb"[PO]*CO*D")
+ENDS = (Poll, Run, End)
+
+
+def letter(item: Item) -> bytes:
+    match item:
+        case Call():
+            return b"C" if item.callback != "after" else NO_UNIT
+        case Op():
+            return b"O" if not item.text.startswith(("queue ", "cancel ", "updatetime")) else NO_UNIT
+    return LETTERS.get(type(item), NO_UNIT)
+
+
+def numbered(items: list[Item]) -> array.array:
+    """What happens with each item, as a number: the same for the same."""
+    numbers: dict[tuple, int] = {}
+    return array.array("i", [numbers.setdefault(happens(it), len(numbers)) for it in items])
+
+
+def counted(items: list[Item]) -> tuple[array.array, array.array]:
+    """How many of the callbacks that are made ready for a poll come before each item; and how many up to the first end of a poll's callbacks from
+    it on."""
+    before = array.array("i", [0])
+    for it in items:
+        before.append(before[-1] + (isinstance(it, Call) and not it.is_io()))
+    upto = array.array("i", before)
+    for at in range(len(items) - 1, -1, -1):
+        upto[at] = before[at] if isinstance(items[at], ENDS) else upto[at + 1]
+    return before, upto
+
+
 class Ways:
     """The ways that are known, each by what happens on it."""
 
     def __init__(self, follower: Follower) -> None:
         self.follower, self.items = follower, follower.items
-        # the items that end a poll's callbacks, and those of them that are made ready for it, with their places
-        self.ends = [at for at, it in enumerate(self.items) if isinstance(it, (Poll, Run, End))]
+        # of each item a letter, and a number for what happens with it
+        self.letters = b"".join(map(letter, self.items))
+        self.numbers = numbered(self.items)
+        # the callbacks that are made ready for a poll, and how many of them come before each item, and up to the next end of such ones
         self.calls = [it for it in self.items if isinstance(it, Call) and not it.is_io()]
-        self.called = [at for at, it in enumerate(self.items) if isinstance(it, Call) and not it.is_io()]
+        self.names = [it.name for it in self.calls]
+        self.before, self.upto = counted(self.items)
         # of each of these the first send to it since it was called last
         self.first_sends = first_sends(self.items)
         self.ways: dict[tuple, Way] = {}
@@ -132,40 +182,17 @@ class Ways:
 
     def end_of(self, at: int) -> int:
         """Where the unit that begins at this item ends; 0 where there is none that can be asked at once."""
-        calls = 0
-        for behind in range(at, min(at + LONGEST, len(self.items))):
-            item = self.items[behind]
-            match item:
-                case Done():
-                    return behind + 1 if calls and len(self.ahead(behind + 1)) <= LONGEST else 0
-                case Call() if item.callback != "after" and not calls:
-                    calls = 1
-                case Poll() if not calls:
-                    pass
-                case Op() if not item.text.startswith(("queue ", "cancel ", "updatetime")):
-                    pass
-                case _:
-                    return 0
-        return 0
+        found = UNIT.match(self.letters, at, at + LONGEST)
+        return found.end() if found and self.upto[found.end()] - self.before[found.end()] <= LONGEST else 0
 
     def key(self, at: int, end: int, where: str) -> tuple:
         """What happens in a unit, who is called behind it before the next poll, and whom of all these somebody has sent to as it begins."""
-        return (where, *map(happens, self.items[at:end]), *(it.name for it in self.ahead(end)), tuple(self.sent(at, end)))
-
-    def ahead(self, at: int) -> list[Call]:
-        """The callbacks from this item on up to the next poll, except for those of I/O, which need nothing."""
-        return self.calls[self.places(at, at)]
-
-    def places(self, at: int, end: int) -> slice:
-        """Which of the callbacks come from this item on, up to the first poll behind that one."""
-        behind = bisect.bisect_left(self.ends, end)
-        last = self.ends[behind] if behind < len(self.ends) else len(self.items)
-        return slice(bisect.bisect_left(self.called, at), bisect.bisect_left(self.called, last))
+        return (where, self.numbers[at:end].tobytes(), *self.names[self.before[end] : self.upto[end]], tuple(self.sent(at, end)))
 
     def sent(self, at: int, end: int) -> list[str]:
         """To whom somebody has sent as the unit begins, of those that are called in it, and behind it before the next poll."""
-        places = self.places(at, end)
-        return [call.name for call, first in zip(self.calls[places], self.first_sends[places]) if first < at]
+        begin, last = self.before[at], self.upto[end]
+        return [name for name, first in zip(self.names[begin:last], self.first_sends[begin:last]) if first < at]
 
     # ---- a way is learnt
 
@@ -176,16 +203,19 @@ class Ways:
         if follower.came_late > late:
             return
         ticks, wakes = iter(follower.trail), 0
-        parts: list[Tick | Step] = []
+        parts: list[Tick | Steps] = []
         tick = next(ticks, None)
         for step in range(length, follower.talk.length + 1):
             while tick is not None and tick[0] <= step:
                 parts.append(Tick(tick[1] - at, tick[2], tick[3]))
                 tick = next(ticks, None)
             if step < follower.talk.length and not follower.did[step].startswith("tick "):
-                parts.append(Step(follower.did[step], alike(follower.said[step])))
+                if not parts or isinstance(parts[-1], Tick):
+                    parts.append(Steps([], [], []))
+                add_step(parts[-1], follower.did[step], alike(follower.said[step]))
                 wakes += follower.did[step] == "send wake"
-        sends = {it.command.split(" ")[1] for it in parts if isinstance(it, Step) and it.command.startswith("send ")}
+        done = [command for it in parts if isinstance(it, Steps) for command in it.commands]
+        sends = {it.split(" ")[1] for it in done if it.startswith("send ")}
         if all(0 <= it.item < end - at for it in parts if isinstance(it, Tick)):
             self.ways[key] = Way(parts, follower.where, wakes, sends)
 
@@ -211,16 +241,18 @@ class Ways:
         return units
 
     def asked(self, at: int, end: int, way: Way, clock: int) -> Asked:
-        unit = Asked(end, way, [], [], [], clock)
+        unit = Asked(end, way, [], [], [], [], clock)
         for part in way.parts:
-            if isinstance(part, Step):
-                unit.commands.append(part.command)
-                unit.wanted.append(part.line)
+            if isinstance(part, Steps):
+                unit.commands += part.commands
+                unit.wanted += part.lines
+                unit.whole += part.whole
                 continue
             time = self.follower.time_of(at + part.item, part.which)
             if time > unit.clock:
                 unit.commands.append(f"tick {time - unit.clock}")
                 unit.wanted.append(f"out tick {time - unit.clock}")
+                unit.whole.append(True)
                 unit.outside += [len(unit.commands)] if part.outside else []
                 unit.clock = time
         return unit
@@ -232,10 +264,12 @@ class Ways:
         for end, way in units:
             asked.append(self.asked(first, end, way, asked[-1].clock if asked else follower.clock))
             first = end
-        answers = iter(follower.talk.ask_all([command for it in asked for command in (*it.commands, NOTHING)]))
+        answers = follower.talk.ask_all([command for it in asked for command in (*it.commands, NOTHING)])
         done: list[Asked] = []
+        behind = -1
         for unit in asked:
-            lines = unit.lines(list(itertools.takewhile(lambda it: it != BAD, answers)))
+            begin, behind = behind + 1, answers.index(BAD, behind + 1)
+            lines = unit.lines(answers[begin:behind])
             if lines is None:
                 break
             follower.took(unit.commands, lines, unit.outside)

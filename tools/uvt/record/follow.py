@@ -537,11 +537,11 @@ class Follower:
         self.flush()
 
     def end_time(self, at: int) -> int:
-        item, ahead = self.items[at], self.items[at + 1 : at + FAR]
-        if self.program.is_before(45) and self.ahead.has_end_near(at) and self.starts_behind_end(item.now, ahead):
+        item = self.items[at]
+        if self.program.is_before(45) and self.ahead.has_end_near(at) and self.starts_behind_end(item.now, self.items[at + 1 : at + FAR]):
             return NO_CLOCK
-        later = (it.now for it in ahead if isinstance(it, (Call, Poll, Run, End)) and it.now > item.now)
-        return min(item.clock, next(later, item.clock))
+        later = self.ahead.later[at]
+        return min(item.clock, self.items[later].now) if later < at + FAR else item.clock
 
     def tick_within(self, item: Take | Finish | Send, at: int) -> None:
         """The clock goes on to where it was as something came from outside, if nothing before that looks at it."""

@@ -224,14 +224,14 @@ def read_log(data: bytes) -> Log:
     log = Log(int(head[1]), head[2], int(head[3]), within(int(head[4])), head[5])
     for number, text in enumerate(lines[1:], 2):
         log.lines = number
-        if home := HOME.fullmatch(text):
-            log.home = home[1]
-        elif language := LANGUAGE.fullmatch(text):
-            log.language = language[1]
-        elif event := read_event(text, number):
+        if event := read_event(text, number):
             log.loops.setdefault(event[0], []).append(event[1])
             if event[1].type == "L":
                 log.later[event[0]] = int(event[1].words)
+        elif home := HOME.fullmatch(text):
+            log.home = home[1]
+        elif language := LANGUAGE.fullmatch(text):
+            log.language = language[1]
         elif address := ADDRESS.fullmatch(text):
             log.addresses[int(address[1])] = Address(int(address[2], 16), address[3], address[4])
         elif place := PLACE.fullmatch(text):

@@ -8,8 +8,11 @@ from __future__ import annotations
 
 from dataclasses import dataclass
 
+from uvt.codes import SECTIONS as SECTION_WORDS
 from uvt.record.script import Call, Item, Poll, Program
 
+# (of ten lines eight are of these)
+SECTIONS = frozenset(SECTION_WORDS)
 CALLBACKS = ("call ", "after ", "closed ")
 
 
@@ -57,6 +60,8 @@ def parted(lines: list[str]) -> list[list[Wait]]:
     """The polls of the steps, those before the first callback, between it and the second one, .. (The handle `wake` isn't the program's.)"""
     found: list[list[Wait]] = [[]]
     for step, line in enumerate(lines, 1):
+        if line in SECTIONS:
+            continue
         if line.startswith("poll "):
             found[-1].append(Wait(timeout_of(line[5:]), step))
         elif line.startswith(CALLBACKS) and not line.startswith("call wake "):
