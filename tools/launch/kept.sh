@@ -178,9 +178,17 @@ build_changed() {
     make "$root/crates/$crate/out/$crate" build "$root" "$kept" $crates || return 70
 }
 
+# Where there are more processors than one, the search is compiled beside the first program, with what these leave, by a call of its own, which
+# has its own lock: who wants the search soon finds it there, or waits for the rest. It ends as it likes; nothing here waits for it.
+also_find() {
+    [ "$crate" = uvt ] && [ ! -d "$root/out/uvt_find" ] && [ "$(nproc 2>/dev/null || echo 1)" -gt 1 ] && command -v setsid >/dev/null || return 0
+    setsid nice "$root/uvt" path find </dev/null >/dev/null 2>&1 9>&- &
+}
+
 # The same for the program before its proofs, which is compiled while the sums are made.
 compile_changed() {
     is_built && return
+    also_find
     begin_lists
     make "$kept/compiled" unproved "$root" "$crate" "$kept/compiled" && rm -f "$kept/compiled"
 }
