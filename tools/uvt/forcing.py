@@ -20,6 +20,7 @@ from dataclasses import dataclass, field
 from pathlib import Path
 
 from uvt.conversation import Conversation, Fault, Script
+from uvt.hangs import read_hang
 from uvt.record.run import Part, from_fresh, from_log, recorder, room_for, sanitizers, why_not, with_hooks
 
 SECTIONS = {"pending", "idle", "prepare", "done", "async", "check", "closing", "timers"}
@@ -32,6 +33,10 @@ SHOWN = 8
 # How long a run may take, in seconds: so often the time of the first run, and as long at the least. Where that didn't end by itself: so long, and
 # so long behind the session's last step.
 TIMES, LEAST, ENDLESS, GRACE = 10, 30, 10, 2
+# How often it is looked whether it is over.
+LOOK = 0.2
+# What the page says of a run that hangs, where it's sure.
+SURE = 2
 
 
 # ---- the session, line by line
@@ -184,9 +189,14 @@ class Ran:
     name: str = ""
     # what is said of its recording
     recorded: str = ""
+    # who waits for whom, where it hangs, and whether nothing could wake it
+    hang: list[str] = field(default_factory=list)
+    hangs: bool = False
 
     def ended(self) -> str:
         """How the program ended, `` where that was well."""
+        if self.hang:
+            return "hangs"
         if self.late:
             return f"didn't end within {self.seconds:.0f} s"
         report = REPORT.search(self.output)
@@ -210,6 +220,7 @@ def environment_of(words: list[str], folder: Path, order: Order) -> dict[str, st
         "UVT_FORCE_SAID": str(folder / "said"),
         "UVT_FORCE_AT": str(folder / "at"),
         "UVT_FORCE_LOOP": str(order.loop),
+        **({} if order.endless else {"UVT_FORCE_HANGS": "1"}),
         # (libuv of 1.45 to 1.48 asks the kernel, and no worker, where it can: what the kernel does has no order here)
         "UV_USE_IO_URING": "0",
         "LD_PRELOAD": " ".join(
@@ -256,10 +267,18 @@ def told(path: Path) -> list[str]:
             lines.append(f"step {rest.partition(' ')[0]}: {rest.partition(' ')[2]}")
         elif word == "STALE":
             lines.append(f"    {rest}")
-        elif word != "DONE":
+        elif word not in ("DONE", "HANGS", "WAITS"):
             lines.append(line)
     more = [f"and {len(departs) - SHOWN} more departures"] if len(departs) > SHOWN else []
     return departs[:SHOWN] + more + lines
+
+
+def hangs(path: Path) -> int:
+    """Does it hang? 1: nothing moves any more, 2: and nothing could."""
+    try:
+        return int(struct.unpack("i", path.read_bytes()[16:20])[0])
+    except (OSError, struct.error):
+        return 0
 
 
 @contextlib.contextmanager
@@ -278,20 +297,20 @@ def end_all(ran: subprocess.Popen[bytes]) -> None:
     ran.wait()
 
 
-def wait_for(ran: subprocess.Popen[bytes], seconds: float, is_over: Callable[[], bool]) -> bool:
-    """Waits for its end. False where it took too long, or all is over but its end."""
+def wait_for(ran: subprocess.Popen[bytes], seconds: float, grace: Callable[[], float | None]) -> bool:
+    """Waits for its end. False where it took too long, or all is over but its end: so long is it waited then."""
     until = time.monotonic() + seconds
     while time.monotonic() < until:
         try:
-            ran.wait(min(0.5, max(0.0, until - time.monotonic())))
+            ran.wait(min(LOOK, max(0.0, until - time.monotonic())))
             return True
         except subprocess.TimeoutExpired:
-            if is_over():
-                until = min(until, time.monotonic() + GRACE)
+            if (more := grace()) is not None:
+                until = min(until, time.monotonic() + more)
     return False
 
 
-def run_at(words: list[str], environment: dict[str, str], folder: Path, seconds: float | None, is_over: Callable[[], bool]) -> tuple[int, int, Ran]:
+def run_at(words: list[str], environment: dict[str, str], folder: Path, seconds: float | None, grace: Callable[[], float | None]) -> tuple[int, int, Ran]:
     """Runs it: at the terminal where no time is given, else with its output kept and its time limited. Answers its process too."""
     began = time.monotonic()
     if seconds is None:
@@ -302,12 +321,22 @@ def run_at(words: list[str], environment: dict[str, str], folder: Path, seconds:
         # (an interrupt at the terminal is for the program; what ends this tool ends the program)
         before = {signal.SIGINT: signal.signal(signal.SIGINT, lambda *_: None)}
         before |= {it: signal.signal(it, lambda *_: ran.terminate()) for it in (signal.SIGTERM, signal.SIGHUP)}
+        late = False
         try:
+            while not late:
+                try:
+                    ran.wait(LOOK)
+                    break
+                except subprocess.TimeoutExpired:
+                    # (who looks on in a debugger wants it alive)
+                    late = Path(words[0]).name != "gdb" and hangs(folder / "at") == SURE
+            if late:
+                ran.kill()
             status = ran.wait()
         finally:
             for number, handler in before.items():
                 signal.signal(number, handler)
-        return ran.pid, status, Ran(status, time.monotonic() - began)
+        return ran.pid, status, Ran(status, time.monotonic() - began, late=late)
     with (folder / "output").open("wb") as output:
         try:
             ran = subprocess.Popen(
@@ -316,7 +345,7 @@ def run_at(words: list[str], environment: dict[str, str], folder: Path, seconds:
         except OSError as fault:
             raise Fault(why_not(words[0], fault)) from None
         try:
-            late = not wait_for(ran, seconds, is_over)
+            late = not wait_for(ran, seconds, grace)
         finally:
             end_all(ran)
     text = (folder / "output").read_text(errors="replace")
@@ -336,10 +365,17 @@ def run(
             # (a shell reads it: a folder may have any name)
             wrapper = " ".join(shlex.quote(f"{a}={b}") for a, b in environment.items())
             started, environment = [words[0], "-ex", f"set exec-wrapper env {wrapper}", *words[1:]], {}
-        pid, status, ran = run_at(started, environment, folder, seconds, lambda: order.endless > 0 and read_page(folder / "at")[3])
+        def grace() -> float | None:
+            if hangs(folder / "at"):
+                return 0
+            return GRACE if order.endless and read_page(folder / "at")[3] else None
+
+        pid, status, ran = run_at(started, environment, folder, seconds, grace)
         ran.told = told(folder / "said")
         ran.steps, ran.departures, ran.done, _ = read_page(folder / "at")
         ran.name = name
+        ran.hangs = ran.late and hangs(folder / "at") == SURE
+        ran.hang = read_hang(folder / "said") if ran.late and hangs(folder / "at") else []
         logs = sorted(folder.glob("log.*.log"), key=lambda it: (not it.name.startswith(f"log.{pid}."), it.stat().st_mtime_ns))
         if logs and (records(ran) if callable(records) else records):
             said = io.StringIO()
@@ -373,5 +409,5 @@ def badly(ran: Ran, first: Ran) -> str:
     ended = ran.ended()
     if ended == first.ended() and not REPORT.search(ran.output):
         return ""
-    more = f", and the first run took {first.seconds:.1f} s" if ran.late else ""
+    more = f", and the first run took {first.seconds:.1f} s" if ran.late and not ran.hang else ""
     return ended + more if ended else ""

@@ -2,7 +2,6 @@
 
 from __future__ import annotations
 
-import contextlib
 import itertools
 import re
 import subprocess
@@ -115,6 +114,8 @@ class Bad:
     bad_again: int = 0
     # where, as a sanitizer has it, `` where it says nothing
     place: str = ""
+    # who waits for whom, where it hangs
+    hang: list[str] = field(default_factory=list)
 
 
 @dataclass
@@ -124,15 +125,18 @@ class Counts:
     never: int = 0
     departed: int = 0
     random: int = 0
+    # runs that took too long, and didn't again
+    once: int = 0
     seconds: float = 0
 
     def text(self) -> str:
         left = self.questions - self.found - self.never
         more = [f"{left} not settled"] if left else []
         departed = [f"{self.departed} departed"] if self.departed else []
+        once = in_brackets([f"{self.once} took too long, and not again"] if self.once else [])
         return (
             f"{counted(self.questions, 'question')}{in_brackets(more)}, {counted(self.found, 'order')} found and forced{in_brackets(departed)},"
-            f" {self.random} at random, {self.seconds:.0f} s"
+            f" {self.random} at random{once}, {self.seconds:.0f} s"
         )
 
 
@@ -206,8 +210,9 @@ class Hunt:
             return how
         return other_output(ran.output, self.first.output) if self.same_output and not ran.late else ""
 
-    def force(self, order: Order, records: bool = True) -> Ran:
-        self.left()
+    def force(self, order: Order, records: bool = True, limited: bool = True) -> Ran:
+        if limited:
+            self.left()
         self.runs += 1
         order.endless = int(1000 * self.first.seconds) if self.first.late else 0
         return run(self.words, order, str(self.folder / f"run{self.runs}"), limit(self.first), records, LOOKED)
@@ -310,7 +315,7 @@ class Hunt:
         ran = self.force(Order(asked, commands, self.loop))
         self.counts.departed += ran.departures > 0 or not (ran.done or ran.ended())
         if how := self.badly(ran):
-            return self.kept(self.bad(ran, how, f"the order of `{text}`", session), ran, Order(asked, commands, self.loop))
+            return self.sure(self.kept(self.bad(ran, how, f"the order of `{text}`", session), ran, Order(asked, commands, self.loop)), ran)
         return self.recorded(ran)
 
     def kept(self, bad: Bad, ran: Ran, order: Order) -> Bad:
@@ -353,18 +358,24 @@ class Hunt:
         if Path(f"{ran.name}.log").exists():
             remake(ran.name)
         if not path.exists():
-            return self.bad(ran, how, by, "")
+            return self.sure(self.bad(ran, how, by, ""), ran)
         script, commands = read_input(path)
-        return self.again(self.bad(ran, how, by, path.read_text()), Order(script, commands, self.loop))
+        return self.sure(self.again(self.bad(ran, how, by, path.read_text()), Order(script, commands, self.loop)), ran)
 
     def bad(self, ran: Ran, how: str, by: str, order: str) -> Bad:
-        return Bad(how, by, order, self.loop, place=place_of(ran.output))
+        return Bad(how, by, order, self.loop, place=place_of(ran.output), hang=ran.hang)
 
     def again(self, bad: Bad, order: Order) -> Bad:
-        """The same order, twice more."""
-        with contextlib.suppress(TimeOver):
-            for _ in range(2):
-                ended = self.badly(self.force(order, False))
-                bad.again += 1
-                bad.bad_again += bool(ended)
+        """The same order, twice more, however much time is left: what is said is said with how often it comes."""
+        for _ in range(2):
+            ended = self.badly(self.force(order, False, limited=False))
+            bad.again += 1
+            bad.bad_again += bool(ended)
+        return bad
+
+    def sure(self, bad: Bad, ran: Ran) -> Bad | None:
+        """A run that only took too long, and didn't again, may have been the machine's matter: that is no finding."""
+        if ran.late and not ran.hangs and not bad.bad_again:
+            self.counts.once += 1
+            return None
         return bad

@@ -55,7 +55,7 @@ def in_order(words: list[str], order: Order, name: str, records: bool) -> int:
     bad = "" if is_gdb else ran.ended()
     shown = [it for it in ran.told if order.stop or bad or not it.startswith("step ")]
     line, good = summary(ran, order, records)
-    said = [f"the program {bad}"] if bad else []
+    said = [f"the program {bad}", *(f"    {it}" for it in ran.hang)] if bad else []
     print("\n".join([*said, *shown, *ran.recorded.splitlines(), line]), flush=True)
     return BADLY if bad else WELL if good else DEPARTS
 

@@ -95,6 +95,7 @@ def how_often(bad: Bad) -> str:
 def of_bad(bad: Bad, name: str, words: list[str]) -> list[str]:
     """How it ended badly, where that order is, and the words to see it."""
     lines = [f"the program {bad.how}{how_often(bad)}"]
+    lines += [f"    {it}" for it in bad.hang]
     lines += [f"    in {bad.place}"] if bad.place else []
     if not bad.order:
         return [*lines, f"    in {bad.by}, of which nothing was recorded"]

@@ -518,6 +518,10 @@ uint64_t force_clock(uint64_t real_ms) {
 
 /* ---- who sleeps: nobody */
 
+void force_slept(uint64_t ns) {
+    crept += ns;
+}
+
 static bool sleeps(uint64_t ns) {
     if (state != FORCING) return false;
     bool is = is_leader();
@@ -571,6 +575,7 @@ static bool poll_in_order(int descriptor, struct epoll_event *events, int room, 
     lock_again(held);
     if (state != FORCING) return false;
     behind_poll = true;
+    come_to_rest();
     /* what has to be handed out, in this order: I/O, the wake (of which after callbacks and those of async handles come), I/O */
     int wanted[WANTED], often[WANTED], count = 0, wake = -1, wake_file = forced->uv->async_io_watcher.fd;
     for (int at = cursor; at < item_count && count < WANTED - 1; at++) {
@@ -716,6 +721,7 @@ static void begin_forcing(struct loop *loop) {
     atexit(at_end);
     pthread_atfork(NULL, NULL, in_child);
     state = FORCING;
+    begin_watch();
 }
 
 /* A process has its first loop: from here on it is forced. (A debugger that starts the program has none, and its children are not forced.) */

@@ -59,6 +59,7 @@ void write_taken(int id);
 /* How far it has come, for who looks from outside. */
 struct page {
     int steps, departures, done, free; /* of the session; of these; all of it has come; nothing is forced any more */
+    int hangs; /* 1: nothing moves any more; 2: and nothing could */
 };
 extern struct page *page;
 extern int said; /* the file */
@@ -70,6 +71,8 @@ void depart(const char *format, ...);
 uint64_t real_ns(clockid_t id);
 uint64_t virtual_ns(void);
 void take_nap(void);
+/* So much time has gone by for this thread alone. (force.c) */
+void force_slept(uint64_t ns);
 void stop_here(void);
 /* Nothing is forced from here on. */
 void set_free(const char *why);
@@ -77,7 +80,7 @@ void set_free(const char *why);
 /* ---- gates (force_gates.c) */
 
 /* In naps: how long a gate is closed; however busy the machine is; where the leader waits; and where something else can be tried first. */
-enum { PATIENCE = 300, AT_MOST = 1000, BLOCKED = 300, SOON = 20 };
+enum { PATIENCE = 300, AT_MOST = 1000, BLOCKED = 300, SOON = 20, QUICKLY = 10 };
 extern pthread_mutex_t gate;
 extern pthread_cond_t changed;
 extern long progress; /* grows with each step: a gate that waits long without it opens */
@@ -90,6 +93,7 @@ bool is_leader(void);
 void wait_a_little(void);
 char state_of(int thread);
 bool somebody_runs(void);
+void come_to_rest(void);
 void come_to_gate(void);
 void leave_gate(void);
 
@@ -107,7 +111,8 @@ void leave_gate(void);
     })
 
 /* (with the gate's mutex) another thread waits, as long as the leader may come to it: where the program's own code has it wait for
- * something (a semaphore, a lock, the end of a thread), nothing that is held at a gate would ever come. False then. */
+ * something (a semaphore, a lock, the end of a thread), nothing that is held at a gate would ever come. False then, the sooner where it waits with
+ * no time limit. */
 #define WAIT_FOR_LEADER(CONDITION)                                          \
     ({                                                                      \
         long seen = progress;                                               \
@@ -116,7 +121,7 @@ void leave_gate(void);
         while (state == FORCING && !(CONDITION) && waited < BLOCKED) {      \
             wait_a_little();                                                \
             if (seen != progress || leads || state_of(leader_id) != 'S') seen = progress, waited = 0; \
-            else waited++;                                                  \
+            else waited += sleeps_for_ever(leader_id) ? QUICKLY : 1; \
         }                                                                   \
         leave_gate();                                                       \
         waited < BLOCKED;                                                   \
@@ -129,7 +134,7 @@ enum place { STARTING, AT_TAKE, TAKING, TAKEN, RUNNING, AT_FINISH, FINISHING, AS
 struct worker {
     enum place place;
     long number; /* that of the session, while it has a request */
-    int name;
+    int name, thread;
     bool may_take, may_run, may_finish;
 };
 
@@ -158,8 +163,18 @@ struct sender *sender_of(int name);
 extern bool at_random;
 void begin_random(uint64_t number, int jumps, uint64_t until);
 void maybe_choose(void);
+/* How many requests no worker has yet. (At random; else nobody knows: -1.) */
+int how_many_wait(void);
 void random_event(char type, const char *words);
 bool poll_at_random(int descriptor, struct epoll_event *events, int room, int timeout, int *got);
+
+/* ---- a run that hangs (force_hangs.c) */
+
+extern int watch_id; /* the thread that looks on */
+extern volatile bool idle_poll; /* the loop waits with no time limit, and nothing that is known could come */
+void begin_watch(void);
+/* Does it sleep until somebody wakes it, with no time limit? */
+bool sleeps_for_ever(int thread);
 
 #pragma GCC visibility pop
 

@@ -119,12 +119,33 @@ bool somebody_runs(void) {
     for (long got; !found && (got = syscall(SYS_getdents64, folder, room, sizeof room)) > 0;)
         for (long at = 0; !found && at < got; at += ((struct dirent64 *)(room + at))->d_reclen) {
             int thread = atoi(((struct dirent64 *)(room + at))->d_name);
-            if (thread <= 0 || thread == own_id() || is_at_gate(thread)) continue;
+            if (thread <= 0 || thread == own_id() || thread == watch_id || is_at_gate(thread)) continue;
             char state = state_of(thread);
             found = state == 'R' || state == 'D';
         }
     close(folder);
     return found;
+}
+
+/* Threads of the program come to their gates, or to what they wait for: it isn't the machine's matter how far they are where the loop goes on. One
+ * that runs on and on is not waited for again and again. */
+void come_to_rest(void) {
+    enum { NAPS = 20, IN_VAIN = 10 };
+    static int in_vain;
+    struct timespec time = {0, 500000};
+    take_nap();
+    for (int naps = 0; in_vain < IN_VAIN; naps++) {
+        pthread_mutex_lock(&gate);
+        bool runs = somebody_runs();
+        pthread_mutex_unlock(&gate);
+        if (!runs) {
+            in_vain = 0;
+            return;
+        }
+        if (naps == NAPS) in_vain++;
+        if (naps == NAPS) return;
+        syscall(SYS_nanosleep, &time, NULL);
+    }
 }
 
 void set_free(const char *why) {
@@ -172,7 +193,7 @@ static void begin_worker(void *word) {
     struct start start = *(struct start *)word;
     free(word);
     pthread_mutex_lock(&gate);
-    if (pool_count < 1024) me = &pool[pool_count++];
+    if (pool_count < 1024) me = &pool[pool_count++], me->thread = own_id();
     pthread_mutex_unlock(&gate);
     start.entry(start.word);
 }

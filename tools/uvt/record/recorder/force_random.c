@@ -7,7 +7,7 @@
 #include <sys/syscall.h>
 #include <unistd.h>
 
-enum { MAY = 3, WAITING = 4096 };
+enum { MAY = 3, WAITING = 4096, IDLE = 20, ASLEEP_SO_LONG = 50 };
 bool at_random;
 static uint64_t seed;
 static int stall; /* the clock may jump so far at once, in ms */
@@ -18,6 +18,10 @@ static int waiting_count;
 static unsigned up_to(unsigned count) {
     seed ^= seed << 13, seed ^= seed >> 7, seed ^= seed << 17;
     return (unsigned)((seed >> 11) % count);
+}
+
+int how_many_wait(void) {
+    return at_random ? waiting_count : -1;
 }
 
 static void no_more_waiting(int id) {
@@ -103,7 +107,11 @@ static void come(const struct choice *choice) {
         choice->worker->may_run = choice->worker->may_finish = true;
         waits_for = choice->worker;
         pthread_cond_broadcast(&changed);
+        /* (it may wait for something in its own work: then it hands it in when that has come) */
+        int whole = patience;
+        patience = ASLEEP_SO_LONG;
         WAIT(choice->worker->place == AT_TAKE);
+        patience = whole;
         waits_for = NULL;
     } else if (choice->what == A_HELD) {
         pthread_mutex_unlock(&gate);
@@ -160,9 +168,10 @@ bool poll_at_random(int descriptor, struct epoll_event *events, int room, int ti
     if (state != FORCING) return false;
     maybe_choose();
     behind_poll = true;
-    take_nap(); /* (threads of the program come to their gates) */
+    come_to_rest();
     for (int idle = 0;;) {
         int found = (int)syscall(SYS_epoll_pwait, descriptor, events, room, 0, NULL, 8);
+        idle_poll = idle > IDLE && found == 0;
         if (found > 0 || timeout == 0 || (timeout > 0 && virtual_ns() / 1000000 >= until)) {
             for (int at = found - 1; at > 0; at--) {
                 int other = (int)up_to((unsigned)at + 1);

@@ -1,0 +1,115 @@
+/* Who waits until a time: that is by the clock of the order, which stands, or is far ahead of the real one. So the wait takes what is left until then,
+ * and where it runs out, that time has gone by for the thread. */
+#define _GNU_SOURCE
+#include "force.h"
+
+#include <dlfcn.h>
+#include <errno.h>
+#include <semaphore.h>
+#include <sys/time.h>
+
+enum { CIVIL = 1000000000 }; /* in seconds: no machine is up for so long */
+
+static uint64_t in_ns(const struct timespec *time) {
+    return (uint64_t)time->tv_sec * 1000000000 + (uint64_t)time->tv_nsec;
+}
+
+static uint64_t own_now(clockid_t id) {
+    struct timespec now;
+    clock_gettime(id, &now);
+    return in_ns(&now);
+}
+
+static struct timespec real_until(clockid_t id, const struct timespec *until) {
+    uint64_t now = own_now(id), wanted = in_ns(until), real = real_ns(id) + (wanted > now ? wanted - now : 0);
+    return (struct timespec){(time_t)(real / 1000000000), (long)(real % 1000000000)};
+}
+
+/* (a condition says nowhere which clock it goes by) */
+static clockid_t clock_of(const struct timespec *until) {
+    return until->tv_sec > CIVIL ? CLOCK_REALTIME : CLOCK_MONOTONIC;
+}
+
+static bool is_own(const struct timespec *until) {
+    return until && state != NOT_FORCING && until->tv_sec >= 0 && until->tv_nsec >= 0 && until->tv_nsec < 1000000000;
+}
+
+static int through(int answer, bool late, clockid_t id, const struct timespec *until) {
+    uint64_t now = late && state == FORCING ? own_now(id) : 0;
+    if (now && now < in_ns(until)) force_slept(in_ns(until) - now);
+    return answer;
+}
+
+static void *condition_wait(void) {
+    static void *kept;
+    /* (without its version an older one may be found) */
+    if (!kept) kept = dlvsym(RTLD_NEXT, "pthread_cond_timedwait", "GLIBC_2.3.2");
+    return kept ? kept : real("pthread_cond_timedwait", &kept);
+}
+
+int pthread_cond_timedwait(pthread_cond_t *condition, pthread_mutex_t *mutex, const struct timespec *until) {
+    int (*wait)(pthread_cond_t *, pthread_mutex_t *, const struct timespec *) = (__typeof__(wait))condition_wait();
+    if (!is_own(until) || mutex == &gate) return wait(condition, mutex, until);
+    clockid_t id = clock_of(until);
+    struct timespec moved_to = real_until(id, until);
+    int answer = wait(condition, mutex, &moved_to);
+    return through(answer, answer == ETIMEDOUT, id, until);
+}
+
+int pthread_cond_clockwait(pthread_cond_t *condition, pthread_mutex_t *mutex, clockid_t id, const struct timespec *until) {
+    static void *kept;
+    int (*wait)(pthread_cond_t *, pthread_mutex_t *, clockid_t, const struct timespec *) = (__typeof__(wait))real("pthread_cond_clockwait", &kept);
+    if (!is_own(until)) return wait(condition, mutex, id, until);
+    struct timespec moved_to = real_until(id, until);
+    int answer = wait(condition, mutex, id, &moved_to);
+    return through(answer, answer == ETIMEDOUT, id, until);
+}
+
+int pthread_mutex_timedlock(pthread_mutex_t *mutex, const struct timespec *until) {
+    static void *kept;
+    int (*wait)(pthread_mutex_t *, const struct timespec *) = (__typeof__(wait))real("pthread_mutex_timedlock", &kept);
+    if (!is_own(until)) return wait(mutex, until);
+    struct timespec moved_to = real_until(CLOCK_REALTIME, until);
+    int answer = wait(mutex, &moved_to);
+    return through(answer, answer == ETIMEDOUT, CLOCK_REALTIME, until);
+}
+
+int sem_timedwait(sem_t *semaphore, const struct timespec *until) {
+    static void *kept;
+    int (*wait)(sem_t *, const struct timespec *) = (__typeof__(wait))real("sem_timedwait", &kept);
+    if (!is_own(until)) return wait(semaphore, until);
+    struct timespec moved_to = real_until(CLOCK_REALTIME, until);
+    int answer = wait(semaphore, &moved_to), why = errno;
+    through(answer, answer < 0 && why == ETIMEDOUT, CLOCK_REALTIME, until);
+    errno = why;
+    return answer;
+}
+
+int sem_clockwait(sem_t *semaphore, clockid_t id, const struct timespec *until) {
+    static void *kept;
+    int (*wait)(sem_t *, clockid_t, const struct timespec *) = (__typeof__(wait))real("sem_clockwait", &kept);
+    if (!is_own(until)) return wait(semaphore, id, until);
+    struct timespec moved_to = real_until(id, until);
+    int answer = wait(semaphore, id, &moved_to), why = errno;
+    through(answer, answer < 0 && why == ETIMEDOUT, id, until);
+    errno = why;
+    return answer;
+}
+
+/* ---- other looks at the clock, by which a time to wait until is made */
+
+int gettimeofday(struct timeval *restrict time, void *restrict zone) {
+    static void *kept;
+    if (state == NOT_FORCING) return ((int (*)(struct timeval *restrict, void *restrict))real("gettimeofday", &kept))(time, zone);
+    uint64_t now = own_now(CLOCK_REALTIME);
+    *time = (struct timeval){(time_t)(now / 1000000000), (suseconds_t)(now / 1000 % 1000000)};
+    return 0;
+}
+
+time_t time(time_t *kept_at) {
+    static void *kept;
+    if (state == NOT_FORCING) return ((time_t (*)(time_t *))real("time", &kept))(kept_at);
+    time_t now = (time_t)(own_now(CLOCK_REALTIME) / 1000000000);
+    if (kept_at) *kept_at = now;
+    return now;
+}
