@@ -20,7 +20,7 @@ from dataclasses import dataclass, field
 from pathlib import Path
 
 from uvt.conversation import Conversation, Fault, Script
-from uvt.hangs import read_hang
+from uvt.hangs import place_in, read_hang
 from uvt.record.run import Part, from_fresh, from_log, recorder, room_for, sanitizers, why_not, with_hooks
 
 SECTIONS = {"pending", "idle", "prepare", "done", "async", "check", "closing", "timers"}
@@ -192,6 +192,7 @@ class Ran:
     # who waits for whom, where it hangs, and whether nothing could wake it
     hang: list[str] = field(default_factory=list)
     hangs: bool = False
+    hangs_at: str = ""
 
     def ended(self) -> str:
         """How the program ended, `` where that was well."""
@@ -310,7 +311,9 @@ def wait_for(ran: subprocess.Popen[bytes], seconds: float, grace: Callable[[], f
     return False
 
 
-def run_at(words: list[str], environment: dict[str, str], folder: Path, seconds: float | None, grace: Callable[[], float | None]) -> tuple[int, int, Ran]:
+def run_at(
+    words: list[str], environment: dict[str, str], folder: Path, seconds: float | None, grace: Callable[[], float | None]
+) -> tuple[int, int, Ran]:
     """Runs it: at the terminal where no time is given, else with its output kept and its time limited. Answers its process too."""
     began = time.monotonic()
     if seconds is None:
@@ -365,6 +368,7 @@ def run(
             # (a shell reads it: a folder may have any name)
             wrapper = " ".join(shlex.quote(f"{a}={b}") for a, b in environment.items())
             started, environment = [words[0], "-ex", f"set exec-wrapper env {wrapper}", *words[1:]], {}
+
         def grace() -> float | None:
             if hangs(folder / "at"):
                 return 0
@@ -375,7 +379,8 @@ def run(
         ran.steps, ran.departures, ran.done, _ = read_page(folder / "at")
         ran.name = name
         ran.hangs = ran.late and hangs(folder / "at") == SURE
-        ran.hang = read_hang(folder / "said") if ran.late and hangs(folder / "at") else []
+        if ran.late and hangs(folder / "at"):
+            ran.hang, ran.hangs_at = read_hang(folder / "said"), place_in(folder / "said")
         logs = sorted(folder.glob("log.*.log"), key=lambda it: (not it.name.startswith(f"log.{pid}."), it.stat().st_mtime_ns))
         if logs and (records(ran) if callable(records) else records):
             said = io.StringIO()

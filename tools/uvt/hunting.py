@@ -18,6 +18,8 @@ from uvt.record.run import Part
 
 BODY = re.compile(r"(on|after|closed) (\S+) (?:@\d+ )?(\S+)(?: (\S+))?")
 FRAME = re.compile(r"^ +#\d+ 0x[0-9a-f]+ in (\S+) (\S+):(\d+)", re.MULTILINE)
+# Sources of the sanitizer's own, and of the C library, as distributions compile it.
+OTHERS = re.compile(r"\.\.|\./(?:nptl|libio|stdlib|csu|string|elf|posix|io|misc|socket|inet|resolv|time|malloc|debug|nss|signal|sysdeps)/")
 NAMELESS = {"run", "stoploop", "updatetime", "closeloop"}
 # How long the first run and a search may take, in seconds; how long a stall is where no callback of the recording took longer, in ms; and how many
 # orders at random come before the questions, and behind them.
@@ -116,6 +118,8 @@ class Bad:
     place: str = ""
     # who waits for whom, where it hangs
     hang: list[str] = field(default_factory=list)
+    # the same place for a machine: PATH:LINE
+    path: str = ""
 
 
 @dataclass
@@ -148,10 +152,10 @@ def in_brackets(words: list[str]) -> str:
     return f" ({', '.join(words)})" if words else ""
 
 
-def place_of(output: str) -> str:
-    """The innermost function of a sanitizer's report whose source is known and isn't the sanitizer's own."""
-    found = next((it for it in FRAME.finditer(output) if not it[2].startswith("..")), None)
-    return f"{found[1]} ({Path(found[2]).name}:{found[3]})" if found else ""
+def place_of(output: str) -> tuple[str, str]:
+    """The innermost function of a sanitizer's report whose source is known and is neither the sanitizer's own nor the C library's; and PATH:LINE."""
+    found = next((it for it in FRAME.finditer(output) if not OTHERS.match(it[2])), None)
+    return (f"{found[1]} ({Path(found[2]).name}:{found[3]})", f"{found[2]}:{found[3]}") if found else ("", "")
 
 
 def other_output(output: str, first: str) -> str:
@@ -179,7 +183,11 @@ class Hunt:
         part: tuple[int, int],
         tell: Callable[[str], None],
         same_output: bool = False,
+        seed: int = 1,
     ) -> None:
+        self.seeds = (it for it in itertools.count(seed) if self.is_mine(f"seed {it}"))
+        # how long questions took that orders at random haven't had yet, in seconds
+        self.owed = 0.0
         self.same_output = same_output
         self.words, self.search, self.folder, self.part, self.tell = words, search, folder, part, tell
         self.began = time.monotonic()
@@ -271,10 +279,9 @@ class Hunt:
             return begun
         self.learn(begun)
         open = [begun]
-        seeds = itertools.count(1)
         try:
             for count in itertools.chain([BEFORE], itertools.repeat(BEHIND)):
-                for seed in itertools.islice((it for it in seeds if self.is_mine(f"seed {it}")), count):
+                for seed in itertools.islice(self.seeds, count):
                     if isinstance(found := self.at_random(seed), Bad):
                         return found
                     if found and self.learn(found):
@@ -297,12 +304,22 @@ class Hunt:
                 continue
             self.asked.add(key)
             self.tell(key[1])
+            before = time.monotonic()
             found = self.ask(script, [*stall, question], key[1])
-            if isinstance(found, Bad):
-                return found
-            if found and self.learn(found):
-                open.append(found)
+            self.owed += time.monotonic() - before
+            for it in itertools.chain([found], self.share()):
+                if isinstance(it, Bad):
+                    return it
+                if it and self.learn(it):
+                    open.append(it)
         return None
+
+    def share(self) -> Iterator[Bad | Recorded | None]:
+        """Orders at random, for as long as questions took: of a big program they are soon asked in vain."""
+        while self.owed > 0:
+            before = time.monotonic()
+            yield self.at_random(next(self.seeds))
+            self.owed -= time.monotonic() - before
 
     def ask(self, script: Recorded, question: list[str], text: str) -> Bad | Recorded | None:
         """Asks, and forces what is found: how that ended badly, or what was recorded of it."""
@@ -363,7 +380,8 @@ class Hunt:
         return self.sure(self.again(self.bad(ran, how, by, path.read_text()), Order(script, commands, self.loop)), ran)
 
     def bad(self, ran: Ran, how: str, by: str, order: str) -> Bad:
-        return Bad(how, by, order, self.loop, place=place_of(ran.output), hang=ran.hang)
+        place, path = place_of(ran.output)
+        return Bad(how, by, order, self.loop, place=place, hang=ran.hang, path=path or ran.hangs_at)
 
     def again(self, bad: Bad, order: Order) -> Bad:
         """The same order, twice more, however much time is left: what is said is said with how often it comes."""

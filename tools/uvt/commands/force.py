@@ -1,7 +1,8 @@
 """Runs a real program in the order of a session: what comes from outside comes where the session has it.
 
-  ./uvt force SESSION [-o NAME] [--stop] [--early] [--loop N] [--] PROGRAM [ARG..]
-  ./uvt force --random N [--stall MS] [--seed S] [-o NAME] [--] PROGRAM [ARG..]
+  ./uvt force [-o NAME] [--stop] [--early] [--loop N] SESSION [--] PROGRAM [ARG..]
+  ./uvt force --test [--limit S] [--early] [--loop N] SESSION [--] PROGRAM [ARG..]
+  ./uvt force [-o NAME] [--stall MS] [--seed S] --random N [--] PROGRAM [ARG..]
 
 SESSION is what find or hunt has found, what shell has saved, or a recording. The program runs unmodified: its clock moves as the session says,
 the pool's workers take and hand in their requests where it says, threads send where it says. So what the session shows happens in the
@@ -14,6 +15,9 @@ PROGRAM may be gdb (gdb --args PROGRAM ..) or valgrind with the program behind i
 --random N: without a session, up to N runs, each in an order at random, until one ends badly: by a signal, with a sanitizer's report, with
 another status than a run that nobody forces, or never. Its order is NAME.rec, which `./uvt force NAME.rec PROGRAM` forces again. --stall MS: now
 and then the clock jumps by up to MS ms. --seed S: the first order's number.
+
+--test: as a test of CI, without a recording. Status 0: all steps came, and the program ended well. 3: it ended badly, or hangs, or took more than
+--limit S seconds (60). 77, which automake, meson and ctest take for skipped: it departs from the order, which says nothing of it any more.
 
 Status 0: all steps of the session have come, with no departure, and the program ended well (at random: each run did). 1: it departs, and ended
 well. 2: it could not be done. 3: the program ended badly, whether or not it departs: by a signal, or with a status that isn't 0. Under gdb the
@@ -29,8 +33,12 @@ from pathlib import Path
 from launch.tool import run_tool
 from uvt.conversation import INSTALLED, read_input
 from uvt.forcing import Order, Ran, agreement, badly, limit, recording_of, run
+from uvt.hunting import place_of
+from uvt.notes import harmless
 
 WELL, DEPARTS, FAULT, BADLY = 0, 1, 2, 3
+# A test that says nothing, as automake, meson and ctest (SKIP_RETURN_CODE 77) have it; and how long one may take, in seconds.
+SKIPPED, TEST = 77, 60
 # How long the run that nobody forces may take, in seconds, and how much of a program's output is shown, in lines.
 FIRST, LINES = 10, 12
 FORCE = "uvt force" if INSTALLED else "./uvt force"
@@ -58,6 +66,24 @@ def in_order(words: list[str], order: Order, name: str, records: bool) -> int:
     said = [f"the program {bad}", *(f"    {it}" for it in ran.hang)] if bad else []
     print("\n".join([*said, *shown, *ran.recorded.splitlines(), line]), flush=True)
     return BADLY if bad else WELL if good else DEPARTS
+
+
+def tested(words: list[str], order: Order, session: str, seconds: float) -> int:
+    """An order that was bad, as a test: it fails where the program ends badly in it again, and says nothing where the program departs from it."""
+    ran = run(words, order, f"{Path(words[0]).name}.forced", seconds, False)
+    print(ran.output, end="" if ran.output.endswith("\n") else "\n" if ran.output else "")
+    place = place_of(ran.output)[0]
+    length = len(order.lines)
+    if bad := ran.ended():
+        lines = [f"FAIL {session}: the program {bad}{f', in {place}' if place else ''}", *(f"    {it}" for it in ran.hang)]
+        status = BADLY
+    elif ran.done and not ran.departures:
+        lines, status = [f"PASS {session}: all {length} steps, and the program ended well"], WELL
+    else:
+        why = next((it for it in ran.told if it.startswith(("departs", "ends"))), f"{ran.steps} of {length} steps came")
+        lines, status = [f"SKIP {session}: the program isn't that of the order any more, which says nothing now: hunt again", f"    {why}"], SKIPPED
+    print(harmless("\n".join(lines)), flush=True)
+    return status
 
 
 def busiest(words: list[str], folder: Path) -> tuple[Ran, int]:
@@ -92,6 +118,8 @@ def main() -> int:
     reader.add_argument("--stop", action="store_true", help="SIGTRAP at the last step")
     reader.add_argument("--early", action="store_true", help="work begins where it is taken")
     reader.add_argument("--quiet", action="store_true", help="no recording")
+    reader.add_argument("--test", action="store_true", help="as a test: 0 it passes, 3 it fails, 77 it says nothing any more")
+    reader.add_argument("--limit", type=float, default=TEST, metavar="S", help="as a test: how long it may take, in seconds")
     reader.add_argument("--random", type=int, metavar="N", help="no session: up to N orders at random")
     reader.add_argument("--loop", type=int, metavar="N", help="which loop of the program (a recording says so itself; else 0, the first)")
     reader.add_argument("--stall", type=int, default=0, metavar="MS", help="at random: jumps of the clock")
@@ -110,6 +138,8 @@ def main() -> int:
             return at_random(words, asked.random, asked.stall, asked.seed, asked.name or f"{Path(words[0]).name}.random", asked.loop)
         script, commands = read_input(Path(asked.session))
         loop = script.notes.loop if asked.loop is None else asked.loop
+        if asked.test:
+            return tested(words, Order(script, commands, loop, early=asked.early), asked.session, asked.limit)
         return in_order(words, Order(script, commands, loop, asked.stop, asked.early), asked.name or f"{Path(words[0]).name}.forced", not asked.quiet)
 
     return run_tool("uvt-force", force, failed=FAULT, what="the run")

@@ -1,6 +1,6 @@
 """Hunts for an order in which a program on libuv ends badly: it records it, asks find, forces what was found, and learns from that.
 
-  ./uvt hunt [-o NAME] [--for TIME] [--part K/N] [--same-output] [--] PROGRAM [ARG..]
+  ./uvt hunt [-o NAME] [--for TIME] [--part K/N] [--seed S] [--report FILE] [--same-output] [--] PROGRAM [ARG..]
   ./uvt hunt --join FILE..
 
 A run ends badly by a signal, with a report of AddressSanitizer (build the program with -fsanitize=address), with another status than the first
@@ -15,6 +15,9 @@ Where a run ends badly, its order is NAME.uvt, and the same order is forced twic
 
 --part K/N: the K-th of N parts, each of which asks other questions, and has other orders at random. Its report is NAME.K-of-N.report. --join: what
 the parts have found, of their reports.
+
+--seed S: the first order at random has this number, in place of 1. --report FILE: for a machine, as often as wanted: SARIF 2.1.0 where FILE ends with
+.sarif, JUnit's XML where it ends with .xml, else JSON.
 
 Status 0: each run ended well; that doesn't say that there is no such order. 3: one ended badly. 2: it could not be done. 130: it was interrupted.
 """
@@ -41,6 +44,7 @@ from uvt.conversation import INSTALLED, ROOT, Fault, built_program
 from uvt.hunting import Bad, Counts, Hunt, counted
 from uvt.notes import harmless
 from uvt.record.run import recorder, write
+from uvt.reports import junit, sarif
 
 WELL, FAULT, BADLY, INTERRUPTED = 0, 2, 3, 130
 FORCE = "uvt force" if INSTALLED else "./uvt force"
@@ -112,16 +116,26 @@ def of_bad(bad: Bad, name: str, words: list[str]) -> list[str]:
     ]
 
 
-def say(counts: Counts, bad: Bad | None, name: str, words: list[str], part: str, fault: str) -> int:
-    if bad:
-        lines = of_bad(bad, name, words)
-    else:
-        lines = ["each run ended well"]
+def say(counts: Counts, bad: Bad | None, lines: list[str], part: str, fault: str) -> int:
+    lines = [*lines]
     lines.append(f"    {counts.text()}{part}")
     print(harmless("\n".join(lines)), flush=True)
     if fault:
         print(f"uvt hunt: a question could not be asked: {harmless(fault)}", file=sys.stderr)
     return BADLY if bad else WELL
+
+
+# ---- reports
+
+
+def write_machine(file: str, hunt: Hunt, bad: Bad | None, lines: list[str], name: str, status: int, ended: str) -> None:
+    """By the file's name: SARIF, JUnit's XML, or what --join reads."""
+    if file.endswith(".sarif"):
+        write(Path(file), sarif(hunt.words, bad, lines, f"{name}.uvt", status).encode())
+    elif file.endswith(".xml"):
+        write(Path(file), junit(hunt.words, bad, lines, hunt.counts.seconds, hunt.counts.text()).encode("utf-8", "replace"))
+    else:
+        write_report(Path(file), hunt, bad, ended)
 
 
 # ---- parts
@@ -202,10 +216,10 @@ def part_of(text: str) -> tuple[int, int]:
     return int(found[1]), int(found[2])
 
 
-def hunted(words: list[str], name: str, seconds: float | None, part: tuple[int, int], same_output: bool) -> int:
+def hunted(words: list[str], name: str, seconds: float | None, part: tuple[int, int], same_output: bool, seed: int, reports: list[str]) -> int:
     search, teller = prepare(), Teller()
     folder = Path(tempfile.mkdtemp(prefix="uvt-hunt."))
-    hunt = Hunt(words, search, folder, seconds, part, teller.tell, same_output)
+    hunt = Hunt(words, search, folder, seconds, part, teller.tell, same_output, seed)
     teller.counts = hunt.counts
     bad, ended = None, ""
     for it in (signal.SIGTERM, signal.SIGHUP):
@@ -222,7 +236,10 @@ def hunted(words: list[str], name: str, seconds: float | None, part: tuple[int, 
     if part[1] > 1:
         write_report(Path(f"{name}.{part[0]}-of-{part[1]}.report"), hunt, bad, ended)
         name = f"{name}.{part[0]}-of-{part[1]}"
-    status = say(hunt.counts, bad, name, words, of_parts, hunt.fault)
+    lines = of_bad(bad, name, words) if bad else ["each run ended well"]
+    status = say(hunt.counts, bad, lines, of_parts, hunt.fault)
+    for it in reports:
+        write_machine(it, hunt, bad, lines, name, INTERRUPTED if ended else status, ended)
     if ended:
         print("it was interrupted, and not at its end", flush=True)
     return INTERRUPTED if ended else status
@@ -234,6 +251,8 @@ def main() -> int:
     reader.add_argument("--for", dest="seconds", type=seconds_of, metavar="TIME", help="how long: 60s, 10m, 2h")
     reader.add_argument("--part", type=part_of, default=(1, 1), metavar="K/N", help="this part of the questions and seeds")
     reader.add_argument("--same-output", action="store_true", help="a run that says something else than the first one ends badly, too")
+    reader.add_argument("--seed", type=int, default=1, metavar="S", help="the first order's number: another night, other orders")
+    reader.add_argument("--report", action="append", default=[], metavar="FILE", help="FILE.sarif, FILE.xml (JUnit), or JSON")
     reader.add_argument("--join", action="store_true", help="the reports of the parts")
     reader.add_argument("program", nargs=argparse.REMAINDER)
     asked = reader.parse_args()
@@ -245,7 +264,8 @@ def main() -> int:
         try:
             if asked.join:
                 return join(words, asked.name)
-            return hunted(words, asked.name or f"{Path(words[0]).name}.hunt", asked.seconds, asked.part, asked.same_output)
+            name = asked.name or f"{Path(words[0]).name}.hunt"
+            return hunted(words, name, asked.seconds, asked.part, asked.same_output, asked.seed, asked.report)
         except ValueError as fault:
             raise Fault(str(fault)) from None
 

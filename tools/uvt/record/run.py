@@ -455,7 +455,11 @@ def compile_recorder(compiler: str, built: Path, forcing: bool) -> None:
     if ran.returncode != 0:
         part.unlink(missing_ok=True)
         missing = "uv.h" in ran.stderr
-        why = "libuv's header uv.h isn't there (Debian: libuv1-dev)" if missing else next((it for it in ran.stderr.split("\n") if "error:" in it), ran.stderr.strip().split("\n")[0])
+        why = (
+            "libuv's header uv.h isn't there (Debian: libuv1-dev)"
+            if missing
+            else next((it for it in ran.stderr.split("\n") if "error:" in it), ran.stderr.strip().split("\n")[0])
+        )
         raise Fault(f"the recorder can't be compiled: {why}")
     part.replace(built)
 

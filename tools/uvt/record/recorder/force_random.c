@@ -7,7 +7,7 @@
 #include <sys/syscall.h>
 #include <unistd.h>
 
-enum { MAY = 3, WAITING = 4096, IDLE = 20, ASLEEP_SO_LONG = 50 };
+enum { WAITING = 4096, IDLE = 20, ASLEEP_SO_LONG = 50 };
 bool at_random;
 static uint64_t seed;
 static int stall; /* the clock may jump so far at once, in ms */
@@ -37,15 +37,19 @@ static void no_more_waiting(int id) {
  * Where each choice is by lot, who is to be last of a chain of five is so once in hundreds of runs. So in three of four orders each request has
  * a rank by lot, and so has each thread that sends to a handle, and the clock: the highest one that can go goes. The first
  * request that is asked for in the after callback of another one has its rank, mostly: such a chain goes as a whole (PCT, and PCTCP, which has it
- * for chains). Now and then who has gone gets another rank. */
+ * for chains). Now and then who could go first gets the lowest one.
+ *
+ * No way of choosing is good for all: so how it is chosen is by lot, too, once for each order. */
 
-enum { RANKS = 4096, CHANGES = 32 };
-static bool ranked;
+enum { RANKS = 4096 };
+static bool ranked, eager; /* eager: a worker that can take a request does, so that those behind it can be taken */
+static unsigned changes; /* one in so many choices changes a rank, 0: none */
+static unsigned rarely; /* something comes at one in so many places */
 static unsigned rank_of[RANKS], clock_rank, chain_rank;
 static int of_worker[1024]; /* the request that it has */
 
 static unsigned new_rank(void) {
-    return 1 + up_to(1u << 20);
+    return 16 + up_to(1u << 20);
 }
 
 static unsigned *rank_at(int id) {
@@ -58,7 +62,12 @@ void begin_random(uint64_t number, int jumps, uint64_t until) {
     seed = (number + 1) * 0x9E3779B97F4A7C15u;
     stall = jumps;
     last = until;
-    ranked = number % 4 != 0;
+    static const unsigned CHANGES[] = {0, 8, 32}, PLACES[] = {2, 3, 3, 8};
+    up_to(2);
+    ranked = up_to(2) == 0;
+    eager = up_to(2) == 0;
+    changes = CHANGES[up_to(3)];
+    rarely = PLACES[up_to(4)];
     clock_rank = new_rank();
     at_random = true;
 }
@@ -130,11 +139,13 @@ static const struct choice *one_of(const struct choice *all, int count) {
     if (!count) return NULL;
     const struct choice *found = &all[up_to((unsigned)count)];
     if (!ranked) return found;
-    for (int at = 0; at < count; at++)
-        /* (a request that a worker only takes runs nothing: that comes first, so that those behind it can be taken) */
-        if (all[at].what == A_TAKE) return &all[at];
-        else if (*all[at].rank > *found->rank) found = &all[at];
-    if (up_to(CHANGES) == 0) *found->rank = new_rank();
+    for (int tries = 0; tries < 2; tries++) {
+        for (int at = 0; at < count; at++)
+            if (all[at].what == A_TAKE && eager) return &all[at];
+            else if (*all[at].rank > *found->rank) found = &all[at];
+        if (!changes || up_to(changes) != 0) break;
+        *found->rank = 1 + up_to(15);
+    }
     return found;
 }
 
@@ -155,7 +166,7 @@ void maybe_choose(void) {
     int held = unlock_all();
     leads++;
     if (stall && up_to(8) == 0) moved += up_to((unsigned)stall + 1);
-    while (up_to(MAY) == 0 && choose()) continue;
+    while (up_to(rarely) == 0 && choose()) continue;
     leads--;
     lock_again(held);
 }
