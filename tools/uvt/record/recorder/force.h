@@ -161,7 +161,11 @@ struct sender *sender_of(int name);
 /* ---- an order at random (force_random.c) */
 
 extern bool at_random;
+extern bool goes_on_at_random; /* behind the session */
 void begin_random(uint64_t number, int jumps, uint64_t until);
+/* What an order at random has to know of what was before. */
+void note_op(const char *words);
+void note_take(const struct worker *worker, int id);
 void maybe_choose(void);
 /* How many requests no worker has yet. (At random; else nobody knows: -1.) */
 int how_many_wait(void);

@@ -8,7 +8,7 @@
 #include <unistd.h>
 
 enum { WAITING = 4096, IDLE = 20, ASLEEP_SO_LONG = 50 };
-bool at_random;
+bool at_random, goes_on_at_random;
 static uint64_t seed;
 static int stall; /* the clock may jump so far at once, in ms */
 static uint64_t last; /* nothing is forced once it has moved so far, in ms: 0 is never */
@@ -69,7 +69,6 @@ void begin_random(uint64_t number, int jumps, uint64_t until) {
     changes = CHANGES[up_to(3)];
     rarely = PLACES[up_to(4)];
     clock_rank = new_rank();
-    at_random = true;
 }
 
 /* What can come from outside. */
@@ -104,8 +103,7 @@ static int all_choices(struct choice *found) {
 static void come(const struct choice *choice) {
     if (choice->what == A_TAKE) {
         int id = waiting[0];
-        no_more_waiting(id);
-        of_worker[choice->worker - pool] = id;
+        note_take(choice->worker, id);
         choice->worker->may_take = true;
         pthread_cond_broadcast(&changed);
         WAIT(choice->worker->place >= TAKEN);
@@ -147,6 +145,11 @@ static const struct choice *one_of(const struct choice *all, int count) {
         *found->rank = 1 + up_to(15);
     }
     return found;
+}
+
+void note_take(const struct worker *worker, int id) {
+    no_more_waiting(id);
+    of_worker[worker - pool] = id;
 }
 
 static bool choose(void) {
@@ -214,18 +217,21 @@ bool poll_at_random(int descriptor, struct epoll_event *events, int room, int ti
 }
 
 void random_event(char type, const char *words) {
-    struct shown shown = read_shown(words);
     if (type == 'B' && depth++ == 0) chain_rank = strncmp(words, "after ", 6) == 0 ? *rank_at(atoi(words + 6)) : 0;
     if (type == 'B') behind_poll = false;
     if (type == 'E' && --depth == 0) chain_rank = 0, maybe_choose();
-    if (type != 'O') return;
+    if (type == 'O') note_op(words);
+}
+
+void note_op(const char *words) {
+    struct shown shown = read_shown(words);
     if (strcmp(shown.word, "queue") == 0 && waiting_count < WAITING) {
         waiting[waiting_count++] = shown.id;
         rank_of[(unsigned)shown.id % RANKS] = chain_rank && up_to(4) ? chain_rank : new_rank();
         chain_rank = 0;
     }
     if (strcmp(shown.word, "cancel") == 0 && strcmp(shown.answer, "ok") == 0) no_more_waiting(shown.id);
-    if (strcmp(shown.word, "init") == 0 && strcmp(shown.rest, "async") == 0) {
+    if (at_random && strcmp(shown.word, "init") == 0 && strcmp(shown.rest, "async") == 0) {
         struct object *object = object_by_id(shown.id);
         struct name *more = realloc(names, (size_t)(name_count + 1) * sizeof *names);
         if (!more) return;
