@@ -6,6 +6,7 @@ minutes is for the hand: tests/tools/hunts.
 
 from __future__ import annotations
 
+import json
 import re
 import shutil
 import signal
@@ -13,6 +14,7 @@ import subprocess
 import tempfile
 import time
 from pathlib import Path
+from xml.etree import ElementTree
 
 from tests.helper import Check, Tries
 from tests.tools.records import ROOT, archive, has_libuv
@@ -21,7 +23,7 @@ FOLDER = Path(__file__).resolve().parent / "forces"
 PROGRAMS = ROOT / "tools" / "uvt" / "record" / "programs"
 SECONDS = 180
 # How force ends: all went as in the session, it departs, it could not be done, the program ended badly.
-WELL, DEPARTS, FAULT, BADLY = 0, 1, 2, 3
+WELL, DEPARTS, FAULT, BADLY, SKIPPED = 0, 1, 2, 3, 77
 REPORT = "heap-use-after-free"
 # Of each whether it touches memory that is gone, and whether that is its last step.
 FORCED = {
@@ -166,6 +168,59 @@ def try_hunts(check: Check, folder: str) -> None:
         check(f"hunt, a fault: {why}", status == FAULT and why in said and "Traceback" not in said, f"{status} {said}")
 
 
+# Of each what has to be said of who waits for whom.
+HANGS = {
+    "lost": [r"the loop waits in its poll, with no time limit, in main \(lost\.c:31\)", r"workers 0, 1, 2, 3 wait for work"],
+    "joins": [
+        r"the loop's thread waits for the end of thread \d+, in on_end \(joins\.c:10\)",
+        r"thread \d+ waits for a semaphore, in thread \(joins\.c:9\)",
+    ],
+    "crosswise": [
+        r"the loop's thread waits for a lock that thread \d+ has, in on_t \(crosswise\.c:7\)",
+        r"thread \d+ waits for a lock that the loop's thread has, in other \(crosswise\.c:9\)",
+    ],
+}
+
+
+def try_hangs(check: Check, folder: str) -> None:
+    """A run that hangs is ended at once, and it is said who waits for whom; who waits until a time doesn't hang."""
+    for name, lines in HANGS.items():
+        program = compiled(name, folder, "-luv")
+        began = time.monotonic()
+        status, said = tool("hunt", ["--for", "40s", "-o", f"{name}.hung", program], folder)
+        good = status == BADLY and re.search(r"^the program hangs, and in 2 of 2 further runs in the same order$", said, re.M)
+        check(f"hunt, {name}: it hangs", bool(good) and time.monotonic() - began < 30, f"{time.monotonic() - began:.0f} s, {status} {said}")
+        for it in lines:
+            check(f"hunt, {name}: who waits for whom", bool(re.search(f"^    {it}$", said, re.M)), said)
+    status, said = forced(["--test", "joins.hung.uvt", f"{folder}/joins"], folder)
+    check("force --test, a hang", status == BADLY and "FAIL joins.hung.uvt: the program hangs\n    the loop's thread waits for the end" in said, said)
+    program = compiled("timed", folder, "-luv")
+    status, said = forced(["--random", "6", "-o", "timed.random", program], folder)
+    check("force at random, threads that wait until a time", status == WELL and said == "6 runs, and each ended well\n", f"{status} {said}")
+
+
+def try_reports(check: Check, folder: str) -> None:
+    """What machines read of a hunt, and an order as a test."""
+    program = compiled("upload", folder, "-fsanitize=address", "-luv")
+    words = ["--seed", "7", "--report", "r.sarif", "--report", "r.xml", "--report", "r.json", "-o", "ci", program]
+    status, said = tool("hunt", words, folder)
+    check("hunt, with reports", status == BADLY and REPORT in said, f"{status} {said}")
+    result = json.loads(Path(folder, "r.sarif").read_text())["runs"][0]["results"][0]
+    line = result["locations"][0]["physicalLocation"]["region"]["startLine"]
+    check("hunt, SARIF", result["ruleId"] == REPORT and line > 1 and result["properties"]["badAgain"] == 2, f"{result}")
+    suite = ElementTree.parse(f"{folder}/r.xml").getroot()[0]
+    failure = suite.find("testcase/failure")
+    check("hunt, JUnit", suite.get("failures") == "1" and failure is not None and failure.get("type") == REPORT, f"{suite.attrib}")
+    check("hunt, JSON", json.loads(Path(folder, "r.json").read_text())["bad"]["bad_again"] == 2, "")
+    status, said = forced(["--test", "ci.uvt", program], folder)
+    check("force --test, the race is there", status == BADLY and "\nFAIL ci.uvt: the program ended with status 1 (Addr" in said, f"{status} {said}")
+    mended = compiled("upload", folder, "-DCOUNTED", "-fsanitize=address", "-luv")
+    status, said = forced(["--test", "ci.uvt", mended], folder)
+    check("force --test, it is mended", status == WELL and "\nPASS ci.uvt: all " in said, f"{status} {said}")
+    status, said = forced(["--test", "ci.uvt", compiled("zero", folder, "-luv")], folder)
+    check("force --test, another program", status == SKIPPED and "SKIP ci.uvt: " in said and "    departs at step " in said, f"{status} {said}")
+
+
 def try_interrupt(check: Check, folder: str) -> None:
     hunting = subprocess.Popen(
         [str(ROOT / "tools" / "uvt" / "uvt-hunt"), "--for", "10m", f"{folder}/zero"],
@@ -232,5 +287,5 @@ def try_forces(tries: Tries) -> None:
         if not sanitizer:
             print("tools: orders that are hunted: not tried, since `cc` has no AddressSanitizer", flush=True)
             return
-        for part in (try_sanitizer, try_random, try_hunts, try_interrupt, try_parts):
+        for part in (try_sanitizer, try_random, try_hunts, try_hangs, try_reports, try_interrupt, try_parts):
             part(tries.check, folder)
