@@ -238,8 +238,8 @@ def hunted(words: list[str], name: str, seconds: float | None, part: tuple[int, 
         name = f"{name}.{part[0]}-of-{part[1]}"
     lines = of_bad(bad, name, words) if bad else ["each run ended well"]
     status = say(hunt.counts, bad, lines, of_parts, hunt.fault)
-    for it in reports:
-        write_machine(it, hunt, bad, lines, name, INTERRUPTED if ended else status, ended)
+    for report in reports:
+        write_machine(report, hunt, bad, lines, name, INTERRUPTED if ended else status, ended)
     if ended:
         print("it was interrupted, and not at its end", flush=True)
     return INTERRUPTED if ended else status

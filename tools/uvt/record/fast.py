@@ -210,9 +210,11 @@ class Ways:
                 parts.append(Tick(tick[1] - at, tick[2], tick[3]))
                 tick = next(ticks, None)
             if step < follower.talk.length and not follower.did[step].startswith("tick "):
-                if not parts or isinstance(parts[-1], Tick):
-                    parts.append(Steps([], [], []))
-                add_step(parts[-1], follower.did[step], alike(follower.said[step]))
+                steps = parts[-1] if parts else None
+                if not isinstance(steps, Steps):
+                    steps = Steps([], [], [])
+                    parts.append(steps)
+                add_step(steps, follower.did[step], alike(follower.said[step]))
                 wakes += follower.did[step] == "send wake"
         done = [command for it in parts if isinstance(it, Steps) for command in it.commands]
         sends = {it.split(" ")[1] for it in done if it.startswith("send ")}
