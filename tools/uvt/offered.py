@@ -8,7 +8,7 @@ import re
 from collections import Counter
 from dataclasses import dataclass, field
 
-from uvt.conversation import Conversation, Fault, Script, State
+from uvt.conversation import Conversation, Fault, Script
 
 # The words of lines that begin a callback, and those that say that the loop is in none.
 CALLS = {"call": "on", "after": "after", "closed": "closed"}
@@ -37,9 +37,14 @@ class Offered:
         """The lines that say it, except for what these lines say already."""
         said = [f"may {word} {name} {times}" for (word, name), times in sorted(self.came.items())]
         said += ["may wait"] + [f"may tick {ms} {times}" for ms, times in sorted(self.ticks.items())]
-        if not any(it.startswith("takes ") for it in given):
-            said += [f"takes {name} @{call} {ms}" for (_, name, call), ms in sorted(self.takes.items()) if ms]
+        said += self.taken(given)
         return said + ([] if any(it.startswith("most clock ") for it in given) else [f"most clock {self.clock}"])
+
+    def taken(self, given: list[str]) -> list[str]:
+        """The lines that say how long callbacks took, except where these lines say it."""
+        if any(it.startswith("takes ") for it in given):
+            return []
+        return [f"takes {name} @{call} {ms}" for (_, name, call), ms in sorted(self.takes.items()) if ms]
 
     def sentence(self) -> str:
         """What is offered, for a person."""
@@ -61,68 +66,117 @@ def many(number: int, one: str, more: str) -> str:
     return "" if not number else f"{number} {one if number == 1 else more}"
 
 
-def in_wait(state: State, ms: int) -> int:
-    """How many of these ms are none that the poll waited up to its deadline."""
-    found = re.search(r" poll (\d+)$", state.place)
-    left = int(found[1]) - state.numbers["clock"] if found else None
-    return ms if left is None or left > ms else ms - max(left, 0)
+@dataclass
+class Spent:
+    """A time that went by: in which call of a callback, or in none; what of it isn't the wait of a poll up to its deadline, and whether some is."""
+
+    ms: int
+    call: tuple[str, str, int] | None = None
+    closed: bool = False
+    rest: int = 0
+    waited: bool = False
+
+
+def spent(script: Script, steps: list[str]) -> tuple[list[list[str]], dict[int, Spent], Counter[tuple[str, str]]]:
+    """The lines of each step, the times that went by, by the numbers of their steps, and how often each callback was called. Of a wait up to the
+    deadline all is the wait, also where a worker took a request meanwhile; one that is ended by what came isn't."""
+    found: dict[int, Spent] = {}
+    calls: Counter[tuple[str, str]] = Counter()
+    within: tuple[str, str] | None = None
+    # the times of the poll that nothing has ended yet, and each of those that might be a wait
+    open_poll: list[int] | None = None
+    waits: list[tuple[int, list[int]]] = []
+    talk = Conversation(script)
+    try:
+        said = list(talk.ask_each(steps))
+        for number, (step, lines) in enumerate(zip(steps, said)):
+            word, _, argument = step.partition(" ")
+            first = lines[0].split(" ")[0] if lines else ""
+            if first in CALLS and word in ("loop", "io"):
+                within = CALLS[first], lines[0].split(" ")[1]
+                calls[within] += 1
+            elif first in NOT_IN_A_CALL and word == "loop":
+                within = None
+            if word in ("loop", "finish", *FROM_OUTSIDE):
+                open_poll = [] if first == "poll" and word == "loop" else None
+            if word != "tick":
+                continue
+            ms = int(argument)
+            if within:
+                closed = within[0] == "closed"
+                found[number] = Spent(ms, None if closed else (*within, calls[within]), closed)
+                continue
+            found[number] = Spent(ms, rest=ms)
+            if open_poll is not None:
+                waits.append((number, list(open_poll)))
+                open_poll.append(number)
+        for (number, before), state in zip(waits, talk.states_at([number for number, _ in waits])):
+            deadline = re.search(r" poll (\d+)$", state.place)
+            left = int(deadline[1]) - state.numbers["clock"] if deadline else 0
+            if 0 < left <= found[number].ms:
+                found[number].rest, found[number].waited = found[number].ms - left, True
+                for it in before:
+                    found[it].rest = 0
+    finally:
+        talk.close()
+    return said, found, calls
 
 
 def offered(script: Script, steps: list[str]) -> Offered:
     """What came in these steps."""
     found = Offered()
-    within: tuple[str, str] | None = None
-    waits: list[tuple[int, int]] = []
-    talk = Conversation(script)
-    try:
-        for number, (step, lines) in enumerate(zip(steps, talk.ask_each(steps))):
-            word, _, argument = step.partition(" ")
-            first = lines[0].split(" ")[0] if lines else ""
-            if first in CALLS and word in ("loop", "io"):
-                within = CALLS[first], lines[0].split(" ")[1]
-                found.calls[within] += 1
-            elif first in NOT_IN_A_CALL and word == "loop":
-                within = None
-            if word in FROM_OUTSIDE:
-                found.came[word, argument] += 1
-            if word == "tick":
-                found.clock += int(argument)
-                if within and within[0] == "closed":
-                    found.closed += int(argument)
-                elif within:
-                    found.takes[*within, found.calls[within]] += int(argument)
-                else:
-                    waits.append((number, int(argument)))
-        for (_, ms), state in zip(waits, talk.states_at([number for number, _ in waits])):
-            found.ticks[in_wait(state, ms)] += 1
-    finally:
-        talk.close()
+    _, times, found.calls = spent(script, steps)
+    for step in steps:
+        word, _, argument = step.partition(" ")
+        if word in FROM_OUTSIDE:
+            found.came[word, argument] += 1
+    for it in times.values():
+        found.clock += it.ms
+        if it.call:
+            found.takes[it.call] += it.ms
+        elif it.closed:
+            found.closed += it.ms
+        else:
+            found.ticks[it.rest] += 1
     del found.ticks[0]
     return found
 
 
 def recorded_lines(script: Script, steps: list[str]) -> list[str]:
     """What came from outside in these steps, a line for each in their order, with its place: so many polls, and so many steps of the loop behind
-    the last of them, behind the place of the one before it."""
+    the last of them, behind the place of the one before it. A wait up to a poll's deadline is such a step, and what callbacks took is said by
+    `takes`."""
     other = next((it for it in steps if it.split(" ")[0] not in STEPS), None)
     if other:
         raise Fault(f"an order may differ from steps alone, and `{other}` is none")
     said: list[str] = []
     polls = taken = 0
-    talk = Conversation(script)
-    try:
-        for step, lines in zip(steps, talk.ask_each(steps)):
-            if step != "loop":
-                if step != "tick 0":
-                    said.append(f"recorded {polls} {taken} {step}")
-                    polls = taken = 0
-            elif lines and lines[0].startswith("poll "):
+    all_lines, times, _ = spent(script, steps)
+    for number, (step, lines) in enumerate(zip(steps, all_lines)):
+        if step == "loop":
+            if lines and lines[0].startswith("poll "):
                 polls, taken = polls + 1, 0
             else:
                 taken += 1
-    finally:
-        talk.close()
+            continue
+        time = times.get(number)
+        if time and time.waited:
+            taken += 1
+        if time and not time.rest:
+            continue
+        said.append(f"recorded {polls} {taken} {f'tick {time.rest}' if time else step}")
+        polls = taken = 0
     return said
+
+
+def near_lines(script: Script, steps: list[str], given: list[str]) -> list[str]:
+    """The lines behind `may differ`, except for what these lines say already: what came in these steps, that the clock goes on where the loop
+    waits, how long callbacks took, and how far the clock went."""
+    found = offered(script, steps)
+    said = recorded_lines(script, steps)
+    said += [it for it in ["may wait"] if it not in given]
+    said += found.taken(given)
+    return said + ([] if any(it.startswith("most clock ") for it in given) else [f"most clock {found.clock}"])
 
 
 def never_called(script: Script, calls: Counter[tuple[str, str]]) -> list[str]:

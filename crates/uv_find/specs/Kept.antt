@@ -148,6 +148,10 @@ along_after recorded a e line = a
 abbrev pub with_spare : Kept → ℕ → Kept
 with_spare k spare = record k { along = record k.along { spare = spare } }
 
+-- where the loop has waited: that is one of those steps
+abbrev pub waited : List Recorded → Kept → Kept
+waited recorded k = record k { along = arrived recorded (nearer k.along false) }
+
 -- ---- the whole
 
 -- where a search begins

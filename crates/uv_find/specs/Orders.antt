@@ -1,6 +1,6 @@
 -- The orders of what may come from outside of a loop: what is offered where a search stands, and where it leads.
-use Rattle.std.specs.Prelude.{ℕ, zero, suc, ◌+◌, ◌-◌, ◌&&◌, not, ◌==◌, length, Bool, true, false, nat_lt, nat_le, is_some, option_map, map, List, [], ◌∷◌, ◌++◌, Option, Some, None, slice_get, slice_set, drop, if◌then◌else◌}
-use Rattle.std.specs.List.{list_all}
+use Rattle.std.specs.Prelude.{ℕ, zero, suc, ◌+◌, ◌-◌, ◌&&◌, not, ◌==◌, length, Bool, true, false, nat_lt, nat_le, is_some, is_none, option_map, map, List, [], ◌∷◌, ◌++◌, Option, Some, None, slice_get, slice_set, drop, if◌then◌else◌}
+use Rattle.std.specs.List.{list_all, list_any}
 use Rattle.uv_ids.specs.declared.event.Event.{Event}
 use Rattle.uv_ids.specs.declared.event.Event.TheVariants as event
 use Rattle.uv_ids.specs.declared.id.Id.{Id}
@@ -32,7 +32,7 @@ use Rattle.uv_find.specs.declared.left.Left.{Left}
 use Rattle.uv_find.specs.declared.left.Left.TheVariants as left
 use Rattle.uv_find.specs.Forgetting.{LONG}
 use Rattle.uv_find.specs.Ranks.{idle_worker, ranked}
-use Rattle.uv_find.specs.Kept.{none_kept, kept_after, behind, with_spare, owes}
+use Rattle.uv_find.specs.Kept.{none_kept, kept_after, behind, with_spare, owes, waited}
 
 -- what stays the same: the script, what is offered, how long callbacks take, how far the clock goes, how often names are called, what is asked,
 -- and what of a place needn't be known
@@ -42,6 +42,8 @@ pub record Rules : Type 0 where
   -- in place of what is offered, what came in a recording: at most so many of it at another place
   pub differ : Option ℕ
   pub recorded : List Recorded
+  -- and beside it the clock goes on where the loop waits
+  pub waits : Bool
   pub takes : List Takes
   pub clock : Option ℕ
   pub most : List Most
@@ -75,6 +77,14 @@ finishes (suc n) = finishes n ++ at_will (Step (event.Finish n)) ∷ []
 abbrev pub first_offers : Bool → List Offered
 first_offers true = at_will Take ∷ at_will (Step event.Loop) ∷ []
 first_offers false = at_will (Step event.Loop) ∷ at_will Take ∷ []
+
+-- the clock goes on where the loop waits
+abbrev pub is_wait : Offer → Bool
+is_wait Wait = true
+is_wait offer = false
+
+abbrev pub may_wait : List Offered → Bool
+may_wait offers = list_any (λ (offered : Offered). is_wait offered.offer) offers
 
 -- then a worker finishes its own, and what is asked for
 abbrev pub every_offer : Bool → ℕ → List Offered → List Offered
@@ -295,13 +305,19 @@ offer_at r p number = chosen (lessened p.left number) p.kept (offered_by r p (sl
 
 -- ---- what came in a recording, with at most so many events at another place
 
-abbrev pub comes_by : State → Option Recorded → Option Event
-comes_by s None = None
-comes_by s (Some r) = if is_made s (aim r.event) then Some r.event else None
+-- while a callback's time is still to go by, no callback of I/O begins, and no other time goes by
+abbrev pub is_clear : Kept → Event → Bool
+is_clear k (event.Io v) = not (owes k)
+is_clear k (event.Tick ms) = not (owes k)
+is_clear k e = true
+
+abbrev pub comes_by : State → Kept → Option Recorded → Option Event
+comes_by s k None = None
+comes_by s k (Some r) = if is_made s (aim r.event) && is_clear k r.event then Some r.event else None
 
 -- the recorded event of this number, where what it is for was made
-abbrev pub comes : List Recorded → State → ℕ → Option Event
-comes recorded s number = comes_by s (slice_get recorded number)
+abbrev pub comes : List Recorded → State → Kept → ℕ → Option Event
+comes recorded s k number = comes_by s k (slice_get recorded number)
 
 abbrev pub moves : Next → Bool
 moves (Moves t line) = true
@@ -312,18 +328,18 @@ accepts p s None = false
 accepts p s (Some e) = moves (next p s e)
 
 -- the next event of a source is ahead, one of the first recorded ones, and the loop accepts it here
-abbrev pub is_ready : Program → List Recorded → State → ℕ → Left → Bool
-is_ready p recorded s count (left.Ahead number) = if nat_lt number count then accepts p s (comes recorded s number) else false
-is_ready p recorded s count x = false
+abbrev pub is_ready : Program → List Recorded → State → Kept → ℕ → Left → Bool
+is_ready p recorded s k count (left.Ahead number) = if nat_lt number count then accepts p s (comes recorded s k number) else false
+is_ready p recorded s k count x = false
 
 abbrev pub held_if : Bool → Left → Left
 held_if true (left.Ahead number) = left.Held number
 held_if ready x = x
 
 -- what goes on past the first recorded events holds back those that are ready
-abbrev pub held_back : Program → List Recorded → State → ℕ → List Left → List Left
-held_back p recorded s count [] = []
-held_back p recorded s count (x ∷ xs) = held_if (is_ready p recorded s count x) x ∷ held_back p recorded s count xs
+abbrev pub held_back : Program → List Recorded → State → Kept → ℕ → List Left → List Left
+held_back p recorded s k count [] = []
+held_back p recorded s k count (x ∷ xs) = held_if (is_ready p recorded s k count x) x ∷ held_back p recorded s k count xs
 
 -- each comes at another place, if one more may
 abbrev pub spent : ℕ → Option ℕ
@@ -333,11 +349,11 @@ abbrev pub spent_if : Bool → ℕ → Option ℕ
 spent_if true spare = spent spare
 spent_if false spare = Some spare
 
-abbrev pub spare_behind : Program → List Recorded → State → ℕ → List Left → Option ℕ → Option ℕ
-spare_behind p recorded s count xs None = None
-spare_behind p recorded s count [] (Some spare) = Some spare
-spare_behind p recorded s count (x ∷ xs) (Some spare) =
-    spare_behind p recorded s count xs (spent_if (is_ready p recorded s count x) spare)
+abbrev pub spare_behind : Program → List Recorded → State → Kept → ℕ → List Left → Option ℕ → Option ℕ
+spare_behind p recorded s k count xs None = None
+spare_behind p recorded s k count [] (Some spare) = Some spare
+spare_behind p recorded s k count (x ∷ xs) (Some spare) =
+    spare_behind p recorded s k count xs (spent_if (is_ready p recorded s k count x) spare)
 
 abbrev pub past_by : List Left → Option ℕ → Option (List Left × ℕ)
 past_by xs None = None
@@ -345,16 +361,34 @@ past_by xs (Some spare) = Some (xs, spare)
 
 -- past the first recorded events: what is left of each source, and how many more may come at another place
 abbrev pub past : Rules → Place → ℕ → Option (List Left × ℕ)
-past r p count = past_by (held_back r.program r.recorded p.state count p.left)
-    (spare_behind r.program r.recorded p.state count p.left (Some p.kept.along.spare))
+past r p count = past_by (held_back r.program r.recorded p.state p.kept count p.left)
+    (spare_behind r.program r.recorded p.state p.kept count p.left (Some p.kept.along.spare))
 
-abbrev pub go_on_by : Kept → Option (List Left × ℕ) → Option Choice
-go_on_by k None = None
-go_on_by k (Some t) = Some (record { event = event.Loop; left = t.0; kept = with_spare k t.1 })
+-- where the loop waits, the clock goes on to the poll's deadline
+abbrev pub waiting : Rules → State → Option Event
+waiting r s = if r.waits then timed r.clock s.clock (wait_until r.program s (deadline_at s.place)) else None
+
+-- that is one of the steps to the next event's place
+abbrev pub waits_or_goes : List Recorded → Kept → Option Event → Event × Kept
+waits_or_goes recorded k None = (event.Loop, k)
+waits_or_goes recorded k (Some e) = (e, waited recorded k)
+
+abbrev pub with_kept : Kept → Option Event → Option (Event × Kept)
+with_kept k None = None
+with_kept k (Some e) = Some (e, k)
+
+-- how the loop goes on, and what is kept: a callback's time goes by first
+abbrev pub going : Rules → State → Kept → Option (Event × Kept)
+going r s k =
+    if owes k then with_kept k (timed r.clock s.clock (Some (event.Tick k.owed))) else Some (waits_or_goes r.recorded k (waiting r s))
+
+abbrev pub go_on_by : Option (Event × Kept) → Option (List Left × ℕ) → Option Choice
+go_on_by (Some g) (Some t) = Some (record { event = g.0; left = t.0; kept = with_spare g.1 t.1 })
+go_on_by _ _ = None
 
 -- the loop goes on, past all whose place was reached
 abbrev pub go_on : Rules → Place → Option Choice
-go_on r p = go_on_by p.kept (past r p p.kept.along.next)
+go_on r p = go_on_by (going r p.state p.kept) (past r p p.kept.along.next)
 
 abbrev pub is_in_poll : loop.Place → Bool
 is_in_poll (Main line) = false
@@ -362,7 +396,9 @@ is_in_poll (Running run) = is_poll_stage run.stage
 
 -- the place of the recorded event of this number was reached, or the loop can't go on to it
 abbrev pub is_due : Rules → Place → ℕ → Bool
-is_due r p number = if nat_lt number p.kept.along.next then true else (if is_in_poll p.state.place then is_blocked r.program p.state else false)
+is_due r p number =
+    if nat_lt number p.kept.along.next then true
+    else (if is_in_poll p.state.place then (is_blocked r.program p.state && is_none (waiting r p.state)) else false)
 
 -- where that comes, its place is here
 abbrev pub along_at : List Recorded → Along → ℕ → ℕ → Along
@@ -382,7 +418,7 @@ come_by recorded k source number _ _ = None
 
 abbrev pub come_in_place : Rules → Place → ℕ → ℕ → Option Choice
 come_in_place r p source number =
-    come_by r.recorded p.kept source number (past r p number) (timed r.clock p.state.clock (comes r.recorded p.state number))
+    come_by r.recorded p.kept source number (past r p number) (timed r.clock p.state.clock (comes r.recorded p.state p.kept number))
 
 abbrev pub in_place_of : Rules → Place → ℕ → Option Left → Option Choice
 in_place_of r p source (Some (left.Ahead number)) = if is_due r p number then come_in_place r p source number else None
@@ -403,7 +439,7 @@ elsewhere_by recorded xs k source number (Some e) = Some (record { event = e; le
 abbrev pub elsewhere_with : Rules → State → List Left → ℕ → ℕ → Option Kept → Option Choice
 elsewhere_with r s xs source number None = None
 elsewhere_with r s xs source number (Some k) =
-    elsewhere_by r.recorded xs k source number (timed r.clock s.clock (free_of s k (comes r.recorded s number)))
+    elsewhere_by r.recorded xs k source number (timed r.clock s.clock (free_of s k (comes r.recorded s k number)))
 
 -- one that is ahead is counted here; one that was held back was counted then
 abbrev pub elsewhere_of : Rules → Place → ℕ → Option Left → Option Choice

@@ -16,7 +16,7 @@ use Rattle.uv_asking.specs.declared.asking.Offered.{Offered}
 use Rattle.uv_find.specs.Holding.{can_meet, asks_late, hold_of, is_loop_apart, is_at_will, are_at_will, is_clear_of_takes, is_no_cancel, may_take_at_once, loop_number}
 use Rattle.uv_find.specs.Ops.{each_op}
 use Rattle.uv_find.specs.Kept.{owes}
-use Rattle.uv_find.specs.Orders.{at_will, Rules, Place, Led, led, is_brief, every_offer, beginning}
+use Rattle.uv_find.specs.Orders.{at_will, may_wait, Rules, Place, Led, led, is_brief, every_offer, beginning}
 use Rattle.uv_find.specs.Questions.{answers}
 use Rattle.uv_find.specs.declared.kept.Along.{Along}
 use Rattle.uv_find.specs.declared.kept.Kept.{Kept}
@@ -236,6 +236,7 @@ rules_of p asked = record {
   offers = every_offer (may_take_at_once p asked) (worker_count p) asked.offers;
   differ = asked.differ;
   recorded = asked.recorded;
+  waits = may_wait asked.offers;
   takes = asked.takes;
   clock = asked.clock;
   most = asked.most;
@@ -255,6 +256,7 @@ rules_by p t = record {
   offers = t.offers.items;
   differ = t.differ;
   recorded = t.recorded.items;
+  waits = t.waits;
   takes = t.takes.items;
   clock = t.clock;
   most = t.most.items;

@@ -1,6 +1,6 @@
 //! Where a search of orders begins.
 ghost use Rattle.std.specs.Prelude.{◌≡◌, IfOk};
-ghost use Rattle.uv_find.specs.Orders.{at_will, first_offers, every_offer, times_left, times_of, first_left};
+ghost use Rattle.uv_find.specs.Orders.{at_will, first_offers, every_offer, times_left, times_of, first_left, is_wait, may_wait};
 
 use crate::left::Left;
 use crate::sources::sources;
@@ -13,6 +13,22 @@ fn at_will(offer: Offer) -> Offered
     ensures { result ≡ at_will offer }
 {
     Offered { offer, times: None }
+}
+
+fn is_wait(offer: Offer) -> bool
+    ensures { result ≡ is_wait offer }
+{
+    match offer {
+        Offer::Wait => true,
+        _ => false,
+    }
+}
+
+/// Whether the clock may go on where the loop waits.
+pub(crate) fn may_wait(offers: &[Offered]) -> bool
+    ensures { result ≡ may_wait offers.now }
+{
+    offers.iter().any(|offered| is_wait(offered.offer))
 }
 
 /// The offers that the others stand behind: the loop's step and a take, or that first where it comes at once.

@@ -2,7 +2,7 @@
 ghost use Rattle.std.specs.Prelude.{◌≡◌, ◌+◌, ◌<◌, ◌^◌, ◌==◌, ◌&&◌, length};
 ghost use Rattle.uv_model.specs.After.{after};
 ghost use Rattle.uv_model.specs.State.{named};
-ghost use Rattle.uv_find.specs.Kept.{none_kept, is_timers_stage, is_in_timers, due_else, due_in, due_under, kept_due, caller, is_over, is_of_calls, said_time, or_time, time_taken, takes_time, time_at_end, owed_in, owed_by, owed_after, onward, behind, is_poll, nearer, arrived, along_after, with_spare, kept_after, owes};
+ghost use Rattle.uv_find.specs.Kept.{none_kept, is_timers_stage, is_in_timers, due_else, due_in, due_under, kept_due, caller, is_over, is_of_calls, said_time, or_time, time_taken, takes_time, time_at_end, owed_in, owed_by, owed_after, onward, behind, is_poll, nearer, arrived, along_after, with_spare, waited, kept_after, owes};
 
 use crate::terms::Terms;
 use uv_asking::{Question, Recorded, Takes};
@@ -142,6 +142,17 @@ pub fn with_spare(kept: Kept, spare: u32) -> Kept
             steps: kept.along.steps,
             spare,
         },
+    }
+}
+
+/// What is kept where the loop has waited: that is one of the steps to the next event's place.
+pub fn waited(recorded: &[Recorded], kept: Kept) -> Kept
+    ensures { result ≡ waited recorded.now kept }
+{
+    Kept {
+        due: kept.due,
+        owed: kept.owed,
+        along: arrived(recorded, nearer(kept.along, false)),
     }
 }
 

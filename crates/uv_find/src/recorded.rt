@@ -1,7 +1,7 @@
 //! What came in a recording, and may come at another place.
 ghost use Rattle.std.specs.Prelude.{◌≡◌, ◌<◌, IfOk, length, slice_get, slice_set, Some, option_map};
 ghost use Rattle.uv_model.specs.After.{after};
-ghost use Rattle.uv_find.specs.Orders.{comes_by, comes, moves, accepts, is_ready, held_if, held_back, spent, spent_if, spare_behind, past, go_on_by};
+ghost use Rattle.uv_find.specs.Orders.{is_clear, waiting, waits_or_goes, with_kept, going, comes_by, comes, moves, accepts, is_ready, held_if, held_back, spent, spent_if, spare_behind, past, go_on_by};
 ghost use Rattle.uv_find.specs.Orders.{go_on, is_poll_stage, is_in_poll, is_due, along_at, come, come_by, come_in_place, in_place_of, in_place};
 ghost use Rattle.uv_find.specs.Kept.{with_spare};
 ghost use Rattle.uv_find.specs.Orders.{free_of, elsewhere_by, elsewhere_with, elsewhere_of, elsewhere, recorded_at};
@@ -9,10 +9,10 @@ ghost use Rattle.uv_find.specs.Spots.{rules_by, place_by};
 ghost use Rattle.uv_find.specs.Steps.{Stands, choice_of, passed_of, state_in};
 
 use crate::choices::Choice;
-use crate::kept::{Along, Kept, behind, with_spare};
+use crate::kept::{Along, Kept, behind, owes, waited, with_spare};
 use crate::left::Left;
 use crate::sources::next_of;
-use crate::steps::{aim, is_blocked, is_free, is_made, take_back, timed};
+use crate::steps::{aim, deadline_at, is_blocked, is_free, is_made, take_back, timed, wait_until};
 use crate::terms::Terms;
 use std::alloc::{AllocError, Global};
 use uv_asking::Recorded;
@@ -20,13 +20,24 @@ use uv_ids::{Event, Fault};
 use uv_model::{Machine, Place, Stage};
 use uv_session::Session;
 
-fn comes_by<M: Machine>(machine: &M, recorded: Option<Recorded>) -> Option<Event>
-    ensures { result ≡ comes_by (after (M.program machine.now) (M.standing machine.now)) recorded }
+/// While a callback's time is still to go by, no callback of I/O begins, and no other time goes by.
+fn is_clear(kept: Kept, event: Event) -> bool
+    ensures { result ≡ is_clear kept event }
+{
+    match event {
+        Event::Io(_) => !owes(kept),
+        Event::Tick(_) => !owes(kept),
+        _ => true,
+    }
+}
+
+fn comes_by<M: Machine>(machine: &M, kept: Kept, recorded: Option<Recorded>) -> Option<Event>
+    ensures { result ≡ comes_by (after (M.program machine.now) (M.standing machine.now)) kept recorded }
 {
     match recorded {
         None => None,
         Some(recorded) => {
-            if is_made(machine, aim(recorded.event)) {
+            if is_made(machine, aim(recorded.event)) && is_clear(kept, recorded.event) {
                 Some(recorded.event)
             } else {
                 None
@@ -36,10 +47,15 @@ fn comes_by<M: Machine>(machine: &M, recorded: Option<Recorded>) -> Option<Event
 }
 
 /// The recorded event of this number, where what it is for was made.
-fn comes<M: Machine>(machine: &M, recorded: &[Recorded], number: usize) -> Option<Event>
-    ensures { result ≡ comes recorded.now (after (M.program machine.now) (M.standing machine.now)) number }
+fn comes<M: Machine>(
+    machine: &M,
+    recorded: &[Recorded],
+    kept: Kept,
+    number: usize,
+) -> Option<Event>
+    ensures { result ≡ comes recorded.now (after (M.program machine.now) (M.standing machine.now)) kept number }
 {
-    comes_by(machine, recorded.get(number).copied())
+    comes_by(machine, kept, recorded.get(number).copied())
 }
 
 /// Whether the loop accepts an event. Nothing changes.
@@ -75,18 +91,19 @@ fn accepts<M: Machine>(session: &mut Session<M>, event: Option<Event>) -> Result
 fn is_ready<M: Machine>(
     session: &mut Session<M>,
     recorded: &[Recorded],
+    kept: Kept,
     count: usize,
     source: Left,
 ) -> Result<bool, AllocError>
     requires room { length session.old.standing < session.old.limit }
     requires back { M.BackWantsMemory → ⊥ }
     ensures same { Stands session.old session.old.standing session.new }
-    ensures ready { IfOk result (λ ready. ready ≡ is_ready session.old.program recorded.now (state_in session.old) count source) }
+    ensures ready { IfOk result (λ ready. ready ≡ is_ready session.old.program recorded.now (state_in session.old) kept count source) }
 {
     match source {
         Left::Ahead(number) => {
             if number < count {
-                let event = comes(session.machine(), recorded, number);
+                let event = comes(session.machine(), recorded, kept, number);
                 accepts(session, event)
             } else {
                 Ok(false)
@@ -110,6 +127,7 @@ fn held_if(ready: bool, source: Left) -> Left
 fn hold_back<M: Machine>(
     session: &mut Session<M>,
     recorded: &[Recorded],
+    kept: Kept,
     count: usize,
     left: &[Left],
     alloc: Global,
@@ -117,11 +135,11 @@ fn hold_back<M: Machine>(
     requires room { length session.old.standing < session.old.limit }
     requires back { M.BackWantsMemory → ⊥ }
     ensures same { Stands session.old session.old.standing session.new }
-    ensures held { IfOk result (λ held. held.items ≡ held_back session.old.program recorded.now (state_in session.old) count left.now) }
+    ensures held { IfOk result (λ held. held.items ≡ held_back session.old.program recorded.now (state_in session.old) kept count left.now) }
 {
     let mut held = Vec::new(alloc);
     'sources: for source in left {
-        let ready = is_ready(session, recorded, count, *source)?;
+        let ready = is_ready(session, recorded, kept, count, *source)?;
         held.push(held_if(ready, *source))?;
     }
     Ok(held)
@@ -144,6 +162,7 @@ fn spent_if(ready: bool, spare: u32) -> Option<u32>
 fn spare_behind<M: Machine>(
     session: &mut Session<M>,
     recorded: &[Recorded],
+    kept: Kept,
     count: usize,
     left: &[Left],
     spare: u32,
@@ -151,11 +170,12 @@ fn spare_behind<M: Machine>(
     requires room { length session.old.standing < session.old.limit }
     requires back { M.BackWantsMemory → ⊥ }
     ensures same { Stands session.old session.old.standing session.new }
-    ensures spare { IfOk result (λ more. more ≡ spare_behind session.old.program recorded.now (state_in session.old) count left.now (Some spare)) }
+    ensures spare { IfOk result (λ more. more ≡ spare_behind session.old.program recorded.now (state_in session.old) kept count left.now
+        (Some spare)) }
 {
     let mut more = spare;
     'sources: for source in left {
-        let ready = is_ready(session, recorded, count, *source)?;
+        let ready = is_ready(session, recorded, kept, count, *source)?;
         match spent_if(ready, more) {
             None => return Ok(None),
             Some(less) => more = less,
@@ -185,24 +205,83 @@ fn past<M: Machine>(
     ensures past { IfOk result (λ past_it. option_map passed_of past_it
         ≡ past (rules_by session.old.program terms.now) (place_by session.old left.now.items kept) count) }
 {
-    let Some(spare) = spare_behind(session, &terms.recorded, count, left, kept.along.spare)? else {
+    let Some(spare) = spare_behind(session, &terms.recorded, kept, count, left, kept.along.spare)? else {
         return Ok(None);
     };
-    let left = hold_back(session, &terms.recorded, count, left, *left.allocator())?;
+    let left = hold_back(session, &terms.recorded, kept, count, left, *left.allocator())?;
     Ok(Some(Passed { left, spare }))
 }
 
-/// The loop goes on.
-fn going_on(kept: Kept, past: Option<Passed>) -> Option<Choice>
-    ensures { option_map choice_of result ≡ go_on_by kept (option_map passed_of past) }
+/// Where the loop waits, the clock goes on to the poll's deadline. Nothing changes.
+fn waiting<M: Machine>(session: &mut Session<M>, terms: &Terms) -> Result<Option<Event>, AllocError>
+    requires room { length session.old.standing < session.old.limit }
+    requires back { M.BackWantsMemory → ⊥ }
+    ensures same { Stands session.old session.old.standing session.new }
+    ensures event { IfOk result (λ event. event ≡ waiting (rules_by session.old.program terms.now) (state_in session.old)) }
 {
-    match past {
+    if terms.waits {
+        let clock = session.machine().numbers().clock;
+        let deadline = deadline_at(session.machine().place());
+        let event = wait_until(session, deadline)?;
+        Ok(timed(terms.clock, clock, event))
+    } else {
+        Ok(None)
+    }
+}
+
+/// That is one of the steps to the next event's place.
+fn waits_or_goes(recorded: &[Recorded], kept: Kept, waiting: Option<Event>) -> (Event, Kept)
+    ensures { result ≡ waits_or_goes recorded.now kept waiting }
+{
+    match waiting {
+        None => (Event::Loop, kept),
+        Some(event) => (event, waited(recorded, kept)),
+    }
+}
+
+fn with_kept(kept: Kept, event: Option<Event>) -> Option<(Event, Kept)>
+    ensures { result ≡ with_kept kept event }
+{
+    match event {
         None => None,
-        Some(past) => Some(Choice {
-            event: Event::Loop,
+        Some(event) => Some((event, kept)),
+    }
+}
+
+/// How the loop goes on, and what is kept then: a callback's time goes by first. Nothing changes.
+fn going<M: Machine>(
+    session: &mut Session<M>,
+    terms: &Terms,
+    kept: Kept,
+) -> Result<Option<(Event, Kept)>, AllocError>
+    requires room { length session.old.standing < session.old.limit }
+    requires back { M.BackWantsMemory → ⊥ }
+    ensures same { Stands session.old session.old.standing session.new }
+    ensures goes { IfOk result (λ goes. goes ≡ going (rules_by session.old.program terms.now) (state_in session.old) kept) }
+{
+    if owes(kept) {
+        let clock = session.machine().numbers().clock;
+        Ok(with_kept(
+            kept,
+            timed(terms.clock, clock, Some(Event::Tick(kept.owed))),
+        ))
+    } else {
+        let waiting = waiting(session, terms)?;
+        Ok(Some(waits_or_goes(&terms.recorded, kept, waiting)))
+    }
+}
+
+/// The loop goes on.
+fn going_on(going: Option<(Event, Kept)>, past: Option<Passed>) -> Option<Choice>
+    ensures { option_map choice_of result ≡ go_on_by going (option_map passed_of past) }
+{
+    match (going, past) {
+        (Some((event, kept)), Some(past)) => Some(Choice {
+            event,
             left: past.left,
             kept: with_spare(kept, past.spare),
         }),
+        _ => None,
     }
 }
 
@@ -219,8 +298,9 @@ fn go_on<M: Machine>(
     ensures choice { IfOk result (λ choice. option_map choice_of choice
         ≡ go_on (rules_by session.old.program terms.now) (place_by session.old left.now.items kept)) }
 {
+    let going = going(session, terms, kept)?;
     let past = past(session, terms, left, kept, kept.along.next)?;
-    Ok(going_on(kept, past))
+    Ok(going_on(going, past))
 }
 
 fn is_in_poll(place: Place) -> bool
@@ -251,7 +331,9 @@ fn is_due<M: Machine>(
     if number < kept.along.next {
         Ok(true)
     } else if is_in_poll(session.machine().place()) {
-        is_blocked(session)
+        let blocked = is_blocked(session)?;
+        let waiting = waiting(session, terms)?;
+        Ok(blocked && waiting.is_none())
     } else {
         Ok(false)
     }
@@ -334,7 +416,7 @@ fn come_in_place<M: Machine>(
     }
     let past = past(session, terms, left, kept, number)?;
     let clock = session.machine().numbers().clock;
-    let event = comes(session.machine(), &terms.recorded, number);
+    let event = comes(session.machine(), &terms.recorded, kept, number);
     Ok(coming(
         &terms.recorded,
         kept,
@@ -427,7 +509,7 @@ fn elsewhere_with<M: Machine>(
         return Ok(None);
     }
     let machine = session.machine();
-    let event = free_of(machine, kept, comes(machine, &terms.recorded, number));
+    let event = free_of(machine, kept, comes(machine, &terms.recorded, kept, number));
     let event = timed(terms.clock, machine.numbers().clock, event);
     alone(&terms.recorded, left, kept, source, number, event)
 }

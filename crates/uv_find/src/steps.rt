@@ -71,7 +71,7 @@ pub fn deadline_at(place: Place) -> Option<u64>
 }
 
 /// The event in which the clock goes on to a deadline, where the loop is blocked. Nothing changes.
-fn wait_until<M: Machine>(
+pub fn wait_until<M: Machine>(
     session: &mut Session<M>,
     deadline: Option<u64>,
 ) -> Result<Option<Event>, AllocError>

@@ -5,7 +5,7 @@ ghost use Rattle.uv_find.specs.Orders.{move_count_by};
 ghost use Rattle.uv_find.specs.Spots.{rules_by, rules_of};
 
 use crate::at_once::may_take_at_once;
-use crate::beginning::every_offer;
+use crate::beginning::{every_offer, may_wait};
 use crate::forgetting::forget_of;
 use crate::holding::hold_of;
 use crate::left::Left;
@@ -20,6 +20,8 @@ pub struct Terms {
     /// In place of what is offered, what came in a recording: at most so many of it at another place.
     pub differ: Option<u32>,
     pub recorded: Vec<Recorded>,
+    /// And beside it the clock goes on where the loop waits.
+    pub waits: bool,
     pub takes: Vec<Takes>,
     pub clock: Option<u64>,
     pub most: Vec<Most>,
@@ -48,6 +50,7 @@ pub(crate) fn terms_of(alloc: Global, script: &Script, asking: &Asking) -> Resul
         offers,
         differ: asking.differ,
         recorded,
+        waits: may_wait(&asking.offers),
         takes,
         clock: asking.clock,
         most,

@@ -1,8 +1,8 @@
 -- What is said for the first time.
-use Rattle.std.proofs.Common.{◌≡◌, ℕ, ◌==◌, ◌&&◌, ◌||◌, Bool, true, false, not, nat_lt, nat_eq, List, [], ◌∷◌, length, Option, Some, None, refl, ap, ap₂, sym, subst, arith}
+use Rattle.std.proofs.Common.{◌≡◌, ℕ, ◌==◌, ◌&&◌, ◌||◌, Bool, true, false, not, nat_lt, nat_eq, List, [], ◌∷◌, length, Option, Some, None, refl, ap, ap₂, sym, subst, arith, ◌⊎◌, inl, inr}
 use Rattle.std.specs.Prelude.{is_none, is_some}
 use Rattle.std.specs.Option.{option_eq}
-use Rattle.std.specs.List.{list_any, AllByRecursion}
+use Rattle.std.specs.List.{list_any, list_all, AllByRecursion}
 use Rattle.std.proofs.lemmas.Bool.{and_parts, and_from, ltb-true, lt-ltb, eqb-true, both_ways}
 use Rattle.std.proofs.lemmas.Bool.Decides.{Decides-eqb}
 use Rattle.uv_ids.specs.declared.id.Var.{Var}
@@ -139,25 +139,45 @@ times_same t u (name, call) =
 is_bound : (v : Var) (m : Most) → m.name ≡ v → (m.name.0 == v.0) ≡ true
 is_bound v m e = subst (λ (w : Var). (w.0 == v.0) ≡ true) (sym e) (itself v.0)
 
+-- no recording was said, or that is the wait
+alone_or_wait : {A : Type 0} (d : Option A) (o : Offer) (b : Bool) → is_none d ≡ b → (b || same_offer o Wait) ≡ true → (d ≡ None) ⊎ (o ≡ Wait)
+alone_or_wait d o true is e = inl (none_is d is)
+alone_or_wait d o false is e = inr (offer_is o Wait e)
+
+or_wait : {A : Type 0} (d : Option A) (o : Offer) → (d ≡ None) ⊎ (o ≡ Wait) → (is_none d || same_offer o Wait) ≡ true
+or_wait d o (inl e) = subst (λ (x : Option _). (is_none x || same_offer o Wait) ≡ true) (sym e) refl
+or_wait d o (inr e) = subst (λ (x : Offer). (is_none d || same_offer x Wait) ≡ true) (sym e) (or_true (is_none d)) where
+  or_true : (b : Bool) → (b || true) ≡ true
+  or_true true = refl
+  or_true false = refl
+
+-- each offer is the wait
+all_so : (xs : List Offered) → list_all (λ (p : Offered). same_offer p.offer Wait) xs ≡ true → AllByRecursion (λ (p : Offered). p.offer ≡ Wait) xs
+all_so [] e = tt
+all_so (x ∷ xs) e =
+    let parts = and_parts (same_offer x.offer Wait) (list_all (λ (p : Offered). same_offer p.offer Wait) xs) e in
+    (offer_is x.offer Wait parts.0, all_so xs parts.1)
+
+so_all : (xs : List Offered) → AllByRecursion (λ (p : Offered). p.offer ≡ Wait) xs → list_all (λ (p : Offered). same_offer p.offer Wait) xs ≡ true
+so_all [] h = refl
+so_all (x ∷ xs) (first, rest) =
+    and_from (same_offer x.offer Wait) (list_all (λ (p : Offered). same_offer p.offer Wait) xs) (is_offer Wait x first) (so_all xs rest)
+
 pub new_sound : (d : Draft) (part : Part) → is_new d part ≡ true → IsNew d part
 new_sound d (Offers o) e =
-    let all = and_parts (nat_lt (length d.offers) MOST_OFFERS && not (has_offer o.offer d.offers)) (is_none d.differ) e in
+    let all = and_parts (nat_lt (length d.offers) MOST_OFFERS && not (has_offer o.offer d.offers)) (is_none d.differ || same_offer o.offer Wait) e in
     let tests = and_parts (nat_lt (length d.offers) MOST_OFFERS) (not (has_offer o.offer d.offers)) all.0 in (
       ltb-true (length d.offers) MOST_OFFERS tests.0,
       none_so (λ (p : Offered). same_offer p.offer o.offer) (λ (p : Offered). p.offer ≡ o.offer) (is_offer o.offer) d.offers
           (not_true (has_offer o.offer d.offers) tests.1),
-      none_is d.differ all.1,
+      alone_or_wait d.differ o.offer (is_none d.differ) refl all.1,
     )
 new_sound d (Differ k) e =
-    let all = and_parts (is_none d.differ && (length d.offers == 0)) (length d.takes == 0) e in
-    let tests = and_parts (is_none d.differ) (length d.offers == 0) all.0 in
-    (none_is d.differ tests.0, empty_is d.offers tests.1, empty_is d.takes all.1)
+    let tests = and_parts (is_none d.differ) (list_all (λ (p : Offered). same_offer p.offer Wait) d.offers) e in
+    (none_is d.differ tests.0, all_so d.offers tests.1)
 new_sound d (Recorded r) e = some_is d.differ e
 new_sound d (Takes t) e =
-    let tests = and_parts (not (has_time t d.takes)) (is_none d.differ) e in (
-      none_so (λ (u : asking.Takes). same_calls u t) (AreSame t) (times_same t) d.takes (not_true (has_time t d.takes) tests.0),
-      none_is d.differ tests.1,
-    )
+    none_so (λ (u : asking.Takes). same_calls u t) (AreSame t) (times_same t) d.takes (not_true (has_time t d.takes) e)
 new_sound d (Clock ms) e = none_is d.clock e
 new_sound d (Calls m) e =
     none_so (λ (n : Most). n.name.0 == m.name.0) (λ (n : Most). n.name ≡ m.name) (is_bound m.name) d.most
@@ -168,17 +188,15 @@ new_sound d (Finds q) e = none_is d.question e
 
 pub new_complete : (d : Draft) (part : Part) → IsNew d part → is_new d part ≡ true
 new_complete d (Offers o) (few, none, alone) =
-    and_from (nat_lt (length d.offers) MOST_OFFERS && not (has_offer o.offer d.offers)) (is_none d.differ)
+    and_from (nat_lt (length d.offers) MOST_OFFERS && not (has_offer o.offer d.offers)) (is_none d.differ || same_offer o.offer Wait)
     (and_from (nat_lt (length d.offers) MOST_OFFERS) (not (has_offer o.offer d.offers)) (lt-ltb (length d.offers) MOST_OFFERS few)
     (ap not (none_found (λ (p : Offered). same_offer p.offer o.offer) (λ (p : Offered). p.offer ≡ o.offer) (λ p e. offer_is p.offer o.offer e)
-    d.offers none))) (ap is_none alone)
-new_complete d (Differ k) (none, offers, takes) =
-    and_from (is_none d.differ && (length d.offers == 0)) (length d.takes == 0)
-    (and_from (is_none d.differ) (length d.offers == 0) (ap is_none none) (is_empty d.offers offers)) (is_empty d.takes takes)
+    d.offers none))) (or_wait d.differ o.offer alone)
+new_complete d (Differ k) (none, waits) =
+    and_from (is_none d.differ) (list_all (λ (p : Offered). same_offer p.offer Wait) d.offers) (ap is_none none) (so_all d.offers waits)
 new_complete d (Recorded r) h = ap is_some h.1
-new_complete d (Takes t) (none, alone) =
-    and_from (not (has_time t d.takes)) (is_none d.differ)
-    (ap not (none_found (λ (u : asking.Takes). same_calls u t) (AreSame t) (times_are t) d.takes none)) (ap is_none alone)
+new_complete d (Takes t) none =
+    ap not (none_found (λ (u : asking.Takes). same_calls u t) (AreSame t) (times_are t) d.takes none)
 new_complete d (Clock ms) h = ap is_none h
 new_complete d (Calls m) h =
     ap not (none_found (λ (n : Most). n.name.0 == m.name.0) (λ (n : Most). n.name ≡ m.name) (λ n e. var_is n.name m.name e) d.most h)

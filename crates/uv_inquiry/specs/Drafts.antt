@@ -1,7 +1,8 @@
 -- What the lines behind `begin` have said so far.
-use Rattle.std.specs.Prelude.{◌≡◌, ◌≢◌, ℕ, ◌<◌, Bool, true, false, List, [], ◌∷◌, ◌++◌, length, Option, Some, None, option_map, unwrap_or}
+use Rattle.std.specs.Prelude.{◌≡◌, ◌≢◌, ℕ, ◌<◌, Bool, true, false, List, [], ◌∷◌, ◌++◌, length, Option, Some, None, option_map, unwrap_or, ◌⊎◌}
 use Rattle.std.specs.List.{AllByRecursion}
 use Rattle.uv_asking.specs.declared.asking.Offered.{Offered}
+use Rattle.uv_asking.specs.declared.asking.Offer.TheVariants.{Wait}
 use Rattle.uv_asking.specs.declared.asking.Recorded as came
 use Rattle.uv_asking.specs.declared.asking.Takes as asking
 use Rattle.uv_asking.specs.declared.asking.Most.{Most}
@@ -27,12 +28,13 @@ abbrev pub unsaid : Draft
 unsaid = record { offers = []; differ = None; recorded = []; takes = []; clock = None; most = []; states = None; full = false; question = None }
 
 -- nothing is said twice: no offer, no time of a callback, no bound, and no second question. And there is room for one more offer. What came in a
--- recording is said behind `may differ`, and beside that neither what else may come nor how long callbacks take
+-- recording is said behind `may differ`, and beside that nothing else may come, but that the clock goes on where the loop waits
 abbrev pub IsNew : Draft → Part → Type 0
-IsNew d (Offers o) = (length d.offers < MOST_OFFERS) × AllByRecursion (λ (p : Offered). p.offer ≢ o.offer) d.offers × (d.differ ≡ None)
-IsNew d (Differ k) = (d.differ ≡ None) × (d.offers ≡ []) × (d.takes ≡ [])
+IsNew d (Offers o) = (length d.offers < MOST_OFFERS) × AllByRecursion (λ (p : Offered). p.offer ≢ o.offer) d.offers
+    × ((d.differ ≡ None) ⊎ (o.offer ≡ Wait))
+IsNew d (Differ k) = (d.differ ≡ None) × AllByRecursion (λ (p : Offered). p.offer ≡ Wait) d.offers
 IsNew d (Recorded e) = (k : ℕ) × (d.differ ≡ Some k)
-IsNew d (Takes t) = AllByRecursion (λ (u : asking.Takes). (u.name ≡ t.name) × (u.call ≡ t.call) → ⊥) d.takes × (d.differ ≡ None)
+IsNew d (Takes t) = AllByRecursion (λ (u : asking.Takes). (u.name ≡ t.name) × (u.call ≡ t.call) → ⊥) d.takes
 IsNew d (Clock ms) = d.clock ≡ None
 IsNew d (Calls m) = AllByRecursion (λ (n : Most). n.name ≢ m.name) d.most
 IsNew d (States n) = d.states ≡ None

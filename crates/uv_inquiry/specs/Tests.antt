@@ -1,8 +1,8 @@
 -- How the lines behind `begin` are read, as functions that the code computes. They serve private clauses; that they agree with the grammar is
 -- proved.
-use Rattle.std.specs.Prelude.{◌≡◌, ℕ, ◌+◌, ◌==◌, ◌&&◌, Bool, true, false, not, nat_lt, nat_eq, List, length, Option, Some, None, is_none, is_some, Result, Ok, Err, if◌then◌else◌}
+use Rattle.std.specs.Prelude.{◌≡◌, ℕ, ◌+◌, ◌==◌, ◌&&◌, ◌||◌, Bool, true, false, not, nat_lt, nat_eq, List, length, Option, Some, None, is_none, is_some, Result, Ok, Err, if◌then◌else◌}
 use Rattle.std.specs.Option.{option_eq}
-use Rattle.std.specs.List.{list_any}
+use Rattle.std.specs.List.{list_any, list_all}
 use Rattle.uv_ids.specs.declared.event.Event.{Event}
 use Rattle.uv_ids.specs.declared.event.Event.TheVariants as event
 use Rattle.uv_ids.specs.declared.fault.Fault.{Fault}
@@ -58,10 +58,10 @@ has_bound v most = list_any (λ (m : Most). m.name.0 == v) most
 
 -- whether that is said for the first time, and there is room for it
 abbrev pub is_new : Draft → Part → Bool
-is_new d (Offers o) = nat_lt (length d.offers) MOST_OFFERS && not (has_offer o.offer d.offers) && is_none d.differ
-is_new d (Differ k) = is_none d.differ && (length d.offers == 0) && (length d.takes == 0)
+is_new d (Offers o) = nat_lt (length d.offers) MOST_OFFERS && not (has_offer o.offer d.offers) && (is_none d.differ || same_offer o.offer Wait)
+is_new d (Differ k) = is_none d.differ && list_all (λ (p : Offered). same_offer p.offer Wait) d.offers
 is_new d (Recorded e) = is_some d.differ
-is_new d (Takes t) = not (has_time t d.takes) && is_none d.differ
+is_new d (Takes t) = not (has_time t d.takes)
 is_new d (Clock ms) = is_none d.clock
 is_new d (Calls m) = not (has_bound m.name.0 d.most)
 is_new d (States n) = is_none d.states

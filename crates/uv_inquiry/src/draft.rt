@@ -1,6 +1,8 @@
 //! What the lines behind `begin` have said so far.
 ghost use Rattle.std.specs.Prelude.{◌≡◌, ◌≢◌, ◌<◌, ◌+◌, ◌-◌, ◌^◌, length, AllPairs, OnOk, option_map};
-ghost use Rattle.std.specs.List.{list_any};
+ghost use Rattle.std.specs.List.{list_any, list_all};
+ghost use Rattle.uv_asking.specs.declared.asking.Offered.{Offered};
+ghost use Rattle.uv_asking.specs.declared.asking.Offer.TheVariants.{Wait};
 ghost use Rattle.uv_script.specs.Lines.{lines_of};
 ghost use Rattle.uv_asking.specs.Asked.{asked_in};
 ghost use Rattle.uv_inquiry.specs.Drafts.{unsaid, with_part, finished};
@@ -79,6 +81,20 @@ fn has_offer(offers: &[Offered], offer: Offer) -> bool
         .any(|offered| same_offer(offered.offer, offer))
 }
 
+/// Whether that is `may wait`.
+fn is_wait(offered: Offered) -> bool
+    ensures { result ≡ same_offer offered.offer Wait }
+{
+    same_offer(offered.offer, Offer::Wait)
+}
+
+/// Whether each of these is.
+fn are_waits(offers: &[Offered]) -> bool
+    ensures { result ≡ list_all (λ (p : Offered). same_offer p.offer Wait) offers.now }
+{
+    offers.iter().all(|offered| is_wait(*offered))
+}
+
 /// Whether the time of one call is that of the other, too.
 fn same_calls(one: Takes, other: Takes) -> bool
     ensures { result ≡ same_calls one other }
@@ -124,13 +140,11 @@ impl Draft {
             Part::Offers(offered) => {
                 self.offers.len() < MOST_OFFERS
                     && !has_offer(&self.offers, offered.offer)
-                    && self.differ.is_none()
+                    && (self.differ.is_none() || is_wait(offered))
             }
-            Part::Differ(_) => {
-                self.differ.is_none() && self.offers.len() == 0 && self.takes.len() == 0
-            }
+            Part::Differ(_) => self.differ.is_none() && are_waits(&self.offers),
             Part::Recorded(_) => self.differ.is_some(),
-            Part::Takes(takes) => !has_time(&self.takes, takes) && self.differ.is_none(),
+            Part::Takes(takes) => !has_time(&self.takes, takes),
             Part::Clock(_) => self.clock.is_none(),
             Part::Calls(most) => !has_bound(&self.most, most.name),
             Part::States(_) => self.states.is_none(),

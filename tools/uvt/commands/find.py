@@ -44,7 +44,7 @@ from uvt.conversation import INSTALLED, Fault, Script, read_input
 from uvt.find_javascript import named
 from uvt.joined import Recorded, joined
 from uvt.notes import harmless
-from uvt.offered import never_called, offered, recorded_lines
+from uvt.offered import near_lines, never_called, offered
 from uvt.searching import BAD_LINE, UNSETTLED, Search
 
 FOUND, NEVER, OWN_FAULT = 0, 1, 70
@@ -100,7 +100,7 @@ def differed(script: Script, steps: list[str], lines: list[str], differing: str 
     if not differing:
         return lines
     at = lines.index(differing) + 1
-    return lines[:at] + recorded_lines(script, steps) + lines[at:]
+    return lines[:at] + near_lines(script, steps, lines) + lines[at:]
 
 
 def text_of(script: list[str], lines: list[str]) -> bytes:
