@@ -25,13 +25,13 @@ use Rattle.uv_asking.specs.declared.asking.Which.{Which}
 use Rattle.uv_asking.specs.declared.asking.Question.{Question}
 use Rattle.uv_asking.specs.declared.asking.Question.TheVariants as question
 use Rattle.uv_asking.specs.declared.part.Part.{Part}
-use Rattle.uv_asking.specs.declared.part.Part.TheVariants.{Offers, Differ, Recorded, Takes, Clock, Calls, States, Full, Finds}
+use Rattle.uv_asking.specs.declared.part.Part.TheVariants.{Offers, Differ, Recorded, Takes, Clock, Calls, States, Full, Finds, Latest}
 use Rattle.uv_asking.specs.declared.part.Said.{Said}
 use Rattle.uv_asking.specs.declared.part.Said.TheVariants.{Nothing, Bad}
 use Rattle.uv_asking.specs.Limits.{MOST_COUNT, MOST_MS, MOST_WORKER}
 use Rattle.uv_asking.specs.Grammar as is
 use Rattle.uv_asking.specs.Grammar.{which_word, IsNoOrder, IsWithin, IsOffer, IsCame, IsQuestion, IsPart, IsNoPart, Says, nothing, one, bad}
-use Rattle.uv_asking.specs.Tests.{number_in, call_in, which_named, offer_of, times_of, send_during, during_of, waits, differ_of, may_of, came_by, came_of, recorded_by, recorded_of, takes_by, takes_of, calls_of, bound_of, most_of, full_of, stuck_of, section_of, named_of, plain_by, plain_of, nth_call_of, late_of, numbered_by, numbered_of, before_of, behind_of, three_of, code_name_of, four_of, question_of, part_by, part_of, said_by, said_of}
+use Rattle.uv_asking.specs.Tests.{number_in, call_in, which_named, offer_of, times_of, send_during, during_of, waits, differ_of, may_of, came_by, came_of, recorded_by, recorded_of, takes_by, takes_of, calls_of, bound_of, most_of, full_of, stuck_of, section_of, named_of, plain_by, plain_of, nth_call_of, late_of, numbered_by, numbered_of, before_of, behind_of, three_of, code_name_of, four_of, question_of, part_by, most_parts_of, latest_by, latest_of, or_part, part_of, said_by, said_of}
 use Rattle.uv_asking.proofs.Found.{Has, mapped, bound, Found, sure, found_is, found_map, found_both, found_three}
 use Rattle.uv_asking.proofs.FieldWords.{number_right, number_found, place_right, place_found, IsNth, nth_right, which_right, which_found}
 
@@ -328,10 +328,10 @@ full_right : (names : List (List ℕ)) (word : List ℕ) (rest : List (List ℕ)
 full_right names word [] w = is.full (alone w)
 full_right names word (more ∷ rest) w = tt
 
-part_right : (names fields : List (List ℕ)) → Has (IsPart names fields) (part_of names fields)
+most_right_of : (names fields : List (List ℕ)) → Has (IsPart names fields) (most_parts_of names fields)
 unfolding part_by
-part_right names [] = tt
-part_right names (word ∷ rest) =
+most_right_of names [] = tt
+most_right_of names (word ∷ rest) =
     let P = IsPart names (word ∷ rest) in
     cond_both (bytes_eq word (codes "may")) _ _ (Has P) (λ a. may_right names word rest (same _ _ a))
     (λ _. cond_both (bytes_eq word (codes "recorded")) _ _ (Has P) (λ a. recorded_right names word rest (same _ _ a))
@@ -341,6 +341,30 @@ part_right names (word ∷ rest) =
     (λ _. cond_both (bytes_eq word (codes "find")) _ _ (Has P)
     (λ a. mapped (IsQuestion names rest) P _ (question_of names rest) (question_right names rest) (λ q h. is.finds rest q (front _ (same _ _ a)) h))
     (λ _. tt))))))
+
+latest_by_right : (names : List (List ℕ)) (word what name : List ℕ) → Has (IsPart names (word ∷ what ∷ name ∷ [])) (latest_by names word what name)
+unfolding latest_by
+latest_by_right names word what name =
+    let P = IsPart names (word ∷ what ∷ name ∷ []) in
+    cond_both (bytes_eq word (codes "find")) _ _ (Has P)
+    (λ a. cond_both (bytes_eq what (codes "latest")) _ _ (Has P)
+    (λ b. mapped (IsDeclared names name) P _ (place_of names name) (place_right names name)
+    (λ v h. is.latest name v (two _ (same _ _ a) (same _ _ b)) h)) (λ _. tt)) (λ _. tt)
+
+latest_right : (names fields : List (List ℕ)) → Has (IsPart names fields) (latest_of names fields)
+latest_right names [] = tt
+latest_right names (word ∷ []) = tt
+latest_right names (word ∷ what ∷ []) = tt
+latest_right names (word ∷ what ∷ name ∷ []) = latest_by_right names word what name
+latest_right names (word ∷ what ∷ name ∷ more ∷ rest) = tt
+
+or_right : (P : Part → Type 0) (o p : Option Part) → Has P o → Has P p → Has P (or_part o p)
+or_right P (Some x) p h k = h
+or_right P None p h k = k
+
+part_right : (names fields : List (List ℕ)) → Has (IsPart names fields) (part_of names fields)
+part_right names fields =
+    or_right (IsPart names fields) (most_parts_of names fields) (latest_of names fields) (most_right_of names fields) (latest_right names fields)
 
 -- ---- what is so is found
 
@@ -427,40 +451,66 @@ question_found names fields q (is.code_of c name v e h) =
     found_is (ap (question_of names) e)
     (found_both (λ (d : Code) (u : Var). question.Code d (Some u)) (sure (code_found c)) (place_found names name v h))
 
-part_found : (names fields : List (List ℕ)) (p : Part) → IsPart names fields p → Found (part_of names fields) (AreDistinct names) p
+-- a part is any but `find latest NAME`
+NotLatest : Part → Type 0
+NotLatest (Latest v) = ⊥
+NotLatest p = Unit {0}
+
+most_found : (names fields : List (List ℕ)) (p : Part) → IsPart names fields p → NotLatest p → Found (most_parts_of names fields) (AreDistinct names) p
 unfolding part_by times_of during_of send_during waits differ_of recorded_by takes_by bound_of calls_of
-part_found names fields p (is.may what argument o times n e h k) =
-    found_is (ap (part_of names) e)
+most_found names fields p (is.may what argument o times n e h k) other_part =
+    found_is (ap (most_parts_of names) e)
     (found_both (λ (a : Offer) (m : ℕ). Offers (record { offer = a; times = Some m })) (offer_found names what argument o h)
     (number_found 1 MOST_COUNT times n k))
-part_found names fields p (is.may_during name v times n job w e other h k l) =
-    found_is (ap (part_of names) e ∙ choice_other name job _ _ other)
+most_found names fields p (is.may_during name v times n job w e other h k l) other_part =
+    found_is (ap (most_parts_of names) e ∙ choice_other name job _ _ other)
     (found_three (λ (a b : Var) (m : ℕ). Offers (record { offer = SendDuring a b; times = Some m })) (place_found names name v h)
     (place_found names job w k) (number_found 1 MOST_COUNT times n l))
-part_found names fields p (is.may_wait e) = sure (ap (part_of names) e)
-part_found names fields p (is.may_differ number k e h) =
-    found_is (ap (part_of names) e) (found_map Differ (number_found 0 MOST_COUNT number k h))
-part_found names fields p (is.recorded polls m steps n what argument e is_fields h k l) =
-    found_is (ap (part_of names) is_fields)
+most_found names fields p (is.may_wait e) other_part = sure (ap (most_parts_of names) e)
+most_found names fields p (is.may_differ number k e h) other_part =
+    found_is (ap (most_parts_of names) e) (found_map Differ (number_found 0 MOST_COUNT number k h))
+most_found names fields p (is.recorded polls m steps n what argument e is_fields h k l) other_part =
+    found_is (ap (most_parts_of names) is_fields)
     (found_three (λ (d : Event) (i j : ℕ). Recorded (record { event = d; polls = i; steps = j })) (came_found names what argument e l)
     (number_found 0 MOST_COUNT polls m h) (number_found 0 MOST_COUNT steps n k))
-part_found names fields p (is.takes name v ms n e h k) =
-    found_is (ap (part_of names) e)
+most_found names fields p (is.takes name v ms n e h k) other_part =
+    found_is (ap (most_parts_of names) e)
     (found_both (λ (u : Var) (m : ℕ). Takes (record { name = u; call = None; ms = m })) (place_found names name v h) (number_found 0 MOST_MS ms n k))
-part_found names fields p (is.takes_once name v call k ms n e h c l) =
+most_found names fields p (is.takes_once name v call k ms n e h c l) other_part =
     let one = number_found {Holds = AreDistinct names} 1 MOST_COUNT call k c in
-    found_is (ap (part_of names) e)
+    found_is (ap (most_parts_of names) e)
     (found_three (λ (i : ℕ) (u : Var) (m : ℕ). Takes (record { name = u; call = Some i; ms = m })) one (place_found names name v h)
     (number_found 0 MOST_MS ms n l))
-part_found names fields p (is.most_clock number ms e h) =
-    found_is (ap (part_of names) e) (found_map Clock (number_found 0 MOST_MS number ms h))
-part_found names fields p (is.most_states number n e h) =
-    found_is (ap (part_of names) e) (found_map States (number_found 1 MOST_COUNT number n h))
-part_found names fields p (is.most_calls name v number n e c s h k) =
-    found_is (ap (part_of names) e ∙ choice_other name (codes "clock") _ _ c ∙ choice_other name (codes "states") _ _ s)
+most_found names fields p (is.most_clock number ms e h) other_part =
+    found_is (ap (most_parts_of names) e) (found_map Clock (number_found 0 MOST_MS number ms h))
+most_found names fields p (is.most_states number n e h) other_part =
+    found_is (ap (most_parts_of names) e) (found_map States (number_found 1 MOST_COUNT number n h))
+most_found names fields p (is.most_calls name v number n e c s h k) other_part =
+    found_is (ap (most_parts_of names) e ∙ choice_other name (codes "clock") _ _ c ∙ choice_other name (codes "states") _ _ s)
     (found_both (λ (u : Var) (m : ℕ). Calls (record { name = u; calls = m })) (place_found names name v h) (number_found 0 MOST_COUNT number n k))
-part_found names fields p (is.full e) = sure (ap (part_of names) e)
-part_found names fields p (is.finds rest q e h) = found_is (ap (part_of names) e) (found_map Finds (question_found names rest q h))
+most_found names fields p (is.full e) other_part = sure (ap (most_parts_of names) e)
+most_found names fields p (is.finds rest q e h) other_part = found_is (ap (most_parts_of names) e) (found_map Finds (question_found names rest q h))
+most_found names fields p (is.latest name v e h) other_part = absurd other_part
+
+or_found : {Holds : Type 0} {x : Part} (o p : Option Part) → Found o Holds x → Found (or_part o p) Holds x
+or_found o p h = record { it = h.it; found = ap (λ (q : Option Part). or_part q p) h.found; same = h.same }
+
+latest_found : (names : List (List ℕ)) (name : List ℕ) (v : Var) → IsDeclared names name v
+    → Found (part_of names (codes "find" ∷ codes "latest" ∷ name ∷ [])) (AreDistinct names) (Latest v)
+unfolding part_by plain_of which_named named_of latest_by
+latest_found names name v h = found_is refl (found_map Latest (place_found names name v h))
+
+part_found : (names fields : List (List ℕ)) (p : Part) → IsPart names fields p → Found (part_of names fields) (AreDistinct names) p
+part_found names fields p (is.latest name v e h) = found_is (ap (part_of names) e) (latest_found names name v h)
+part_found names fields (Offers o) h = or_found (most_parts_of names fields) (latest_of names fields) (most_found names fields (Offers o) h tt)
+part_found names fields (Differ k) h = or_found (most_parts_of names fields) (latest_of names fields) (most_found names fields (Differ k) h tt)
+part_found names fields (Recorded r) h = or_found (most_parts_of names fields) (latest_of names fields) (most_found names fields (Recorded r) h tt)
+part_found names fields (Takes t) h = or_found (most_parts_of names fields) (latest_of names fields) (most_found names fields (Takes t) h tt)
+part_found names fields (Clock ms) h = or_found (most_parts_of names fields) (latest_of names fields) (most_found names fields (Clock ms) h tt)
+part_found names fields (Calls m) h = or_found (most_parts_of names fields) (latest_of names fields) (most_found names fields (Calls m) h tt)
+part_found names fields (States n) h = or_found (most_parts_of names fields) (latest_of names fields) (most_found names fields (States n) h tt)
+part_found names fields Full h = or_found (most_parts_of names fields) (latest_of names fields) (most_found names fields Full h tt)
+part_found names fields (Finds q) h = or_found (most_parts_of names fields) (latest_of names fields) (most_found names fields (Finds q) h tt)
 
 -- where nothing is found nothing is said
 none_found : (names fields : List (List ℕ)) → part_of names fields ≡ None → IsNoPart names fields
@@ -490,6 +540,7 @@ says_something names line p (is.most_clock number ms e h) = line_begins line _ _
 says_something names line p (is.most_states number n e h) = line_begins line _ _ _ e
 says_something names line p (is.most_calls name v number n e c s h k) = line_begins line _ _ _ e
 says_something names line p (is.full e) = line_begins line _ _ _ e
+says_something names line p (is.latest name v e h) = line_begins line _ _ _ e
 says_something names line p (is.finds rest q e h) = line_begins line _ _ _ e
 
 told : (names : List (List ℕ)) (line : List ℕ) → is_line line ≡ true → is_skipped line ≡ false → (r : Option Part) →

@@ -25,6 +25,8 @@ pub record Asked : Type 0 where
   -- states are told apart whole, by times, counts and generations too
   pub full : Bool
   pub question : Question
+  -- the greatest number of ms is looked for that the question is answered with
+  pub greatest : Bool
 
 abbrev pub asked_in : Asking → Asked
 asked_in a = record {
@@ -37,4 +39,5 @@ asked_in a = record {
   states = a.states;
   full = a.full;
   question = a.question;
+  greatest = a.greatest;
 }

@@ -15,7 +15,7 @@ use Rattle.uv_asking.specs.declared.asking.Which.TheVariants as which
 use Rattle.uv_asking.specs.declared.asking.Question.{Question}
 use Rattle.uv_asking.specs.declared.asking.Question.TheVariants as question
 use Rattle.uv_asking.specs.declared.part.Part.{Part}
-use Rattle.uv_asking.specs.declared.part.Part.TheVariants.{Offers, Differ, Recorded, Takes, Clock, Calls, States, Full, Finds}
+use Rattle.uv_asking.specs.declared.part.Part.TheVariants.{Offers, Differ, Recorded, Takes, Clock, Calls, States, Full, Finds, Latest}
 use Rattle.uv_asking.specs.declared.part.Said.{Said}
 use Rattle.uv_asking.specs.declared.part.Said.TheVariants.{Nothing, One, Bad}
 use Rattle.uv_asking.specs.Limits.{MOST_COUNT, MOST_MS, MOST_WORKER}
@@ -98,6 +98,7 @@ pub data IsPart (names fields : List (List ℕ)) : Part → Type 0 where
   most_calls : (name : List ℕ) (v : Var) (number : List ℕ) (n : ℕ) → fields ≡ codes "most" ∷ name ∷ number ∷ [] → name ≢ codes "clock" →
       name ≢ codes "states" → IsDeclared names name v → IsWithin 0 MOST_COUNT number n → IsPart names fields (Calls (record { name = v; calls = n }))
   full : fields ≡ codes "full" ∷ [] → IsPart names fields Full
+  latest : (name : List ℕ) (v : Var) → fields ≡ codes "find" ∷ codes "latest" ∷ name ∷ [] → IsDeclared names name v → IsPart names fields (Latest v)
   finds : (rest : List (List ℕ)) (q : Question) → fields ≡ codes "find" ∷ rest → IsQuestion names rest q → IsPart names fields (Finds q)
 
 -- the fields say nothing

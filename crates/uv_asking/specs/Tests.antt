@@ -16,7 +16,7 @@ use Rattle.uv_asking.specs.declared.asking.Which.TheVariants as which
 use Rattle.uv_asking.specs.declared.asking.Question.{Question}
 use Rattle.uv_asking.specs.declared.asking.Question.TheVariants as question
 use Rattle.uv_asking.specs.declared.part.Part.{Part}
-use Rattle.uv_asking.specs.declared.part.Part.TheVariants.{Offers, Differ, Recorded, Takes, Clock, Calls, States, Full, Finds}
+use Rattle.uv_asking.specs.declared.part.Part.TheVariants.{Offers, Differ, Recorded, Takes, Clock, Calls, States, Full, Finds, Latest}
 use Rattle.uv_asking.specs.declared.part.Said.{Said}
 use Rattle.uv_asking.specs.declared.part.Said.TheVariants.{Nothing, One, Bad}
 use Rattle.uv_asking.specs.Limits.{MOST_COUNT, MOST_MS, MOST_WORKER}
@@ -255,10 +255,30 @@ part_by names word rest =
     else if bytes_eq word (codes "find") then option_map Finds (question_of names rest)
     else None
 
+-- the fields of a line, but for `find latest NAME`
+abbrev pub most_parts_of : List (List ℕ) → List (List ℕ) → Option Part
+most_parts_of names [] = None
+most_parts_of names (word ∷ rest) = part_by names word rest
+
+unfoldable pub latest_by : List (List ℕ) → List ℕ → List ℕ → List ℕ → Option Part
+latest_by names word what name =
+    if bytes_eq word (codes "find") then (if bytes_eq what (codes "latest") then option_map Latest (place_of names name) else None) else None
+
+-- `find latest NAME`
+abbrev pub latest_of : List (List ℕ) → List (List ℕ) → Option Part
+latest_of names [] = None
+latest_of names (word ∷ []) = None
+latest_of names (word ∷ what ∷ []) = None
+latest_of names (word ∷ what ∷ name ∷ []) = latest_by names word what name
+latest_of names (word ∷ what ∷ name ∷ more ∷ rest) = None
+
+abbrev pub or_part : Option Part → Option Part → Option Part
+or_part (Some part) other = Some part
+or_part None other = other
+
 -- the fields of a line
 abbrev pub part_of : List (List ℕ) → List (List ℕ) → Option Part
-part_of names [] = None
-part_of names (word ∷ rest) = part_by names word rest
+part_of names fields = or_part (most_parts_of names fields) (latest_of names fields)
 
 abbrev pub said_by : Option Part → Said
 said_by (Some part) = One part

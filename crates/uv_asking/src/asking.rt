@@ -105,4 +105,6 @@ pub struct Asking {
     /// `full`: each state is kept whole, with its times, counts and generations.
     pub full: bool,
     pub question: Question,
+    /// `find latest NAME`: the question is how late the timer is at all, and what is looked for the greatest number of ms that is answered.
+    pub greatest: bool,
 }

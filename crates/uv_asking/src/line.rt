@@ -3,7 +3,7 @@ ghost use Rattle.std.specs.Prelude.{◌≡◌, ◌≢◌, ℕ, List, AllPairs, N
 ghost use Rattle.uv_script.specs.Lines.{fields_of};
 ghost use Rattle.uv_asking.specs.declared.part.Said.{Said};
 ghost use Rattle.uv_asking.specs.Grammar.{Says};
-ghost use Rattle.uv_asking.specs.Tests.{said_of, part_of, may_of, waits, differ_of, times_of, came_by, came_of, recorded_by, recorded_of, offer_of, during_of, send_during, takes_of, takes_by, call_in, most_of, bound_of, calls_of, full_of};
+ghost use Rattle.uv_asking.specs.Tests.{said_of, part_of, most_parts_of, latest_by, latest_of, may_of, waits, differ_of, times_of, came_by, came_of, recorded_by, recorded_of, offer_of, during_of, send_during, takes_of, takes_by, call_in, most_of, bound_of, calls_of, full_of};
 
 use crate::asking::{Most, Offer, Offered, Recorded, Takes};
 use crate::part::{Part, Said};
@@ -30,15 +30,50 @@ fn read(names: &Names, line: &[u8]) -> Said
     if is_skipped(line) {
         return Said::Nothing;
     }
-    match part_in(names, Fields::of(line)) {
+    match part_of(names, line) {
         Some(part) => Said::One(part),
         None => Said::Bad,
     }
 }
 
+fn part_of(names: &Names, line: &[u8]) -> Option<Part>
+    ensures { result ≡ part_of names.now (fields_of line.now) }
+{
+    match part_in(names, Fields::of(line)) {
+        Some(part) => Some(part),
+        None => latest(names, Fields::of(line)),
+    }
+}
+
+/// `find latest NAME`.
+fn latest(names: &Names, mut fields: Fields<'_>) -> Option<Part>
+    ensures { result ≡ latest_of names.now fields.entry }
+{
+    let word = fields.next()?;
+    let what = fields.next()?;
+    let name = fields.next()?;
+    match fields.next() {
+        None => latest_by(names, word, what, name),
+        Some(_) => None,
+    }
+}
+
+#[tactic(auto, unfolding(crate::specs::Tests::latest_by))]
+fn latest_by(names: &Names, word: &[u8], what: &[u8], name: &[u8]) -> Option<Part>
+    ensures { result ≡ latest_by names.now word.now what.now name.now }
+{
+    if is(word, b"find") {
+        if is(what, b"latest") {
+            let name = names.number(name)?;
+            return Some(Part::Latest(name));
+        }
+    }
+    None
+}
+
 #[tactic(auto, unfolding(crate::specs::Tests::part_by))]
 fn part_in(names: &Names, mut fields: Fields<'_>) -> Option<Part>
-    ensures { result ≡ part_of names.now fields.entry }
+    ensures { result ≡ most_parts_of names.now fields.entry }
 {
     let word = fields.next()?;
     if is(word, b"may") {

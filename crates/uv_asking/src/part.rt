@@ -1,6 +1,7 @@
 //! What the lines behind `begin` say.
 
 use crate::asking::{Most, Offered, Question, Recorded, Takes};
+use uv_ids::Var;
 
 /// What one line says.
 #[derive(Clone, Copy)]
@@ -24,6 +25,8 @@ pub enum Part {
     Full,
     /// `find ..`. Where `before` or `after` is the second of three fields it is that form, also where a name is called so.
     Finds(Question),
+    /// `find latest NAME`.
+    Latest(Var),
 }
 
 /// How a line is read.

@@ -11,6 +11,7 @@ pub mod Covering
 pub mod Taking
 pub mod Undone
 pub mod Leading
+pub mod Later
 pub mod Moving
 pub mod Results
 pub mod Refusing

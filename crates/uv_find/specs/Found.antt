@@ -1,18 +1,21 @@
 -- What a search of orders finds.
-use Rattle.std.specs.Prelude.{◌≡◌, true, Some, None, ℕ, ◌+◌, ◌≤◌, List, ◌++◌, length, nat_eq, false}
+use Rattle.std.specs.Prelude.{◌≡◌, true, Some, None, ℕ, ◌+◌, ◌≤◌, Option, List, ◌++◌, length, nat_eq, false}
 use Rattle.std.specs.List.{IsDistinct}
 use Rattle.std.specs.Cmp.Lexicographic.{pointwise}
 use Rattle.uv_ids.specs.declared.event.Event.{Event}
 use Rattle.uv_ids.specs.declared.event.Event.TheVariants.{Finish}
 use Rattle.uv_ids.specs.declared.id.Id.{Id}
+use Rattle.uv_ids.specs.declared.id.Var.{Var}
 use Rattle.uv_script.specs.Program.{Program}
 use Rattle.uv_model.specs.After.{STEPS}
 use Rattle.uv_model.specs.Queries.{run_by}
 use Rattle.uv_search.specs.Keys.{Has}
 use Rattle.uv_find.specs.declared.finding.Answer.{Answer}
 use Rattle.uv_find.specs.declared.finding.Answer.TheVariants as answer
+use Rattle.uv_find.specs.declared.latest.Look.{Look}
+use Rattle.uv_find.specs.declared.latest.Look.TheVariants as look
 use Rattle.uv_asking.specs.Asked.{Asked}
-use Rattle.uv_find.specs.Orders.{Rules, Place, Choice, choice_at, beginning}
+use Rattle.uv_find.specs.Orders.{Rules, Place, Choice, asked_late, choice_at, beginning}
 use Rattle.uv_find.specs.Courses.{Course, NeverAnswered, IsAnswer}
 use Rattle.uv_find.specs.Spots.{Spot, told, place_code, is_few, holds_back, MayForget, IsDeep, rules_of}
 
@@ -50,6 +53,23 @@ Finds r s limit (answer.Never number) t = (number ≤ limit) × IsNever r s numb
 Finds r s limit answer.Unsettled t = IsMore r s.place limit
 Finds r s limit (answer.OutOfMemory number) t = (number ≤ limit) × ((keys : List (List ℕ)) × AreReached r s.place number keys)
 Finds r s limit answer.TooDeep t = (u : Spot) × (es : List Event) × (u.steps ≡ s.steps ++ es) × Course r s.place es u.place × IsDeep u
+
+-- what a look tells of how late the timer is called that the rules ask about: it is so, or never, or that isn't settled
+abbrev pub Looks : Rules → Spot → ℕ → Look → Type 0
+Looks r s limit (look.Late ms) = Unit {0}
+Looks r s limit (look.Never number) = (number ≤ limit) × IsNever r s number
+Looks r s limit look.Unsettled = Unit {0}
+
+-- it stands where it stood, where it goes on from there
+abbrev pub GoesBack : Look → Spot → Spot → Type 0
+GoesBack (look.Late ms) s t = t ≡ s
+GoesBack (look.Never number) s t = t ≡ s
+GoesBack look.Unsettled s t = Unit {0}
+
+-- from so many ms on the timer is called in no order, however many events it has, where that is settled
+abbrev pub RisesTo : Rules → Spot → Var → ℕ → ℕ → Option ℕ → Type 0
+RisesTo r s name limit ms None = Unit {0}
+RisesTo r s name limit ms (Some number) = (number ≤ limit) × IsNever (asked_late r name ms) s number
 
 -- of the places that events lead to, the key tells all that decides what comes after
 abbrev pub KeysTell : Type 0

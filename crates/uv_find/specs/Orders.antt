@@ -26,6 +26,7 @@ use Rattle.uv_asking.specs.declared.asking.Recorded.{Recorded}
 use Rattle.uv_asking.specs.declared.asking.Most.{Most}
 use Rattle.uv_asking.specs.declared.asking.Takes.{Takes}
 use Rattle.uv_asking.specs.declared.asking.Question.{Question}
+use Rattle.uv_asking.specs.declared.asking.Question.TheVariants.{Late}
 use Rattle.uv_find.specs.declared.kept.Kept.{Kept}
 use Rattle.uv_find.specs.declared.kept.Along.{Along}
 use Rattle.uv_find.specs.declared.left.Left.{Left}
@@ -54,6 +55,10 @@ pub record Rules : Type 0 where
   pub hold : Option Bool
   -- a worker takes a request at once: what else may come can't tell when it does
   pub at_once : Bool
+
+-- the same with another question: this timer is called so many ms late
+abbrev pub asked_late : Rules → Var → ℕ → Rules
+asked_late r name ms = record r { question = Late name ms }
 
 -- where a search stands
 pub record Place : Type 0 where

@@ -5,9 +5,9 @@ ghost use Rattle.uv_key.specs.Codes.{number_code};
 ghost use Rattle.uv_asking.specs.Asked.{asked_in};
 ghost use Rattle.uv_asking.specs.declared.asking.Question.TheVariants.{Stuck};
 ghost use Rattle.std.specs.Prelude.{slice_get};
-ghost use Rattle.uv_find.specs.Holding.{is_at_will, are_all_at_will, are_at_will};
+ghost use Rattle.uv_find.specs.Holding.{asks_late, is_at_will, are_all_at_will, are_at_will};
 ghost use Rattle.uv_find.specs.Kept.{kept_after};
-ghost use Rattle.uv_find.specs.Orders.{is_blocked, led, move_count};
+ghost use Rattle.uv_find.specs.Orders.{asked_late, is_blocked, led, move_count};
 ghost use Rattle.uv_find.specs.Questions.{none_leads, line_answers, place_answers, step_answers};
 ghost use Rattle.uv_find.specs.Spots.{Searched, IsSearched, IsStanding, is_loop_first, is_take_first, searched, rules_of, first_spot, kind_code, event_code, each_code, left_code, along_code, told_due, kept_code, next_spot, spot_code, left_before, IsDeep};
 ghost use Rattle.uv_find.specs.Steps.{Takes as TakesOne};
@@ -25,7 +25,7 @@ use std::alloc::{AllocError, Global};
 use std::marker::Model;
 use std::mem;
 use uv_asking::{Asking, Question};
-use uv_ids::{Event, Seen};
+use uv_ids::{Event, Seen, Var};
 use uv_key::{push_number, put_number};
 use uv_model::{Machine, Outcome, STEPS};
 use uv_search::{Maze, Went};
@@ -330,6 +330,30 @@ impl<M: Machine> Orders<M> {
         ensures { result ≡ length self.now.spot.steps }
     {
         self.session.steps().len()
+    }
+
+    /// Asks whether this timer is called so many ms late, where it was asked how late one is.
+    #[tactic(auto, using(crate::proofs::Later::asking_later))]
+    pub fn ask_late(&mut self, name: Var, ms: u64)
+        requires late { asks_late self.old.rules.question ≡ true }
+        ensures rules { self.new.rules ≡ asked_late self.old.rules name ms }
+        ensures spot { self.new.spot ≡ self.old.spot }
+        ensures before { self.new.before ≡ self.old.before }
+    {
+        self.terms.question = Question::Late(name, ms);
+    }
+
+    /// How late the timer is that the last step called: how many ms it was due before.
+    pub(crate) fn lateness(&self) -> u64 {
+        let made = self.made.len();
+        if made == 0 {
+            return 0;
+        }
+        self.session
+            .machine()
+            .numbers()
+            .clock
+            .saturating_sub(self.made[made - 1].kept.due)
     }
 
     /// Whether what stands here answers the question. Nothing changes.

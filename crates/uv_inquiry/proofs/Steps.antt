@@ -14,7 +14,7 @@ use Rattle.uv_asking.specs.declared.asking.Offered.{Offered}
 use Rattle.uv_asking.specs.declared.asking.Takes as asking
 use Rattle.uv_asking.specs.declared.asking.Most.{Most}
 use Rattle.uv_asking.specs.declared.part.Part.{Part}
-use Rattle.uv_asking.specs.declared.part.Part.TheVariants.{Offers, Differ, Recorded, Takes, Clock, Calls, States, Full, Finds}
+use Rattle.uv_asking.specs.declared.part.Part.TheVariants.{Offers, Differ, Recorded, Takes, Clock, Calls, States, Full, Finds, Latest}
 use Rattle.uv_asking.specs.Limits.{MOST_OFFERS}
 use Rattle.uv_inquiry.specs.Drafts.{Draft, IsNew}
 use Rattle.uv_inquiry.specs.Tests.{same_step, same_offer, has_offer, same_calls, has_time, has_bound, is_new}
@@ -185,6 +185,7 @@ new_sound d (Calls m) e =
 new_sound d (States n) e = none_is d.states e
 new_sound d Full e = not_true d.full e
 new_sound d (Finds q) e = none_is d.question e
+new_sound d (Latest v) e = none_is d.question e
 
 pub new_complete : (d : Draft) (part : Part) → IsNew d part → is_new d part ≡ true
 new_complete d (Offers o) (few, none, alone) =
@@ -203,3 +204,4 @@ new_complete d (Calls m) h =
 new_complete d (States n) h = ap is_none h
 new_complete d Full h = ap not h
 new_complete d (Finds q) h = ap is_none h
+new_complete d (Latest v) h = ap is_none h

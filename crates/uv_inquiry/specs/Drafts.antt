@@ -7,8 +7,9 @@ use Rattle.uv_asking.specs.declared.asking.Recorded as came
 use Rattle.uv_asking.specs.declared.asking.Takes as asking
 use Rattle.uv_asking.specs.declared.asking.Most.{Most}
 use Rattle.uv_asking.specs.declared.asking.Question.{Question}
+use Rattle.uv_asking.specs.declared.asking.Question.TheVariants.{Late}
 use Rattle.uv_asking.specs.declared.part.Part.{Part}
-use Rattle.uv_asking.specs.declared.part.Part.TheVariants.{Offers, Differ, Recorded, Takes, Clock, Calls, States, Full, Finds}
+use Rattle.uv_asking.specs.declared.part.Part.TheVariants.{Offers, Differ, Recorded, Takes, Clock, Calls, States, Full, Finds, Latest}
 use Rattle.uv_asking.specs.Asked.{Asked}
 use Rattle.uv_asking.specs.Limits.{MOST_OFFERS, DEFAULT_STATES}
 
@@ -22,10 +23,12 @@ pub record Draft : Type 0 where
   pub states : Option ℕ
   pub full : Bool
   pub question : Option Question
+  pub greatest : Bool
 
 -- before the first line
 abbrev pub unsaid : Draft
-unsaid = record { offers = []; differ = None; recorded = []; takes = []; clock = None; most = []; states = None; full = false; question = None }
+unsaid = record { offers = []; differ = None; recorded = []; takes = []; clock = None; most = []; states = None; full = false; question = None;
+  greatest = false }
 
 -- nothing is said twice: no offer, no time of a callback, no bound, and no second question. And there is room for one more offer. What came in a
 -- recording is said behind `may differ`, and beside that nothing else may come, but that the clock goes on where the loop waits
@@ -40,6 +43,7 @@ IsNew d (Calls m) = AllByRecursion (λ (n : Most). n.name ≢ m.name) d.most
 IsNew d (States n) = d.states ≡ None
 IsNew d Full = d.full ≡ false
 IsNew d (Finds q) = d.question ≡ None
+IsNew d (Latest v) = d.question ≡ None
 
 -- with what one more line says
 abbrev pub with_part : Draft → Part → Draft
@@ -52,6 +56,8 @@ with_part d (Calls m) = record d { most = d.most ++ m ∷ [] }
 with_part d (States n) = record d { states = Some n }
 with_part d Full = record d { full = true }
 with_part d (Finds q) = record d { question = Some q }
+-- how late at all, and the greatest number of ms is looked for
+with_part d (Latest v) = record d { question = Some (Late v 0); greatest = true }
 
 -- what is asked by that, with its question
 abbrev pub asked_by : Draft → Question → Asked
@@ -65,6 +71,7 @@ asked_by d q = record {
   states = unwrap_or d.states DEFAULT_STATES;
   full = d.full;
   question = q;
+  greatest = d.greatest;
 }
 
 -- and whether it has one

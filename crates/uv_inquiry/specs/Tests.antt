@@ -15,7 +15,7 @@ use Rattle.uv_asking.specs.declared.asking.Takes as asking
 use Rattle.uv_asking.specs.declared.asking.Most.{Most}
 use Rattle.uv_asking.specs.declared.asking.Asking.{Asking}
 use Rattle.uv_asking.specs.declared.part.Part.{Part}
-use Rattle.uv_asking.specs.declared.part.Part.TheVariants.{Offers, Differ, Recorded, Takes, Clock, Calls, States, Full, Finds}
+use Rattle.uv_asking.specs.declared.part.Part.TheVariants.{Offers, Differ, Recorded, Takes, Clock, Calls, States, Full, Finds, Latest}
 use Rattle.uv_asking.specs.declared.part.Said.{Said}
 use Rattle.uv_asking.specs.declared.part.Said.TheVariants.{Nothing, One, Bad}
 use Rattle.uv_asking.specs.Limits.{MOST_OFFERS}
@@ -67,6 +67,7 @@ is_new d (Calls m) = not (has_bound m.name.0 d.most)
 is_new d (States n) = is_none d.states
 is_new d Full = not d.full
 is_new d (Finds q) = is_none d.question
+is_new d (Latest v) = is_none d.question
 
 abbrev pub after_said : Draft → Said → Option Draft
 after_said d Nothing = Some d

@@ -60,6 +60,18 @@ bounds_text names None clock most = within_text names clock most
 unfoldable pub never_text : Program → Asked → ℕ → List ℕ
 never_text p a states = codes "never" ++ bounds_text p.names a.differ a.clock a.most ++ codes ": " ++ states_text states ++ codes ", every order\n"
 
+-- in an order of these steps the timer is called so many ms late, and in none later; so many states were seen
+unfoldable pub latest_text : Program → Asked → List Event → ℕ → ℕ → List ℕ
+latest_text p a es late states =
+    codes "latest " ++ decimal late ++ codes " ms" ++ bounds_text p.names a.differ a.clock a.most ++ codes ", in " ++ steps_text (length es)
+    ++ codes ": " ++ states_text states ++ codes ", every order\n" ++ session_text p es
+
+-- in an order of these steps it is called so many ms late; whether later isn't settled within so many states
+unfoldable pub at_least_text : Program → List Event → ℕ → ℕ → List ℕ
+at_least_text p es late states =
+    codes "latest " ++ decimal late ++ codes " ms at least, in " ++ steps_text (length es) ++ codes ": not settled within " ++ states_text states
+    ++ codes "\n" ++ session_text p es
+
 -- there are more states than were to be kept
 unfoldable pub unsettled_text : ℕ → List ℕ
 unsettled_text states = codes "not settled within " ++ states_text states ++ codes "\n"

@@ -5,7 +5,7 @@ ghost use Rattle.std.specs.Prelude.{◌≡◌, ◌++◌, None, IfOk, IfErr};
 ghost use Rattle.uv_ids.specs.declared.fault.Fault.TheVariants.{Memory};
 ghost use Rattle.uv_script.specs.Writes.{Writes};
 ghost use Rattle.uv_asking.specs.Asked.{asked_in};
-ghost use Rattle.uv_inquiry.specs.Texts.{steps_text, states_text, calls_text, found_text, bound_text, more_bound, more_bounds, within_text, bounds_text, moved_text, clock_too, never_text, unsettled_text, out_of_memory_text, too_deep_text, no_end_text};
+ghost use Rattle.uv_inquiry.specs.Texts.{latest_text, at_least_text, steps_text, states_text, calls_text, found_text, bound_text, more_bound, more_bounds, within_text, bounds_text, moved_text, clock_too, never_text, unsettled_text, out_of_memory_text, too_deep_text, no_end_text};
 
 use crate::inquiry::Inquiry;
 use crate::session::push_session;
@@ -68,6 +68,82 @@ pub fn push_never(text: &mut Vec<u8>, inquiry: &Inquiry, states: u64) -> Result<
     text.extend_from_slice(b": ")?;
     push_states(text, states)?;
     text.extend_from_slice(b", every order\n")
+}
+
+/// The steps in which the timer is called so many ms late, as a session, behind a line that says so, and that in no order it is called later.
+pub fn latest_text(
+    alloc: Global,
+    inquiry: &Inquiry,
+    steps: &[Event],
+    late: u64,
+    states: u64,
+) -> Result<Vec<u8>, Fault>
+    ensures text { IfOk result (λ text. text.items ≡ latest_text inquiry.now.script (asked_in inquiry.now.asking) steps.now late states) }
+    ensures err { IfErr result (λ fault. fault ≡ Memory) }
+{
+    let mut text = Vec::new(alloc);
+    push_latest(&mut text, inquiry, steps, late, states)?;
+    Ok(text)
+}
+
+/// Puts that behind a text.
+#[tactic(auto, using(uv_script::proofs::Writing::writing), unfolding(crate::specs::Texts::latest_text))]
+pub fn push_latest(
+    text: &mut Vec<u8>,
+    inquiry: &Inquiry,
+    steps: &[Event],
+    late: u64,
+    states: u64,
+) -> Result<(), AllocError>
+    ensures { Writes result text.old.items (latest_text inquiry.now.script (asked_in inquiry.now.asking) steps.now late states) text.new.items }
+{
+    text.extend_from_slice(b"latest ")?;
+    push_number(text, late)?;
+    text.extend_from_slice(b" ms")?;
+    push_every_bound(text, inquiry.script.names(), &inquiry.asking)?;
+    text.extend_from_slice(b", in ")?;
+    push_steps(text, steps.len() as u64)?;
+    text.extend_from_slice(b": ")?;
+    push_states(text, states)?;
+    text.extend_from_slice(b", every order\n")?;
+    push_session(text, &inquiry.script, steps)
+}
+
+/// The steps in which the timer is called so many ms late, as a session, behind a line that says so, and that it isn't settled whether later.
+pub fn at_least_text(
+    alloc: Global,
+    script: &Script,
+    steps: &[Event],
+    late: u64,
+    states: u64,
+) -> Result<Vec<u8>, Fault>
+    ensures text { IfOk result (λ text. text.items ≡ at_least_text script.now steps.now late states) }
+    ensures err { IfErr result (λ fault. fault ≡ Memory) }
+{
+    let mut text = Vec::new(alloc);
+    push_at_least(&mut text, script, steps, late, states)?;
+    Ok(text)
+}
+
+/// Puts that behind a text.
+#[tactic(auto, using(uv_script::proofs::Writing::writing), unfolding(crate::specs::Texts::at_least_text))]
+pub fn push_at_least(
+    text: &mut Vec<u8>,
+    script: &Script,
+    steps: &[Event],
+    late: u64,
+    states: u64,
+) -> Result<(), AllocError>
+    ensures { Writes result text.old.items (at_least_text script.now steps.now late states) text.new.items }
+{
+    text.extend_from_slice(b"latest ")?;
+    push_number(text, late)?;
+    text.extend_from_slice(b" ms at least, in ")?;
+    push_steps(text, steps.len() as u64)?;
+    text.extend_from_slice(b": not settled within ")?;
+    push_states(text, states)?;
+    text.extend_from_slice(b"\n")?;
+    push_session(text, script, steps)
 }
 
 /// That there are more states than were to be kept.

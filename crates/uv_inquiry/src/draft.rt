@@ -32,6 +32,7 @@ pub(crate) struct Draft {
     states: Option<u32>,
     full: bool,
     question: Option<Question>,
+    greatest: bool,
 }
 
 impl Model for Draft {
@@ -49,6 +50,7 @@ impl Model for Draft {
       states = d.states;
       full = d.full;
       question = d.question;
+      greatest = d.greatest;
     } };
 }
 
@@ -129,6 +131,7 @@ impl Draft {
             states: None,
             full: false,
             question: None,
+            greatest: false,
         }
     }
 
@@ -150,6 +153,7 @@ impl Draft {
             Part::States(_) => self.states.is_none(),
             Part::Full => !self.full,
             Part::Finds(_) => self.question.is_none(),
+            Part::Latest(_) => self.question.is_none(),
         }
     }
 
@@ -167,6 +171,10 @@ impl Draft {
             Part::States(states) => self.states = Some(states),
             Part::Full => self.full = true,
             Part::Finds(question) => self.question = Some(question),
+            Part::Latest(name) => {
+                self.question = Some(Question::Late(name, 0));
+                self.greatest = true;
+            }
         }
         Ok(())
     }
@@ -202,6 +210,7 @@ impl Draft {
             states: self.states.unwrap_or(DEFAULT_STATES),
             full: self.full,
             question,
+            greatest: self.greatest,
         })
     }
 }

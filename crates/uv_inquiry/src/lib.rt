@@ -12,8 +12,9 @@ mod repeats;
 mod session;
 
 pub use answer::{
-    found_text, never_text, no_end_text, out_of_memory_text, push_found, push_never,
-    push_out_of_memory, push_too_deep, push_unsettled, too_deep_text, unsettled_text,
+    at_least_text, found_text, latest_text, never_text, no_end_text, out_of_memory_text,
+    push_at_least, push_found, push_latest, push_never, push_out_of_memory, push_too_deep,
+    push_unsettled, too_deep_text, unsettled_text,
 };
 pub use input::read_inquiry;
 pub use inquiry::{Inquiry, one_inquiry};

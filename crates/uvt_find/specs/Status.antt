@@ -1,19 +1,20 @@
 -- What a run of the program comes to.
-use Rattle.std.specs.Prelude.{◌≡◌, ℕ, ◌≤◌, ◌==◌, ◌++◌, true, List, [], ◌∷◌, Result, Ok, Err, IfOk, IfErr}
+use Rattle.std.specs.Prelude.{◌≡◌, ℕ, ◌+◌, ◌≤◌, ◌==◌, ◌++◌, true, List, [], ◌∷◌, Result, Ok, Err, IfOk, IfErr}
 use Rattle.std.specs.List.{list_any}
 use Rattle.uv_ids.specs.declared.event.Event.{Event}
 use Rattle.uv_ids.specs.declared.fault.Fault.{Fault}
+use Rattle.uv_ids.specs.declared.id.Var.{Var}
 use Rattle.uv_ids.specs.declared.fault.Fault.TheVariants as fault
 use Rattle.uv_script.specs.Program.{Program}
 use Rattle.uv_engine.specs.Devices.{ReaderCounts, WriterCounts}
 use Rattle.uv_script.specs.Writes.{CutShort}
 use Rattle.uv_asking.specs.Asked.{Asked}
-use Rattle.uv_find.specs.Orders.{Place, beginning}
+use Rattle.uv_find.specs.Orders.{Place, asked_late, beginning}
 use Rattle.uv_find.specs.Courses.{IsAnswer}
 use Rattle.uv_find.specs.Found.{AreReached, IsNever, IsMore, IsDeepest}
 use Rattle.uv_find.specs.Spots.{rules_of, first_spot}
 use Rattle.uv_inquiry.specs.Grammar.{IsInquiry, IsBadInput}
-use Rattle.uv_inquiry.specs.Texts.{found_text, never_text, unsettled_text, too_deep_text, out_of_memory_text}
+use Rattle.uv_inquiry.specs.Texts.{latest_text, at_least_text, found_text, never_text, unsettled_text, too_deep_text, out_of_memory_text}
 
 -- the text that answers what is asked of a script, and its status
 pub data Answers (p : Program) (a : Asked) : List ℕ → ℕ → Type 0 where
@@ -22,6 +23,16 @@ pub data Answers (p : Program) (a : Asked) : List ℕ → ℕ → Type 0 where
       Answers p a (found_text p es states) 0
   -- no events do, however many (`NeverAnswered`); the places that they lead to are told apart by so many keys
   never : (states : ℕ) → IsNever (rules_of p a) (first_spot (rules_of p a)) states → states ≤ a.states → Answers p a (never_text p a states) 1
+  -- these events call the timer that is asked about so many ms late, and no events call it later
+  latest : (name : Var) (es : List Event) (q : Place) (late states : ℕ) → a.greatest ≡ true →
+      IsAnswer (asked_late (rules_of p a) name late) (beginning (rules_of p a)) es q →
+      IsNever (asked_late (rules_of p a) name (late + 1)) (first_spot (rules_of p a)) states → states ≤ a.states →
+      Answers p a (latest_text p a es late states) 0
+  -- these events call it so many ms late; whether others do later isn't settled
+  at_least : (name : Var) (es : List Event) (q : Place) (late : ℕ) → a.greatest ≡ true →
+      IsAnswer (asked_late (rules_of p a) name late) (beginning (rules_of p a)) es q → Answers p a (at_least_text p es late a.states) 3
+  -- it isn't settled whether any events call it
+  nothing_settled : a.greatest ≡ true → Answers p a (unsettled_text a.states) 3
   -- there are more places than may be kept
   unsettled : IsMore (rules_of p a) (beginning (rules_of p a)) a.states → Answers p a (unsettled_text a.states) 3
   -- events lead to where no more of them may be taken

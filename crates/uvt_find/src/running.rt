@@ -10,10 +10,11 @@ ghost use Rattle.uvt_find.specs.Status.{Answers, EndsBy, IsAnswerStatus, IsReply
 use std::alloc::Global;
 use std::io::Write;
 use uv_engine::{Sink, Source, write_text};
-use uv_find::{Answer, Orders, find, may_forget};
-use uv_ids::Fault;
+use uv_asking::Question;
+use uv_find::{Answer, Orders, Risen, find, may_forget, rise};
+use uv_ids::{Fault, Var};
 use uv_inquiry::{
-    Inquiry, found_text, may_never_end, never_text, no_end_text, out_of_memory_text, read_inquiry,
+    Inquiry, at_least_text, found_text, latest_text, may_never_end, never_text, no_end_text, out_of_memory_text, read_inquiry,
     too_deep_text, unsettled_text,
 };
 use uv_model::Machine;
@@ -77,9 +78,88 @@ fn answer<M: Machine>(alloc: Global, inquiry: &Inquiry) -> Result<Told, Fault>
     ensures told { IfOk result (λ told. Answers inquiry.now.script (asked_in inquiry.now.asking) told.text.items told.status) }
     ensures err { IfErr result (λ fault. fault ≡ Memory) }
 {
+    let mut orders = begun::<M>(alloc, inquiry)?;
+    match (inquiry.asking.greatest, inquiry.asking.question) {
+        (true, Question::Late(name, _)) => latest::<M>(alloc, inquiry, orders, name),
+        _ => search(alloc, inquiry, &mut orders),
+    }
+}
+
+/// The orders of what is asked, over a new machine, at their beginning.
+fn begun<M: Machine>(alloc: Global, inquiry: &Inquiry) -> Result<Orders<M>, Fault>
+    requires back { M.BackWantsMemory → ⊥ }
+    ensures rules { IfOk result (λ orders. orders.rules ≡ rules_of inquiry.now.script (asked_in inquiry.now.asking)) }
+    ensures spot { IfOk result (λ orders. orders.spot ≡ first_spot orders.rules) }
+    ensures err { IfErr result (λ fault. fault ≡ Memory) }
+{
     let machine = M::begin(alloc, copied(alloc, &inquiry.script)?)?;
-    let mut orders = Orders::new(alloc, machine, &inquiry.asking)?;
-    search(alloc, inquiry, &mut orders)
+    Ok(Orders::new(alloc, machine, &inquiry.asking)?)
+}
+
+/// How late the timer is called at most, and an order in which it is.
+fn latest<M: Machine>(
+    alloc: Global,
+    inquiry: &Inquiry,
+    orders: Orders<M>,
+    name: Var,
+) -> Result<Told, Fault>
+    requires back { M.BackWantsMemory → ⊥ }
+    requires rules { orders.rules ≡ rules_of inquiry.now.script (asked_in inquiry.now.asking) }
+    requires spot { orders.spot ≡ first_spot orders.rules }
+    requires greatest { inquiry.now.asking.greatest ≡ true }
+    requires question { inquiry.now.asking.question ≡ Late name 0 }
+    ensures told { IfOk result (λ told. Answers inquiry.now.script (asked_in inquiry.now.asking) told.text.items told.status) }
+    ensures err { IfErr result (λ fault. fault ≡ Memory) }
+{
+    let mut orders = orders;
+    let states = inquiry.asking.states;
+    let risen = rise(alloc, &mut orders, name, states as usize);
+    if risen.ms == 0 {
+        return match risen.settled {
+            Some(kept) => Ok(Told {
+                text: never_text(alloc, inquiry, kept as u64)?,
+                status: 1,
+            }),
+            None => not_settled(alloc, states),
+        };
+    }
+    ends_at::<M>(alloc, inquiry, name, risen)
+}
+
+/// Nothing was settled.
+fn not_settled(alloc: Global, states: u32) -> Result<Told, Fault> {
+    Ok(Told {
+        text: unsettled_text(alloc, u64::from(states))?,
+        status: 3,
+    })
+}
+
+/// The order in which it is called as late as that.
+fn ends_at<M: Machine>(
+    alloc: Global,
+    inquiry: &Inquiry,
+    name: Var,
+    risen: Risen,
+) -> Result<Told, Fault>
+    requires back { M.BackWantsMemory → ⊥ }
+{
+    let states = inquiry.asking.states;
+    let late = risen.ms.saturating_sub(1);
+    let mut orders = begun::<M>(alloc, inquiry)?;
+    orders.ask_late(name, late);
+    match find(alloc, &mut orders, states as usize) {
+        Answer::Found(_) => match risen.settled {
+            Some(kept) => Ok(Told {
+                text: latest_text(alloc, inquiry, orders.steps(), late, kept as u64)?,
+                status: 0,
+            }),
+            None => Ok(Told {
+                text: at_least_text(alloc, &inquiry.script, orders.steps(), late, u64::from(states))?,
+                status: 3,
+            }),
+        },
+        _ => not_settled(alloc, states),
+    }
 }
 
 /// Writes a whole text, and passes it on.

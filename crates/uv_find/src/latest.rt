@@ -1,0 +1,79 @@
+//! How late a timer is called at most, over all orders: one search after another, each of which asks for later than the last one found.
+ghost use Rattle.std.specs.Prelude.{◌≡◌, true, false};
+ghost use Rattle.uv_find.specs.Found.{GoesBack, Looks, RisesTo};
+ghost use Rattle.uv_find.specs.Holding.{asks_late};
+ghost use Rattle.uv_find.specs.Questions.{place_answers};
+
+use crate::orders::Orders;
+use std::alloc::Global;
+use uv_ids::Var;
+use uv_model::Machine;
+use uv_search::{Found, Reached, go_back, search};
+
+/// So many searches are made at most (own).
+const ROUNDS: usize = 65_536;
+
+/// What one search tells of how late the timer is called.
+pub enum Look {
+    /// In one order it is, and so late.
+    Late(u64),
+    /// In no order. So many places were kept.
+    Never(usize),
+    Unsettled,
+}
+
+/// How late it is called at most.
+#[derive(Clone, Copy)]
+pub struct Risen {
+    /// So late is the first number of ms that wasn't found, one more than the latest that was; 0 where none was.
+    pub ms: u64,
+    /// So late it is called in no order. So many places were kept then. None where that isn't settled.
+    pub settled: Option<usize>,
+}
+
+/// Searches for an order in which the timer is called as late as is asked, and goes back.
+fn look<M: Machine>(alloc: Global, orders: &mut Orders<M>, limit: usize) -> Look
+    requires here { place_answers orders.old.rules orders.old.spot.place orders.old.rules.question ≡ false }
+    ensures found { Looks orders.old.rules orders.old.spot limit result }
+    ensures rules { orders.new.rules ≡ orders.old.rules }
+    ensures back { GoesBack result orders.old.spot orders.new.spot }
+{
+    match search(alloc, orders, limit) {
+        Found::Way(Reached { way, .. }) => {
+            let late = orders.lateness();
+            go_back(orders, way.len());
+            Look::Late(late)
+        }
+        Found::Never(places) => Look::Never(places),
+        _ => Look::Unsettled,
+    }
+}
+
+/// Searches for later and later calls of the timer from where the orders stand, until there is none.
+pub fn rise<M: Machine>(alloc: Global, orders: &mut Orders<M>, name: Var, limit: usize) -> Risen
+    requires late { asks_late orders.old.rules.question ≡ true }
+    ensures { RisesTo orders.old.rules orders.old.spot name limit result.ms result.settled }
+{
+    let mut ms = 0;
+    'rounds: for _ in 0..ROUNDS {
+        orders.ask_late(name, ms);
+        match look(alloc, orders, limit) {
+            Look::Late(late) => ms = above(late, ms),
+            Look::Never(places) => return Risen {
+                ms,
+                settled: Some(places),
+            },
+            Look::Unsettled => return Risen { ms, settled: None },
+        }
+    }
+    Risen { ms, settled: None }
+}
+
+/// One more than the larger one.
+fn above(late: u64, ms: u64) -> u64 {
+    if late < ms {
+        ms.saturating_add(1)
+    } else {
+        late.saturating_add(1)
+    }
+}
