@@ -27,7 +27,7 @@ use Rattle.uv_asking.specs.declared.asking.Takes.{Takes}
 use Rattle.uv_find.specs.declared.kept.Along.{Along}
 use Rattle.uv_find.specs.declared.kept.Kept.{Kept}
 
--- ---- when the timer that is asked about is due
+-- ---- when the timer that is asked about is due, or since when the request or the async handle waits
 
 -- the loop is in a section of timers, also while one of their callbacks is under way
 abbrev pub is_timers_stage : Stage → Bool
@@ -45,17 +45,23 @@ is_in_timers (Running run) = is_timers_stage run.stage
 abbrev pub due_else : State → ℕ → ℕ
 due_else s due = if is_in_timers s.place then due else s.clock
 
--- when an active timer is due; what is no active timer leaves this
-abbrev pub due_in : Option Content → ℕ → ℕ
-due_in (Some (content.Handle h)) due = if is_timer h.kind && h.active then h.due.at else due
-due_in _ due = due
+-- of a handle: when an active timer is due, and else this other time; while a send is pending, what was kept, which is the clock of the send, and
+-- else the clock
+abbrev pub due_of : Bool → Bool → Bool → ℕ → ℕ → ℕ → ℕ → ℕ
+due_of timer active pending at due other clock = if timer then (if active then at else other) else (if pending then due else clock)
+
+-- while there is a request, what was kept: the clock as it was queued. Where there is nothing, the clock
+abbrev pub due_in : Option Content → ℕ → ℕ → ℕ → ℕ
+due_in (Some (content.Handle h)) due other clock = due_of (is_timer h.kind) h.active h.pending h.due.at due other clock
+due_in (Some (content.Request q)) due other clock = due
+due_in None due other clock = clock
 
 abbrev pub due_under : State → Option Id → ℕ → ℕ
-due_under s None due = due
-due_under s (Some id) due = due_in (held s.arena.slots id) due
+due_under s None due = s.clock
+due_under s (Some id) due = due_in (held s.arena.slots id) due (due_else s due) s.clock
 
 abbrev pub kept_due : Question → State → ℕ → ℕ
-kept_due (asks.Late name ms) s due = due_under s (named s name).id (due_else s due)
+kept_due (asks.Late name ms) s due = due_under s (named s name).id due
 kept_due _ s due = due
 
 -- ---- how long callbacks take

@@ -6,18 +6,17 @@ use Rattle.uv_ids.specs.declared.seen.Callback.TheVariants as callback
 use Rattle.uv_ids.specs.declared.seen.Seen.{Seen}
 use Rattle.uv_ids.specs.declared.seen.Seen.TheVariants as seen
 use Rattle.uv_records.specs.Names.{count_of}
-use Rattle.uv_records.specs.Slots.{held}
 use Rattle.uv_script.specs.declared.op.Op.{Op}
 use Rattle.uv_script.specs.Program.{Program, op_at, op_name, is_for}
 use Rattle.uv_model.specs.declared.place.Place as loop
 use Rattle.uv_model.specs.declared.place.Place.TheVariants.{Main, Running}
 use Rattle.uv_model.specs.State.{State, named}
 use Rattle.uv_session.specs.Breaks.{answers_code, begins_section, begins_poll}
-use Rattle.uv_normal.specs.Normal.{holds_timer}
 use Rattle.uv_asking.specs.declared.asking.Which.{Which}
 use Rattle.uv_asking.specs.declared.asking.Which.TheVariants as which
 use Rattle.uv_asking.specs.declared.asking.Question.{Question}
 use Rattle.uv_asking.specs.declared.asking.Question.TheVariants as asks
+use Rattle.uv_find.specs.Kept.{takes_time}
 use Rattle.uv_find.specs.Orders.{Rules, Place, Led, led, is_blocked, move_count}
 
 -- ---- what a line says, and the state after it
@@ -71,10 +70,15 @@ abbrev pub is_of : Option Var → Option Var → Bool
 is_of None v = true
 is_of (Some name) v = is_name name v
 
--- the line calls the timer of this name, which was due then, so many ms after that or later
+-- the callback of this name's handle or request
+abbrev pub is_awaited : Var → Option (Callback × Var) → Bool
+is_awaited name None = false
+is_awaited name (Some b) = takes_time b.0 && (b.1.0 == name.0)
+
+-- the line begins that, so many ms after this time or later: that is when the timer was due, the request was queued, or the first send came that
+-- the call answers
 abbrev pub is_late : Var → ℕ → ℕ → State → Seen → Bool
-is_late name ms due s (seen.Call v id) = (v.0 == name.0) && holds_timer (held s.arena.slots id) && nat_le ms (s.clock - due)
-is_late name ms due s l = false
+is_late name ms due s l = is_awaited name (begun l) && nat_le ms (s.clock - due)
 
 -- a line answers the question, in the state after it; the timer that is asked about was due then
 abbrev pub answers_line : Program → Question → ℕ → State → Seen → Bool

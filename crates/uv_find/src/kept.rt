@@ -2,12 +2,14 @@
 ghost use Rattle.std.specs.Prelude.{◌≡◌, ◌+◌, ◌<◌, ◌^◌, ◌==◌, ◌&&◌, length};
 ghost use Rattle.uv_model.specs.After.{after};
 ghost use Rattle.uv_model.specs.State.{named};
-ghost use Rattle.uv_find.specs.Kept.{none_kept, is_timers_stage, is_in_timers, due_else, due_in, due_under, kept_due, caller, is_over, is_of_calls, said_time, or_time, time_taken, takes_time, time_at_end, owed_in, owed_by, owed_after, onward, behind, is_poll, nearer, arrived, along_after, with_spare, waited, kept_after, owes};
+ghost use Rattle.uv_records.specs.Handles.{is_timer};
+ghost use Rattle.uv_find.specs.Kept.{none_kept, is_timers_stage, is_in_timers, due_else, due_of, due_in, due_under, kept_due, caller, is_over, is_of_calls, said_time, or_time, time_taken, takes_time, time_at_end, owed_in, owed_by, owed_after, onward, behind, is_poll, nearer, arrived, along_after, with_spare, waited, kept_after, owes};
 
 use crate::terms::Terms;
 use uv_asking::{Question, Recorded, Takes};
 use uv_ids::{Callback, Event, Seen, Site, Var};
 use uv_model::{Machine, Place, Stage};
+use uv_records::HandleRecord;
 use uv_work::Content;
 
 /// What a search keeps of the steps that led to where it stands.
@@ -197,39 +199,52 @@ fn due_else<M: Machine>(machine: &M, due: u64) -> u64
     }
 }
 
-/// When an active timer is due; what is no active timer leaves this.
-fn due_in(content: Option<Content>, due: u64) -> u64
-    ensures { result ≡ due_in content due }
+/// When a handle's callback is due, or since when it waits.
+fn due_of(handle: HandleRecord, due: u64, other: u64, clock: u64) -> u64
+    ensures { result ≡ due_of (is_timer handle.kind) handle.active handle.pending handle.due.at due other clock }
 {
-    match content {
-        Some(Content::Handle(handle)) => {
-            if handle.is_timer() && handle.active {
-                handle.due.at
-            } else {
-                due
-            }
+    if handle.is_timer() {
+        if handle.active {
+            handle.due.at
+        } else {
+            other
         }
-        _ => due,
+    } else if handle.pending {
+        due
+    } else {
+        clock
     }
 }
 
-/// When the timer of a name is due; where none is active, this.
+/// While there is a request, what was kept. Where there is nothing, the clock.
+fn due_in(content: Option<Content>, due: u64, other: u64, clock: u64) -> u64
+    ensures { result ≡ due_in content due other clock }
+{
+    match content {
+        Some(Content::Handle(handle)) => due_of(handle, due, other, clock),
+        Some(Content::Request(_)) => due,
+        None => clock,
+    }
+}
+
+/// When what a name is bound to is due, or since when it waits, where this was kept.
 fn due_under<M: Machine>(machine: &M, name: Var, due: u64) -> u64
     ensures { let s = after (M.program machine.now) (M.standing machine.now)
         in result ≡ due_under s (named s name).id due }
 {
+    let clock = machine.numbers().clock;
     match machine.named(name).id {
-        None => due,
-        Some(id) => due_in(machine.held(id), due),
+        None => clock,
+        Some(id) => due_in(machine.held(id), due, due_else(machine, due), clock),
     }
 }
 
-/// What is kept of a timer's due time, as the machine stands.
+/// What is kept of that, as the machine stands.
 fn kept_due<M: Machine>(machine: &M, question: Question, due: u64) -> u64
     ensures { result ≡ kept_due question (after (M.program machine.now) (M.standing machine.now)) due }
 {
     match question {
-        Question::Late(name, _) => due_under(machine, name, due_else(machine, due)),
+        Question::Late(name, _) => due_under(machine, name, due),
         _ => due,
     }
 }
@@ -298,7 +313,7 @@ fn time_taken(takes: &[Takes], name: Var, call: u32) -> u64
 }
 
 /// Whether a callback takes time.
-fn takes_time(callback: Callback) -> bool
+pub fn takes_time(callback: Callback) -> bool
     ensures { result ≡ takes_time callback }
 {
     match callback {

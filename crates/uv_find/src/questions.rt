@@ -2,16 +2,15 @@
 ghost use Rattle.std.specs.Prelude.{◌≡◌, ◌==◌, ◌&&◌};
 ghost use Rattle.uv_model.specs.After.{after};
 ghost use Rattle.uv_script.specs.Program.{is_for, op_name};
-ghost use Rattle.uv_normal.specs.Normal.{holds_timer};
-ghost use Rattle.uv_find.specs.Questions.{begun, is_which, is_call, is_uncalled, name_in, answered_name, is_name, is_of, is_late, answers_line, line_answers, has_ended};
+ghost use Rattle.uv_find.specs.Questions.{begun, is_which, is_call, is_uncalled, name_in, answered_name, is_name, is_of, is_awaited, is_late, answers_line, line_answers, has_ended};
 
+use crate::kept::takes_time;
 use uv_asking::{Question, Which};
 use uv_ids::{Callback, Seen, Var};
 use uv_model::{Machine, Place};
 use uv_records::Calls;
 use uv_script::Op;
 use uv_session::Break;
-use uv_work::Content;
 
 /// The callback that a line begins.
 fn begun(line: Seen) -> Option<(Callback, Var)>
@@ -154,28 +153,21 @@ fn is_of(name: Option<Var>, other: Option<Var>) -> bool
     }
 }
 
-/// Whether a slot holds a timer.
-fn holds_timer(content: Option<Content>) -> bool
-    ensures { result ≡ holds_timer content }
+/// Whether that is the callback of this name's handle or request.
+fn is_awaited(begun: Option<(Callback, Var)>, name: Var) -> bool
+    ensures { result ≡ is_awaited name begun }
 {
-    match content {
-        Some(Content::Handle(handle)) => handle.is_timer(),
-        _ => false,
+    match begun {
+        None => false,
+        Some((callback, called)) => takes_time(callback) && called.0 == name.0,
     }
 }
 
-/// Whether the line calls the timer of this name so many ms after it was due, or later.
+/// Whether the line begins that, so many ms after this time or later.
 fn is_late<M: Machine>(machine: &M, line: Seen, name: Var, ms: u64, due: u64) -> bool
     ensures { result ≡ is_late name ms due (after (M.program machine.now) (M.standing machine.now)) line }
 {
-    match line {
-        Seen::Call(called, id) => {
-            called.0 == name.0
-                && holds_timer(machine.held(id))
-                && ms <= machine.numbers().clock.saturating_sub(due)
-        }
-        _ => false,
-    }
+    is_awaited(begun(line), name) && ms <= machine.numbers().clock.saturating_sub(due)
 }
 
 /// Whether a line answers the question, as the machine stands after it.
