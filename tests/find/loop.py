@@ -38,6 +38,8 @@ class State(NamedTuple):
     closing: List[str]
     # the workers that run a request, by the names of these in the order of their declarations
     runners: List[int]
+    # the names that are bound to a request, or to an async handle with a send that wasn't answered yet
+    waiting: List[str]
 
 
 class Reply(NamedTuple):
@@ -57,8 +59,8 @@ def read_state(lines: List[str]) -> State:
     deadline = int(place[4]) if place[3:4] == ["poll"] and place[4] != "infinite" and "+" not in place else None
     caller = (place[place.index("+") + 1], place[place.index("+") + 2]) if "+" in place else None
     section = None if place[1] == "main" else place[3]
-    state = State("\n".join([numbers[1]] + lines[1:]), int(numbers[2]), main, deadline, {}, [], {}, [], [], [], caller, section, [], [])
-    bound, run, closing = {}, {}, []
+    state = State("\n".join([numbers[1]] + lines[1:]), int(numbers[2]), main, deadline, {}, [], {}, [], [], [], caller, section, [], [], [])
+    bound, run, closing, waits = {}, {}, [], []
     for line in lines[2:]:
         words = line.split()
         if words[0] == "name":
@@ -72,6 +74,8 @@ def read_state(lines: List[str]) -> State:
                 state.due[words[3]] = int(words[words.index("due") + 1])
         if words[0] == "slot" and words[2] == "work" and words[4] == "running":
             run[words[1]] = int(words[5])
+        if words[0] == "slot" and (words[2] == "work" or "pending" in words and words[words.index("pending") + 1] == "1"):
+            waits.append(words[1])
         if words[0] == "slot" and words[8:10] == ["closing", "1"]:
             closing.append(words[1])
         if words[0] == "ready" and len(words) > 1 and section not in TIMERS:
@@ -80,6 +84,7 @@ def read_state(lines: List[str]) -> State:
             state.busy.extend(int(word.split(":")[0]) for word in words[1:])
     state.jobs.extend(name for name, slot in bound.items() if slot in run)
     state.runners.extend(run[slot] for slot in bound.values() if slot in run)
+    state.waiting.extend(name for name, slot in bound.items() if slot in waits)
     state.closing.extend(name for name, slot in bound.items() if slot in closing)
     return state
 

@@ -89,10 +89,20 @@ def with_stands(along: Along, numbers: List[int], stands: str) -> Along:
     return along._replace(stands=tuple(stands if at in numbers else was for at, was in enumerate(along.stands)))
 
 
-def coming(loop: Loop, recorded: List[Recorded], along: Along, is_blocked: bool) -> Iterator[Coming]:
-    """What may come from where the loop is."""
+def is_free(command: str, owed: int) -> bool:
+    """While a callback's time goes by no other time does, and no callback of I/O begins."""
+    return not (owed and command.split(" ")[0] in ("tick", "io"))
+
+
+def coming(loop: Loop, recorded: List[Recorded], along: Along, is_blocked: bool, owed: int = 0, wait: Optional[int] = None) -> Iterator[Coming]:
+    """What may come from where the loop is, which is blocked in a poll or isn't, where a callback still takes so many ms, and the clock may go on by
+    so many to the deadline of the poll."""
     state = loop.state
-    possible = [number for number in range(len(recorded)) if along.stands[number] != COME and may_come(recorded, along, number, state)]
+    possible = [
+        number
+        for number in range(len(recorded))
+        if along.stands[number] != COME and may_come(recorded, along, number, state) and is_free(recorded[number].command, owed)
+    ]
     ready = [number for number in possible if along.stands[number] == AHEAD and is_accepted(loop, recorded[number].command)]
 
     def past(number: int) -> Optional[Along]:
@@ -100,11 +110,16 @@ def coming(loop: Loop, recorded: List[Recorded], along: Along, is_blocked: bool)
         return with_stands(along, held, HELD)._replace(spare=along.spare - len(held)) if len(held) <= along.spare else None
 
     on = past(along.passed)
-    if on is not None:
+    if on is not None and owed:
+        yield Coming("tick %d" % owed, on)
+    elif on is not None and wait is not None:
+        # (a wait is one of the steps to the next place)
+        yield Coming("tick %d" % wait, behind_loop(recorded, on, None))
+    elif on is not None:
         yield Coming("loop", on)
     for number in possible:
         command = recorded[number].command
-        here = past(number) if along.stands[number] == AHEAD and (number < along.passed or is_blocked) else None
+        here = past(number) if along.stands[number] == AHEAD and (number < along.passed or is_blocked and wait is None) else None
         if here is not None:
             here = with_stands(here, [number], COME)
             yield Coming(command, here if number < along.passed else passing(recorded, here, number))

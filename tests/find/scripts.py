@@ -176,6 +176,7 @@ def steps_of(draw: Random, asked: Asked) -> List[str]:
 def of_recording(draw: Random, text: str, came: List[Recorded]) -> str:
     """The same script and question, asked of the orders that differ from this recording."""
     front, behind = text.split("begin\n")
-    lines = [line for line in behind.splitlines() if not line.startswith(("may ", "takes "))]
+    lines = [line for line in behind.splitlines() if not line.startswith("may ")]
+    lines = [line for line in lines if not line.startswith("takes ") or draw.random() < 0.7] + ["may wait"] * (draw.random() < 0.6)
     recorded = ["recorded %d %d %s" % one for one in came]
     return "\n".join([front + "begin", "may differ %d" % draw.choice([0, 1, 1, 1, 2])] + recorded + lines) + "\n"

@@ -155,10 +155,14 @@ def after(asked: Asked, place: Place, number: int, command: str, reply: Reply) -
 
 def due_after(asked: Asked, place: Place, state: State) -> Optional[int]:
     """When the timer that is asked for is due. In a section of timers one that was collected is called, and so what was kept stays; elsewhere
-    one that isn't active is due at no time, for which the clock stands."""
+    one that isn't active is due at no time, for which the clock stands. Of a request and an async handle since when it waits; while it doesn't,
+    the clock."""
     if asked.question[:1] != ("late",):
         return None
-    return state.due.get(asked.question[1], place.due if state.section in TIMERS else state.clock)
+    name = asked.question[1]
+    if name in state.waiting:
+        return place.due
+    return state.due.get(name, place.due if state.section in TIMERS and name in state.timers else state.clock)
 
 
 def moves_of_recorded(loop: Loop, asked: Asked, place: Place, blocked: List[bool]) -> Iterator[Move]:
@@ -167,14 +171,18 @@ def moves_of_recorded(loop: Loop, asked: Asked, place: Place, blocked: List[bool
     reply = loop.step("loop")
     loop.go_back(steps, state)
     blocked.append(reply.refused == "blocked")
-    for number, (command, along) in enumerate(list(recording.coming(loop, asked.recorded, place.along, blocked[0] and state.section == "poll"))):
+    in_poll = blocked[0] and state.section == "poll"
+    wait = None
+    if any(offer.word == "wait" for offer in asked.offers) and blocked[0] and state.deadline is not None:
+        wait = state.deadline - state.clock if asked.clock is None or state.deadline <= asked.clock else None
+    for number, (command, along) in enumerate(list(recording.coming(loop, asked.recorded, place.along, in_poll, place.owed, wait))):
         ms = int(command.split()[1]) if command.startswith("tick ") else 0
         if ms and asked.clock is not None and state.clock + ms > asked.clock:
             continue
         reply = loop.step(command)
         if reply.refused is None and is_within(asked, reply.state):
             along = recording.behind_loop(asked.recorded, along, reply.line) if command == "loop" else along
-            yield Move(number, command, reply.line, Place(reply.state, (), due_after(asked, place, reply.state), 0, along))
+            yield Move(number, command, reply.line, Place(reply.state, (), due_after(asked, place, reply.state), owed_after(asked, place, command, reply.line, reply.state), along))
         loop.go_back(steps, state)
 
 
@@ -233,8 +241,7 @@ def line_answers(question: Tuple[str, ...], before: Place, line: str, then: Stat
     if question[0] == "section":
         return len(words) == 1 and words[0] == question[1] or question[1] == "poll" and words[0] == "poll"
     if question[0] == "late":
-        is_timers = words[0] == "call" and words[1] == question[1] and question[1] in before.state.timers
-        return is_timers and then.clock >= before.due + int(question[2])
+        return words[0] in ("call", "after") and words[1:2] == [question[1]] and then.clock >= before.due + int(question[2])
     return False
 
 

@@ -91,7 +91,8 @@ SAYS.update(
             ("find examples/echo.rec 'find late heartbeat 25' -o beat.uvt", ECHO),
             ("find examples/frame.rec 'find late vsync 51' -o frame.uvt", FRAME),
             ("find examples/frame.rec 'find late vsync 52'", FRAME),
-            ("find examples/frame.rec 'may differ 1' 'find late vsync 51' -o near.uvt", NEAR),
+            ("find examples/frame.rec 'may differ 1' 'find late vsync 45' -o near.uvt", NEAR),
+            ("find examples/frame.rec 'find latest vsync' -o worst.uvt", FRAME),
         )
     }
 )

@@ -83,7 +83,11 @@ NEAR = [
     ("signals", 1, "find on usr 3", NEVER),
     ("frame", 0, "find late vsync 39", FOUND),
     ("frame", 0, "find late vsync 40", NEVER),
-    ("frame", 1, "find late vsync 51", FOUND),
+    ("frame", 1, "find late vsync 45", FOUND),
+    # (no more than over every order: what a callback took goes by at its end, and what the loop waited where it waits)
+    ("frame", 1, "find late vsync 46", NEVER),
+    ("frame", 2, "find late vsync 52", NEVER),
+    ("signals", 1, "find late poke 48", NEVER),
 ]
 # A timer and an async handle, in one run of which nothing was sent, and in the other one a send closed both.
 MAIN = ["var t", "var a", "main init t timer", "main init a async", "main start t 5 0", "main run default"]
@@ -114,15 +118,16 @@ BAD_LINES = [
     ("var a\nbegin\nmay differ 1\nrecorded 0 send a\nfind stuck\n", 4, "no line says `recorded 0 send a`: it has the form `recorded P S send NAME`"),
     ("var a\nbegin\nmay differ 1\nrecorded 0 0 take 65536\nfind stuck\n", 4, "`65536` is out of range: W is 0 to 65535"),
     (
-        "var a\nbegin\nmay differ 1\nmay wait\nfind stuck\n",
+        "var a\nbegin\nmay differ 1\nmay tick 5 1\nfind stuck\n",
         4,
-        "`may wait` stands beside `may differ`: there what came in the recording may come, and nothing else",
+        "`may tick 5 1` stands beside `may differ`: there what came in the recording may come, and nothing else but `may wait`",
     ),
     (
-        "var a\nbegin\ntakes a 5\nmay differ 1\nfind stuck\n",
+        "var a\nbegin\nmay send a 5\nmay differ 1\nfind stuck\n",
         4,
-        "`takes a 5` stands beside `may differ`: there what came in the recording may come, and nothing else",
+        "`may send a 5` stands beside `may differ`: there what came in the recording may come, and nothing else but `may wait`",
     ),
+    ("var a\nbegin\nfind latest b\n", 3, "`b` is declared in no line `var`"),
     ("var a\nbegin\nmay differ 1\nmay differ 2\nfind stuck\n", 4, "`may differ` stands in line 3 already, and a search has it once at most"),
     ("var a\nbegin\nfull\nfull\nfind stuck\n", 4, "`full` stands in line 3 already, and a search has it once at most"),
     ("var a\nbegin\nfull 1\nfind stuck\n", 3, "no line says `full 1`: it has the form `full`"),
@@ -250,7 +255,7 @@ def try_near(check: Check, folder: str) -> None:
             f"find, {name}, {moved} moved, {question}",
             ran.returncode == status
             and "each other one comes at its place" in ran.stderr
-            and (status == FOUND or ran.stdout.startswith(f"never within {moved} moved: ")),
+            and (status == FOUND or ran.stdout.startswith(f"never within {moved} moved, clock ")),
             ran,
         )
     # (the order in which nothing is moved is the recording's: each callback of it is called)
@@ -264,7 +269,7 @@ def try_near(check: Check, folder: str) -> None:
             ran = run([str(EXAMPLES / f"{name}.rec"), "may differ 0", f"find {meant} {callback} {count + 1}"])
             check(f"find, {name}, nothing moved, {meant} {callback} {count + 1}", ran.returncode == NEVER, ran)
     path = os.path.join(folder, "near.uvt")
-    ran = run([str(EXAMPLES / "frame.rec"), "may differ 1", "find late vsync 51", "-o", path])
+    ran = run([str(EXAMPLES / "frame.rec"), "may differ 1", "find late vsync 45", "-o", path])
     check(
         "find, near a recording, its session",
         ran.returncode == FOUND and any(line.startswith("call vsync ") for line in debugged(Path(path).read_text(encoding="ascii"))[-1:]),
@@ -272,7 +277,7 @@ def try_near(check: Check, folder: str) -> None:
     )
     for words, why in (
         ([str(EXAMPLES / "send-or-close.find"), "may differ 1", "find stuck"], "is none"),
-        ([str(EXAMPLES / "frame.rec"), "may differ 1", "may wait", "find stuck"], "`may wait` stands beside `may differ`"),
+        ([str(EXAMPLES / "frame.rec"), "may differ 1", "may tick 5 1", "find stuck"], "`may tick 5 1` stands beside `may differ`"),
     ):
         ran = run(words)
         check(f"find, differing: {why}", ran.returncode not in (FOUND, NEVER, UNSETTLED) and why in ran.stderr, ran)

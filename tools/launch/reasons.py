@@ -53,7 +53,7 @@ ASKED_REASONS = {
     "again": "`{0}` stands in line {1} already, and a search has it once at most",
     "question": "a second question: line {0} has the first, and one is asked at a time",
     "offers": "at most 256 lines begin with `may`",
-    "differ": "`{0}` stands beside `may differ`: there what came in the recording may come, and nothing else",
+    "differ": "`{0}` stands beside `may differ`: there what came in the recording may come, and nothing else but `may wait`",
     "recorded": "what came in a recording stands behind a line `may differ K`",
     "find": "the line is missing that says what to look for: `find ..`",
     "two": "`{0}` is on both sides of `{1}`, which asks for two names",
@@ -334,6 +334,7 @@ ASKED = {
         "never": ["NAME"],
         "stuck": [""],
         "late": ["NAME MS"],
+        "latest": ["NAME"],
         "NAME": ["before NAME", "after NAME"],
     },
 }
@@ -422,11 +423,11 @@ def of_inquiry(lines: List[bytes], number: int) -> None:
     differs = any(it.startswith(b"may differ ") for _, it in before)
     if words[0] == b"recorded" and not differs:
         raise Why("recorded")
-    if words[0] in (b"may", b"takes") and words[1] != b"differ" and differs:
+    if words[0] == b"may" and words[1:] != [b"wait"] and words[1] != b"differ" and differs:
         raise Why("differ", line.decode("ascii"))
     if words[:2] == [b"may", b"differ"]:
         for _, it in before:
-            if it.startswith((b"may ", b"takes ")) and not it.startswith(b"may differ "):
+            if it.startswith(b"may ") and it != b"may wait" and not it.startswith(b"may differ "):
                 raise Why("differ", it.decode("ascii"))
     for at, it in before:
         if words[0] not in (b"find", b"recorded") and said(it.split(b" ")) == said(words):

@@ -64,7 +64,8 @@ class Search:
                 # (it is said by the number of its line in what was asked)
                 self.said = [line for line in self.said if BAD not in line]
                 break
-            if status != UNSETTLED or self.output.read() != b"not settled within %d states\n" % states:
+            # (of `find latest` how late it is at least stands before that, and a session behind it)
+            if status != UNSETTLED or not self.output.readline().endswith(b"not settled within %d states\n" % states):
                 return status, b"".join(self.said)
             self.past, states = states, states * GROWTH
         return self.ask(self.asked, aside=False), b"".join(self.said)

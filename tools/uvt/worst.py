@@ -1,37 +1,24 @@
-"""How late each timer of a recording was, how late it is at worst in the orders near it, and what is proved: `find late`, by halves."""
+"""How late each callback of a recording was, and how late it is at worst: one search for each name and each set of orders (`find latest`)."""
 
 from __future__ import annotations
 
+import re
 import subprocess
 import tempfile
+import threading
 import time
+from concurrent.futures import ThreadPoolExecutor
 from dataclasses import dataclass, field
-from pathlib import Path
+from typing import Callable
 
-from uvt.conversation import Conversation, Fault, Script, read_bytes
-from uvt.offered import Offered, offered, recorded_lines
+from uvt.conversation import Fault, Script
+from uvt.offered import Offered, near_lines, offered
 
-FOUND, NEVER = 0, 1
-
-
-def latenesses(script: Script, steps: list[str]) -> dict[str, tuple[int, int]]:
-    """Of each timer how late it was at most, in ms, and how often it was called."""
-    found: dict[str, tuple[int, int]] = {}
-    talk = Conversation(script)
-    try:
-        calls = [
-            (number, lines[0].split(" ")[1])
-            for number, (step, lines) in enumerate(zip(steps, talk.ask_each(steps)))
-            if step.split(" ")[0] == "loop" and lines and lines[0].startswith("call ") and " = " not in lines[0]
-        ]
-        for (_, name), state in zip(calls, talk.states_at([number for number, _ in calls])):
-            slot = state.slot_of(name)
-            if slot and slot.kind == "timer" and "due" in slot.values:
-                late, count = found.get(name, (0, 0))
-                found[name] = max(late, state.numbers["clock"] - int(slot.values["due"])), count + 1
-    finally:
-        talk.close()
-    return found
+FOUND, NEVER, UNSETTLED = 0, 1, 3
+# By which numbers of states a search comes to as many as are asked for: what isn't settled was followed so far at least.
+FIRST_STATES, GROWTH = 1_000, 10
+LATEST = re.compile(r"latest (\d+) ms.*: (?:not settled within )?(\d+) states?")
+KINDS = {"timer": "timer", "async": "async"}
 
 
 def single(steps: list[str]) -> list[str]:
@@ -43,115 +30,163 @@ def single(steps: list[str]) -> list[str]:
     return one
 
 
+def kinds_of(script: Script, given: Offered) -> dict[str, str]:
+    """What each name is that was called: a timer, an async handle or a request. Others have no time from which they might be late."""
+    ops = [it.split(" ") for it in script.lines if it.startswith(("main ", "on ", "after ", "closed "))]
+    ops = [words[1:] if words[0] == "main" else [it for it in words[2:] if not it.startswith("@")] for words in ops]
+    made = {op[1]: KINDS[op[2]] for op in ops if op[0] == "init" and len(op) > 2 and op[2] in KINDS}
+    made.update({name: "request" for which, name in given.calls if which == "after"})
+    called = {name for which, name in given.calls if which != "closed"}
+    return {name: kind for name, kind in made.items() if name in called}
+
+
 @dataclass
 class Worst:
-    """A timer at worst, within one set of orders."""
+    """A callback at worst, within one set of orders."""
 
-    # in this run, and the latest that was found
-    here: int
-    found: int
-    # from so many ms on it is never so late; None where nothing was settled
-    never: int | None = None
+    # the most ms that were found, None where none was; whether no order has more
+    late: int | None = None
+    settled: bool = False
     session: str = ""
-    questions: int = 0
     states: int = 0
     seconds: float = 0
+    # why it isn't settled
     why: str = ""
 
     def told(self) -> str:
-        if self.never is None:
-            return f"{self.found}, more isn't settled"
-        return f"{self.found}" if self.never == self.found + 1 else f"{self.found} to {self.never - 1}"
+        if self.settled:
+            return "never" if self.late is None else str(self.late)
+        return "?" if self.late is None else f"{self.late}+"
+
+
+@dataclass
+class Orders:
+    """A set of orders: its words, and the lines that say what may come."""
+
+    what: str
+    lines: list[str]
 
 
 @dataclass
 class Asker:
-    """Questions of one recording within one set of orders."""
+    """Asks the program, so many states and seconds for each question at most."""
 
     script: Script
-    lines: list[str]
     program: str
-    # the longest that all time that went by beside the waits could be, in ms
-    most: int
     states: int
-    timeout: float
-    known: dict[str, int] = field(default_factory=dict)
+    seconds: float
+    running: set[subprocess.Popen[bytes]] = field(default_factory=set)
+    lock: threading.Lock = field(default_factory=threading.Lock)
 
-    def ask(self, name: str, ms: int, it: Worst) -> int | None:
-        """The lateness of an order that is found, -1 where there is none, and None where that isn't settled."""
-        it.questions += 1
-        text = "".join(f"{line}\n" for line in [*self.script.lines, "begin", *self.lines, f"most states {self.states}", f"find late {name} {ms}"])
-        began = time.monotonic()
+    def latest(self, name: str, orders: Orders) -> Worst:
+        """The latest call of a name. It is asked with more and more states; what a search found that was ended is kept."""
+        worst, began, states = Worst(), time.monotonic(), min(FIRST_STATES, self.states)
+        while True:
+            left = self.seconds - (time.monotonic() - began)
+            status, first, session = self.ask([*orders.lines, f"most states {states}", f"find latest {name}"], left)
+            worst.seconds = time.monotonic() - began
+            if status is None:
+                worst.why = f"more than {states // GROWTH} states, {self.seconds:.0f} s" if states > FIRST_STATES else f"{self.seconds:.0f} s"
+                return worst
+            told = LATEST.match(first)
+            if told:
+                worst.late, worst.session = int(told[1]), session
+            if status in (FOUND, NEVER):
+                worst.settled = True
+                worst.states = int(re.findall(r"(\d+) states?", first)[-1])
+                return worst
+            if status != UNSETTLED:
+                raise Fault(first or f"the search ended with status {status}")
+            worst.states = states
+            if states >= self.states or " states" not in first or "out of memory" in first:
+                worst.why = f"more than {states} states"
+                return worst
+            states = min(states * GROWTH, self.states)
+
+    def ask(self, lines: list[str], seconds: float) -> tuple[int | None, str, str]:
+        """The status, the first line of the answer, and the session behind it; no status where that took too long."""
+        text = "".join(f"{it}\n" for it in [*self.script.lines, "begin", *lines])
         with tempfile.TemporaryFile() as given:
             given.write(text.encode("ascii", "surrogateescape"))
             given.seek(0)
             try:
-                ran = subprocess.run([self.program], stdin=given, capture_output=True, timeout=self.timeout, start_new_session=True)
-            except subprocess.TimeoutExpired:
-                it.why = f"no answer in {self.timeout:.0f} s"
-                return None
+                ran = subprocess.Popen([self.program], stdin=given, stdout=subprocess.PIPE, stderr=subprocess.PIPE)
             except OSError as fault:
                 raise Fault(f"{self.program} could not be started: {fault.strerror}") from None
-        it.seconds += time.monotonic() - began
-        first, _, session = ran.stdout.decode("ascii", "replace").partition("\n")
-        if ran.returncode == NEVER:
-            it.states = int(first.split(": ")[1].split(" ")[0])
-            return -1
-        if ran.returncode != FOUND:
-            it.why = first or ran.stderr.decode("ascii", "replace").strip()
-            return None
-        script, steps = read_bytes(session.encode(), None)
-        it.session = session
-        return max(ms, latenesses(script, single(steps)).get(name, (ms, 0))[0])
+        with self.lock:
+            self.running.add(ran)
+        try:
+            output, errors = ran.communicate(timeout=max(seconds, 0.1))
+        except subprocess.TimeoutExpired:
+            return None, "", ""
+        finally:
+            ran.kill()
+            ran.wait()
+            with self.lock:
+                self.running.discard(ran)
+        first, _, session = output.decode("ascii", "surrogateescape").partition("\n")
+        return ran.returncode, first or errors.decode("ascii", "replace").strip(), session
 
-    def worst(self, name: str, here: int) -> Worst:
-        """By halves, from what was seen in the run upwards. Each order that is found may show more than was asked."""
-        it = Worst(here, here)
-        low, high, step = here, max(self.most, here) + 1, 1
-        it.never = None
-        while low + 1 < high:
-            ms = min(low + step, high - 1)
-            late = self.ask(name, ms, it)
-            if late is None:
-                it.found = low
-                return it
-            if late < 0:
-                high, step = ms, max(1, (ms - low) // 2)
-                it.never = ms
-            else:
-                low, step = late, 2 * step if it.never is None else max(1, (high - late) // 2)
-        it.found = low
-        it.never = it.never or high
-        return it
+    def stop(self) -> None:
+        with self.lock:
+            for it in self.running:
+                it.kill()
 
 
-def askers(script: Script, steps: list[str], given: Offered, program: str, states: int, seconds: float, differ: list[int]) -> list[tuple[str, Asker]]:
-    """The sets of orders: those with at most K steps from outside elsewhere, and every one of what came."""
-    moved = sum(int(it.split(" ")[1]) for it in steps if it.startswith("tick "))
-    spent = sum(ms * times for ms, times in given.ticks.items()) + sum(given.takes.values())
-    found = [(f"{k} moved", Asker(script, [f"may differ {k}", *recorded_lines(script, steps)], program, moved, states, seconds)) for k in differ]
-    return [*found, ("every order", Asker(script, given.lines([]), program, spent, states, seconds))]
+def sets_of(script: Script, steps: list[str], given: Offered, differ: list[int]) -> list[Orders]:
+    """The sets of orders: the recorded one, those with at most K steps from outside elsewhere, and every one of what came."""
+    near = near_lines(script, steps, [])
+    words = {0: "in this run"}
+    found = [Orders(words.get(k, f"{k} moved"), [f"may differ {k}", *near]) for k in [0, *differ]]
+    return [*found, Orders("every order", given.lines([]))]
 
 
-def table(path: Path, script: Script, steps: list[str], program: str, states: int, seconds: float, differ: list[int], out: str | None) -> list[str]:
-    steps = single(steps)
-    here = latenesses(script, steps)
+@dataclass
+class Row:
+    name: str
+    kind: str
+    calls: int
+    worst: dict[str, Worst] = field(default_factory=dict)
+
+    def best(self, columns: list[str]) -> Worst | None:
+        """The latest one of all that were found, that nearest to the run where several are as late."""
+        known = [self.worst[it] for it in columns if self.worst[it].late is not None]
+        return max(known, key=lambda it: it.late or 0, default=None)
+
+
+def rows_of(
+    script: Script, steps: list[str], asker: Asker, differ: list[int], names: list[str], jobs: int, tell: Callable[[int, int], None]
+) -> tuple[list[str], list[Row]]:
+    """The words of the sets of orders, and a row for each callback."""
     given = offered(script, steps)
-    sets = askers(script, steps, given, program, states, seconds, differ)
-    rows = [["timer", "calls", "in this run", *(it for it, _ in sets), "questions, states, s", "its order"]]
-    for name, (late, count) in sorted(here.items(), key=lambda it: -it[1][0]):
-        row, costs, session = [name, str(count), str(late)], [], ""
-        best = late
-        for _, asker in sets:
-            it = asker.worst(name, late)
-            row.append(it.told() + (f" ({it.why})" if it.never is None else ""))
-            costs.append(f"{it.questions}, {it.states}, {it.seconds:.1f}")
-            if it.session and it.found > best:
-                best, session = it.found, it.session
-        file = ""
-        if session:
-            file = f"{out or path.stem}.{name}.uvt"
-            Path(file).write_text(session)
-        rows.append([*row, "; ".join(costs), file])
-    widths = [max(len(row[at]) for row in rows) for at in range(len(rows[0]))]
-    return ["  ".join(it.ljust(width) for it, width in zip(row, widths)).rstrip() for row in rows]
+    kinds = kinds_of(script, given)
+    unknown = next((it for it in names if it not in kinds), None)
+    if unknown:
+        raise Fault(f"{unknown} is no timer, no async handle and no request that was called. These are: {', '.join(sorted(kinds)) or 'none'}")
+    rows = [
+        Row(name, kind, sum(count for (which, it), count in given.calls.items() if it == name and which != "closed"))
+        for name, kind in sorted(kinds.items(), key=lambda it: (list({"timer": 0, "async": 1, "request": 2}).index(it[1]), it[0]))
+        if not names or name in names
+    ]
+    sets = sets_of(script, steps, given, differ)
+    asks = [(row, orders) for orders in sets for row in rows]
+    done = 0
+
+    def one(ask: tuple[Row, Orders]) -> None:
+        nonlocal done
+        row, orders = ask
+        row.worst[orders.what] = asker.latest(row.name, orders)
+        with asker.lock:
+            done += 1
+            tell(done, len(asks))
+
+    pool = ThreadPoolExecutor(jobs)
+    try:
+        for it in [pool.submit(one, ask) for ask in asks]:
+            it.result()
+    except BaseException:
+        pool.shutdown(wait=False, cancel_futures=True)
+        asker.stop()
+        raise
+    pool.shutdown()
+    return [it.what for it in sets], rows

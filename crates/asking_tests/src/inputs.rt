@@ -68,7 +68,7 @@ const INPUTS: [(&[u8], Became); 20] = [
         Became::Bad(6),
     ),
     (
-        b"var a\nbegin\nmay differ 1\nrecorded 0 0 send a\nrecorded 0 0 send a\nfind stuck\nmay wait\n",
+        b"var a\nbegin\nmay differ 1\nrecorded 0 0 send a\nrecorded 0 0 send a\nfind stuck\nmay tick 5 1\n",
         Became::Bad(7),
     ),
     (
@@ -76,7 +76,7 @@ const INPUTS: [(&[u8], Became); 20] = [
         Became::Bad(3),
     ),
     (
-        b"begin\nmay wait\nmay differ 1\nfind stuck\n",
+        b"begin\nmay tick 5 1\nmay differ 1\nfind stuck\n",
         Became::Bad(3),
     ),
 ];

@@ -41,7 +41,8 @@ use Rattle.uv_asking.specs.declared.asking.Question.TheVariants as asks
 use Rattle.uv_find.specs.declared.kept.Kept.{Kept}
 use Rattle.uv_find.specs.declared.left.Left.{Left}
 use Rattle.uv_find.specs.Forgetting.{LONG, LONGEST, is_common, most_end}
-use Rattle.uv_find.specs.Kept.{due_under, due_else, due_in, kept_due}
+use Rattle.uv_find.specs.Kept.{due_under, due_else, due_in, due_of, kept_due}
+use Rattle.uv_records.specs.Handles.{is_timer}
 use Rattle.uv_find.specs.Orders.{Rules, Place, aim, is_made, is_free, spending, step_of, is_blocked, refused_as_blocked, deadline_at, wait_until, take_by}
 use Rattle.uv_find.specs.Ranks.{idle_worker, by_rank, ranked}
 use Rattle.uv_find.specs.Kept.{is_in_timers}
@@ -52,7 +53,8 @@ use Rattle.uv_find.proofs.Clocks.{after_clock}
 use Rattle.uv_find.proofs.Led.{length_more, state_behind}
 use Rattle.uv_find.proofs.Lines.{LinesAlike, told_alike, worker_alike}
 use Rattle.uv_find.proofs.Runners.{EventsAlike, OffersAlike, finishes_alike, takes_alike}
-use Rattle.uv_find.proofs.Readings.{is_bound, reads_bound, is_shut, reads_shut, count, reads_count, within_capped, reads_quiet, reads_timers, until, wait_of, reads_wait, lag_of, lag_under, lag, reads_lag}
+use Rattle.uv_find.proofs.Readings.{is_bound, reads_bound, is_shut, reads_shut, count, reads_count, within_capped, reads_quiet, reads_timers, until, wait_of, reads_wait, Waits, lag_by, lag_of, lag_under, lag, reads_lag}
+use Rattle.uv_find.proofs.Readings as readings
 
 -- of a timer that is asked about it is the same how late the clock is for what is kept of it
 abbrev pub DueAlike : Question → ℕ → ℕ → ℕ → ℕ → Type 0
@@ -178,22 +180,33 @@ module _ (r : Rules) (n : ℕ) (forget : r.forget ≡ Some n) (can : CanForget r
 
     -- ---- when the timer is due that is asked about
 
-    abbrev DueBy : Option (ℕ × ℕ) → ℕ → ℕ → ℕ → Type 0
-    DueBy None clock was due = due ≡ was
-    DueBy (Some l) clock was due = clock + l.1 ≡ due + l.0
+    abbrev DueBy : Waits → ℕ → ℕ → ℕ → ℕ → Type 0
+    DueBy (readings.due ago ahead) clock was other is = clock + ahead ≡ is + ago
+    DueBy readings.idle clock was other is = is ≡ other
+    DueBy readings.waits clock was other is = is ≡ was
+    DueBy readings.none clock was other is = is ≡ clock
 
-    due_content : (clock was : ℕ) (o : Option Content) → DueBy (lag_of clock o) clock was (due_in o was)
-    due_content clock was None = refl
-    due_content clock was (Some (content.Handle h)) = grind arith
-    due_content clock was (Some (content.Request q)) = refl
+    due_handle : (timer active pending : Bool) (at clock was other : ℕ) →
+        DueBy (lag_by timer active pending (clock - at) (at - clock)) clock was other (due_of timer active pending at was other clock)
+    due_handle true true pending at clock was other = omega arith
+    due_handle true false pending at clock was other = refl
+    due_handle false active true at clock was other = refl
+    due_handle false active false at clock was other = refl
 
-    due_by_lag : (s : State) (was : ℕ) (o : Option Id) → DueBy (lag_under s o) s.clock was (due_under s o was)
+    due_content : (clock was other : ℕ) (o : Option Content) → DueBy (lag_of clock o) clock was other (due_in o was other clock)
+    due_content clock was other None = refl
+    due_content clock was other (Some (content.Handle h)) = due_handle (is_timer h.kind) h.active h.pending h.due.at clock was other
+    due_content clock was other (Some (content.Request q)) = refl
+
+    due_by_lag : (s : State) (was : ℕ) (o : Option Id) → DueBy (lag_under s o) s.clock was (due_else s was) (due_under s o was)
     due_by_lag s was None = refl
-    due_by_lag s was (Some id) = due_content s.clock was (held s.arena.slots id)
+    due_by_lag s was (Some id) = due_content s.clock was (due_else s was) (held s.arena.slots id)
 
-    by_lag : (l : Option (ℕ × ℕ)) (x y u v d e : ℕ) → DueBy l x u d → DueBy l y v e → x + v ≡ y + u → x + e ≡ y + d
-    by_lag None x y u v d e h k same = omega (arith, h, k, same)
-    by_lag (Some l) x y u v d e h k same = omega (arith, h, k, same)
+    by_lag : (l : Waits) (x y u v o p d e : ℕ) → DueBy l x u o d → DueBy l y v p e → x + v ≡ y + u → x + p ≡ y + o → x + e ≡ y + d
+    by_lag (readings.due ago ahead) x y u v o p d e h k same others = omega (arith, h, k)
+    by_lag readings.idle x y u v o p d e h k same others = omega (arith, h, k, others)
+    by_lag readings.waits x y u v o p d e h k same others = omega (arith, h, k, same)
+    by_lag readings.none x y u v o p d e h k same others = omega (arith, h, k)
 
     else_by : (in_timers : Bool) (x y d e : ℕ) → x + e ≡ y + d → x + (if in_timers then e else y) ≡ y + (if in_timers then d else x)
     else_by true x y d e same = same
@@ -206,13 +219,13 @@ module _ (r : Rules) (n : ℕ) (forget : r.forget ≡ Some n) (can : CanForget r
 
     -- the due times are relative to the clocks
     due_alike : (name : Var) (d e : ℕ) → a.clock + e ≡ b.clock + d →
-        a.clock + due_under b (named b name).id (due_else b e) ≡ b.clock + due_under a (named a name).id (due_else a d)
+        a.clock + due_under b (named b name).id e ≡ b.clock + due_under a (named a name).id d
     due_alike name d e same =
         let lags = both (lag name) (reads_lag n name) in
-        by_lag (lag name a) a.clock b.clock (due_else a d) (due_else b e) (due_under a (named a name).id (due_else a d))
-        (due_under b (named b name).id (due_else b e)) (due_by_lag a (due_else a d) (named a name).id)
-        (subst (λ l. DueBy l b.clock (due_else b e) (due_under b (named b name).id (due_else b e))) (sym lags)
-        (due_by_lag b (due_else b e) (named b name).id)) (else_alike d e same)
+        by_lag (lag name a) a.clock b.clock d e (due_else a d) (due_else b e) (due_under a (named a name).id d)
+        (due_under b (named b name).id e) (due_by_lag a d (named a name).id)
+        (subst (λ l. DueBy l b.clock e (due_else b e) (due_under b (named b name).id e)) (sym lags)
+        (due_by_lag b e (named b name).id)) same (else_alike d e same)
 
     pub kept_due_alike : (question : Question) (d e : ℕ) → DueAlike question a.clock d b.clock e →
         DueAlike question a.clock (kept_due question a d) b.clock (kept_due question b e)

@@ -22,7 +22,7 @@ use Rattle.uv_names.specs.Counts.{call_end}
 use Rattle.uv_find.specs.Forgetting.{question_end}
 use Rattle.uv_find.specs.Kept.{caller, is_poll, is_over, takes_time, time_taken, time_at_end, owed_in, owed_by, owed_after, nearer, arrived, along_after}
 use Rattle.uv_find.specs.Orders.{Rules}
-use Rattle.uv_find.specs.Questions.{begun, is_which, is_call, is_uncalled, answered_name, is_of, is_late, answers_line, line_answers}
+use Rattle.uv_find.specs.Questions.{begun, is_which, is_call, is_uncalled, answered_name, is_of, is_awaited, is_late, answers_line, line_answers}
 use Rattle.uv_find.specs.Spots.{CanForget}
 use Rattle.uv_find.proofs.Alike.{DueAlike, both}
 use Rattle.uv_find.proofs.Lines.{LinesAlike, plain_line, lines_read, plain_caller, plain_begun, plain_answered, plain_code, plain_section, plain_poll, plain_is_poll, is_tick, plain_tick, calls_name, plain_calls}
@@ -105,17 +105,12 @@ module _ (r : Rules) (n : ℕ) (forget : r.forget ≡ Some n) (can : CanForget r
   begun_alike w name call l m below lines =
       call_alike w name call (begun l) below ∙ ap (is_call w name call b) (lines_read begun r.program (plain_begun r.program) l m lines)
 
-  late_is : (name : Var) (ms due : ℕ) (s : State) (l : Seen) → is_late name ms due s l ≡
-      (calls_name name l && calls_timer s (Some l) && nat_le ms (s.clock - due))
-  late_is name ms due s (seen.Call v id) = refl
-  late_is name ms due s l = refl
-
   late_alike : (name : Var) (ms due other : ℕ) (l m : Seen) → a.clock + other ≡ b.clock + due → plain_line r.program l ≡ plain_line r.program m →
-      calls_timer a (Some l) ≡ calls_timer b (Some m) → is_late name ms due a l ≡ is_late name ms other b m
-  late_alike name ms due other l m dues lines timers =
+      is_late name ms due a l ≡ is_late name ms other b m
+  late_alike name ms due other l m dues lines =
       let late : a.clock - due ≡ b.clock - other = omega (arith, dues) in
-      let calls = lines_read (calls_name name) r.program (plain_calls r.program name) l m lines in
-      late_is name ms due a l ∙ (λ i. calls i && timers i && nat_le ms (late i)) ∙ sym (late_is name ms other b m)
+      let calls = ap (is_awaited name) (lines_read begun r.program (plain_begun r.program) l m lines) in
+      λ i. calls i && nat_le ms (late i)
 
   answers_alike : (q : Question) (due other : ℕ) (l m : Seen) → question_end q ≤ n → DueAlike q a.clock due b.clock other →
       plain_line r.program l ≡ plain_line r.program m → calls_timer a (Some l) ≡ calls_timer b (Some m) →
@@ -129,7 +124,7 @@ module _ (r : Rules) (n : ℕ) (forget : r.forget ≡ Some n) (can : CanForget r
   answers_alike asks.Poll due other l m below dues lines timers = lines_read begins_poll r.program (plain_poll r.program) l m lines
   answers_alike (asks.Never name) due other l m below dues lines timers = refl
   answers_alike asks.Stuck due other l m below dues lines timers = refl
-  answers_alike (asks.Late name ms) due other l m below dues lines timers = late_alike name ms due other l m dues lines timers
+  answers_alike (asks.Late name ms) due other l m below dues lines timers = late_alike name ms due other l m dues lines
   answers_alike (asks.Before name before) due other l m below dues lines timers =
       ap₂ (λ x y. x && y) (begun_alike which.Any name None l m (omega arith) lines) (uncalled_alike before)
   answers_alike (asks.Behind name before) due other l m below dues lines timers =

@@ -301,15 +301,26 @@ reads_wait n = record {
 -- ---- when a timer is due
 
 -- how late the clock is for an active timer, and how early
-abbrev pub lag_of : ℕ → Option Content → Option (ℕ × ℕ)
-lag_of clock (Some (content.Handle h)) = if is_timer h.kind && h.active then Some (clock - h.due.at, h.due.at - clock) else None
-lag_of clock o = None
+-- an active timer is due, so many ms ago and in so many; it isn't active; something waits for its callback, or nothing does
+pub data Waits : Type 0 where
+  due : ℕ → ℕ → Waits
+  idle : Waits
+  waits : Waits
+  none : Waits
 
-abbrev pub lag_under : State → Option Id → Option (ℕ × ℕ)
-lag_under s None = None
+abbrev pub lag_by : Bool → Bool → Bool → ℕ → ℕ → Waits
+lag_by timer active pending ago ahead = if timer then (if active then due ago ahead else idle) else (if pending then waits else none)
+
+abbrev pub lag_of : ℕ → Option Content → Waits
+lag_of clock (Some (content.Handle h)) = lag_by (is_timer h.kind) h.active h.pending (clock - h.due.at) (h.due.at - clock)
+lag_of clock (Some (content.Request r)) = waits
+lag_of clock None = none
+
+abbrev pub lag_under : State → Option Id → Waits
+lag_under s None = none
 lag_under s (Some id) = lag_of s.clock (held s.arena.slots id)
 
-abbrev pub lag : Var → State → Option (ℕ × ℕ)
+abbrev pub lag : Var → State → Waits
 lag v s = lag_under s (named s v).id
 
 handle_lag : (clock : ℕ) (d : By) (h : HandleRecord) → lag_of (clock + d.ms) (Some (content.Handle (retimed_handle (later d) h))) ≡

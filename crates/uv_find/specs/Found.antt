@@ -12,8 +12,8 @@ use Rattle.uv_model.specs.Queries.{run_by}
 use Rattle.uv_search.specs.Keys.{Has}
 use Rattle.uv_find.specs.declared.finding.Answer.{Answer}
 use Rattle.uv_find.specs.declared.finding.Answer.TheVariants as answer
-use Rattle.uv_find.specs.declared.latest.Look.{Look}
-use Rattle.uv_find.specs.declared.latest.Look.TheVariants as look
+use Rattle.uv_find.specs.declared.latest.Rung.{Rung}
+use Rattle.uv_find.specs.declared.latest.Rung.TheVariants as rung
 use Rattle.uv_asking.specs.Asked.{Asked}
 use Rattle.uv_find.specs.Orders.{Rules, Place, Choice, asked_late, choice_at, beginning}
 use Rattle.uv_find.specs.Courses.{Course, NeverAnswered, IsAnswer}
@@ -55,16 +55,16 @@ Finds r s limit (answer.OutOfMemory number) t = (number ≤ limit) × ((keys : L
 Finds r s limit answer.TooDeep t = (u : Spot) × (es : List Event) × (u.steps ≡ s.steps ++ es) × Course r s.place es u.place × IsDeep u
 
 -- what a look tells of how late the timer is called that the rules ask about: it is so, or never, or that isn't settled
-abbrev pub Looks : Rules → Spot → ℕ → Look → Type 0
-Looks r s limit (look.Late ms) = Unit {0}
-Looks r s limit (look.Never number) = (number ≤ limit) × IsNever r s number
-Looks r s limit look.Unsettled = Unit {0}
+abbrev pub Looks : Rules → Spot → ℕ → Rung → Type 0
+Looks r s limit (rung.Late ms) = Unit {0}
+Looks r s limit (rung.Never number) = (number ≤ limit) × IsNever r s number
+Looks r s limit rung.Unsettled = Unit {0}
 
 -- it stands where it stood, where it goes on from there
-abbrev pub GoesBack : Look → Spot → Spot → Type 0
-GoesBack (look.Late ms) s t = t ≡ s
-GoesBack (look.Never number) s t = t ≡ s
-GoesBack look.Unsettled s t = Unit {0}
+abbrev pub GoesBack : Rung → Spot → Spot → Type 0
+GoesBack (rung.Late ms) s t = t ≡ s
+GoesBack (rung.Never number) s t = t ≡ s
+GoesBack rung.Unsettled s t = Unit {0}
 
 -- from so many ms on the timer is called in no order, however many events it has, where that is settled
 abbrev pub RisesTo : Rules → Spot → Var → ℕ → ℕ → Option ℕ → Type 0

@@ -14,7 +14,7 @@ use uv_search::{Found, Reached, go_back, search};
 const ROUNDS: usize = 65_536;
 
 /// What one search tells of how late the timer is called.
-pub enum Look {
+pub enum Rung {
     /// In one order it is, and so late.
     Late(u64),
     /// In no order. So many places were kept.
@@ -32,7 +32,7 @@ pub struct Risen {
 }
 
 /// Searches for an order in which the timer is called as late as is asked, and goes back.
-fn look<M: Machine>(alloc: Global, orders: &mut Orders<M>, limit: usize) -> Look
+fn look<M: Machine>(alloc: Global, orders: &mut Orders<M>, limit: usize) -> Rung
     requires here { place_answers orders.old.rules orders.old.spot.place orders.old.rules.question ≡ false }
     ensures found { Looks orders.old.rules orders.old.spot limit result }
     ensures rules { orders.new.rules ≡ orders.old.rules }
@@ -42,10 +42,10 @@ fn look<M: Machine>(alloc: Global, orders: &mut Orders<M>, limit: usize) -> Look
         Found::Way(Reached { way, .. }) => {
             let late = orders.lateness();
             go_back(orders, way.len());
-            Look::Late(late)
+            Rung::Late(late)
         }
-        Found::Never(places) => Look::Never(places),
-        _ => Look::Unsettled,
+        Found::Never(places) => Rung::Never(places),
+        _ => Rung::Unsettled,
     }
 }
 
@@ -58,12 +58,12 @@ pub fn rise<M: Machine>(alloc: Global, orders: &mut Orders<M>, name: Var, limit:
     'rounds: for _ in 0..ROUNDS {
         orders.ask_late(name, ms);
         match look(alloc, orders, limit) {
-            Look::Late(late) => ms = above(late, ms),
-            Look::Never(places) => return Risen {
+            Rung::Late(late) => ms = above(late, ms),
+            Rung::Never(places) => return Risen {
                 ms,
                 settled: Some(places),
             },
-            Look::Unsettled => return Risen { ms, settled: None },
+            Rung::Unsettled => return Risen { ms, settled: None },
         }
     }
     Risen { ms, settled: None }

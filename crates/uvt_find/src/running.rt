@@ -2,7 +2,11 @@
 ghost use Rattle.std.specs.Prelude.{◌≡◌, ◌≢◌, ◌^◌, IfOk, IfErr};
 ghost use Rattle.uv_engine.specs.Devices.{IsTooLong, OnAnswer, ReaderCounts, TakesWithin, WriterCounts};
 ghost use Rattle.uv_script.specs.Writes.{Writes};
+ghost use Rattle.std.specs.Prelude.{◌<◌, true};
+ghost use Rattle.uv_find.specs.Found.{RisesTo};
+ghost use Rattle.uv_find.specs.Holding.{asks_late};
 ghost use Rattle.uv_find.specs.Spots.{rules_of, first_spot};
+ghost use Rattle.uv_inquiry.specs.Texts.{unsettled_text};
 ghost use Rattle.uv_ids.specs.declared.fault.Fault.TheVariants.{Memory, Write as WriteFault};
 ghost use Rattle.uv_asking.specs.Asked.{asked_in};
 ghost use Rattle.uvt_find.specs.Status.{Answers, EndsBy, IsAnswerStatus, IsReplyFault, IsRunFault, MayEnd, Ran, Responds, status_by, status_of};
@@ -107,7 +111,7 @@ fn latest<M: Machine>(
     requires rules { orders.rules ≡ rules_of inquiry.now.script (asked_in inquiry.now.asking) }
     requires spot { orders.spot ≡ first_spot orders.rules }
     requires greatest { inquiry.now.asking.greatest ≡ true }
-    requires question { inquiry.now.asking.question ≡ Late name 0 }
+    requires question { asks_late inquiry.now.asking.question ≡ true }
     ensures told { IfOk result (λ told. Answers inquiry.now.script (asked_in inquiry.now.asking) told.text.items told.status) }
     ensures err { IfErr result (λ fault. fault ≡ Memory) }
 {
@@ -127,7 +131,10 @@ fn latest<M: Machine>(
 }
 
 /// Nothing was settled.
-fn not_settled(alloc: Global, states: u32) -> Result<Told, Fault> {
+fn not_settled(alloc: Global, states: u32) -> Result<Told, Fault>
+    ensures told { IfOk result (λ told. (told.text.items ≡ unsettled_text states) × (told.status ≡ 3)) }
+    ensures err { IfErr result (λ fault. fault ≡ Memory) }
+{
     Ok(Told {
         text: unsettled_text(alloc, u64::from(states))?,
         status: 3,
@@ -142,6 +149,13 @@ fn ends_at<M: Machine>(
     risen: Risen,
 ) -> Result<Told, Fault>
     requires back { M.BackWantsMemory → ⊥ }
+    requires greatest { inquiry.now.asking.greatest ≡ true }
+    requires question { asks_late inquiry.now.asking.question ≡ true }
+    requires risen { let r = rules_of inquiry.now.script (asked_in inquiry.now.asking)
+        in RisesTo r (first_spot r) name inquiry.now.asking.states risen.ms risen.settled }
+    requires some { 0 < risen.ms }
+    ensures told { IfOk result (λ told. Answers inquiry.now.script (asked_in inquiry.now.asking) told.text.items told.status) }
+    ensures err { IfErr result (λ fault. fault ≡ Memory) }
 {
     let states = inquiry.asking.states;
     let late = risen.ms.saturating_sub(1);

@@ -19,7 +19,7 @@ The lines behind `begin` (docs/FIND.md has each):
   full                                                            each state is kept whole, with its times, counts and generations, and no
                                                                   move is held back
   find call NAME [N], find on NAME [N], find after NAME [N], find closed NAME [N], find code CODE [of NAME], find section WORD, find never NAME,
-  find stuck, find late NAME MS, find NAME before NAME, find NAME after NAME
+  find stuck, find late NAME MS, find latest NAME, find NAME before NAME, find NAME after NAME
 
 Status 0: found; what stands behind the answer is a session, which debug, why, shell, view and libuv take. Status 1: never, in no
 order. Status 3: not settled, since there are more states than may be kept, or memory was refused. Statuses 2 and 4 are those of uvt: a bad
@@ -170,10 +170,13 @@ def left_out(asked: bytes) -> list[str]:
         for words in asks
         if words[:2] == ["may", "io"] and len(words) == 4 and (words[2], "io") not in made
     ]
+    queued = {op[1] for op in ops if op[:1] == ["queue"] and len(op) > 1}
     said += [
-        f"`{words[2]}` is no timer in any line, so it is never late"
+        f"`{words[2]}` is no timer, no async handle and no request in any line, so it is never late"
         for words in asks
-        if words[:2] == ["find", "late"] and len(words) == 4 and words[2] != "before" and (words[2], "timer") not in made
+        if (words[:2] == ["find", "late"] and len(words) == 4 and words[2] not in ("before", "after") or words[:2] == ["find", "latest"] and len(words) == 3)
+        and not {(words[2], "timer"), (words[2], "async")} & set(made)
+        and words[2] not in queued
     ]
     return said
 
@@ -202,12 +205,13 @@ def answer(paths: list[Path], lines: list[str], session: Path | None) -> int:
                 print(f"uvt find: {harmless(sentence)}", file=sys.stderr)
         first = output.readline()
         sys.stdout.buffer.write(first)
-        if status == FOUND and session:
-            session.write_bytes(output.read())
+        rest = output.read()
+        if session and rest:
+            session.write_bytes(rest)
             sys.stdout.flush()
             hint(session)
         else:
-            sys.stdout.buffer.write(output.read())
+            sys.stdout.buffer.write(rest)
         sys.stdout.flush()
     return status if status >= 0 else OWN_FAULT
 

@@ -1,37 +1,127 @@
-"""How late is each timer at worst, in every order near a recorded run?
+"""How late is each callback at worst, in every order of what came from outside of a recorded run?
 
-  ./uvt worst RECORDING [-o NAME] [--differ K] [--states N] [--for SECONDS]
+  ./uvt worst RECORDING [NAME..]   a table in ms, a line for each timer, async handle and request that was called, or for these names
+      -o PREFIX      the order at worst of NAME goes to PREFIX.NAME.uvt, for why, shell, force and view (the recording's name without .rec)
+      --no-sessions  no order is written
+      --differ K     orders in which K steps from outside come elsewhere (1; several times for several columns)
+      --for SECONDS  so long for each question at the most (20)
+      --states N     so many states for each question at the most (3000000)
+      -j N           so many questions at a time (1)
+      --json         the same for a program
 
-A table in ms: how late it was in this run; at most so late where one step from outside comes at another place (`may differ 1`); at most so late
-in every order of what came in the recording. Each of the two is proved by the search where one number stands: an order with this lateness was
-found, and for a ms more the answer is `never`. The order at worst is NAME.TIMER.uvt, for `shell`, `force` and `view`.
+A timer is late by the ms since it was due, an async handle by those since the first send that its call answers, a request by those since it was
+queued until its after callback. `in this run` is what was recorded. `1 moved`: at most so late where one step from outside comes at another place
+(`may differ 1`). `every order`: at most so late in any order of what came. Each number is proved by the search: an order with it is kept, and no
+order has more. `51+` says that it is so late at least, and more isn't settled: why stands below. `find latest NAME` (docs/FIND.md) asks the same.
+
+Status 0: all is settled. Status 3: something isn't. Status 2: no such recording or name.
 """
 
 from __future__ import annotations
 
 import argparse
+import json
+import sys
 from pathlib import Path
 
 from launch.tool import run_tool
-from uvt.conversation import Fault, read_input
+from uvt.conversation import INSTALLED, Fault, read_input
+from uvt.progress import Teller
 from uvt.searching import search_program
-from uvt.worst import table
+from uvt.worst import Asker, Row, rows_of, single
+
+SETTLED, WRONG, OPEN = 0, 2, 3
+
+
+def table(columns: list[str], rows: list[Row], files: dict[str, Path]) -> list[str]:
+    """The table, with what isn't settled below it."""
+    cells = [["", "", "calls", *columns, "its order"]]
+    for row in rows:
+        cells.append([row.kind, row.name, str(row.calls), *(row.worst[it].told() for it in columns), str(files.get(row.name, ""))])
+    widths = [max(len(line[at]) for line in cells) for at in range(len(cells[0]))]
+    told = [
+        "  ".join(word.ljust(width) if at < 2 or at == len(line) - 1 else word.rjust(width) for at, (word, width) in enumerate(zip(line, widths))).rstrip()
+        for line in cells
+    ]
+    for row in rows:
+        for column in columns:
+            it = row.worst[column]
+            if not it.settled:
+                least = "no order that calls it was found" if it.late is None else f"{it.late} ms at least"
+                told.append(f"not settled: {row.name}, {column}: {least} ({it.why})")
+    return told
+
+
+def write_sessions(rows: list[Row], columns: list[str], prefix: str) -> dict[str, Path]:
+    """Of each callback that is later in another order than in the run, the order at worst."""
+    files = {}
+    for row in rows:
+        best, run = row.best(columns), row.worst[columns[0]]
+        if best and best is not run and best.session and (run.late is None or (best.late or 0) > run.late):
+            files[row.name] = Path(f"{prefix}.{row.name}.uvt")
+            files[row.name].write_bytes(best.session.encode("ascii", "surrogateescape"))
+    return files
+
+
+def as_json(recording: Path, columns: list[str], rows: list[Row], files: dict[str, Path]) -> str:
+    found = [
+        {
+            "name": row.name,
+            "kind": row.kind,
+            "calls": row.calls,
+            "session": str(files[row.name]) if row.name in files else None,
+            "worst": [
+                {
+                    "orders": it,
+                    "ms": row.worst[it].late,
+                    "settled": row.worst[it].settled,
+                    "states": row.worst[it].states,
+                    "seconds": round(row.worst[it].seconds, 3),
+                    "why": row.worst[it].why or None,
+                }
+                for it in columns
+            ],
+        }
+        for row in rows
+    ]
+    return json.dumps({"recording": str(recording), "callbacks": found}, indent=1)
 
 
 def main() -> int:
     reader = argparse.ArgumentParser(description=__doc__, formatter_class=argparse.RawDescriptionHelpFormatter)
-    reader.add_argument("recording", type=Path)
-    reader.add_argument("-o", dest="name")
-    reader.add_argument("--differ", type=int, action="append")
-    reader.add_argument("--states", type=int, default=1_000_000)
-    reader.add_argument("--for", dest="seconds", type=float, default=20)
+    reader.add_argument("recording", type=Path, metavar="RECORDING")
+    reader.add_argument("names", metavar="NAME", nargs="*")
+    reader.add_argument("-o", dest="prefix", metavar="PREFIX")
+    reader.add_argument("--no-sessions", action="store_true")
+    reader.add_argument("--differ", type=int, action="append", metavar="K")
+    reader.add_argument("--states", type=int, default=3_000_000, metavar="N")
+    reader.add_argument("--for", dest="seconds", type=float, default=20, metavar="SECONDS")
+    reader.add_argument("-j", dest="jobs", type=int, default=1, metavar="N")
+    reader.add_argument("--json", action="store_true")
     asked = reader.parse_args()
+    if asked.jobs < 1 or asked.states < 1 or asked.seconds <= 0 or any(it < 1 for it in asked.differ or []):
+        reader.error("-j, --states, --for and --differ take numbers from 1 on")
 
     def worst() -> int:
         script, steps = read_input(asked.recording)
-        if not script.is_recorded():
-            raise Fault(f"{asked.recording} is no recording")
-        print("\n".join(table(asked.recording, script, steps, search_program(), asked.states, asked.seconds, asked.differ or [1], asked.name)))
-        return 0
+        if not steps:
+            raise Fault(f"{asked.recording}: no steps stand behind `begin`, so nothing is known of a run. ./uvt record makes a recording")
+        teller = Teller("uvt worst", "questions")
+        asker = Asker(script, search_program(), asked.states, asked.seconds)
+        try:
+            columns, rows = rows_of(script, single(steps), asker, sorted(set(asked.differ or [1])), asked.names, asked.jobs, teller.tell)
+        finally:
+            teller.done()
+        files = {} if asked.no_sessions else write_sessions(rows, columns, asked.prefix or asked.recording.stem)
+        if asked.json:
+            print(as_json(asked.recording, columns, rows, files))
+        elif not rows:
+            print("no timer, async handle or request was called")
+        else:
+            print("\n".join(table(columns, rows, files)))
+            if files:
+                print(f"why so late: {'uvt' if INSTALLED else './uvt'} why {next(iter(files))} < {next(iter(files.values()))}")
+        sys.stdout.flush()
+        return SETTLED if all(row.worst[it].settled for row in rows for it in columns) else OPEN
 
-    return run_tool("uvt-worst", worst, failed=2, what="the search")
+    return run_tool("uvt-worst", worst, failed=WRONG, what="the search")

@@ -1,0 +1,31 @@
+use Rattle.std.proofs.Common.{◌≡◌, ◌∷◌, ◌∙◌, length, drop, subst, arith}
+use Rattle.uv_search.proofs.Retracing.{some_left}
+use Rattle.uv_find.proofs.Results.{found_never, same_back}
+use Rattle.uv_find.proofs.latest.look.Goals as goal
+
+pub go_back-requires : goal.go_back-requires
+go_back-requires g c =
+    let s = c.search.new.maze in
+    let back = rw c.in-Way.is at c.search.ensures.made in
+    let long = some_left (length c.in-Way.field-0.way.items) c.args.orders.now.spot (s.spot ∷ s.before) c.args.orders.now.before back in
+    omega (arith, long, c.len.ensures)
+
+pub returns-in-Way-clause-back : goal.returns-in-Way-clause-back
+returns-in-Way-clause-back g c =
+    let p = c.args.orders.now.spot in
+    let back = rw c.in-Way.is at c.search.ensures.made in
+    let s = c.search.new.maze in
+    let u = c.go_back.new.maze in
+    let count : c.len.result ≡ length c.in-Way.field-0.way.items = omega (arith, c.len.ensures) in
+    let there : drop (length c.in-Way.field-0.way.items) (s.spot ∷ s.before) ≡ u.spot ∷ u.before =
+    subst (λ n. drop n (s.spot ∷ s.before) ≡ u.spot ∷ u.before) count c.go_back.ensures.before in
+    same_back p u.spot c.args.orders.now.before u.before
+    (drop (length c.in-Way.field-0.way.items) (s.spot ∷ s.before)) back there
+
+pub returns-in-Never-clause-found : goal.returns-in-Never-clause-found
+returns-in-Never-clause-found g c =
+    let f = rw c.in-Never.is at c.search.ensures.found in
+    found_never c.args.orders.now.rules c.args.orders.now.spot c.args.limit c.in-Never.places c.search.new.maze.spot f.0 c.requires.here f.1
+
+pub returns-in-Never-clause-back : goal.returns-in-Never-clause-back
+returns-in-Never-clause-back g c = (rw c.in-Never.is at c.search.ensures.made).0
