@@ -182,7 +182,12 @@ def moves_of_recorded(loop: Loop, asked: Asked, place: Place, blocked: List[bool
         reply = loop.step(command)
         if reply.refused is None and is_within(asked, reply.state):
             along = recording.behind_loop(asked.recorded, along, reply.line) if command == "loop" else along
-            yield Move(number, command, reply.line, Place(reply.state, (), due_after(asked, place, reply.state), owed_after(asked, place, command, reply.line, reply.state), along))
+            yield Move(
+                number,
+                command,
+                reply.line,
+                Place(reply.state, (), due_after(asked, place, reply.state), owed_after(asked, place, command, reply.line, reply.state), along),
+            )
         loop.go_back(steps, state)
 
 

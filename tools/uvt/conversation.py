@@ -404,7 +404,8 @@ class Conversation:
                     lines.append(row.decode("ascii", "replace"))
 
     def do_all(self, commands: list[str], tell: Callable[[int], None]) -> None:
-        """Does steps as far as they are not refused, and passes over all that they print. `length` is how many stand then; `tell` hears it on the way."""
+        """Does steps as far as they are not refused, and passes over all that they print. `length` is how many stand then; `tell` hears it
+        on the way."""
         parts = [packed(commands[at : at + MANY_STEPS]) for at in range(0, len(commands), MANY_STEPS)]
         writer = started(self.send_quietly, "".join(f"{it}back 0\n" for it in parts))
         left, rest = len(parts), b""

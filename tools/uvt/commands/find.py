@@ -174,7 +174,13 @@ def left_out(asked: bytes) -> list[str]:
     said += [
         f"`{words[2]}` is no timer, no async handle and no request in any line, so it is never late"
         for words in asks
-        if (words[:2] == ["find", "late"] and len(words) == 4 and words[2] not in ("before", "after") or words[:2] == ["find", "latest"] and len(words) == 3)
+        if (
+            words[:2] == ["find", "late"]
+            and len(words) == 4
+            and words[2] not in ("before", "after")
+            or words[:2] == ["find", "latest"]
+            and len(words) == 3
+        )
         and not {(words[2], "timer"), (words[2], "async")} & set(made)
         and words[2] not in queued
     ]

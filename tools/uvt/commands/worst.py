@@ -40,7 +40,9 @@ def table(columns: list[str], rows: list[Row], files: dict[str, Path]) -> list[s
         cells.append([row.kind, row.name, str(row.calls), *(row.worst[it].told() for it in columns), str(files.get(row.name, ""))])
     widths = [max(len(line[at]) for line in cells) for at in range(len(cells[0]))]
     told = [
-        "  ".join(word.ljust(width) if at < 2 or at == len(line) - 1 else word.rjust(width) for at, (word, width) in enumerate(zip(line, widths))).rstrip()
+        "  ".join(
+            word.ljust(width) if at < 2 or at == len(line) - 1 else word.rjust(width) for at, (word, width) in enumerate(zip(line, widths))
+        ).rstrip()
         for line in cells
     ]
     for row in rows:
