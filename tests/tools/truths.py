@@ -39,6 +39,18 @@ class Question:
 
 QUESTIONS = [
     Question(
+        "askedlate",
+        "job",
+        [r"waited for a worker from step \d+ to \d+, [0-3] ms; worker 0 took it", r"worker 0 ran it, work_job \(askedlate\.c:5\), from step"],
+        [r"waited for a worker from step \d+ to \d+, \d{2,} ms", r"2\d\d ms later"],
+    ),
+    Question(
+        "askedlate",
+        ALL,
+        [r"\d\d ms from its queueing to its callback: job, step \d+: [0-3] ms it waited for a worker, [23]\d ms it ran, [0-3] ms it waited for the loop"],
+        [r"2\d\d ms from its queueing"],
+    ),
+    Question(
         "drift",
         "beat",
         [r"late by 1\d ms: the callback of beat, on_beat \(drift\.c:5\), took 1\d ms, .*so the loop's time was \d+ ms still"],

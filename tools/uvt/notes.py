@@ -106,7 +106,7 @@ class Notes:
     foreign: dict[int, str] = field(default_factory=dict)
     # the ticks of time that went by when no callback was under way
     outside: set[int] = field(default_factory=set)
-    # of a take or a finish the clock, where that was another one than at its step
+    # of a take, a finish or a queueing the clock, where that was another one than at its step
     times: dict[int, int] = field(default_factory=dict)
     # of a name of I/O by its call what came, in the log's words with signs between: `read:512`, and `write:ok+write:ok` where one call
     # stands for two callbacks

@@ -97,7 +97,7 @@ class Overview:
         return [(name, it) for name, why in self.whys.items() for it in why.history.waits if it.what == what and it.how == "called"]
 
     def away(self, wait: Wait) -> int:
-        return self.walk.clock(wait.ended) - self.walk.clock(wait.asked)
+        return self.walk.clock(wait.ended) - self.walk.happened(wait.asked)
 
     def worst(self, found: list[Late]) -> list[Late]:
         kept = sorted((it for it in found if it.took >= self.least), key=lambda it: it.took, reverse=True)[:LINES]
@@ -197,7 +197,7 @@ class Overview:
             full = walk.pool.full_between(wait.asked, wait.ended)
             known = sum(walk.happened(it.last) - walk.happened(it.first) for it in full)
             return f"for {known} ms each worker had other work" if known else "when a worker took it and was through nobody knows"
-        waited = walk.happened(wait.taken[0]) - walk.clock(wait.asked)
+        waited = walk.happened(wait.taken[0]) - walk.happened(wait.asked)
         ran = walk.happened(wait.finished) - walk.happened(wait.taken[0])
         return f"{waited} ms it waited for a worker, {ran} ms it ran, {late.took - waited - ran} ms it waited for the loop"
 

@@ -236,7 +236,7 @@ class Walk:
         return self.clocks[length]
 
     def happened(self, step: int) -> int:
-        """The clock where a take or a finish happened, by the notes where these know better than the step."""
+        """The clock where a take, a finish or a queueing happened, by the notes where these know better than the step."""
         return self.notes.times.get(step, self.clocks[step])
 
     def place(self, length: int) -> Place:

@@ -508,7 +508,7 @@ class Why:
 
     def request_parts(self, wait: Wait) -> str:
         """Where its time went."""
-        queued, called = self.walk.clock(wait.asked), self.walk.clock(wait.ended)
+        queued, called = self.walk.happened(wait.asked), self.walk.clock(wait.ended)
         taken, through = self.walk.happened(wait.taken[0]), self.walk.happened(wait.finished)
         return (
             f"called {called - queued} ms after it was asked for: {taken - queued} ms it waited for a worker, {through - taken} ms it ran,"
@@ -517,15 +517,15 @@ class Why:
 
     def unseen_request(self, wait: Wait) -> tuple[str, list[str]]:
         """Nobody saw when it was through; but where each worker has work that is seen, it waits."""
-        away = self.walk.clock(wait.ended) - self.walk.clock(wait.asked)
+        away = self.walk.clock(wait.ended) - self.walk.happened(wait.asked)
         kind = self.notes.kind(self.name)
         details = [] if wait.taken[0] in self.notes.guessed else [self.waited(wait)]
         for it in self.walk.pool.full_between(wait.asked, wait.ended):
-            ends = self.walk.happened(it.last) - max(self.walk.happened(it.first), self.walk.clock(wait.asked))
+            ends = self.walk.happened(it.last) - max(self.walk.happened(it.first), self.walk.happened(wait.asked))
             details.append(
                 f"for {ends} ms of them each worker had other work, from step {it.first} to {it.last}: {few(it.names)}" f"{self.asked_for(it.names)}"
             )
-        blocked = [it for it in self.walk.causes(self.walk.clock(wait.asked), self.walk.clock(wait.ended)) if not it.is_poll()]
+        blocked = [it for it in self.walk.causes(self.walk.happened(wait.asked), self.walk.clock(wait.ended)) if not it.is_poll()]
         if blocked:
             details.append(f"meanwhile {'; '.join(told(it) for it in blocked[:MANY])}")
         kind = f" ({kind})" if kind and kind != "work" else ""
@@ -539,7 +539,7 @@ class Why:
         step, worker = wait.taken
         state = self.walk.state(wait.asked)
         before = self.before(state.lists["waiting"])
-        away = self.walk.happened(step) - self.walk.clock(wait.asked)
+        away = self.walk.happened(step) - self.walk.happened(wait.asked)
         had = self.walk.pool.names_between(wait.asked, step) if away and self.walk.pool.full_between(wait.asked, step) else []
         asked = self.asked_for(had)
         behind = (f": the workers had {times(len(had), 'request') if asked else few(had)}{asked}" if had else "") + (

@@ -237,7 +237,7 @@ def notes_of(made: Made, note: str, ended: str = "") -> Notes:
         outside - made.outcome.known,
         foreign_lines(made),
         made.outcome.outside,
-        made.outcome.times,
+        made.outcome.times | stand.queued,
         made.program.came,
         made.polls.said(),
         where_it_ended(made, ended),

@@ -44,6 +44,8 @@ class Op(Did):
     answer: str
     # the place in the program that asked for it, as the log has it; `` where nobody knows
     place: str = ""
+    # of a request that is queued the clock then, where that is known: the loop's time is an earlier one in a long callback
+    queued: int = NO_CLOCK
 
 
 @dataclass(slots=True)
@@ -649,6 +651,8 @@ class Maker:
             case "Q":
                 if bound := self.bound.get(int(event.words.split(" ")[1])):
                     self.program.again.append((event.line, bound.name))
+            case "D":
+                self.read_queued(event)
             case "J":
                 self.read_javascript(event)
             case "M":
@@ -681,6 +685,13 @@ class Maker:
             self.javascript.read(event, (call.callback, call.name, call.number) if call else ("main", "-", 0))
         elif bound := self.bound.get(int(event.words.split(" ")[1])):
             self.javascript.read_by(event, bound.name, len(self.program.bodies["after", bound.name]) + 1)
+            self.read_queued(event, 1)
+
+    def read_queued(self, event: Event, at: int = 0) -> None:
+        """When the request was queued whose line stands just before."""
+        bound, last = self.bound.get(int(event.words.split(" ")[at])), self.items[-1] if self.items else None
+        if bound and isinstance(last, Op) and last.text.startswith(f"queue {bound.name} ") and last.queued == NO_CLOCK:
+            last.queued = event.clock
 
     def read_run(self, event: Event) -> None:
         mode, _, put_off = event.words.partition(" ")

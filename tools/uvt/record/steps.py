@@ -15,6 +15,8 @@ class Steps:
         self.program = program
         # of each op's step the place that asked for it; and the step of each callback
         self.asked_at: dict[int, str] = {}
+        # of a request's step the clock as it was queued, where the loop's time was an earlier one
+        self.queued: dict[int, int] = {}
         self.calls: dict[tuple[str, str, int], int] = {}
         found = enumerate(lines, 1)
         for item in program.items:
@@ -23,6 +25,8 @@ class Steps:
                     step = next((at for at, line in found if line.startswith(f"{item.text} = ")), 0)
                     if step and item.place:
                         self.asked_at[step] = item.place
+                    if step and item.queued > item.now:
+                        self.queued[step] = item.queued
                 case Call():
                     step = next((at for at, line in found if line.startswith(f"{LINES[item.callback]} {item.name} ")), 0)
                     if step:

@@ -345,7 +345,7 @@ void write_line(struct loop *loop, char type, const char *format, ...) {
     if (loop && !loop->lines && loop->number && type != 'L') write_line(loop, 'L', "%d", loop->behind);
     if (off || (loop && !loop->uv) || !open_log()) return;
     va_list words;
-    if (loop && forces() && !strchr("CGILVTFSWKJQ", type)) {
+    if (loop && forces() && !strchr("CDGILVTFSWKJQ", type)) {
         /* (what is forced there has lines of its own, in front of this one, and moves the clock) */
         line.length = 0;
         va_start(words, format);
@@ -365,7 +365,7 @@ void write_line(struct loop *loop, char type, const char *format, ...) {
         add_number(&line, CALL(uv_now)(loop->uv) - loop->base);
         add_sign(&line, ' ');
     }
-    if (loop && strchr("BEFGJRST", type)) {
+    if (loop && strchr("BDEFGJRST", type)) {
         uint64_t clock = clock_now();
         processor = note_time(loop, type, clock);
         add_number(&line, clock - loop->base);
@@ -395,6 +395,11 @@ void write_line(struct loop *loop, char type, const char *format, ...) {
 
 const char *answer_text(int answer) {
     return answer == 0 ? "ok" : CALL(uv_err_name)(answer);
+}
+
+/* Is the loop's time so many ms behind the clock? */
+bool is_behind(const struct loop *loop) {
+    return !off && loop->uv && clock_now() >= CALL(uv_now)(loop->uv) + SHORT;
 }
 
 void write_op(struct object *object, const char *word, const char *rest, int answer) {

@@ -249,6 +249,7 @@ void note_made_over(const uv_loop_t *uv, const void *address);
 int new_place_number(void);
 
 /* A line that says where JavaScript asked for this object of the loop, if it is under way in this thread. */
+bool is_behind(const struct loop *loop);
 void note_javascript(struct loop *loop, int id);
 /* The line of a program in Lua that asks for requests of the pool just now, -1: none. */
 extern __thread int asking_here;
