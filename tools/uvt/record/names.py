@@ -6,9 +6,15 @@ Symbols are looked up once, behind the run, with `nm` and `addr2line`, and writt
 from __future__ import annotations
 
 import bisect
+import functools
+import hashlib
+import json
+import os
 import re
 import subprocess
+from pathlib import Path
 
+from uvt.conversation import OUT
 from uvt.record.log import CHAIN, Address, Log, in_words  # noqa: F401 (for those who tell names)
 
 ROOM = 26
@@ -29,15 +35,20 @@ def listed(file: str, words: list[str]) -> list[list[str]]:
 NM: tuple[list[str], ...] = ([], ["-D"])
 
 
+# A file that is so large is read once, and what is known of it is kept: node has 150,000 functions, and its own take 2 s of the processor.
+LARGE = 16 << 20
+FORM = 1
+
+
 class Symbols:
     """The functions and variables of a file."""
 
-    def __init__(self, file: str) -> None:
+    def __init__(self, file: str, kept: dict[str, list[list]] | None = None) -> None:
         # by where it begins; and where that ends
         self.functions: dict[int, str] = {}
         self.ends: dict[int, int] = {}
         self.variables: list[tuple[int, int, str]] = []
-        for words in NM:
+        for words in NM if kept is None else ():
             for row in listed(file, ["-C", "-S", *words]):
                 if len(row) == 4 and row[2] in "bBdDvV" and not row[3].startswith(OF_THE_COMPILER):
                     self.variables.append((int(row[0], 16), int(row[1], 16), plain(row[3])))
@@ -46,8 +57,15 @@ class Symbols:
                 if len(row) >= 3 and row[1] in "tTwWiu" and re.fullmatch("[0-9a-f]+", row[0]):
                     self.functions.setdefault(int(row[0], 16), " ".join(row[2:]))
                     self.ends[int(row[0], 16)] = max(size + int(row[0], 16), self.ends.get(int(row[0], 16), 0))
+        if kept is not None:
+            self.functions = dict(zip(kept["begins"], kept["names"]))
+            self.ends = dict(zip(kept["begins"], kept["ends"]))
+            self.variables = [(begin, size, name) for begin, size, name in kept["variables"]]
         self.variables.sort()
         self.begins = sorted(self.functions)
+
+    def values(self) -> dict[str, object]:
+        return {"begins": list(self.functions), "names": list(self.functions.values()), "ends": list(self.ends.values()), "variables": self.variables}
 
     def function_around(self, offset: int) -> str:
         """The function in which that is."""
@@ -66,6 +84,35 @@ class Symbols:
             return "-"
         name = re.sub(r"\.\d+$", "", name.split("@")[0])
         return f"{name}+{offset - start}/{size}"
+
+
+@functools.lru_cache(maxsize=64)
+def symbols_as_of(file: str, key: str, folder: Path) -> Symbols:
+    """Those of a large file, as it was of that size and time: from what is kept, or else these are kept."""
+    kept = folder / f"{hashlib.sha256(os.fsencode(file)).hexdigest()[:24]}.json"
+    try:
+        found = json.loads(kept.read_bytes())
+        if found["key"] == key:
+            return Symbols(file, found)
+    except (OSError, ValueError, KeyError, TypeError):
+        pass
+    symbols = Symbols(file)
+    part = kept.with_suffix(f".{os.getpid()}")
+    try:
+        folder.mkdir(parents=True, exist_ok=True)
+        part.write_text(json.dumps({"key": key, **symbols.values()}, separators=(",", ":")))
+        part.replace(kept)
+    except OSError:
+        part.unlink(missing_ok=True)
+    return symbols
+
+
+def symbols_of(file: str) -> Symbols:
+    try:
+        it = os.stat(file)
+    except (OSError, ValueError):
+        return Symbols(file)
+    return symbols_as_of(file, f"{FORM} {it.st_dev} {it.st_ino} {it.st_size} {it.st_mtime_ns}", OUT / "symbols") if it.st_size >= LARGE else Symbols(file)
 
 
 def plain(symbol: str) -> str:
@@ -123,7 +170,7 @@ def name_addresses(log: Log) -> None:
     """Gives the addresses of a fresh log their symbols."""
     callers = log.callers()
     for file in sorted({it.file for it in log.addresses.values()}):
-        symbols = Symbols(file)
+        symbols = symbols_of(file)
         functions = []
         here = [number for number, it in log.addresses.items() if it.file == file]
         name_callers(symbols, file, [log.addresses[it] for it in here if it in callers])
