@@ -234,11 +234,16 @@ class Hunt:
         return other_output(ran.output, self.first.output) if self.same_output and not ran.late else ""
 
     def force(self, order: Order, records: bool = True, limited: bool = True) -> Ran:
-        if limited:
-            self.left()
+        """Forces it. One that isn't LIMITED is neither left out nor cut where no time is left."""
+        left, allowed = self.left() if limited else SEARCH, limit(self.first)
         self.runs += 1
         order.endless = int(1000 * self.first.seconds) if self.first.late else 0
-        return run(self.words, order, str(self.folder / f"run{self.runs}"), limit(self.first), records, LOOKED)
+        cut = limited and self.until is not None and left < allowed
+        ran = run(self.words, order, str(self.folder / f"run{self.runs}"), left if cut else allowed, records, LOOKED)
+        if cut and ran.late and not ran.hangs:
+            # (that it had no end by then says nothing)
+            raise TimeOver
+        return ran
 
     def recorded(self, ran: Ran) -> Recorded | None:
         path = recording_of(ran.name, self.loop)
