@@ -23,10 +23,12 @@ FIELDS = {
     "B": ("cat",),
     "E": (),
     "X": ("dur", "cat"),
-    "b": ("id", "cat"),
-    "e": ("id", "cat"),
+    "b": ("cat",),
+    "e": ("cat",),
     "s": ("id", "cat"),
     "f": ("id", "cat", "bp"),
+    "I": ("s", "cat"),
+    "P": ("id", "cat", "args"),
     "M": ("args",),
 }
 METADATA = {"process_name": ("name", str), "thread_name": ("name", str), "thread_sort_index": ("sort_index", int)}
@@ -44,6 +46,8 @@ def fields_wrong(event: dict) -> str:
     missing = [it for it in ("ts", "pid", "tid", "name", *FIELDS[ph]) if it not in event]
     if missing:
         return f"without {missing}"
+    if ph in "be" and "id" not in event and not isinstance(event.get("id2", {}).get("local"), str):
+        return "without an id"
     if not is_number(event["ts"]) or event["ts"] < 0 or ("dur" in event and (not is_number(event["dur"]) or event["dur"] < 0)):
         return "a time that is none"
     if not all(isinstance(event[it], int) for it in ("pid", "tid")) or not isinstance(event["name"], str) or not event["name"]:
@@ -98,7 +102,7 @@ def pairs_wrong(events: list[dict], slices: dict[tuple[int, int], list[tuple[flo
     arrows: dict[tuple, list[dict]] = collections.defaultdict(list)
     for it in events:
         if it["ph"] in "be":
-            spans[it["pid"], it["cat"], it["id"]].append(it)
+            spans[it["pid"], it["cat"], it.get("id") or it["id2"]["local"]].append(it)
         elif it["ph"] in "sf":
             arrows[it["cat"], it["name"], it["id"]].append(it)
     for key, rows in spans.items():
@@ -156,6 +160,52 @@ def try_known(check: Check) -> None:
     check("trace events, the requests", asked == ["long", "short"], asked)
 
 
+def profile_wrong(nodes: list[dict], samples: list[int], deltas: list[int]) -> list[str]:
+    """What is wrong with a profile of V8's: each node but the root has a parent in front of it, each sample a node, and no time is below 0."""
+    wrong, known = [], set()
+    for it in nodes:
+        if it["id"] in known or (known and it.get("parent") not in known):
+            wrong.append(f"{it} has no parent, or another one's number")
+        known.add(it["id"])
+        if not {"functionName", "scriptId", "url", "lineNumber", "columnNumber"} <= it["callFrame"].keys():
+            wrong.append(f"{it} is no function")
+    if len(samples) != len(deltas) or min(deltas, default=0) < 0 or not set(samples) <= known:
+        wrong.append("samples without a time or a node")
+    return wrong
+
+
+def try_javascript(check: Check, folder: str) -> None:
+    """Recordings of node: what DevTools and Perfetto get of their JavaScript."""
+    for name in ("json", "server", "pool", "nested"):
+        data = (HERE / "javascript" / "node20" / f"{name}.log").read_bytes()
+        from_data(data, read_log(data), str(Path(folder) / f"js-{name}"))
+        path = next(it for it in (Path(folder) / f"js-{name}.rec", Path(folder) / f"js-{name}.2.rec") if it.exists())
+        events, wrong = wrong_of(traced(path))
+        check(f"trace events of {name}.js in node", not wrong, wrong[:5])
+        check(f"trace events of {name}.js, in order", [it["ts"] for it in events] == sorted(it["ts"] for it in events), "they aren't in order")
+        mine = [it for it in events if it["pid"] == 2]
+        (chunk,) = [it["args"]["data"] for it in mine if it["name"] == "ProfileChunk"]
+        wrong = profile_wrong(chunk["cpuProfile"]["nodes"], chunk["cpuProfile"]["samples"], chunk["timeDeltas"])
+        check(f"samples of {name}.js", not wrong and len(chunk["cpuProfile"]["samples"]) > 20, wrong[:5])
+        installed = {it["args"]["data"]["timerId"] for it in mine if it["name"] == "TimerInstall"}
+        fired = {it["args"]["data"]["timerId"] for it in mine if it["name"] == "TimerFire"}
+        check(f"each timer of {name}.js that is called was started", fired and fired <= installed, (fired, installed))
+        late = [json.loads(it["args"]["detail"])["devtools"] for it in mine if it["ph"] == "b" and it["name"].rpartition(" is late by ")[1]]
+        said = subprocess.run([str(ROOT / "tools" / "uvt" / "uvt-why"), str(path)], capture_output=True, text=True, timeout=SECONDS, env=os.environ).stdout
+        said = " ".join(said.split())
+        for it in late[:1]:
+            check(f"why a timer of {name}.js was late", dict(it["properties"])["why"][:60] in said, (it, said[:2000]))
+        check(f"late timers of {name}.js", bool(late) == ("the latest timers of JavaScript" in said), late)
+        arrows = {it["id"]: it["ph"] for it in mine if it["ph"] in "sf"}
+        check(f"who asked for what in {name}.js", len(arrows) > 0 and set(arrows.values()) == {"f"}, arrows)
+        ran = subprocess.run([VIEW, "--cpuprofile", str(path)], capture_output=True, text=True, timeout=SECONDS, env=os.environ)
+        profile = json.loads(ran.stdout)
+        children = {child for it in profile["nodes"] for child in it["children"]}
+        hits = sum(it["hitCount"] for it in profile["nodes"])
+        good = children == {it["id"] for it in profile["nodes"]} - {1} and hits == len(profile["samples"]) == len(profile["timeDeltas"])
+        check(f"the profile of {name}.js", good and profile["endTime"] == sum(profile["timeDeltas"]), ran.stdout[:300])
+
+
 def try_changed(check: Check) -> None:
     """A file with a fault is one: an end that is left out, an arrow that ends nowhere, a phase that is none, an end before its beginning."""
     whole = json.loads(traced(EXAMPLES / "sends-are-one.uvt"))
@@ -179,6 +229,7 @@ def try_trace_events(tries: Tries) -> None:
         check(f"trace events of {path.name}", events and not wrong, wrong[:5])
     try_known(check)
     with tempfile.TemporaryDirectory() as folder:
+        try_javascript(check, folder)
         logs = [f"truths/{it}" for it in ("pool", "watched", "starve", "chat")] + [
             f"logs/{it}" for it in ("threads", "node-late", "uvloop-echo", "starved")
         ]

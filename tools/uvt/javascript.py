@@ -200,6 +200,10 @@ class JavaScript:
     resources: dict[int, Resource] = field(default_factory=dict)
     spans: list[Span] = field(default_factory=list)
     looks: list[Look] = field(default_factory=list)
+    # what V8 found under way, with all functions: of a stack the one below it (-1: none), its innermost function and the line there; and which
+    # stack, from when to when, in thousandths of a ms
+    stacks: dict[int, tuple[int, Place, int]] = field(default_factory=dict)
+    busy: list[tuple[int, int, int]] = field(default_factory=list)
     # of a request of the pool, by its name and which after callback of it: which line asked for it
     asked: dict[tuple[str, int], Place] = field(default_factory=dict)
     # of a callback of the loop what was under way most in it, and for how many ms
@@ -231,6 +235,8 @@ class JavaScript:
             due = f" {span.due}" if span.due is not None else ""
             found.append(f"js {'open' if span.is_open else 'ran'} {span.id} {' '.join(map(str, span.call))} {span.begin} {span.end}{due}")
         found += [f"js look {look.begin} {look.end} {look.under.words()}" for look in self.looks]
+        found += [f"js stack {number} {below} {line} {place.words()}" for number, (below, place, line) in self.stacks.items()]
+        found += [f"js busy {begin} {end - begin} {stack}" for begin, end, stack in self.busy]
         found += [f"js most {' '.join(map(str, call))} {took} {under.words()}" for call, (took, under) in self.most.items()]
         return found
 
@@ -251,6 +257,10 @@ class JavaScript:
                 self.language = language
             case ["look", begin, end, *under]:
                 self.looks.append(Look(int(begin), int(end), read_under(under)))
+            case ["stack", number, below, line, function, where]:
+                self.stacks[int(number)] = int(below), Place(function, where), int(line)
+            case ["busy", begin, took, stack] if int(stack) in self.stacks:
+                self.busy.append((int(begin), int(begin) + int(took), int(stack)))
             case ["most", list, name, call, took, *under]:
                 self.most[list, name, int(call)] = int(took), read_under(under)
             case ["gone", id, when, function, where]:

@@ -11,11 +11,11 @@ import itertools
 from typing import Iterator
 
 from uvt.codes import SECTIONS
-from uvt.javascript import JavaScript
+from uvt.trace_javascript import CALLBACKS, FLAME, JAVASCRIPT, MAIN, JavaScriptTrace
 from uvt.waits import History, Wait, follow
 from uvt.walk import Walk
 
-LOOP, JAVASCRIPT = 1, 2
+LOOP = 1
 # The tracks of the loop's process: the loop's thread, what comes from outside, and the workers behind these.
 THREAD, OUTSIDE, WORKERS = 1, 2, 10
 CATEGORIES = {"on": "callback", "after": "after callback", "closed": "close callback"}
@@ -120,7 +120,7 @@ class Trace:
     # ---- beside it: the pool, the requests, the sends, the timers that are late
 
     def when(self, step: int) -> float:
-        """When a take or a finish happened: by the notes where these know better."""
+        """When a take, a finish or a queueing happened: by the notes where these know better."""
         known = self.walk.notes.times.get(step)
         return self.times.begin(step) if known is None else 1000.0 * known
 
@@ -147,7 +147,7 @@ class Trace:
             for it in found.waits:
                 if it.what == "work":
                     end = self.times.begin(it.ended) if it.ended else last
-                    self.span("request", name, self.times.begin(it.asked), end, step=it.asked, outcome="cancelled" if it.cancelled else it.how)
+                    self.span("request", name, self.when(it.asked), end, step=it.asked, outcome="cancelled" if it.cancelled else it.how)
         for request in self.walk.notes.requests:
             end = 1000.0 * request.done if request.done >= 0 else last
             self.span("stream", f"{request.what} of {request.stream}", 1000.0 * request.asked, end, bytes=request.bytes, status=request.status)
@@ -186,35 +186,33 @@ class Trace:
         self.requests()
         self.late_timers()
         self.sends()
-        return [*self.named(), *self.events, *of_javascript(self.walk.notes.javascript)]
+        events = [*self.named(), *self.events, *of_javascript(self.walk, self.times, self.histories)]
+        # (DevTools takes them in their order; of slices that begin at once the outer one comes first)
+        return sorted(events, key=in_order)
+
+
+def in_order(event: Event) -> tuple[bool, float, float]:
+    dur = event.get("dur", 0.0)
+    ts = event["ts"]
+    return event["ph"] != "M", float(ts) if isinstance(ts, (int, float)) else 0.0, -float(dur) if isinstance(dur, (int, float)) else 0.0
 
 
 def metadata(pid: int, tid: int, what: str, **args: object) -> Event:
     return {"ph": "M", "ts": 0, "pid": pid, "tid": tid, "name": what, "args": args}
 
 
-def of_javascript(javascript: JavaScript) -> list[Event]:
-    """What JavaScript did: its callbacks, and the functions that were found under way."""
+def of_javascript(walk: Walk, times: Times, histories: dict[str, History]) -> list[Event]:
+    """What JavaScript did, on a page's thread."""
+    javascript = walk.notes.javascript
     if not javascript:
         return []
     found = [
         metadata(JAVASCRIPT, 0, "process_name", name=javascript.language),
-        metadata(JAVASCRIPT, 1, "thread_name", name="callbacks"),
-        metadata(JAVASCRIPT, 2, "thread_name", name="functions that were found under way"),
+        metadata(JAVASCRIPT, MAIN, "thread_name", name="CrRendererMain"),
+        metadata(JAVASCRIPT, FLAME, "thread_name", name="functions that were found under way"),
+        metadata(JAVASCRIPT, CALLBACKS, "thread_name", name="callbacks"),
     ]
-    for span in javascript.spans:
-        resource, end = javascript.resources[span.id], max(span.begin, span.end)
-        # (a callback may be in another one's time, and the clock has whole ms: so they are no slices of one track)
-        event = {"pid": JAVASCRIPT, "tid": 1, "name": javascript.who(span).text(), "cat": "JavaScript", "id": f"0x{span.id:x}.{len(found):x}"}
-        args = {"what": f"{resource.what()} {resource.asked()}"}
-        found += [event | {"ph": "b", "ts": 1000 * span.begin, "args": args}, event | {"ph": "e", "ts": 1000 * end}]
-    before = 0
-    for look in sorted(javascript.looks, key=lambda it: it.begin):
-        begin = max(before, look.begin)
-        before = max(begin, look.end)
-        event = {"ph": "X", "pid": JAVASCRIPT, "tid": 2, "name": look.under.inner.text(), "cat": "JavaScript"}
-        found.append(event | {"ts": begin, "dur": before - begin})
-    return found
+    return [*found, *JavaScriptTrace(walk, times).all({name: it.waits for name, it in histories.items()})]
 
 
 def trace_events(walk: Walk) -> dict[str, object]:

@@ -64,6 +64,12 @@ class Stacks:
             found.append((place_of(self.log, place), line))
         return found
 
+    def without_hook(self, number: int) -> int:
+        """The first of this stack and those below it whose function is none of the recorder's hook; -1 where there is none."""
+        while (row := self.log.stacks.get(number)) and HOOK in place_of(self.log, row[1]).where:
+            number = row[0]
+        return number if row else -1
+
     def under(self, number: int) -> Under | None:
         """None where that is nothing of the program."""
         if number not in self.known:
@@ -147,6 +153,7 @@ class Reader:
         last: Look | None = None
         for begin, end, number in sorted(self.raw):
             frames = self.stacks.frames(number)
+            self.keep(begin, end, number, frames)
             if last and frames and frames[0][0].function == COLLECTOR:
                 # (what the collector takes is taken from whom it interrupts)
                 last.end = end if begin - last.end < 2000 else last.end
@@ -174,6 +181,26 @@ class Reader:
         self.found.home = self.log.home if self.found else ""
         self.found.language = self.log.language
         return self.found
+
+    def keep(self, begin: int, end: int, number: int, frames: list[tuple[Place, int]]) -> None:
+        """The whole stack, for a flame."""
+        is_main = self.begun is not None and how_of(frames) == "main"
+        end = min(end, 1000 * self.begun) if is_main and self.begun is not None else end
+        if end <= begin or any(HOOK in place.where and place.function not in PASSED for place, _ in frames):
+            return
+        number = self.stacks.without_hook(number)
+        if number < 0:
+            return
+        kept = self.found.busy
+        if kept and kept[-1][2] == number and begin - kept[-1][1] < 100:
+            kept[-1] = kept[-1][0], end, number
+        else:
+            kept.append((begin, end, number))
+        while number >= 0 and number not in self.found.stacks and (row := self.log.stacks.get(number)):
+            below, place, line = row
+            below = self.stacks.without_hook(below)
+            self.found.stacks[number] = below, place_of(self.log, place), line
+            number = below
 
     def read_sources(self) -> None:
         """The lines at which the program was found most, from its files where these are there."""
