@@ -155,6 +155,22 @@ def try_truth(tries: Tries, node: str) -> None:
         )
 
 
+def try_chain(tries: Tries) -> None:
+    """Who asked for a timer, through two awaits and a request of the pool, back to the request of HTTP. (Of two functions in one line each is told.)"""
+    path = made("chain", (FOLDER / "node20" / "chain.log").read_bytes())
+    said = unfolded(answer(path, "hello"))
+    wanted = (
+        r"asked for by greet \(chain\.js:16\), called by createUser \(chain\.js:21\), asked for by query \(chain\.js:13\), called by findUser"
+        r" \(chain\.js:13\), called by createUser \(chain\.js:20\), in an HTTP request at step \d+"
+    )
+    tries.check("javascript node20 chain: who asked for hello", re.search(wanted, said), said)
+    tries.check("javascript node20 chain: who was in its way", re.search(r"late by \d+ ms: .* took \d+ ms, .* in works \(chain\.js:7\)", said), said)
+    (request,) = [it for it in read_notes(path, path.read_bytes()).javascript.asked if it[0].startswith("fs_open")]
+    said = unfolded(answer(path, request[0]))
+    tries.check("javascript node20 chain: who asked for the file", re.search(r"asked for by query .*, in an HTTP request at step \d+", said), said)
+    try_said(tries, "javascript node20 chain", "hello", re.sub(r"call \d+: late", "late", said), FOLDER / "node20" / "chain.said")
+
+
 # ---- a recording with a handle for each timer
 
 
@@ -168,7 +184,7 @@ def called(data: bytes) -> list[tuple[str, str]]:
         if line.startswith("- J place "):
             places[words[3]] = words[-1].rpartition("/")[2]
         elif words[1:2] == ["J"] and words[4:5] == ["new"]:
-            asked[words[5]] = places.get(words[7], "-"), places.get(words[8], "-")
+            asked[words[5]] = places.get(words[7], "-"), places.get(words[8].split("<")[0], "-")
         elif words[1:2] == ["J"] and words[4:5] == ["run"]:
             found.append(asked[words[5]])
     return found
@@ -337,6 +353,7 @@ def try_javascript(tries: Tries) -> None:
                     try_lifted(tries, node, name)
                 try_notes(tries, node)
                 try_truth(tries, node)
+            try_chain(tries)
             try_find(tries)
             try_shell(tries)
             try_killed(tries)

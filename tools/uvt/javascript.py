@@ -117,6 +117,24 @@ def at(place: Place) -> str:
     return f"at {place.where}" + (f", in {place.function}" if place.function not in ("(anonymous)", "-") else "")
 
 
+@dataclass(frozen=True)
+class Origin:
+    """Where something was asked for: the program's functions that had called the one that asked, the innermost first; the callback of the loop, and the
+    timer or immediate (-1: none) whose callback was under way."""
+
+    callers: tuple[Place, ...]
+    call: tuple[str, str, int]
+    within: int
+
+    def words(self) -> str:
+        return " ".join([*map(str, self.call), str(self.within), *(it.words() for it in self.callers)])
+
+
+def read_origin(words: list[str]) -> Origin:
+    list, name, call, within, *places = words
+    return Origin(tuple(Place(*it) for it in zip(places[::2], places[1::2])), (list, name, int(call)), int(within))
+
+
 @dataclass
 class Resource:
     id: int
@@ -131,6 +149,7 @@ class Resource:
     gone_at: Place = NOWHERE
     referenced: bool = True
     referenced_at: Place = NOWHERE
+    origin: Origin | None = None
 
     def what(self) -> str:
         delay = f" of {self.delay} ms" if self.kind in ("timer", "interval") else ""
@@ -206,6 +225,7 @@ class JavaScript:
     busy: list[tuple[int, int, int]] = field(default_factory=list)
     # of a request of the pool, by its name and which after callback of it: which line asked for it
     asked: dict[tuple[str, int], Place] = field(default_factory=dict)
+    origins: dict[tuple[str, int], Origin] = field(default_factory=dict)
     # of a callback of the loop what was under way most in it, and for how many ms
     most: dict[tuple[str, str, int], tuple[int, Under]] = field(default_factory=dict)
     # where the program was started: its files are said from there
@@ -228,9 +248,11 @@ class JavaScript:
         found += [f"js line {where} {text}" for where, text in self.source.items()]
         for it in self.resources.values():
             found.append(f"js new {it.id} {it.kind} {it.when} {it.delay} {it.function.words()} {it.at.words()}")
+            found += [f"js within {it.id} {it.origin.words()}"] if it.origin else []
             found += [f"js gone {it.id} {it.gone} {it.gone_at.words()}"] if it.gone is not None else []
             found += [f"js ref {it.id} {int(it.referenced)} {it.referenced_at.words()}"] if it.referenced_at != NOWHERE or not it.referenced else []
         found += [f"js by {name} {call} {place.words()}" for (name, call), place in self.asked.items()]
+        found += [f"js origin {name} {call} {it.words()}" for (name, call), it in self.origins.items()]
         for span in self.spans:
             due = f" {span.due}" if span.due is not None else ""
             found.append(f"js {'open' if span.is_open else 'ran'} {span.id} {' '.join(map(str, span.call))} {span.begin} {span.end}{due}")
@@ -267,6 +289,10 @@ class JavaScript:
                 self.resources[int(id)].gone, self.resources[int(id)].gone_at = int(when), Place(function, where)
             case ["ref", id, ref, function, where]:
                 self.resources[int(id)].referenced, self.resources[int(id)].referenced_at = ref == "1", Place(function, where)
+            case ["within", id, *words] if int(id) in self.resources:
+                self.resources[int(id)].origin = read_origin(words)
+            case ["origin", name, call, *words]:
+                self.origins[name, int(call)] = read_origin(words)
             case ["by", name, call, function, where]:
                 self.asked[name, int(call)] = Place(function, where)
 
@@ -283,6 +309,17 @@ class JavaScript:
             if look.begin >= end * 1000:
                 break
             found.append(Look(max(look.begin, begin * 1000), min(look.end, end * 1000), look.under))
+        return found
+
+    def functions_in(self, begin: int, end: int) -> set[Place]:
+        """All functions, of node too, that were under way between two times (in thousandths of a ms)."""
+        first, found = bisect.bisect_right(self.busy, begin, key=lambda it: it[1]), set()
+        for start, _, stack in itertools.islice(self.busy, first, None):
+            if start >= end:
+                break
+            while stack in self.stacks:
+                stack, place, _ = self.stacks[stack]
+                found.add(place)
         return found
 
     def under(self, begin: int, end: int) -> list[tuple[Under, int]]:

@@ -368,6 +368,11 @@ class Walk:
         return self.clocks[self.left_at(poll)]
 
     @functools.cached_property
+    def took_of(self) -> dict[int, Took]:
+        """Where the clock went on in a callback, by the step that begins that."""
+        return {it.first: it for it in self.tooks if it.is_callback()}
+
+    @functools.cached_property
     def left_by_io(self) -> list[LeftByIo]:
         """The polls that callbacks of I/O left, in order. Where the lines show nobody who waits for one, nobody had woken it; else the state
         says it."""

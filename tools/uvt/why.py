@@ -11,6 +11,7 @@ from collections.abc import Sequence
 from uvt.arrivals import BEHIND, LEFT, Came, behind, called_between, came, left_by, unwoken_between, waited
 from uvt.conversation import State
 from uvt.javascript import at
+from uvt.origins import Origins
 from uvt.places import Place, read_place
 from uvt.waits import History, Refusal, Wait, follow, kind_of_call
 from uvt.walk import LeftByIo, Took, Walk, processor_told
@@ -293,6 +294,8 @@ class Why:
     def by_javascript(self, wait: Wait) -> list[str]:
         """Which line of JavaScript asked for a request."""
         place = self.notes.javascript.asked.get((self.name, wait.call)) if wait.what == "work" else None
+        if place and (told := Origins(self.walk).chain((self.name, wait.call))):
+            return [told]
         return [f"asked for {at(place)}"] if place else []
 
     def asked_for(self, names: list[str]) -> str:

@@ -10,6 +10,7 @@ import difflib
 
 from uvt.conversation import Fault
 from uvt.javascript import LEAST, OUTSIDE, JavaScript, Place, Resource, Span, at, fitted
+from uvt.origins import Origins
 from uvt.walk import Walk
 from uvt.why import MANY, Why, few, is_told, times
 from uvt.why import told as without
@@ -22,6 +23,7 @@ class WhyJavaScript:
         self.walk = walk
         self.js: JavaScript = walk.notes.javascript
         self.step_of = {call: step for step, call in walk.calls.items()}
+        self.origins = Origins(walk)
         self.why = Why(walk, walk.script.names()[0])
         self.spans: dict[int, list[Span]] = {}
         for it in self.js.spans:
@@ -60,6 +62,8 @@ class WhyJavaScript:
         node = self.walk.notes.in_node(span.call[1])
         # (its own callback's name is for who goes on in the shell)
         lines.append(f"    due at {span.due} ms, called at {span.begin} ms" + ("" if node and node.own else f", in the call of {span.call[1]}"))
+        if chain := self.origins.chain(resource.id):
+            lines.append(f"    {chain}")
         took = span.end - span.begin
         if span.is_open:
             lines.append(f"    never ended: it was under way for {took} ms as the log ends{self.js.inside(span.begin, span.end, self.js.who(span))}")

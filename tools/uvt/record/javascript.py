@@ -4,7 +4,7 @@ from __future__ import annotations
 
 from pathlib import Path
 
-from uvt.javascript import NOWHERE, OUTSIDE, JavaScript, Look, Place, Resource, Span, Under
+from uvt.javascript import NOWHERE, OUTSIDE, JavaScript, Look, Origin, Place, Resource, Span, Under
 from uvt.record.log import Event, Log
 
 # node's functions that call what JavaScript asked for.
@@ -107,6 +107,8 @@ class Reader:
         # of node's own times those of the log: never less than what a timer's line says
         self.behind: int | None = None
         self.rows: list[tuple[int, tuple[str, str, int], int, int, int | None, int]] = []
+        # the last callback of JavaScript that ended, and in which of the loop
+        self.last: tuple[int, tuple[str, str, int]] | None = None
         # when the loop's first callback began
         self.begun: int | None = None
         self.raw: list[tuple[int, int, int]] = []
@@ -117,8 +119,9 @@ class Reader:
         resource = self.found.resources.get(id)
         match words[0]:
             case "new":
-                function, at, delay = (int(it) for it in words[3:])
-                self.found.resources[id] = Resource(id, words[2], place_of(self.log, function), place_of(self.log, at), event.clock, delay)
+                at, *callers = (place_of(self.log, int(it)) for it in words[4].split("<"))
+                self.found.resources[id] = Resource(id, words[2], place_of(self.log, int(words[3])), at, event.clock, int(words[5]))
+                self.found.resources[id].origin = self.origin(callers, call)
             case "run":
                 start = int(words[2]) if len(words) > 2 else None
                 delay = int(words[3]) if len(words) > 3 else 0
@@ -129,6 +132,7 @@ class Reader:
                     resource.kind = "interval" if flags & REPEATS else resource.kind
                     resource.referenced &= not flags & UNREFERENCED
             case "ran" if it := self.open.pop(id, None):
+                self.last = id, call
                 self.rows.append((id, it[0], it[1], event.clock, it[2], it[3]))
             case "gone" if resource:
                 resource.gone, resource.gone_at = event.clock, place_of(self.log, int(words[2]))
@@ -139,9 +143,16 @@ class Reader:
             case "busy":
                 self.raw.append((int(words[2]), int(words[2]) + int(words[3]), id))
 
-    def read_by(self, event: Event, name: str, call: int) -> None:
-        """Which line asked for a request of the pool."""
-        self.found.asked[name, call] = place_of(self.log, int(event.words.split(" ")[2]))
+    def origin(self, callers: list[Place], call: tuple[str, str, int]) -> Origin:
+        # (node does what is left by a timer's callback, its ticks and promises, before it calls the next one)
+        behind = self.last[0] if self.last and self.last[1] == call else -1
+        return Origin(tuple(it for it in callers if is_program(it)), call, next(reversed(self.open), behind))
+
+    def read_by(self, event: Event, name: str, call: int, inside: tuple[str, str, int]) -> None:
+        """Which line asked for a request of the pool, and in which callback."""
+        place, *callers = (place_of(self.log, int(it)) for it in event.words.split(" ")[2].split("<"))
+        self.found.asked[name, call] = place
+        self.found.origins[name, call] = self.origin(callers, inside)
 
     def done(self) -> JavaScript:
         behind = self.behind or 0

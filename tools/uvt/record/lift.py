@@ -156,7 +156,7 @@ class Lift:
 
     def key(self, words: list[str]) -> tuple[str, str, str]:
         """What it is called by: its function, where that begins, and where it was asked for."""
-        function, at = place_of(self.log, int(words[3])), place_of(self.log, int(words[4]))
+        function, at = place_of(self.log, int(words[3])), place_of(self.log, int(words[4].split("<")[0]))
         name = function.function if function.function not in ("(anonymous)", "-") else ""
         if not is_program(function) and is_program(at):
             return name, function.where, at.where

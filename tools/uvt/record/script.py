@@ -681,10 +681,11 @@ class Maker:
 
     def read_javascript(self, event: Event) -> None:
         call = self.call
+        inside = (call.callback, call.name, call.number) if call else ("main", "-", 0)
         if not event.words.startswith("by "):
-            self.javascript.read(event, (call.callback, call.name, call.number) if call else ("main", "-", 0))
+            self.javascript.read(event, inside)
         elif bound := self.bound.get(int(event.words.split(" ")[1])):
-            self.javascript.read_by(event, bound.name, len(self.program.bodies["after", bound.name]) + 1)
+            self.javascript.read_by(event, bound.name, len(self.program.bodies["after", bound.name]) + 1, inside)
             self.read_queued(event, 1)
 
     def read_queued(self, event: Event, at: int = 0) -> None:

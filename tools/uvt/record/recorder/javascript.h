@@ -49,6 +49,9 @@ int place_of(napi_env env, napi_value function);
 int place_named(const char *name, const char *file, int line);
 /* Where JavaScript is: the program's own line, above which there may be node's; node's where there is none; -1 where it isn't under way. */
 int place_now(napi_env env);
+/* The same with who called that, as far as the program's functions are near: `8<12<20`. */
+enum { CHAIN_TEXT = 48 };
+void places_now(napi_env env, char *found);
 
 /* ---- looks (looks.c): which functions are under way, a look each millisecond */
 

@@ -5,6 +5,7 @@
 #define _GNU_SOURCE
 #include "javascript.h"
 
+#include <stdio.h>
 #include <string.h>
 
 enum { WORDS = 4, TEXT = 1000 };
@@ -14,8 +15,10 @@ __thread int asking_here = -1;
 
 void note_javascript(struct loop *loop, int id) {
     if (!loop || (!env_here && asking_here < 0)) return;
-    int place = env_here ? place_now(env_here) : asking_here;
-    if (place >= 0) write_line(loop, 'J', "by %d %d", id, place);
+    char places[CHAIN_TEXT];
+    if (env_here) places_now(env_here, places);
+    else snprintf(places, sizeof places, "%d", asking_here);
+    if (*places != '-') write_line(loop, 'J', "by %d %s", id, places);
 }
 
 /* ---- what the hook calls */
@@ -58,8 +61,10 @@ CALLED(born, 3) {
     static int64_t ids;
     int64_t kind = number(env, words[0]), delay = number(env, words[2]);
     if (!loop || kind < 0 || kind > 2) return -1;
-    int function = place_of(env, words[1]), place = place_now(env);
-    write_line(loop, 'J', "new %u %s %d %d %u", (uint64_t)++ids, KINDS[kind], function, place, (uint64_t)(delay < 0 ? 0 : delay));
+    char places[CHAIN_TEXT];
+    int function = place_of(env, words[1]);
+    places_now(env, places);
+    write_line(loop, 'J', "new %u %s %d %s %u", (uint64_t)++ids, KINDS[kind], function, places, (uint64_t)(delay < 0 ? 0 : delay));
     return ids;
 }
 

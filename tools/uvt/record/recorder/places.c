@@ -2,10 +2,11 @@
 #define _GNU_SOURCE
 #include "javascript.h"
 
+#include <stdio.h>
 #include <stdlib.h>
 #include <string.h>
 
-enum { FUNCTION = 7, TEXT = 1000, FEW = 5, FRAMES = 30, BUCKETS = 4096, DETAILED = 0xFF };
+enum { FUNCTION = 7, TEXT = 1000, FEW = 5, FRAMES = 30, BUCKETS = 4096, DETAILED = 0xFF, CHAIN = 4 };
 
 V8(isolate_here, "_ZN2v87Isolate10GetCurrentEv", void *, void)
 V8(function_script, "_ZNK2v88Function8ScriptIdEv", int, napi_value)
@@ -106,26 +107,31 @@ int place_of(napi_env env, napi_value function) {
 
 /* ---- where JavaScript is */
 
-/* The innermost of these frames that is the program's own: which of them it is, and its place. False where it has none, and there may be
- * more. */
-static bool own_place(napi_env env, void *isolate, int most, int *which, int *found) {
+/* The place of a frame. (Two functions may stand in one line: the column tells them.) */
+static struct place *place_of_frame(napi_env env, napi_value frame) {
+    int script = frame_script()(frame), line = (int)(uint32_t)frame_where()(frame) + 1, column = -2 - (int)(frame_where()(frame) >> 32);
+    struct place **at = place_at(env, script, line, column);
+    if (*at) return *at;
+    char name[TEXT], file[TEXT];
+    get_text(env, frame_function()(frame), name, sizeof name);
+    get_text(env, frame_file()(frame), file, sizeof file);
+    return new_place(at, env, script, line, column, name, file);
+}
+
+/* Of these frames the innermost ones that are the program's own, as text, `8<12<20`; node's where there is none. Which of them is the first one.
+ * False where there is none, and there may be more frames. */
+static bool own_places(napi_env env, void *isolate, int most, int *which, char *found) {
     napi_value stack = stack_now()(isolate, most, DETAILED);
-    int count = stack ? stack_count()(stack) : 0;
-    for (*which = 0; *which < count; ++*which) {
-        napi_value frame = stack_frame()(stack, isolate, (unsigned)*which);
-        int script = frame_script()(frame), line = (int)(uint32_t)frame_where()(frame) + 1;
-        struct place **at = place_at(env, script, line, 0), *place = *at;
-        if (!place) {
-            char name[TEXT], file[TEXT];
-            get_text(env, frame_function()(frame), name, sizeof name);
-            get_text(env, frame_file()(frame), file, sizeof file);
-            place = new_place(at, env, script, line, 0, name, file);
-        }
+    int count = stack ? stack_count()(stack) : 0, own = 0, length = 0;
+    for (*which = 0; *which < count && own < CHAIN; ++*which) {
+        struct place *place = place_of_frame(env, stack_frame()(stack, isolate, (unsigned)*which));
         if (!place) return true;
-        *found = place->number;
-        if (!place->own) return true;
+        if (place->own && own) continue;
+        length += snprintf(found + (own ? length : 0), (size_t)(CHAIN_TEXT - length), own ? "<%d" : "%d", place->number);
+        if (!own) length = (int)strlen(found);
+        own += !place->own;
     }
-    return count < most;
+    return own || count < most;
 }
 
 /* The place is the same where the same instructions are under way, as long as V8 moves no code: that it does as it collects garbage, and
@@ -136,7 +142,7 @@ enum { KEPT = 1024, INSTRUCTIONS = 2 * (FEW + 1), YOUNG = 1, WORDS_OF_A_SAMPLE =
 struct kept {
     size_t count;
     void *instructions[INSTRUCTIONS];
-    int place;
+    char places[CHAIN_TEXT];
 };
 
 static __thread struct kept *kept_here; /* of this thread, and so of one isolate; a place of count 0 is free */
@@ -163,19 +169,28 @@ static struct kept *kept_for(void *isolate, struct kept *now) {
     return now->count ? &kept_here[(mixed >> 40) & (KEPT - 1)] : NULL;
 }
 
-int place_now(napi_env env) {
+void places_now(napi_env env, char *found) {
     napi_scope scope;
-    int found = -1, which = 0;
-    if (!stack_now() || !stack_count() || !stack_frame() || !frame_script() || !frame_where() || !frame_file() || !frame_function()) return -1;
+    int which = 0;
+    strcpy(found, "-1");
+    if (!stack_now() || !stack_count() || !stack_frame() || !frame_script() || !frame_where() || !frame_file() || !frame_function()) return;
     void *isolate = isolate_here() ? isolate_here()() : NULL;
-    if (!isolate) return -1;
+    if (!isolate) return;
     struct kept now = {0}, *kept = kept_for(isolate, &now);
-    if (kept && kept->count == now.count && memcmp(kept->instructions, now.instructions, now.count * sizeof(void *)) == 0) return kept->place;
-    if (napi_open_handle_scope(env, &scope) != 0) return -1;
+    if (kept && kept->count == now.count && memcmp(kept->instructions, now.instructions, now.count * sizeof(void *)) == 0) {
+        strcpy(found, kept->places);
+        return;
+    }
+    if (napi_open_handle_scope(env, &scope) != 0) return;
     /* (mostly a few frames are enough, and each costs) */
-    if (!own_place(env, isolate, FEW, &which, &found)) own_place(env, isolate, FRAMES, &which, &found);
+    if (!own_places(env, isolate, FEW, &which, found)) own_places(env, isolate, FRAMES, &which, found);
     napi_close_handle_scope(env, scope);
-    now.place = found;
-    if (kept && (now.count < INSTRUCTIONS || which < FEW)) *kept = now;
-    return found;
+    memcpy(now.places, found, CHAIN_TEXT);
+    if (kept && (now.count < INSTRUCTIONS || which <= FEW)) *kept = now;
+}
+
+int place_now(napi_env env) {
+    char found[CHAIN_TEXT];
+    places_now(env, found);
+    return atoi(found);
 }
