@@ -168,7 +168,9 @@ def try_chain(tries: Tries) -> None:
     (request,) = [it for it in read_notes(path, path.read_bytes()).javascript.asked if it[0].startswith("fs_open")]
     said = unfolded(answer(path, request[0]))
     tries.check("javascript node20 chain: who asked for the file", re.search(r"asked for by query .*, in an HTTP request at step \d+", said), said)
-    try_said(tries, "javascript node20 chain", "hello", re.sub(r"call \d+: late", "late", said), FOLDER / "node20" / "chain.said")
+    took, _ = said_by(FOLDER / "node20" / "chain.said")
+    mine = re.findall(r"\(anonymous\) \(chain\.js:22\) took (\d+) ms", unfolded(answer(path, "hello")))
+    tries.check("javascript node20 chain: how long it was in the way", mine and abs(int(mine[0]) - took["crowd"][0]) <= ALLOWED, (mine, took))
 
 
 # ---- a recording with a handle for each timer

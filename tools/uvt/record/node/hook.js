@@ -16,7 +16,7 @@
   } catch {
     return;
   }
-  const { born, begin, end, gone, referenced, look, unlook, is } = loaded.exports;
+  const { born, meant, begin, end, gone, referenced, look, unlook, is } = loaded.exports;
   if (!is()) return;
   const { threadId } = require('worker_threads');
   const { apply } = Reflect;
@@ -58,7 +58,10 @@
           }
         };
         held[isUnder] = false;
-        held[number] ??= born(kind, callback, held._idleTimeout ?? 0);
+        if (held[number]) return;
+        // (node starts it behind this)
+        if (kind === TIMER && held._idleTimeout > 0) held._idleTimeout = meant(held._idleTimeout);
+        held[number] = born(kind, callback, held._idleTimeout ?? 0);
       },
     });
   }

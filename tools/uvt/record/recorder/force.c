@@ -157,7 +157,14 @@ static void do_send(const struct item *item) {
     pthread_mutex_unlock(&gate);
 }
 
-bool has_own_send = true;
+static bool has_own_send = true;
+static bool skips; /* of the send that is kept back: its line comes as it is done */
+
+bool force_skips(void) {
+    bool is = skips;
+    skips = false;
+    return is;
+}
 
 bool force_sends(void) {
     return at_random || state != FORCING || has_own_send;
@@ -320,8 +327,14 @@ static void did_op(const char *words) {
             break;
         }
     }
+    /* (one of V8's that the session has behind something else comes there: the program's is kept back until then) */
+    for (int at = cursor; is_own && found >= 0 && at < found; at++)
+        if (items[at].type == OP && !is_soft(&items[at])) found = -1;
     has_own_send = found >= 0;
-    if (found < 0 && is_own) return;
+    if (found < 0 && is_own) {
+        skips = true;
+        return;
+    }
     if (found < 0) {
         depart("the program does %s, where the session has `%s`", told_of(&shown, room, sizeof room), it->text);
         return;
@@ -655,6 +668,28 @@ bool force_poll(struct loop *loop, int descriptor, struct epoll_event *events, i
     return is;
 }
 
+/* ---- timers of JavaScript */
+
+static int64_t *delays;
+static int64_t delay_count;
+
+int64_t force_delay(int64_t id, int64_t delay) {
+    return state == FORCING && id > 0 && id < delay_count && delays[id] > 0 ? delays[id] : delay;
+}
+
+static void keep_delay(int64_t id, int64_t delay) {
+    enum { MOST = 1 << 20 };
+    if (id <= 0 || id >= MOST) return;
+    if (id >= delay_count) {
+        int64_t *more = realloc(delays, (size_t)(2 * id) * sizeof *delays);
+        if (!more) return;
+        memset(more + delay_count, 0, (size_t)(2 * id - delay_count) * sizeof *delays);
+        delays = more;
+        delay_count = 2 * id;
+    }
+    delays[id] = delay;
+}
+
 /* ---- the beginning and the end */
 
 bool forces(void) {
@@ -682,6 +717,11 @@ static void read_schedule(FILE *file) {
         if (strcmp(kind, "name") == 0) {
             if (name_count == name_room) names = realloc(names, (size_t)(name_room = name_room * 2 + 64) * sizeof *names);
             names[name_count++] = (struct name){strdup(rest), -1, NULL, NULL};
+            continue;
+        }
+        if (strcmp(kind, "delay") == 0) {
+            int64_t id = atol(cut(&rest));
+            keep_delay(id, atol(rest));
             continue;
         }
         if (item_count == item_room) items = realloc(items, (size_t)(item_room = item_room * 2 + 256) * sizeof *items);

@@ -353,7 +353,7 @@ void write_line(struct loop *loop, char type, const char *format, ...) {
         va_end(words);
         line.text[line.length] = 0;
         force_event(loop, type, line.text);
-        if (off || !loop->uv) return;
+        if (off || !loop->uv || force_skips()) return;
     }
     line.length = 0;
     if (loop) add_number(&line, (uint64_t)loop->number);

@@ -56,9 +56,17 @@ static napi_value answer(napi_env env, int64_t value) {
 
 static const char *const KINDS[] = {"timer", "interval", "immediate"};
 
+static int64_t ids;
+
+/* meant(DELAY): of the next timer, in ms; where a session is forced that of the session. (A timer may go by the time of day: node's own, which ends
+ * the second for the header Date, does. And that of a forced program is another one.) */
+CALLED(meant, 1) {
+    int64_t delay = number(env, words[0]);
+    return loop ? force_delay(ids + 1, delay) : delay;
+}
+
 /* born(KIND, FUNCTION, DELAY): JavaScript asks for a callback of this function. Answers its number. */
 CALLED(born, 3) {
-    static int64_t ids;
     int64_t kind = number(env, words[0]), delay = number(env, words[2]);
     if (!loop || kind < 0 || kind > 2) return -1;
     char places[CHAIN_TEXT];
@@ -127,7 +135,7 @@ napi_value napi_register_module_v1(napi_env env, napi_value exports) {
     const struct {
         const char *name;
         napi_value (*called)(napi_env, napi_callback_info);
-    } all[] = {{"born", born}, {"begin", begin}, {"end", end}, {"gone", gone}, {"referenced", referenced}, {"look", look}, {"unlook", unlook},
+    } all[] = {{"born", born}, {"meant", meant}, {"begin", begin}, {"end", end}, {"gone", gone}, {"referenced", referenced}, {"look", look}, {"unlook", unlook},
                {"is", is}};
     for (size_t at = 0; at < sizeof all / sizeof *all; at++) {
         napi_value function;

@@ -187,6 +187,10 @@ void force_event(struct loop *loop, char type, const char *words);
 bool force_send(void *handle, struct sender **handed);
 void force_sent(struct sender *sender);
 bool is_nodes_own(void *callback);
+/* Is the line that was shown last one of what isn't done yet? */
+bool force_skips(void);
+/* How many ms the timer of JavaScript with this number has in the session; as many as it asks for where that has none. */
+int64_t force_delay(int64_t id, int64_t delay);
 /* (with the lock) a send of V8's threads, which wait for nobody: true where it is kept back until its step comes */
 bool force_hold(struct object *object);
 /* (behind the line of the loop's own send to it) does the session have that send? */
@@ -203,6 +207,8 @@ static inline void force_event(struct loop *loop, char type, const char *words) 
 static inline bool force_send(void *handle, struct sender **handed) { return (void)handle, (void)handed, false; }
 static inline void force_sent(struct sender *sender) { (void)sender; }
 static inline bool force_sends(void) { return true; }
+static inline bool force_skips(void) { return false; }
+static inline int64_t force_delay(int64_t id, int64_t delay) { return (void)id, delay; }
 static inline bool force_hold(struct object *object) { return (void)object, false; }
 static inline uint64_t force_clock(uint64_t real_ms) { return real_ms; }
 static inline bool force_poll(struct loop *loop, int descriptor, struct epoll_event *events, int room, int timeout, int *got) {
