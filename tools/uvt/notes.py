@@ -67,6 +67,11 @@ SIGNS = {
 }
 
 
+# How `part` begins where all callbacks that are left out are of node's own handles; and what is said of that.
+NODES_ALONE = "it lacks node's own"
+LEFT_OUT = "what node's own handles are called for at its end is left out, and nothing of the program's JavaScript"
+
+
 @dataclass
 class Request:
     """A request of a stream, or a datagram that is sent."""
@@ -174,9 +179,13 @@ class Notes:
         """What came with this call of a handle of I/O, in words: `512 bytes were read`, `the end of the stream`; `` where nobody knows."""
         return sentence(self.what.get(name, {}).get(call, ""))
 
+    def part_told(self) -> str:
+        """That it isn't all of it. (Where only node's own is left out, that is nothing that anybody can act on.)"""
+        return LEFT_OUT if self.part.startswith(NODES_ALONE) else f"THE RECORDING IS A PART: {self.part}"
+
     def loud(self) -> list[str]:
         """What each tool says before all else: that it isn't all of it, and what another thread did."""
-        lines = [f"THE RECORDING IS A PART: {self.part}"] if self.part else []
+        lines = [self.part_told()] if self.part else []
         lines += [f"THE PROGRAM WAS ENDED BY {self.ended}"] if self.ended else []
         return (
             lines

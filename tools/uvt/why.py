@@ -152,7 +152,7 @@ class Why:
             stands = f"{kind}, which stands as {KINDS[self.history.kind() or 'io']}: " if self.notes.is_io(self.name) else ""
             lines.append(f"    {stands}{origin}{self.functions()}")
         if self.notes.part:
-            lines.append(f"    THE RECORDING IS A PART: {self.notes.part}")
+            lines.append(f"    {self.notes.part_told()}")
         if self.name in self.notes.written:
             lines.append(f"    WRITTEN OVER: {self.notes.written[self.name]}")
         for number, function in sorted(self.notes.foreign.items()):

@@ -18,7 +18,7 @@ from dataclasses import dataclass, replace
 from pathlib import Path
 
 from uvt.conversation import INSTALLED, OUT, Fault, built_program
-from uvt.notes import Notes, signal_name
+from uvt.notes import LEFT_OUT, NODES_ALONE, Notes, signal_name
 from uvt.progress import Teller
 from uvt.record.differences import PAGE, heading_of, says
 from uvt.record.follow import CALLS, MANY_WORKERS, Follower, NeedsWake, Outcome
@@ -175,9 +175,27 @@ def where_it_stops(made: Made) -> str:
     return f"{says(item)}, and the loop {made.outcome.why}: {PAGE}, `{heading_of(made.program, made.outcome)}`"
 
 
+def is_nodes_alone(made: Made) -> bool:
+    """Are all callbacks that the recording lacks of node's own handles, and is none of JavaScript called in them? (libuv 1.45 to 1.48 may go through one
+    more iteration at a program's end.)"""
+    program, known = made.program, False
+    if not made.outcome.why or not program.javascript or program.stopped:
+        return False
+    notes = Notes(names={it.name: (it.kind, it.text) for it in program.origins}, functions=program.functions, javascript=program.javascript)
+    rest: set[tuple[str, str, int]] = set()
+    for it in program.items:
+        known |= it is made.outcome.item
+        if known and isinstance(it, Call):
+            rest.add((it.callback, it.name, it.number))
+    called = {it.call for it in program.javascript.spans}
+    return bool(rest) and not rest & called and all((node := notes.in_node(name, kind, call)) is not None and node.own for kind, name, call in rest)
+
+
 def part_of(made: Made, note: str) -> str:
     """Why a recording is only a beginning, or a part of its program, in a sentence; `` where it is all of it."""
     outcome, stops = made.outcome, where_it_stops(made)
+    if is_nodes_alone(made):
+        return f"{NODES_ALONE}: {outcome.of - outcome.callbacks} callbacks at its end, from line {outcome.item.line} of the log on; there {stops}"
     if outcome.why:
         return f"it has the first {outcome.callbacks} of {outcome.of} callbacks, up to line {outcome.item.line} of the log; there {stops}"
     return "; ".join(it for it in (made.program.began, stops or note) if it)
@@ -315,6 +333,7 @@ def told(made: Made, loop: int, path: Path, note: str, whose: str = "") -> list[
         return [head + f"uvt replay says `{made.verdict}`" + ("" if made.agrees else ", and its callbacks aren't those of the log")]
     if outcome.why:
         lines = [head + f"same up to line {outcome.item.line} of the log", f"    there {where_it_stops(made)}"]
+        lines += [f"    {LEFT_OUT}"] if is_nodes_alone(made) else []
     else:
         lines = [head + "same"]
     loud = [*by_other_threads(program), *queued_again(program), *written_over(program)]
