@@ -1,4 +1,5 @@
 """Opens the page of uvt-view in Chromium, and steps in it by its keys: tests/tools/browser [--chromium PATH] [--picture FILE]
+tests/tools/browser --devtools FILE..: loads traces and profiles into the Performance panel of its DevTools, and says what that has of them
 
   - at twenty lengths, to which the keys lead forward and back, what the page shows is the text of `state` there
   - an example's late call is named in its line, and `why` is what tools/uvt/why.py says of the chosen name
@@ -210,17 +211,83 @@ def try_long(tries: Tries, browser: Browser, folder: Path) -> None:
     print(f"browser: 100,000 steps: {size / 1e6:.1f} MB, open in {took:.2f} s", flush=True)
 
 
+# ---- DevTools, which are pages of the browser
+
+# What the Performance panel's own reader has of a file, and what the panel shows of the first late timer.
+LOADED = """(async () => {
+  const ui = await import('devtools://devtools/bundled/ui/legacy/legacy.js');
+  const timeline = await import('devtools://devtools/bundled/panels/timeline/timeline.js');
+  await ui.ViewManager.ViewManager.instance().showView('timeline');
+  const panel = timeline.TimelinePanel.TimelinePanel.instance();
+  await panel.loadFromFile(new File([globalThis.text], globalThis.file, { type: 'application/json' }));
+  const until = Date.now() + 30000;
+  while (!panel.model.parsedTrace(0) && Date.now() < until) await new Promise((done) => setTimeout(done, 100));
+  const { data } = panel.model.parsedTrace(0);
+  const tracks = data.ExtensionTraceData.extensionTrackData.flatMap((it) => Object.entries(it.entriesByTrack));
+  const trace = await import('devtools://devtools/bundled/models/trace/trace.js');
+  const entries = trace.Handlers.Threads.threadsInTrace(data).flatMap((it) => it.entries);
+  const calls = entries.filter((it) => it.name === 'ProfileCall');
+  const late = tracks.find(([name]) => name === 'late timers')?.[1][0];
+  if (late) panel.select(timeline.TimelineSelection.selectionFromEvent(late));
+  await new Promise((done) => setTimeout(done, 1500));
+  const all = (from, found = []) => {
+    for (const it of from.querySelectorAll('*')) {
+      found.push(it);
+      if (it.shadowRoot) all(it.shadowRoot, found);
+    }
+    return found;
+  };
+  return JSON.stringify({
+    generic: data.Meta.traceIsGeneric,
+    tasks: entries.filter((it) => it.name === 'RunTask').length,
+    functions: [...new Set(calls.map((it) => it.callFrame.functionName))].length,
+    initiators: data.Initiators.eventToInitiator.size,
+    tracks: Object.fromEntries(tracks.map(([name, entries]) => [name, entries.length])),
+    shown: late ? all(document).filter((it) => it.classList.contains('timeline-details-view')).map((it) => it.innerText).join(' ') : '',
+  });
+})()"""
+
+
+def try_devtools(tries: Tries, browser: Browser, path: Path, picture: Path | None) -> None:
+    """What the file has is there: each task, each track, who asked for what, and `why` of a late timer."""
+    text = path.read_text()
+    browser.ask("Page.navigate", url="devtools://devtools/bundled/devtools_app.html?panel=timeline")
+    time.sleep(4)
+    browser.value(f"globalThis.text = {json.dumps(text)}; globalThis.file = {json.dumps(path.name)}; 1")
+    found = browser.ask("Runtime.evaluate", expression=LOADED, awaitPromise=True, returnByValue=True)
+    tries.check(f"{path.name}: DevTools take it", "value" in found["result"], found)
+    if "value" not in found["result"]:
+        return
+    has = json.loads(found["result"]["value"])
+    print(f"{path.name}: {has}", flush=True)
+    events = json.loads(text).get("traceEvents", [])
+    late = [it for it in events if it["ph"] == "b" and " is late by " in it["name"]]
+    tries.check(f"{path.name}: functions", has["functions"] > 3, has)
+    tries.check(f"{path.name}: tasks", has["tasks"] == sum(it["name"] == "RunTask" for it in events), has)
+    tries.check(f"{path.name}: arrows", has["initiators"] >= sum(it["ph"] == "s" and it["pid"] == 2 for it in events), has)
+    tries.check(f"{path.name}: late timers", has["tracks"].get("late timers", 0) == len(late), has)
+    if late:
+        tries.check(f"{path.name}: why a timer was late", late[0]["args"]["why"][:60] in has["shown"], has)
+    if picture:
+        browser.picture(picture)
+
+
 def main() -> int:
     reader = argparse.ArgumentParser(description=__doc__, formatter_class=argparse.RawDescriptionHelpFormatter)
     reader.add_argument("--chromium", default="chromium", metavar="PATH", help="the browser (chromium)")
     reader.add_argument("--picture", type=Path, metavar="FILE", help="where to keep a screenshot")
     reader.add_argument("--long", action="store_true", help="also a run of 100,000 steps")
+    reader.add_argument("--devtools", type=Path, nargs="+", metavar="FILE", help="files of uvt-view --trace-event and --cpuprofile")
     asked = reader.parse_args()
     tries = Tries()
     with tempfile.TemporaryDirectory() as name:
         folder = Path(name)
         browser = Browser(asked.chromium, name)
         try:
+            for file in asked.devtools or []:
+                try_devtools(tries, browser, file, asked.picture)
+            if asked.devtools:
+                return 1 if tries.failed else 0
             try_late(tries, browser, folder, asked.picture)
             script, commands = read_input(EXAMPLES / "never-called.uvt")
             try_states(tries, browser, folder, "never-called.uvt", script, longest_way(script, commands))

@@ -156,7 +156,8 @@ def try_truth(tries: Tries, node: str) -> None:
 
 
 def try_chain(tries: Tries) -> None:
-    """Who asked for a timer, through two awaits and a request of the pool, back to the request of HTTP. (Of two functions in one line each is told.)"""
+    """Who asked for a timer, through two awaits and a request of the pool, back to the request of HTTP. (Of two functions in
+    one line each is told.)"""
     path = made("chain", (FOLDER / "node20" / "chain.log").read_bytes())
     said = unfolded(answer(path, "hello"))
     wanted = (
@@ -167,7 +168,11 @@ def try_chain(tries: Tries) -> None:
     tries.check("javascript node20 chain: who was in its way", re.search(r"late by \d+ ms: .* took \d+ ms, .* in works \(chain\.js:7\)", said), said)
     (request,) = [it for it in read_notes(path, path.read_bytes()).javascript.asked if it[0].startswith("fs_open")]
     said = unfolded(answer(path, request[0]))
-    tries.check("javascript node20 chain: who asked for the file", re.search(r"asked for by query .*, in an HTTP request at step \d+", said), said)
+    tries.check(
+        "javascript node20 chain: who asked for the file",
+        re.search(r"asked for at chain\.js:13, in query, called by findUser .*, in an HTTP request at step \d+", said),
+        said,
+    )
     took, _ = said_by(FOLDER / "node20" / "chain.said")
     mine = re.findall(r"\(anonymous\) \(chain\.js:22\) took (\d+) ms", unfolded(answer(path, "hello")))
     tries.check("javascript node20 chain: how long it was in the way", mine and abs(int(mine[0]) - took["crowd"][0]) <= ALLOWED, (mine, took))

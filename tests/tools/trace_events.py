@@ -162,7 +162,8 @@ def try_known(check: Check) -> None:
 
 def profile_wrong(nodes: list[dict], samples: list[int], deltas: list[int]) -> list[str]:
     """What is wrong with a profile of V8's: each node but the root has a parent in front of it, each sample a node, and no time is below 0."""
-    wrong, known = [], set()
+    wrong: list[str] = []
+    known: set[int] = set()
     for it in nodes:
         if it["id"] in known or (known and it.get("parent") not in known):
             wrong.append(f"{it} has no parent, or another one's number")
@@ -191,7 +192,9 @@ def try_javascript(check: Check, folder: str) -> None:
         fired = {it["args"]["data"]["timerId"] for it in mine if it["name"] == "TimerFire"}
         check(f"each timer of {name}.js that is called was started", fired and fired <= installed, (fired, installed))
         late = [json.loads(it["args"]["detail"])["devtools"] for it in mine if it["ph"] == "b" and it["name"].rpartition(" is late by ")[1]]
-        said = subprocess.run([str(ROOT / "tools" / "uvt" / "uvt-why"), str(path)], capture_output=True, text=True, timeout=SECONDS, env=os.environ).stdout
+        said = subprocess.run(
+            [str(ROOT / "tools" / "uvt" / "uvt-why"), str(path)], capture_output=True, text=True, timeout=SECONDS, env=os.environ
+        ).stdout
         said = " ".join(said.split())
         for it in late[:1]:
             check(f"why a timer of {name}.js was late", dict(it["properties"])["why"][:60] in said, (it, said[:2000]))

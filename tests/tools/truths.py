@@ -47,7 +47,10 @@ QUESTIONS = [
     Question(
         "askedlate",
         ALL,
-        [r"\d\d ms from its queueing to its callback: job, step \d+: [0-3] ms it waited for a worker, [23]\d ms it ran, [0-3] ms it waited for the loop"],
+        [
+            r"\d\d ms from its queueing to its callback: job, step \d+: [0-3] ms it waited for a worker, [23]\d ms it ran,"
+            r" [0-3] ms it waited for the loop"
+        ],
         [r"2\d\d ms from its queueing"],
     ),
     Question(

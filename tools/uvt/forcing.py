@@ -102,7 +102,11 @@ def schedule(script: Script, commands: list[str]) -> tuple[list[str], list[str]]
             if not line.startswith("refused"):
                 lines.append(line)
                 rows.append(row_of(command, line, len(lines), names, unseen))
-    timers = [it for it in script.notes.javascript.resources.values() if it.kind in ("timer", "interval") and script.notes.javascript.language == "JavaScript"]
+    timers = [
+        it
+        for it in script.notes.javascript.resources.values()
+        if it.kind in ("timer", "interval") and script.notes.javascript.language == "JavaScript"
+    ]
     return [f"name\t{it}" for it in names] + [f"delay\t{it.id}\t{it.delay}" for it in timers] + seen_by_the_poll(rows), lines
 
 

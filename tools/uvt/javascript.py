@@ -32,6 +32,8 @@ KINDS = {
 }
 # What files that are no part of the program begin with: node's own, and those that come with Python.
 OUTSIDE = ("node:", "python:")
+# Files of node whose timers a program asks for by these names.
+BY_NAME = {"node:internal/abort_controller:": "AbortSignal.timeout", "node:timers/promises:": "setTimeout of timers/promises"}
 # What node does as soon as a callback of JavaScript is over.
 AT_ONCE = ("tick", "promise")
 # So little isn't told, in ms; and so many parts at the most.
@@ -119,8 +121,8 @@ def at(place: Place) -> str:
 
 @dataclass(frozen=True)
 class Origin:
-    """Where something was asked for: the program's functions that had called the one that asked, the innermost first; the callback of the loop, and the
-    timer or immediate (-1: none) whose callback was under way."""
+    """Where something was asked for: the program's functions that had called the one that asked, the innermost first; the callback of the loop, and
+    the timer or immediate (-1: none) whose callback was under way."""
 
     callers: tuple[Place, ...]
     call: tuple[str, str, int]
@@ -154,6 +156,19 @@ class Resource:
     def what(self) -> str:
         delay = f" of {self.delay} ms" if self.kind in ("timer", "interval") else ""
         return KINDS.get(self.kind, self.kind) + delay
+
+    def in_nodes_name(self) -> str:
+        """Of a timer that the program asks for by another name than setTimeout: that name."""
+        return next((name for file, name in BY_NAME.items() if self.function.where.startswith(file)), "")
+
+    def is_programs(self) -> bool:
+        """Does the program ask for it, and not node for itself?"""
+        return not self.function.where.startswith(OUTSIDE) or bool(self.in_nodes_name())
+
+    def named(self) -> str:
+        """Its function; of one of node's that the program asks for how it does, and where."""
+        name = self.in_nodes_name()
+        return f"{name} ({self.at.where})" if name else self.function.text()
 
     def asked(self) -> str:
         """Where it was asked for, in words."""

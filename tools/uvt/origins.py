@@ -58,6 +58,11 @@ class Origins:
         node = self.walk.notes.in_node(name, kind, call)
         return f"in {node.words if node else f'the callback of {name}'}{step_told}"
 
+    def behind(self, key: Key) -> str:
+        """The chain of what is told already itself, from a comma on; `` where there is none."""
+        first, _, rest = self.chain(key).partition(", ")
+        return f", {rest}" if rest and first.startswith("asked for by ") else ""
+
     def chain(self, key: Key | None) -> str:
         """Who asked for it, who had called that, and who had asked for the callback in which that was; as far as the log knows. `` where no more is
         known than the line itself."""

@@ -171,7 +171,9 @@ class JavaScriptTrace:
         name, wait = self.done[task.step]
         place = self.js.asked.get((name, wait.call))
         looks = self.js.under(round(task.begin) // 1000, -(-round(task.end) // 1000))
-        self.arrow(1000.0 * self.walk.happened(wait.asked), task.begin, round(task.end - task.begin, 3), f"{name}, asked for {at(place)}" if place else name)
+        self.arrow(
+            1000.0 * self.walk.happened(wait.asked), task.begin, round(task.end - task.begin, 3), f"{name}, asked for {at(place)}" if place else name
+        )
         if looks:
             data = {"frame": "uvt"} | self.sources.called(looks[0][0].outer)
             told = {"data": data, "what": f"{name}, asked for {at(place)}" if place else name, "step": task.step}
@@ -184,7 +186,13 @@ class JavaScriptTrace:
                 continue
             task = self.task_at(1000.0 * it.when)
             when = min(max(1000.0 * it.when, task.begin), task.end)
-            data = {"timerId": it.id, "timeout": it.delay, "singleShot": it.kind == "timer", "frame": "uvt", "stackTrace": [self.sources.called(it.at)]}
+            data = {
+                "timerId": it.id,
+                "timeout": it.delay,
+                "singleShot": it.kind == "timer",
+                "frame": "uvt",
+                "stackTrace": [self.sources.called(it.at)],
+            }
             self.add("I", when, "TimerInstall", DEVTOOLS, s="t", args={"data": data, "function": it.function.text()})
 
     # ---- samples
@@ -204,7 +212,12 @@ class JavaScriptTrace:
                 first = task.begin if task.begin - first <= SLACK else first
             if first < task.end < behind <= task.end + SLACK:
                 behind = task.end
-            if first >= task.end and first - task.end <= SLACK and (at + 1 == len(tasks) or behind <= tasks[at + 1].begin) and behind - task.end <= SLACK:
+            if (
+                first >= task.end
+                and first - task.end <= SLACK
+                and (at + 1 == len(tasks) or behind <= tasks[at + 1].begin)
+                and behind - task.end <= SLACK
+            ):
                 continue
             if behind > first:
                 found.append((first, behind, stack))
@@ -296,20 +309,20 @@ class JavaScriptTrace:
 
     def late(self) -> None:
         answers = WhyJavaScript(self.walk)
-        found = [
-            it for it in self.js.spans if it.due is not None and answers.late(it) >= LEAST and not self.js.resources[it.id].function.where.startswith(OUTSIDE)
-        ]
+        found = [it for it in self.js.spans if it.due is not None and answers.late(it) >= LEAST and self.js.resources[it.id].is_programs()]
         for span in sorted(found, key=answers.late, reverse=True)[:SENTENCES]:
             resource, late = self.js.resources[span.id], answers.late(span)
             why, below = answers.delay(span)
-            name = f"{resource.function.text()} is late by {late} ms"
+            name = f"{resource.named()} is late by {late} ms"
             rows = [("why", why), *[("where", it) for it in below[:1]], ("timer", ", ".join(filter(None, [resource.what(), resource.asked()])))]
             rows += [("due", f"{span.due} ms"), ("called", f"{span.begin} ms, {answers.where(span)}")]
             self.measure("late timers", name, 1000.0 * (span.due or 0), 1000.0 * span.begin, "error", f"late by {late} ms: {why}", rows)
 
     def pool(self, histories: dict[str, list[Wait]]) -> None:
         """The requests that a worker had, each with the line that asked for it; and how long each waited for a worker, and then for the loop."""
-        rows = sorted(((self.walk.happened(it.taken[0]), name, it) for name, waits in histories.items() for it in waits if it.taken), key=lambda row: row[0])
+        rows = sorted(
+            ((self.walk.happened(it.taken[0]), name, it) for name, waits in histories.items() for it in waits if it.taken), key=lambda row: row[0]
+        )
         ends: dict[int, float] = {}
         for taken, name, it in rows:
             worker = it.taken[1] if it.taken else 0
@@ -335,7 +348,9 @@ class JavaScriptTrace:
             self.add("e", 1000.0 * end, name, self.js.language, CALLBACKS, id=id)
 
     def all(self, histories: dict[str, list[Wait]]) -> list[Event]:
-        self.done = {it.ended: (name, it) for name, waits in histories.items() for it in waits if it.what == "work" and it.how == "called" and it.ended}
+        self.done = {
+            it.ended: (name, it) for name, waits in histories.items() for it in waits if it.what == "work" and it.how == "called" and it.ended
+        }
         self.main()
         self.asked()
         self.profile()
@@ -343,7 +358,14 @@ class JavaScriptTrace:
         self.late()
         self.pool(histories)
         self.callbacks()
-        page = {"frame": "uvt", "name": "", "processId": JAVASCRIPT, "url": self.sources.url(self.file()), "isOutermostMainFrame": True, "isInPrimaryMainFrame": True}
+        page = {
+            "frame": "uvt",
+            "name": "",
+            "processId": JAVASCRIPT,
+            "url": self.sources.url(self.file()),
+            "isOutermostMainFrame": True,
+            "isInPrimaryMainFrame": True,
+        }
         data = {"frameTreeNodeId": 1, "persistentIds": True, "frames": [page]}
         begun: Event = {"ph": "I", "ts": 0, "pid": JAVASCRIPT, "tid": MAIN, "name": "TracingStartedInBrowser", "cat": TIMELINE, "s": "t"}
         return [begun | {"args": {"data": data}}, *self.events]

@@ -294,9 +294,7 @@ class Why:
     def by_javascript(self, wait: Wait) -> list[str]:
         """Which line of JavaScript asked for a request."""
         place = self.notes.javascript.asked.get((self.name, wait.call)) if wait.what == "work" else None
-        if place and (told := Origins(self.walk).chain((self.name, wait.call))):
-            return [told]
-        return [f"asked for {at(place)}"] if place else []
+        return [f"asked for {at(place)}{Origins(self.walk).behind((self.name, wait.call))}"] if place else []
 
     def asked_for(self, names: list[str]) -> str:
         """Which lines of JavaScript asked for these requests."""

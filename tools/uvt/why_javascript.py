@@ -205,17 +205,14 @@ class WhyJavaScript:
         found = [
             it
             for it in self.js.spans
-            if it.due is not None
-            and self.late(it) >= least
-            and it.id in self.js.resources
-            and not self.js.resources[it.id].function.where.startswith(OUTSIDE)
+            if it.due is not None and self.late(it) >= least and it.id in self.js.resources and self.js.resources[it.id].is_programs()
         ]
         rows = []
         for span in sorted(found, key=self.late, reverse=True)[:most]:
             resource = self.js.resources[span.id]
             name = resource.function.function if resource.function.function not in ("-", "(anonymous)") else resource.at.where
             late = self.late(span)
-            rows.append((late, name, f"{resource.function.text()}, {self.where(span)}: late by {late} ms: {self.delay(span)[0]}"))
+            rows.append((late, name, f"{resource.named()}, {self.where(span)}: late by {late} ms: {self.delay(span)[0]}"))
         return rows
 
     def never(self) -> list[str]:

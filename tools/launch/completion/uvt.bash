@@ -7,7 +7,7 @@ _uvt() {
         case $command in
         help) [ "$COMP_CWORD" != 2 ] || words='why find worst shell view record force hunt libuv dap' ;;
         live) words='--workers' ;;
-        view) words='--trace-event' ;;
+        view) words='--trace-event --cpuprofile' ;;
         libuv) words='--node' ;;
         find) words='-o -j' ;;
         worst) words='-o --no-sessions --differ --for --states -j --json' ;;

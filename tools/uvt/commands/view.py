@@ -31,7 +31,9 @@ def show(path: Path, how: str) -> int:
     with Walk(script, longest_way(script, commands), tell=steps.tell) as walk:
         steps.done()
         if how == "cpuprofile" and not walk.notes.javascript.busy:
-            raise Fault(f"{path}: no function was found under way in it: it is no recording of a program in node, or one of --bare, or by an earlier uvt")
+            raise Fault(
+                f"{path}: no function was found under way in it: it is no recording of a program in node, or one of --bare, or by an earlier uvt"
+            )
         if how == "page":
             page = html(walk, states.tell)
         else:
@@ -45,7 +47,9 @@ def main() -> int:
     reader = argparse.ArgumentParser(description=__doc__, formatter_class=argparse.RawDescriptionHelpFormatter)
     reader.add_argument("file", type=Path, metavar="FILE", help="a recording or a script")
     hows = reader.add_mutually_exclusive_group()
-    hows.add_argument("--trace-event", action="store_const", dest="how", const="trace-event", help="the trace event format, for DevTools and Perfetto")
+    hows.add_argument(
+        "--trace-event", action="store_const", dest="how", const="trace-event", help="the trace event format, for DevTools and Perfetto"
+    )
     hows.add_argument("--cpuprofile", action="store_const", dest="how", const="cpuprofile", help="V8's profile of a program in node")
     asked = reader.parse_args()
     return run_tool("uvt-view", lambda: show(asked.file, asked.how or "page"), failed=1)

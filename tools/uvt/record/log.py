@@ -62,7 +62,8 @@ WORDS = {
     "J": re.compile(
         rf"new {NUMBER} (?:timer|interval|immediate|soon|task|callback) (?:-1|{NUMBER}) (?:-1|{NUMBER}(?:<{NUMBER})*) {NUMBER}"
         rf"|run {NUMBER}(?: {NUMBER} {NUMBER}(?: [123])?)?|ran {NUMBER}"
-        rf"|gone {NUMBER} (?:-1|{NUMBER})|ref {NUMBER} [01] (?:-1|{NUMBER})|by {NUMBER} {NUMBER}(?:<{NUMBER})*|busy {NUMBER} {NUMBER} {NUMBER}|thread {NUMBER}"
+        rf"|gone {NUMBER} (?:-1|{NUMBER})|ref {NUMBER} [01] (?:-1|{NUMBER})|by {NUMBER} {NUMBER}(?:<{NUMBER})*"
+        rf"|busy {NUMBER} {NUMBER} {NUMBER}|thread {NUMBER}"
     ),
     "Q": re.compile(rf"{NUMBER} {NUMBER}"),
     "W": re.compile(rf"(?:-1|{NUMBER}) \d{{1,20}} uv_[a-z_0-9]+"),

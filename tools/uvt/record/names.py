@@ -13,6 +13,7 @@ import os
 import re
 import subprocess
 from pathlib import Path
+from typing import Any
 
 from uvt.conversation import OUT
 from uvt.record.log import CHAIN, Address, Log, in_words  # noqa: F401 (for those who tell names)
@@ -43,7 +44,7 @@ FORM = 1
 class Symbols:
     """The functions and variables of a file."""
 
-    def __init__(self, file: str, kept: dict[str, list[list]] | None = None) -> None:
+    def __init__(self, file: str, kept: dict[str, Any] | None = None) -> None:
         # by where it begins; and where that ends
         self.functions: dict[int, str] = {}
         self.ends: dict[int, int] = {}
@@ -112,7 +113,11 @@ def symbols_of(file: str) -> Symbols:
         it = os.stat(file)
     except (OSError, ValueError):
         return Symbols(file)
-    return symbols_as_of(file, f"{FORM} {it.st_dev} {it.st_ino} {it.st_size} {it.st_mtime_ns}", OUT / "symbols") if it.st_size >= LARGE else Symbols(file)
+    return (
+        symbols_as_of(file, f"{FORM} {it.st_dev} {it.st_ino} {it.st_size} {it.st_mtime_ns}", OUT / "symbols")
+        if it.st_size >= LARGE
+        else Symbols(file)
+    )
 
 
 def plain(symbol: str) -> str:

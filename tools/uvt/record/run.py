@@ -176,8 +176,8 @@ def where_it_stops(made: Made) -> str:
 
 
 def is_nodes_alone(made: Made) -> bool:
-    """Are all callbacks that the recording lacks of node's own handles, and is none of JavaScript called in them? (libuv 1.45 to 1.48 may go through one
-    more iteration at a program's end.)"""
+    """Are all callbacks that the recording lacks of node's own handles, and is none of JavaScript called in them? (libuv 1.45 to 1.48 may go through
+    one more iteration at a program's end.)"""
     program, known = made.program, False
     if not made.outcome.why or not program.javascript or program.stopped:
         return False

@@ -135,8 +135,8 @@ napi_value napi_register_module_v1(napi_env env, napi_value exports) {
     const struct {
         const char *name;
         napi_value (*called)(napi_env, napi_callback_info);
-    } all[] = {{"born", born}, {"meant", meant}, {"begin", begin}, {"end", end}, {"gone", gone}, {"referenced", referenced}, {"look", look}, {"unlook", unlook},
-               {"is", is}};
+    } all[] = {{"born", born}, {"meant", meant}, {"begin", begin}, {"end", end}, {"gone", gone}, {"referenced", referenced}, {"look", look},
+               {"unlook", unlook}, {"is", is}};
     for (size_t at = 0; at < sizeof all / sizeof *all; at++) {
         napi_value function;
         if (napi_create_function(env, all[at].name, strlen(all[at].name), all[at].called, NULL, &function) == 0)
