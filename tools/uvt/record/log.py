@@ -30,7 +30,7 @@ STACK = re.compile(r"- J stack (\d{1,9}) (-1|\d{1,9}) (\d{1,9}) (\d{1,9})")
 NO_CLOCK = -1
 # So many functions are told of a place, each of which was called by the next one.
 CHAIN = 2
-TIMED = "BDEFGJRST"
+TIMED = "BEFGJRSTq"
 # Of these the place in the program stands at the end of the line, that called libuv there; behind `<` the one that called that function.
 CALLED = "GIOS"
 FROM = re.compile(r"(.*) @((?:0|[1-9]\d{0,8})(?:<(?:0|[1-9]\d{0,8}))?)")
@@ -43,7 +43,7 @@ WORDS = {
         rf"|start %{NUMBER}(?: \d{{1,20}} \d{{1,20}})? = {CODE}|repeat %{NUMBER} \d{{1,20}} = {CODE}"
         rf"|(?:stop|again|close|ref|unref|send|cancel) %{NUMBER} = {CODE}|(?:closeloop|stoploop|updatetime) = {CODE}"
     ),
-    "D": re.compile(NUMBER),
+    "q": re.compile(NUMBER),
     "E": re.compile(rf"{NUMBER}(?: \+)?(?: cpu {NUMBER})?"),
     "B": re.compile(rf"on {NUMBER} [a-z_]+(?: [A-Za-z0-9_-]+){{0,2}}(?: %{NUMBER})?|after {NUMBER} (?:ok|ECANCELED)|closed {NUMBER}"),
     "R": re.compile(r"(?:default|once|nowait)(?: \+)?"),

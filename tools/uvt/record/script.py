@@ -651,7 +651,7 @@ class Maker:
             case "Q":
                 if bound := self.bound.get(int(event.words.split(" ")[1])):
                     self.program.again.append((event.line, bound.name))
-            case "D":
+            case "q":
                 self.read_queued(event)
             case "J":
                 self.read_javascript(event)

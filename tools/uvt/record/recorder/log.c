@@ -345,7 +345,7 @@ void write_line(struct loop *loop, char type, const char *format, ...) {
     if (loop && !loop->lines && loop->number && type != 'L') write_line(loop, 'L', "%d", loop->behind);
     if (off || (loop && !loop->uv) || !open_log()) return;
     va_list words;
-    if (loop && forces() && !strchr("CDGILVTFSWKJQ", type)) {
+    if (loop && forces() && !strchr("CGILVTFSWKJQq", type)) {
         /* (what is forced there has lines of its own, in front of this one, and moves the clock) */
         line.length = 0;
         va_start(words, format);
@@ -365,7 +365,7 @@ void write_line(struct loop *loop, char type, const char *format, ...) {
         add_number(&line, CALL(uv_now)(loop->uv) - loop->base);
         add_sign(&line, ' ');
     }
-    if (loop && strchr("BDEFGJRST", type)) {
+    if (loop && strchr("BEFGJRSTq", type)) {
         uint64_t clock = clock_now();
         processor = note_time(loop, type, clock);
         add_number(&line, clock - loop->base);

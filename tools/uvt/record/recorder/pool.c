@@ -52,7 +52,7 @@ static int queued(struct object *object, const char *kind, size_t size, int answ
     if (object && answer == 0) {
         write_line(object->loop, 'O', "queue %%%d %s = ok", object->id, kind);
         /* (the loop's time is that of its last look, and a long callback may ask for it late) */
-        if (is_behind(object->loop)) write_line(object->loop, 'D', "%d", object->id);
+        if (is_behind(object->loop)) write_line(object->loop, 'q', "%d", object->id);
         object->size = (int)size;
         object->kind = kind;
         name_place(object);
