@@ -318,6 +318,35 @@ QUESTIONS = [
     ),
     Question("halves", "beat", [r"the callback of convert, on_convert \(halves\.c:4\), took \d+ ms, 3\d of them on the processor"]),
     Question("slowdisk", "load", [r"worker \d ran it, work_load \(slowdisk\.c:4\), from step \d+ to \d+, 7\d ms, none of them on the processor"]),
+    # ---- what a callback waited for, and where it was
+    Question(
+        "latch",
+        ALL,
+        [r"7\d ms, none of them on the processor: the callback of report, .*: 7\d ms in pthread_mutex_lock, at latch\.c:16, in on_report"],
+        ["gave the processor away"],
+    ),
+    Question("latch", "beat", [r"late by 6\d ms: the callback of report, .*: 7\d ms in pthread_mutex_lock, at latch\.c:16, in on_report"]),
+    Question("syncread", "beat", [r": 8\d ms in uv_fs_read, at syncread\.c:14, in on_config"], [r"ms in read\b"]),
+    Question(
+        "reaper",
+        ALL,
+        ["WAITED FOR BY THE PROGRAM: hook, a process, at reaper\\.c:14, in on_deploy", r"8\d ms in waitpid \(2 calls\), at reaper\.c:14"],
+    ),
+    Question("reaper", "hook", [r"WAITED FOR BY THE PROGRAM, at reaper\.c:14, in on_deploy: so libuv never calls its exit callback"]),
+    Question("fresh", "beat", [r"1\d\d ms in the kernel, 512\d\d page faults; nearly all of its time on the processor at fresh\.c:10"]),
+    Question("stopped", "beat", [r"late by 1\d\d ms: .*a signal ended it, and no processor was lacking: the process was stopped meanwhile"]),
+    Question(
+        "arena",
+        "beat",
+        [r"the callback of in, on_read .*: 5\d ms in its alloc callback, grow_arena \(arena\.c:8\)"],
+        ["none of them on the processor"],
+    ),
+    Question(
+        "hotspot",
+        "beat",
+        [r"most of its time on the processor in burn \(hotspot\.c:8\), called by rebuild_index \(hotspot\.c:11\)"],
+        ["render", "gave the processor away"],
+    ),
     # ---- who asked: lines, and the callers of functions that stand between
     Question("slowdisk", "load", [r"queued at step \d+ by .*, at slowdisk\.c:10, in load_it"]),
     Question(
@@ -387,7 +416,7 @@ QUESTIONS = [
     ),
 ]
 SAID = re.compile(r"(.+) took (\d+) ms")
-TOOK = re.compile(r"the callback of ([a-z_0-9]+)(?:, [^;]*?,)? took (\d+) ms")
+TOOK = re.compile(r"the callback of ([a-z_0-9]+)(?:, [^;\n]*?,)? took (\d+) ms")
 RAN = re.compile(r"worker \d ran it, work_([a-z_]+) .*?, (\d+) ms(?:, \w+ of them on the processor)?$", re.MULTILINE)
 # (a name of an object is that of its variable, and what it says of itself may be shorter)
 SAYS = {"on_request_3": "request 3"}

@@ -45,7 +45,7 @@ def sanitized(folder: Path) -> Path:
     """The recorder, built with the sanitizers."""
     built = folder / "sanitized.so"
     sources = [str(it) for it in sorted(RECORDER.glob("*.c")) if not it.name.startswith("force")]
-    words = ["-g", "-O1", "-fPIC", "-shared", "-fno-optimize-sibling-calls", "-fsanitize=address,undefined"]
+    words = ["-g", "-O1", "-fPIC", "-shared", "-ftls-model=initial-exec", "-fno-optimize-sibling-calls", "-fsanitize=address,undefined"]
     subprocess.run(["cc", *words, "-o", str(built), *sources, "-ldl", "-lpthread"], check=True, capture_output=True)
     return built
 

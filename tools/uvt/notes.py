@@ -19,6 +19,7 @@ from pathlib import Path
 
 from uvt.javascript import JavaScript
 from uvt.node_names import InNode, in_node
+from uvt.spent import Spent
 
 HEAD = "uvt-notes 1"
 # What would steer a terminal: the control signs of ASCII and those of 0x80 to 0x9f, except for the line feed and the tab.
@@ -132,6 +133,12 @@ class Notes:
     loop: int = 0
     # how long a callback or work (as in `functions`, with its call) was on the processor, in ms
     processor: dict[tuple[str, str, int], int] = field(default_factory=dict)
+    # what these did while they took long
+    spent: dict[tuple[str, str, int], Spent] = field(default_factory=dict)
+    # of a poll that the system ended late, by the clock then: by how much, how long its thread waited for a processor, and whether a signal ended it
+    held: dict[int, tuple[int, int, bool]] = field(default_factory=dict)
+    # the processes of which the program itself took the end, so that libuv never tells it: where
+    reaped: dict[str, str] = field(default_factory=dict)
     # places in the program, in words (`at churn.c:14, in rearm`); and of each step that such a place asked for, which it is
     places: list[str] = field(default_factory=list)
     asked_at: dict[int, int] = field(default_factory=dict)
@@ -195,6 +202,10 @@ class Notes:
             ]
             + [f"QUEUED AGAIN: {name} was queued while it was under way, which libuv doesn't allow" for name in self.again]
             + [f"WRITTEN OVER: {name}, {told}" for name, told in self.written.items()]
+            + [
+                f"WAITED FOR BY THE PROGRAM: {name}, a process, {place or 'by a call of its own'}, so libuv never calls its exit callback"
+                for name, place in self.reaped.items()
+            ]
         )
 
     def text(self, recording: bytes) -> str:
@@ -213,6 +224,9 @@ class Notes:
         lines += [f"again {name}" for name in self.again]
         lines += [f"written {name} {told}" for name, told in self.written.items()]
         lines += [f"cpu {list} {name} {call} {ms}" for (list, name, call), ms in sorted(self.processor.items())]
+        lines += [line for key, it in sorted(self.spent.items()) for line in it.lines(key)]
+        lines += [f"held {clock} {late} {waited} {signalled:d}" for clock, (late, waited, signalled) in sorted(self.held.items())]
+        lines += [f"reaped {name} {place}" for name, place in self.reaped.items()]
         lines += self.place_lines()
         lines += [it.line() for it in self.requests]
         lines += [f"nothing {name} {function} {step} {place}" for name, function, step, place in self.nothings]
@@ -312,6 +326,12 @@ def take(notes: Notes, line: str) -> None:
                 notes.loop = int(words[1])
             case "cpu":
                 notes.processor[words[1], words[2], int(words[3])] = int(words[4])
+            case "spent" | "waited" | "stack":
+                notes.spent.setdefault((words[1], words[2], int(words[3])), Spent()).take(words[0], words[4:])
+            case "held":
+                notes.held[int(words[1])] = int(words[2]), int(words[3]), words[4] == "1"
+            case "reaped":
+                notes.reaped[words[1]] = " ".join(words[2:])
             case "place":
                 notes.places.append(line.removeprefix("place "))
             case "at":

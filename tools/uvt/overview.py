@@ -51,7 +51,7 @@ def long_callbacks(walk: Walk) -> list[str]:
     found = found[:LINES]
     return [
         f"{it.took()} ms{it.on_processor()}: {named(it).rstrip(',')}, from step {it.first} to {it.last}, at {it.pieces[0][0]} ms"
-        + in_javascript(walk, it, it.pieces[0][0], it.pieces[-1][1])
+        + (in_javascript(walk, it, it.pieces[0][0], it.pieces[-1][1]) or it.did())
         for it in found
     ]
 

@@ -14,6 +14,7 @@ from uvt.conversation import MANY_STEPS, Conversation, Fault, Script, Slot, Stat
 from uvt.node_names import InNode
 from uvt.places import Place, next_line, read_place
 from uvt.pool import Pool
+from uvt.spent import Spent
 
 # The commands that do a step beside `loop`, those that go to another length, and those that only show something. A step `io` is from
 # outside, and is the callback itself; all that its body does is the loop's.
@@ -79,6 +80,12 @@ class Took:
     node: InNode | None = None
     # how long its thread was on the processor, in ms; -1 where nobody knows
     processor: int = -1
+    # what it did while it took long, where that is known
+    spent: Spent | None = None
+
+    def did(self) -> str:
+        """The same in words; `` where nothing is known."""
+        return self.spent.told(self.took(), self.processor) if self.spent and self.took() >= DIFFERENCE else ""
 
     def on_processor(self) -> str:
         """How much of it that was, where it isn't all of it."""
@@ -311,7 +318,8 @@ class Walk:
             kind, name, call = self.calls[first]
             function, node = self.notes.function(kind, name, call), self.notes.in_node(name, kind, call)
             processor = self.notes.processor.get((kind, name, call), -1)
-            new = Took(f"{WORDS[kind]} of {name}", first, step, function=function, node=node, processor=processor)
+            spent = self.notes.spent.get((kind, name, call))
+            new = Took(f"{WORDS[kind]} of {name}", first, step, function=function, node=node, processor=processor, spent=spent)
         elif not runs:
             new = Took("the main program", step, step)
         elif poll:

@@ -14,7 +14,7 @@ from uvt.javascript import at
 from uvt.origins import Origins
 from uvt.places import Place, read_place
 from uvt.waits import History, Refusal, Wait, follow, kind_of_call
-from uvt.walk import LeftByIo, Took, Walk, processor_told
+from uvt.walk import DIFFERENCE, LeftByIo, Took, Walk, processor_told
 from uvt.why_requests import nothings, of_stream
 
 KINDS = {
@@ -31,6 +31,8 @@ ASKED = {"timer": "started", "async": "sent to", "work": "queued", "close": "clo
 SECTIONS = {"work": "done", "close": "closing", "async": "async", "timer": "timers"}
 # How many names or steps a sentence has at the most, and how many sentences that say the same of others.
 MANY, FEW = 8, 3
+# A poll that ended so late, in ms, is told why.
+HELD = 2
 # Why a poll doesn't wait, of one and of several.
 WERE = {"idle": ("was an active idle handle", "were active idle handles"), "closing": ("was closing", "were closing")}
 
@@ -67,7 +69,7 @@ def told(took: Took) -> str:
     """Where the clock went on, in a sentence: which, how long, from which step to which."""
     steps = f"from step {took.first} to {took.last}" if took.first < took.last else f"at step {took.first}"
     if took.is_callback():
-        return f"{named(took)} took {took.took()} ms{took.on_processor()}, {steps}"
+        return f"{named(took)} took {took.took()} ms{took.on_processor()}, {steps}{took.did()}"
     return f"{took.took()} ms went by in {took.what}, {steps}"
 
 
@@ -153,6 +155,9 @@ class Why:
             lines.append(f"    {stands}{origin}{self.functions()}")
         if self.notes.part:
             lines.append(f"    {self.notes.part_told()}")
+        if self.name in self.notes.reaped:
+            place = self.notes.reaped[self.name]
+            lines.append(f"    WAITED FOR BY THE PROGRAM{f', {place}' if place else ''}: so libuv never calls its exit callback")
         if self.name in self.notes.written:
             lines.append(f"    WRITTEN OVER: {self.notes.written[self.name]}")
         for number, function in sorted(self.notes.foreign.items()):
@@ -330,10 +335,11 @@ class Why:
         if until < 0 or left <= until or begin < until:
             return told(took)
         if left - until <= 1 and self.notes.names:
-            return f"the poll was to end at {until} ms, and the system ended it at {left} ms, {steps_of([took.first])}"
+            return f"the poll was to end at {until} ms, and the system ended it at {left} ms, {steps_of([took.first])}{self.held(until, left)}"
         before = [it for it in self.walk.causes(now, clock) if it.first < took.first]
         if not before and self.notes.names:
-            return f"the poll, from step {took.first} to {took.last}, was to end at {until} ms, and the system ended it at {left} ms"
+            ended = f"was to end at {until} ms, and the system ended it at {left} ms{self.held(until, left)}"
+            return f"the poll, from step {took.first} to {took.last}, {ended}"
         if not before:
             return f"{told(took)}, where it was to end at {until} ms"
         rest = left - until - (clock - now)
@@ -343,6 +349,18 @@ class Why:
             f"{''.join(causes)}so the loop's time was {now} ms still as its poll began at {clock} ms,"
             f" at step {took.first}, and it ended at {left} ms in place of {until} ms{more}"
         )
+
+    def held(self, until: int, left: int) -> str:
+        """Why the system ended a poll late, as far as that is known."""
+        found = [it for at in range(left - HELD, left + HELD + 1) if (it := self.notes.held.get(at)) and it[0] >= HELD]
+        if not found:
+            return ""
+        late, waited, signalled = max(found)
+        if 2 * waited >= late:
+            return f" (for {min(waited, late)} ms others had the processor)"
+        if signalled:
+            return " (a signal ended it, and no processor was lacking: the process was stopped meanwhile, as by SIGSTOP or a debugger)"
+        return f" (it woke the thread so late, which then {f'waited {waited} ms' if waited else 'did not wait'} for a processor)"
 
     def timer(self, wait: Wait) -> tuple[str, list[str]]:
         numbers = self.walk.state(wait.ended).numbers
@@ -560,8 +578,10 @@ class Why:
         if step in self.notes.guessed:
             return f"it was through at step {wait.finished}"
         ran = self.walk.happened(wait.finished) - self.walk.happened(step)
-        processor = processor_told(self.notes.processor.get(("work", self.name, wait.call), -1), ran)
-        return f"{self.worker(worker)} ran it{called} from step {step} to {wait.finished}, {ran} ms{processor}"
+        known = self.notes.processor.get(("work", self.name, wait.call), -1)
+        spent = self.notes.spent.get(("work", self.name, wait.call))
+        did = spent.told(ran, known) if spent and ran >= DIFFERENCE else ""
+        return f"{self.worker(worker)} ran it{called} from step {step} to {wait.finished}, {ran} ms{processor_told(known, ran)}{did}"
 
     def handed(self, wait: Wait) -> str:
         before = self.before(self.walk.state(wait.finished).lists["done"])

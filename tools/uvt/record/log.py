@@ -30,10 +30,15 @@ STACK = re.compile(r"- J stack (\d{1,9}) (-1|\d{1,9}) (\d{1,9}) (\d{1,9})")
 NO_CLOCK = -1
 # So many functions are told of a place, each of which was called by the next one.
 CHAIN = 2
-TIMED = "BEFGJRSTq"
+TIMED = "BDEFGHJRSTq"
 # Of these the place in the program stands at the end of the line, that called libuv there; behind `<` the one that called that function.
-CALLED = "GIOS"
+CALLED = "DGIOSZ"
 FROM = re.compile(r"(.*) @((?:0|[1-9]\d{0,8})(?:<(?:0|[1-9]\d{0,8}))?)")
+# Of a look at a stack these are all of it, the innermost first.
+STACK_FROM = re.compile(r"(\d{1,9}) @((?:0|[1-9]\d{0,8})(?:<(?:0|[1-9]\d{0,8})){0,63})")
+# What a thread had of the processor: ms on it, and of later logs ms in the kernel, page faults without the disk and with it, how often it gave the
+# processor away and was pushed off it, and ms that it waited for one.
+USED = rf"(?: cpu {NUMBER}(?: {NUMBER}){{6}}| cpu {NUMBER})?"
 NO_ROOM = "- ! no room"
 CODE = r"(?:ok|E[A-Z0-9_]+)"
 WORDS = {
@@ -43,15 +48,19 @@ WORDS = {
         rf"|start %{NUMBER}(?: \d{{1,20}} \d{{1,20}})? = {CODE}|repeat %{NUMBER} \d{{1,20}} = {CODE}"
         rf"|(?:stop|again|close|ref|unref|send|cancel) %{NUMBER} = {CODE}|(?:closeloop|stoploop|updatetime) = {CODE}"
     ),
+    "D": re.compile(rf"[a-z_0-9]+ {NUMBER}(?: %{NUMBER})?"),
+    "E": re.compile(rf"{NUMBER}(?: \+)?{USED}"),
+    "H": re.compile(rf"{NUMBER} {NUMBER} [01]"),
+    "Y": re.compile(r"\d{1,9}"),
+    "Z": re.compile(NUMBER),
     "q": re.compile(NUMBER),
-    "E": re.compile(rf"{NUMBER}(?: \+)?(?: cpu {NUMBER})?"),
     "B": re.compile(rf"on {NUMBER} [a-z_]+(?: [A-Za-z0-9_-]+){{0,2}}(?: %{NUMBER})?|after {NUMBER} (?:ok|ECANCELED)|closed {NUMBER}"),
     "R": re.compile(r"(?:default|once|nowait)(?: \+)?"),
     "r": re.compile("[01]"),
     "P": re.compile(r"-?\d{1,10}"),
     "p": re.compile(r"-?\d{1,10}"),
     "T": re.compile(NUMBER),
-    "F": re.compile(rf"{NUMBER}(?: cpu {NUMBER})?"),
+    "F": re.compile(rf"{NUMBER}{USED}"),
     "G": re.compile(rf"{NUMBER} {NUMBER} (?:write|connect|shutdown|send) \d{{1,20}}"),
     "I": re.compile(rf"{NUMBER} uv_[a-z_]+"),
     "L": re.compile(r"-?\d{1,10}"),
@@ -171,6 +180,23 @@ class Log:
         told = [it for number in place.split("<") if number and (address := self.addresses.get(int(number))) for it in address.called_from()]
         return ", called ".join(told[:CHAIN])
 
+    def frames(self, stack: str) -> list[str]:
+        """The functions of a look at a stack with their lines (`rebuild_index@http.c:14`), the innermost first, up to the callback of the loop:
+        without those that have no name, the recorder's and libuv's."""
+        frames = [self.addresses[int(it)] for it in stack.split("<") if int(it) in self.addresses]
+        # (the recorder's own function calls the callback, and libuv that one)
+        ends = [at for at, it in enumerate(frames) if is_recorder(it) and at + 1 < len(frames) and is_of_libuv(frames[at + 1])]
+        frames = [it for it in frames[: ends[-1] if ends else len(frames)] if not is_recorder(it) and not is_of_libuv(it)]
+        return [one for it in frames for one in it.symbol.split("<") if not one.startswith("-")]
+
+
+def is_recorder(address: Address) -> bool:
+    return bool(re.fullmatch(r"(?:recorder|force|sanitized)[^/]*\.so", address.within_file()))
+
+
+def is_of_libuv(address: Address) -> bool:
+    return "libuv.so" in address.within_file() or address.symbol.startswith("uv_")
+
 
 LAMBDA = re.compile(r"(.*?)(?:::)?\{lambda#\d+\}(?:::(?:call|_FUN|__invoke))?")
 
@@ -197,6 +223,9 @@ def read_event(text: str, line: int) -> tuple[int, Event] | None:
     loop, type, now, words, place = int(parts[0]), parts[1], int(parts[2]), parts[3], ""
     if type in CALLED and (called := FROM.fullmatch(words)):
         words, place = called[1], called[2]
+    if type == "Y":
+        looked = STACK_FROM.fullmatch(words)
+        return (loop, Event(type, now, NO_CLOCK, looked[1], line, looked[2])) if looked else None
     if type in TIMED:
         clock, _, rest = words.partition(" ")
         if is_number(clock) and is_good(type, rest):

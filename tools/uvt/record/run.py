@@ -31,6 +31,7 @@ from uvt.record.script import Call, Done, End, Program, program_of
 from uvt.record.steps import Steps
 from uvt.record.window import NoPart, begin_of, starts_of, window
 from uvt.record.worst import around
+from uvt.spent import Spent
 
 RECORDER = Path(__file__).resolve().parent / "recorder"
 HOOKS = Path(__file__).resolve().parent
@@ -242,6 +243,21 @@ def in_javascript(program: Program, last: Call | Done) -> str:
     return f"; {'; '.join(told)} by then, and went on" if told else ""
 
 
+def spent_of(program: Program) -> dict[tuple[str, str, int], Spent]:
+    """What callbacks and works did while they took long, of a program without an interpreter: of JavaScript and the like that is known better."""
+    found: dict[tuple[str, str, int], Spent] = {}
+    for key in [*program.used, *program.waits, *program.stacks] if not program.javascript else ():
+        if key in found:
+            continue
+        spent = found[key] = Spent()
+        for it in program.waits.get(key, ()):
+            spent.waits.append((it.function, it.begin, it.took, it.place))
+        spent.stacks = dict(program.stacks.get(key, {}))
+        if used := program.used.get(key):
+            spent.kernel, spent.faults, spent.disk, spent.gave, spent.lost, spent.waited = used
+    return found
+
+
 def notes_of(made: Made, note: str, ended: str = "") -> Notes:
     """What is known of a recording beside its steps."""
     steps = made.outcome.recording[made.outcome.recording.index("begin") + 1 : made.outcome.recording.index("calls")]
@@ -264,6 +280,9 @@ def notes_of(made: Made, note: str, ended: str = "") -> Notes:
         [name for _, name in made.program.again],
         {it.name: it.told() for it in made.program.written},
         processor=dict(made.program.processor),
+        spent=spent_of(made.program),
+        held={clock: (late, waited, signalled) for clock, late, waited, signalled in made.program.held},
+        reaped=dict(made.program.reaped),
         places=places,
         asked_at={step: number[it] for step, it in stand.asked_at.items() if it in number},
         requests=stand.requests(number),
@@ -468,7 +487,8 @@ def compile_recorder(compiler: str, built: Path, forcing: bool) -> None:
     print(f"uvt: compiling {what}, once", end="", file=sys.stderr, flush=True)
     began = time.monotonic()
     part = built.with_name(f"{built.stem}.{os.getpid()}.so")
-    words = ["-O2", "-fPIC", "-shared", "-fno-optimize-sibling-calls", "-Wl,-z,defs", *(["-DFORCE"] if forcing else []), "-o", str(part)]
+    words = ["-O2", "-fPIC", "-shared", "-ftls-model=initial-exec", "-fno-optimize-sibling-calls", "-Wl,-z,defs"]
+    words += [*(["-DFORCE"] if forcing else []), "-o", str(part)]
     ran = subprocess.run([compiler, *words, *map(str, sources_of(forcing)), "-ldl", "-lpthread"], capture_output=True, text=True)
     print(f" ({time.monotonic() - began:.1f} s)", file=sys.stderr, flush=True)
     if ran.returncode != 0:

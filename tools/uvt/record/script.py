@@ -214,6 +214,16 @@ def is_pool(kind: str) -> bool:
 
 
 @dataclass
+class Waited:
+    """A call in which a callback waited: which function, since when, how long, and where in the program, in words."""
+
+    function: str
+    begin: int
+    took: int
+    place: str
+
+
+@dataclass
 class Program:
     """A script, and what is to be followed."""
 
@@ -230,6 +240,14 @@ class Program:
     foreign_ops: dict[tuple[str, str, int, int], str] = field(default_factory=dict)
     # how long callbacks and works were on the processor, in ms, of those that took long enough
     processor: collections.Counter[Key] = field(default_factory=collections.Counter)
+    # what these used of it else, in the log's numbers; the calls in which callbacks waited, and the stacks at which they were looked at
+    used: dict[Key, list[int]] = field(default_factory=dict)
+    waits: dict[Key, list[Waited]] = field(default_factory=lambda: collections.defaultdict(list))
+    stacks: dict[Key, collections.Counter[str]] = field(default_factory=lambda: collections.defaultdict(collections.Counter))
+    # the polls that the system ended late: when, by how much, how long the thread waited for a processor, and whether a signal ended it
+    held: list[tuple[int, int, int, bool]] = field(default_factory=list)
+    # the processes for which the program itself has waited: the name, and where
+    reaped: list[tuple[str, str]] = field(default_factory=list)
     # the requests of streams, in the order in which they were asked for
     requests: list[Request] = field(default_factory=list)
     nothings: list[Nothing] = field(default_factory=list)
@@ -314,6 +332,8 @@ class Maker:
         self.depth = 0
         # ops outside of callbacks, each with the function by which another thread did it
         self.stray: list[tuple[Op, str]] = []
+        # what was asked of the program in front of the next callback, and took long
+        self.early: list[Waited] = []
         self.runs = 0
         self.under_way: dict[int, Request] = {}
         self.where = Where(has_polls, log.form > 1)
@@ -579,6 +599,9 @@ class Maker:
         else:
             self.where.see_other(bound.kind)
         self.items.append(call)
+        if self.early:
+            self.program.waits[callback, bound.name, call.number] += self.early
+            self.early = []
         for op, foreign in self.stray:
             self.keep_op(call, op.text, foreign)
             self.items.append(op)
@@ -591,16 +614,34 @@ class Maker:
         if not self.depth or not self.call:
             return False
         self.depth -= 1
-        words, _, processor = event.words.partition(" cpu ")
+        words, _, used = event.words.partition(" cpu ")
         self.where.see_put_off(words.endswith("+"))
-        if processor and self.depth == 0:
-            self.program.processor[self.call.callback, self.call.name, self.call.number] += int(processor)
+        if used and self.depth == 0:
+            self.see_used((self.call.callback, self.call.name, self.call.number), used)
         # (a close callback that began early goes on with the one that libuv calls last)
         if self.depth == 0:
             self.items.append(Done(*event.when(), self.call))
             self.functions_of(self.call.callback, self.call.name, self.call.number, " and ".join(self.functions))
             self.call = None
         return True
+
+    def see_used(self, key: Key, used: str) -> None:
+        processor, *more = map(int, used.split(" "))
+        self.program.processor[key] += processor
+        if more:
+            before = self.program.used.get(key, [0] * len(more))
+            self.program.used[key] = [one + other for one, other in zip(before, more)]
+
+    def read_wait(self, event: Event) -> None:
+        function, took, *work = event.words.split(" ")
+        waited = Waited(function, event.clock - int(took), int(took), self.log.place(event.place))
+        if work:
+            if bound := self.bound.get(int(work[0][1:])):
+                self.program.waits["work", bound.name, len(self.program.bodies["after", bound.name]) + 1].append(waited)
+        elif key := self.here():
+            self.program.waits[key].append(waited)
+        elif function == "alloc":
+            self.early.append(waited)
 
     def name_last(self) -> None:
         """The functions of a callback that never ended."""
@@ -633,11 +674,22 @@ class Maker:
                     self.items.append(Take(*event.when(), bound.name))
                     self.functions_of("work", bound.name, len(self.program.bodies["after", bound.name]) + 1, self.function(bound.id, "work"))
             case "F":
-                id, _, processor = event.words.partition(" cpu ")
+                id, _, used = event.words.partition(" cpu ")
                 if bound := self.bound.get(int(id)):
                     self.items.append(Finish(*event.when(), bound.name))
-                    if processor:
-                        self.program.processor["work", bound.name, len(self.program.bodies["after", bound.name]) + 1] += int(processor)
+                    if used:
+                        self.see_used(("work", bound.name, len(self.program.bodies["after", bound.name]) + 1), used)
+            case "D":
+                self.read_wait(event)
+            case "H":
+                late, waited, signalled = map(int, event.words.split(" "))
+                self.program.held.append((event.clock, late, waited, bool(signalled)))
+            case "Y":
+                if (key := self.here()) and (frames := self.log.frames(event.place)):
+                    self.program.stacks[key][" ".join(frames)] += int(event.words)
+            case "Z":
+                if bound := self.bound.get(int(event.words)):
+                    self.program.reaped.append((bound.name, self.log.place(event.place)))
             case "G":
                 self.read_request(event)
             case "I":

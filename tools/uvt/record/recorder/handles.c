@@ -163,8 +163,12 @@ int uv_run(uv_loop_t *uv, uv_run_mode mode) {
         look_at_memory(loop);
     }
     run_here = loop;
+    struct wait wait;
+    bool waits = in_callback && begin_wait(&wait);
     unlock();
     int alive = CALL(uv_run)(uv, mode);
+    if (waits) end_wait(&wait, __func__, __builtin_return_address(0));
+    else if (!outer) no_stacks();
     lock();
     run_here = outer;
     if (loop) {

@@ -370,11 +370,20 @@ static struct function *same_place(const struct function *function) {
     return function > functions && before->at == function->at && before->bridge ? before : NULL;
 }
 
+/* Of those that wait it is enough to see what they ask of the C library. */
+static bool waits(const char *name) {
+    static const char *const all[] = {"uv_mutex_lock", "uv_rwlock_rdlock", "uv_rwlock_wrlock", "uv_cond_wait", "uv_cond_timedwait",
+                                      "uv_sem_wait", "uv_barrier_wait", "uv_thread_join", "uv_sleep"};
+    for (size_t at = 0; at < sizeof all / sizeof *all; at++)
+        if (strcmp(name, all[at]) == 0) return true;
+    return false;
+}
+
 /* The bridges of all functions that the recorder stands before. */
 static void make_bridges(void *recorder) {
     for (int at = 0; at < function_count; at++) {
         struct function *function = &functions[at], *same = same_place(function);
-        void *instead = function->known ? dlsym(recorder, function->name) : NULL;
+        void *instead = function->known && !waits(function->name) ? dlsym(recorder, function->name) : NULL;
         if (!instead) continue;
         const char *why = same ? NULL : make_bridge(function, instead);
         if (same) function->bridge = same->bridge;

@@ -103,13 +103,44 @@ CALLBACK(on_receive, uv_udp_recv_cb, callback, "receive", datagram_known(length,
          (uv_udp_t * handle, ssize_t length, const uv_buf_t *bytes, const struct sockaddr *from, unsigned flags),
          (handle, length, bytes, from, flags))
 
+/* Where bytes go the program says in front of their callback: what that takes counts as the callback's. (Its own place is that of the function: a byte
+ * behind, as of a call.) */
+static void on_alloc(uv_handle_t *handle, size_t size, uv_buf_t *bytes) {
+    lock();
+    struct object *object = find(handle);
+    uv_alloc_cb alloc = object ? (uv_alloc_cb)object->alloc : NULL;
+    struct loop *loop = running_here(), *own = object ? object->loop : NULL;
+    unlock();
+    *bytes = (uv_buf_t){0};
+    if (!alloc) return;
+    uint64_t begin = clock_ms();
+    struct usage before = usage_by(begin, false);
+    PROGRAM(alloc(handle, size, bytes));
+    uint64_t took = clock_ms() - begin;
+    if (took < 2 || !loop || loop != own) return;
+    lock();
+    const void *from = called_from;
+    called_from = (const char *)(void *)alloc + 1;
+    write_line(loop, 'D', "alloc %u", took);
+    called_from = from;
+    loop->early = begin;
+    loop->early_usage = before;
+    unlock();
+}
+
 /* ---- start and stop */
+
+static uv_alloc_cb own_alloc(struct object *object, uv_alloc_cb alloc) {
+    if (!object || !alloc || forces()) return alloc;
+    object->alloc = (void *)alloc;
+    return on_alloc;
+}
 
 /* WITH(x) are the function's words with x as the callback. */
 #define START(NAME, FIELD, ROLE, WHAT, INSTEAD, PARAMETERS, WITH)                    \
     REAL(NAME)                                                                       \
     int NAME PARAMETERS {                                                            \
-        struct object *object;                                                       \
+        struct object *object = NULL;                                                \
         if (INSIDE() || !callback || !(object = asked(handle))) return CALL(NAME) WITH(callback); \
         lock();                                                                      \
         void *before = object->FIELD;                                                \
@@ -122,7 +153,7 @@ CALLBACK(on_receive, uv_udp_recv_cb, callback, "receive", datagram_known(length,
         return answer;                                                               \
     }
 
-#define W_READ(x) (handle, alloc, x)
+#define W_READ(x) (handle, own_alloc(object, alloc), x)
 #define W_LISTEN(x) (handle, backlog, x)
 #define W_POLL(x) (handle, events, x)
 #define W_SIGNAL(x) (handle, x, number)
@@ -156,13 +187,36 @@ STOP(uv_signal_stop, uv_signal_t)
 STOP(uv_fs_event_stop, uv_fs_event_t)
 STOP(uv_fs_poll_stop, uv_fs_poll_t)
 
+static pid_t reaped_child;
+static const void *reaped_by;
+
+static void tell_reaped(struct object *it) {
+    if (it->handle && it->kind && strcmp(it->kind, "process") == 0 && it->active && ((uv_process_t *)it->address)->pid == reaped_child) {
+        called_from = reaped_by;
+        write_line(it->loop, 'Z', "%d", it->id);
+        reaped_child = 0;
+    }
+}
+
+void note_reaped(struct loop *loop, pid_t child, const void *caller) {
+    lock();
+    const void *before = called_from;
+    reaped_child = child, reaped_by = caller;
+    each(loop, tell_reaped);
+    called_from = before;
+    unlock();
+}
+
 /* A process is a handle also where it could not be started, and the program closes it. */
 REAL(uv_spawn)
 int uv_spawn(uv_loop_t *uv, uv_process_t *handle, const uv_process_options_t *options) {
     if (INSIDE()) return CALL(uv_spawn)(uv, handle, options);
     uv_process_options_t ours = *options;
     ours.exit_cb = on_exit_of;
+    struct wait wait;
+    bool waits = in_callback && begin_wait(&wait);
     int answer = REALLY(CALL(uv_spawn)(uv, handle, &ours));
+    if (waits) end_wait(&wait, __func__, __builtin_return_address(0));
     lock();
     struct object *object = made(uv, handle, "process", true);
     if (object) object->callback = (void *)options->exit_cb;

@@ -47,11 +47,20 @@ REAL(uv_err_name)
 REAL(uv_version_string)
 
 /* (counted before the mutex is taken, and until it is given back: a signal's handler that comes in between, and sends, must not wait for
- * what it has interrupted) */
+ * what it has interrupted. Who waits in a callback for another thread that is at a line has a line of it: that is the recorder's doing, and
+ * nobody else's) */
 void lock(void) {
-    locked++;
+    struct wait wait;
+    bool outermost = locked++ == 0;
     atomic_signal_fence(memory_order_seq_cst);
-    pthread_mutex_lock(&mutex);
+    bool waits = in_callback && outermost && pthread_mutex_trylock(&mutex) != 0;
+    if (waits) wait = (struct wait){.loop = in_callback, .begin = clock_ms()};
+    if (waits || !in_callback || !outermost) really_lock(&mutex);
+    uint64_t took = waits && !off && !forces() ? clock_ms() - wait.begin : 0;
+    const void *from = called_from;
+    called_from = NULL;
+    if (took >= 2) write_wait(wait.loop, "recorder", took);
+    called_from = from;
 }
 
 void unlock(void) {
@@ -291,61 +300,89 @@ static void add_format(struct line *line, const char *format, va_list words) {
     }
 }
 
-/* The processor's time of this thread, as it was read last, and the clock then, in ms. While that is the same nothing is read, since it is a call
+/* What this thread had of the processor, as it was read last, and the clock then, in ms. While that is the same nothing is read, since it takes calls
  * of the system: so what is kept is less than a millisecond old. And of the work that it does. */
 static __thread struct {
-    uint64_t clock, processor; /* in ms; in ns */
-    uint64_t work_clock, work_processor;
+    uint64_t clock;
+    struct usage usage;
+    uint64_t put_off; /* the clock as the looks at its stack were put off last */
+    uint64_t work_clock;
+    struct usage work_usage;
 } here;
 
 /* A callback or work that took less isn't told. */
 enum { SHORT = 2 };
 
-static uint64_t processor_time(uint64_t clock, bool anew) {
-    struct timespec time;
-    if (forces()) return 0;
-    if (here.clock == clock && here.processor && !anew) return here.processor;
-    clock_gettime(CLOCK_THREAD_CPUTIME_ID, &time);
+struct usage usage_by(uint64_t clock, bool anew) {
+    struct usage none = {0};
+    if (forces()) return none;
+    if (here.clock == clock && here.usage.processor && !anew) return here.usage;
     here.clock = clock;
-    return here.processor = (uint64_t)time.tv_sec * 1000000000 + (uint64_t)time.tv_nsec;
+    read_usage(&here.usage);
+    return here.usage;
 }
 
-static uint64_t clock_now(void) {
+uint64_t waited_by(uint64_t clock, bool anew) {
+    return usage_by(clock, anew).waited;
+}
+
+uint64_t clock_ms(void) {
     struct timespec time;
     if (forces()) return force_clock(0);
     clock_gettime(CLOCK_MONOTONIC, &time);
     return (uint64_t)time.tv_sec * 1000 + (uint64_t)time.tv_nsec / 1000000;
 }
 
-/* How long this thread was on the processor since then, in ms; -1 where that was too short, or isn't known. */
-static int on_processor(uint64_t clock, uint64_t begin, uint64_t processor) {
-    if (!begin || clock < begin + SHORT || forces()) return -1;
-    uint64_t ms = (processor_time(clock, true) - processor + 500000) / 1000000;
-    return (int)(ms < clock - begin ? ms : clock - begin);
+/* What this thread had of the processor since then; false where that was too short, or isn't known. */
+static bool used_since(uint64_t clock, uint64_t begin, const struct usage *before, struct usage *used) {
+    if (!begin || clock < begin + SHORT || forces()) return false;
+    struct usage now = usage_by(clock, true);
+    used->processor = now.processor - before->processor;
+    used->kernel = now.kernel - before->kernel;
+    used->faults = now.faults - before->faults;
+    used->disk = now.disk - before->disk;
+    used->gave = now.gave - before->gave;
+    used->lost = now.lost - before->lost;
+    used->waited = now.waited == UNKNOWN || before->waited == UNKNOWN ? UNKNOWN : now.waited - before->waited;
+    return true;
 }
 
-/* A callback or work begins or ends, by this clock. Answers how long it was on the processor as it ends, or -1. */
-static int note_time(struct loop *loop, char type, uint64_t clock) {
+static uint64_t in_ms(uint64_t ns, uint64_t most) {
+    uint64_t ms = (ns + 500000) / 1000000;
+    return ms < most ? ms : most;
+}
+
+/* A callback or work begins or ends, by this clock. Is it known what it used as it ends? */
+static bool note_time(struct loop *loop, char type, uint64_t clock, struct usage *used, uint64_t *took) {
     struct times *times = &loop->times[loop->begun % TIMES];
     bool ends = type == 'E' && times->begun == loop->begun && !times->end;
-    if (type == 'B') *times = (struct times){.begun = loop->begun, .begin = clock, .processor = processor_time(clock, false)};
-    if (type == 'T') here.work_clock = clock, here.work_processor = processor_time(clock, false);
+    if (type == 'B') {
+        *times = (struct times){.begun = loop->begun, .begin = clock, .usage = loop->early ? loop->early_usage : usage_by(clock, false)};
+        loop->early = 0;
+        if (here.put_off != clock) put_off_stacks();
+        here.put_off = clock;
+        forget_stacks();
+    }
+    if (type == 'T') here.work_clock = clock, here.work_usage = usage_by(clock, false);
     if (ends) times->end = clock, note_late(clock, clock - times->begin);
     if (late_at && type == 'B' && clock >= late_at + BEHIND_LATE) keep_late();
-    if (ends) return on_processor(clock, times->begin, times->processor);
-    return type == 'F' ? on_processor(clock, here.work_clock, here.work_processor) : -1;
+    *took = clock - (ends ? times->begin : here.work_clock);
+    if (ends) return used_since(clock, times->begin, &times->usage, used);
+    return type == 'F' && used_since(clock, here.work_clock, &here.work_usage, used);
 }
 
 void write_line(struct loop *loop, char type, const char *format, ...) {
     struct line line;
-    int processor = -1;
+    struct usage used;
+    uint64_t took = 0;
+    bool knows = false;
     /* (where a place is new that has a line of its own, in front of this one) */
-    int from = loop && called_from && !off && strchr("GIOS", type) ? address_number(called_from) : -1;
+    int from = loop && called_from && !off && strchr("DGIOSZ", type) ? address_number(called_from) : -1;
     int caller = from >= 0 ? caller_number(from, called_from) : -1;
     if (loop && !loop->lines && loop->number && type != 'L') write_line(loop, 'L', "%d", loop->behind);
     if (off || (loop && !loop->uv) || !open_log()) return;
     va_list words;
-    if (loop && forces() && !strchr("CGILVTFSWKJQq", type)) {
+    if (loop && forces() && !strchr("CDGHILVTFSWKJQYZq", type)) {
         /* (what is forced there has lines of its own, in front of this one, and moves the clock) */
         line.length = 0;
         va_start(words, format);
@@ -354,6 +391,10 @@ void write_line(struct loop *loop, char type, const char *format, ...) {
         line.text[line.length] = 0;
         force_event(loop, type, line.text);
         if (off || !loop->uv || force_skips()) return;
+    }
+    if (type == 'E') {
+        in_callback = NULL;
+        write_stacks(loop);
     }
     line.length = 0;
     if (loop) add_number(&line, (uint64_t)loop->number);
@@ -365,18 +406,26 @@ void write_line(struct loop *loop, char type, const char *format, ...) {
         add_number(&line, CALL(uv_now)(loop->uv) - loop->base);
         add_sign(&line, ' ');
     }
-    if (loop && strchr("BEFGJRSTq", type)) {
-        uint64_t clock = clock_now();
-        processor = note_time(loop, type, clock);
+    if (loop && strchr("BDEFGHJRSTq", type)) {
+        uint64_t clock = clock_ms();
+        if (type == 'B' && loop->early) clock = loop->early;
+        knows = note_time(loop, type, clock, &used, &took);
         add_number(&line, clock - loop->base);
         add_sign(&line, ' ');
     }
     va_start(words, format);
     add_format(&line, format, words);
     va_end(words);
-    if (processor >= 0) {
+    if (knows) {
         add_text(&line, " cpu ");
-        add_number(&line, (uint64_t)processor);
+        add_number(&line, in_ms(used.processor, took));
+        if (used.waited != UNKNOWN) {
+            const uint64_t more[] = {in_ms(used.kernel, took), used.faults, used.disk, used.gave, used.lost, in_ms(used.waited, took)};
+            for (size_t at = 0; at < sizeof more / sizeof *more; at++) {
+                add_sign(&line, ' ');
+                add_number(&line, more[at]);
+            }
+        }
     }
     if (from >= 0) {
         add_text(&line, " @");
@@ -388,6 +437,7 @@ void write_line(struct loop *loop, char type, const char *format, ...) {
     }
     line.text[line.length++] = '\n';
     if (loop) loop->lines++;
+    if (type == 'B' && running_here() == loop && !forces()) in_callback = loop, in_work = 0;
     /* (what other lines refer to) */
     if (keep && (!loop || type == 'L')) write_words(line.text, line.length);
     else write_text(line.text, line.length);
@@ -399,7 +449,7 @@ const char *answer_text(int answer) {
 
 /* Is the loop's time so many ms behind the clock? */
 bool is_behind(const struct loop *loop) {
-    return !off && loop->uv && clock_now() >= CALL(uv_now)(loop->uv) + SHORT;
+    return !off && loop->uv && clock_ms() >= CALL(uv_now)(loop->uv) + SHORT;
 }
 
 void write_op(struct object *object, const char *word, const char *rest, int answer) {

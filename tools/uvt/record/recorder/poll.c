@@ -2,6 +2,7 @@
 #define _GNU_SOURCE
 #include "recorder.h"
 
+#include <errno.h>
 #include <poll.h>
 #include <string.h>
 #include <sys/epoll.h>
@@ -78,6 +79,7 @@ static bool asks_again(const struct loop *loop) {
 
 static void note_poll(struct loop *loop, int timeout) {
     if (!loop) return;
+    int wait = timeout;
     lock();
     bool again = asks_again(loop);
     settle_all(loop, NULL);
@@ -89,7 +91,8 @@ static void note_poll(struct loop *loop, int timeout) {
     }
     write_line(loop, again ? 'p' : 'P', "%d", timeout);
     loop->waiting = true;
-    loop->poll = (struct poll){.begun = loop->begun, .away = loop->away, .timeout = timeout};
+    loop->poll = (struct poll){.begun = loop->begun, .away = loop->away, .timeout = timeout, .wait = wait};
+    if (wait > 0) loop->poll.clock = clock_ms(), loop->poll.waited = waited_by(loop->poll.clock, false);
     unlock();
 }
 
@@ -99,9 +102,26 @@ static bool is_for_somebody(const uv_loop_t *uv, const struct epoll_event *event
     return watcher && (event->events & (watcher->pevents | POLLERR | POLLHUP));
 }
 
+/* The system ended a wait later than it was asked to: how much, how long of that this thread waited for a processor, and whether a signal ended it (as
+ * one does that lets a stopped process go on). */
+enum { LATE = 2 };
+
+static void note_late_poll(struct loop *loop, int got) {
+    struct poll *poll = &loop->poll;
+    int fault = got < 0 ? errno : 0;
+    uint64_t clock = poll->wait > 0 && !forces() ? clock_ms() : 0, end = poll->clock + (uint64_t)poll->wait;
+    if (clock < end + LATE || poll->waited == UNKNOWN) return;
+    lock();
+    uint64_t waited = waited_by(clock, true) - poll->waited;
+    write_line(loop, 'H', "%u %u %d", clock - end, (waited + 500000) / 1000000, fault == EINTR);
+    unlock();
+    if (fault) errno = fault;
+}
+
 static int note_events(struct loop *loop, const struct epoll_event *events, int got) {
     if (!loop) return got;
     loop->waiting = false;
+    note_late_poll(loop, got);
     bool in_vain = true;
     for (int at = 0; at < got && in_vain; at++) in_vain = !is_for_somebody(loop->uv, &events[at]);
     loop->poll.got = got;
@@ -114,20 +134,14 @@ static int wait_for(int descriptor, struct epoll_event *events, int room, int ti
     return signals ? CALL(epoll_pwait)(descriptor, events, room, timeout, signals) : CALL(epoll_wait)(descriptor, events, room, timeout);
 }
 
-static int64_t clock_now(void) {
-    struct timespec time;
-    clock_gettime(CLOCK_MONOTONIC, &time);
-    return (int64_t)time.tv_sec * 1000 + time.tv_nsec / 1000000;
-}
-
 static int really_wait(struct loop *loop, int descriptor, struct epoll_event *events, int room, int timeout, const sigset_t *signals) {
     int first = loop && timeout != 0 ? wait_before_looks(loop) : -1;
     if (first < 0 || (timeout > 0 && timeout <= first)) return wait_for(descriptor, events, room, timeout, signals);
-    int64_t begin = clock_now();
+    int64_t begin = (int64_t)clock_ms();
     int got = first ? wait_for(descriptor, events, room, first, signals) : 0;
     if (got != 0) return got;
     write_looks_here();
-    int64_t left = timeout - (clock_now() - begin);
+    int64_t left = timeout - ((int64_t)clock_ms() - begin);
     return wait_for(descriptor, events, room, timeout < 0 ? timeout : left > 0 ? (int)left : 0, signals);
 }
 

@@ -112,13 +112,19 @@ static struct work begin_work(void *request) {
     if (object) {
         work = (struct work){(uv_work_cb)object->second, object->own, object->id};
         object->taken = true;
-        if (!forces()) write_line(object->loop, 'T', "%d", object->id);
+        if (!forces()) {
+            write_line(object->loop, 'T', "%d", object->id);
+            in_callback = work.program && !work.own ? object->loop : NULL;
+            in_work = object->id + 1;
+        }
     }
     unlock();
     return work;
 }
 
 static void end_work(void *request, int id) {
+    in_callback = NULL;
+    in_work = 0;
     lock();
     struct object *object = find(request);
     while (object && object->id != id) object = earlier(object);
@@ -208,9 +214,14 @@ AFTER(after_random, uv_random_cb, (uv_random_t * request, int status, void *byte
 
 int uv_queue_work(uv_loop_t *uv, uv_work_t *request, uv_work_cb work, uv_after_work_cb callback) {
     if (INSIDE() || !work) return CALL(uv_queue_work)(uv, request, work, callback);
+    /* (the first one makes the pool's threads) */
+    struct wait wait;
+    bool waits = in_callback && begin_wait(&wait);
     lock();
     struct object *object = queue(uv, request, (void *)callback, (void *)work);
-    return queued(object, "work", sizeof *request, REALLY(CALL(uv_queue_work)(uv, request, object ? do_work : work, object ? after_work : callback)));
+    int answer = queued(object, "work", sizeof *request, REALLY(CALL(uv_queue_work)(uv, request, object ? do_work : work, object ? after_work : callback)));
+    if (waits) end_wait(&wait, __func__, __builtin_return_address(0));
+    return answer;
 }
 
 int uv_cancel(uv_req_t *request) {
@@ -227,7 +238,13 @@ int uv_cancel(uv_req_t *request) {
 #define POOLED(NAME, KIND, INSTEAD, OWN_WORK, CALLBACK, PARAMETERS, WITH)                \
     REAL(NAME)                                                                           \
     int NAME PARAMETERS {                                                                \
-        if (INSIDE() || !callback || !uv) return CALL(NAME) WITH(callback);              \
+        struct wait wait;                                                                \
+        if (INSIDE() || !callback || !uv) {                                              \
+            bool waits = !callback && in_callback && begin_wait(&wait);                  \
+            int at_once = CALL(NAME) WITH(callback);                                     \
+            if (waits) end_wait(&wait, #NAME, __builtin_return_address(0));              \
+            return at_once;                                                              \
+        }                                                                                \
         lock();                                                                          \
         struct object *object = queue(uv, request, (void *)callback, NULL);              \
         begin_queueing(object, &request->work_req, OWN_WORK);                            \

@@ -13,6 +13,17 @@
 #include <stdint.h>
 #include <uv.h>
 
+/* ---- what a thread had of the processor (usage.c): in ns, and how often */
+
+#define UNKNOWN UINT64_MAX
+struct usage {
+    uint64_t processor, kernel; /* on it; in the kernel */
+    uint64_t faults, disk; /* page faults without the disk, and with it */
+    uint64_t gave, lost; /* how often it gave the processor away, and was pushed off it */
+    uint64_t waited; /* how long it could run, and others had it; UNKNOWN where nobody knows */
+};
+void read_usage(struct usage *usage);
+
 /* ---- a loop, and a handle or a request (objects.c) */
 
 /* Of so many callbacks that were the last ones it is known when they began and ended. */
@@ -37,12 +48,16 @@ struct loop {
     struct times {
         long begun; /* which it is */
         uint64_t begin, end; /* by the clock; 0: not yet */
-        uint64_t processor; /* of its thread, in ns, as it begins */
+        struct usage usage; /* of its thread, as it begins */
     } times[TIMES];
+    uint64_t early; /* the next callback began by this clock already: what is asked of the program in front of it took long; 0: it didn't */
+    struct usage early_usage;
     struct poll {
         long begun, away; /* the same as libuv asked for events */
         int timeout, got; /* how long it waits, and how many events it got; negative where it was interrupted */
         bool in_vain; /* none of these is for anybody */
+        int wait; /* how long the system is asked to wait */
+        uint64_t clock, waited; /* as it began; and how long the thread had waited for a processor by then */
     } poll; /* the last time */
 };
 
@@ -70,6 +85,7 @@ struct object {
     bool pooled, taken, through; /* a request that the pool has; a worker has taken it; and its work is done */
     void (*own)(struct uv__work *); /* of a request for files, names or random bytes: what libuv has a worker do */
     uv_close_cb closed;
+    void *alloc; /* of a stream or a socket: where its bytes go */
     uv_handle_type type; /* of a handle */
     struct object *ring_next, *ring_before; /* of a handle: its loop's others */
     uint64_t whole; /* the loop's time as its memory was last seen to be that of such a handle */
@@ -130,6 +146,32 @@ void write_workers(void);
 /* `LOOP O NOW WORD %ID REST = ANSWER`; nothing where there is no object. */
 void write_op(struct object *object, const char *word, const char *rest, int answer);
 const char *answer_text(int answer);
+
+/* ---- what a callback waits for (waits.c), and where it is at (stacks.c) */
+
+/* The loop whose callback or work is under way in this thread, and isn't in a call that waits. */
+extern __thread struct loop *in_callback __attribute__((tls_model("initial-exec")));
+/* Of a worker that has work of the program: one more than its number. */
+extern __thread int in_work __attribute__((tls_model("initial-exec")));
+void write_wait(struct loop *loop, const char *function, uint64_t ms);
+struct wait {
+    struct loop *loop;
+    int work;
+    uint64_t begin;
+};
+bool begin_wait(struct wait *wait);
+void end_wait(const struct wait *wait, const char *function, const void *caller);
+/* Another one than libuv has waited for this child. */
+void note_reaped(struct loop *loop, pid_t child, const void *caller);
+int really_lock(pthread_mutex_t *mutex);
+/* The clock, in ms; and how long this thread had waited for a processor by then. */
+uint64_t clock_ms(void);
+uint64_t waited_by(uint64_t clock, bool anew);
+struct usage usage_by(uint64_t clock, bool anew);
+void put_off_stacks(void);
+void no_stacks(void);
+void forget_stacks(void);
+void write_stacks(struct loop *loop);
 
 /* ---- the real functions (log.c) */
 
