@@ -17,6 +17,7 @@
     (records.py); and from logs that are drawn, of threads that are held up within a send (held.py)
   - orders that are forced upon real programs (tools/uvt/uvt-force), with a C compiler and libuv (forces.py, forces/)
   - what `why` says of programs whose true causes are known, and that it says nothing that they don't confirm (truths.py, truths/)
+  - two recordings of one program beside each other (besides.py, beside/)
   - what it says of programs in node, of whose JavaScript the hook told (javascripts.py, javascript/)
   - the same of programs in Python and Lua (interpreters.py, python/, lua/)
   - the search (tools/uvt/uvt-find): each example that asks, and what is said of bad lines (finds.py)
@@ -60,6 +61,7 @@ from tests.tools.records import try_records
 from tests.tools.shorts import try_shorter
 from tests.tools.starts import try_starts
 from tests.tools.trace_events import try_trace_events
+from tests.tools.besides import try_besides
 from tests.tools.truths import try_truths
 from tests.tools.unharmed import try_unharmed
 from tests.tools.views import try_views
@@ -304,6 +306,7 @@ PARTS: dict[str, Callable[[Tries], None]] = {
     "whys": try_whys,
     "find": try_find,
     "truths": try_truths,
+    "besides": try_besides,
     "records": try_records,
     "held": try_held,
     "forces": try_forces,

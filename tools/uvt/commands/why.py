@@ -8,6 +8,9 @@
   ./uvt why FILE.log       what a log says by itself, at once: the longest callbacks, and who waited for the loop. Before ./uvt build the log
                            beside a long recording is told so first, since the whole answer takes longer then
 
+  ./uvt why --beside GOOD.rec BAD.rec    two recordings of one program: what took longer or was later in the second, and why, where the two part, and
+                           what is in one of them alone
+
 For each callback of the name it says when it was due or asked for, by which line, when it was called, and what stood between; for
 each that never came, why. Each answer names steps: `goto N` of ./uvt shell goes there. Where the commands of a script go back,
 and on in another way, the longest of the ways is told. Of a recording that ./uvt record made it reads the notes beside it, too.
@@ -28,6 +31,7 @@ from pathlib import Path
 
 from launch.tool import run_tool
 from uvt import log_summary
+from uvt.beside import beside
 from uvt.conversation import INSTALLED, Fault, Script, is_proved, read_descriptor, read_input
 from uvt.javascript import PLACE, fitted
 from uvt.overview import Overview
@@ -110,13 +114,29 @@ def answered(name: str | None, path: Path | None) -> list[str]:
         return Overview(walk).answer(f"{command} NAME {path}" if path else f"{command} NAME < FILE")
 
 
-def answer(words: list[str]) -> int:
-    print("\n".join(answered(*read_asked(words))))
+def answered_beside(good: Path, words: list[str]) -> list[str]:
+    name, bad = read_asked(words)
+    if name is not None or bad is None:
+        raise Fault("two recordings are wanted, and no name: ./uvt why --beside GOOD.rec BAD.rec")
+    walks: list[Walk] = []
+    try:
+        for path in (good, bad):
+            script, commands = read_input(path)
+            walks.append(Walk(script, longest_way(script, commands)))
+        return beside(walks[0], walks[1], (str(good), str(bad)))
+    finally:
+        for walk in walks:
+            walk.close()
+
+
+def answer(words: list[str], good: str | None) -> int:
+    print("\n".join(answered_beside(Path(good), words) if good else answered(*read_asked(words))))
     return 0
 
 
 def main() -> int:
     reader = argparse.ArgumentParser(description=__doc__, formatter_class=argparse.RawDescriptionHelpFormatter)
     reader.add_argument("words", nargs="*", metavar="NAME FILE", help="a name that the script declares, and a file; both may be left out")
+    reader.add_argument("--beside", metavar="GOOD.rec", help="another recording of the same program, with which that of FILE is compared")
     asked = reader.parse_args()
-    return run_tool("uvt-why", lambda: answer(asked.words), failed=1)
+    return run_tool("uvt-why", lambda: answer(asked.words, asked.beside), failed=1)
