@@ -15,6 +15,7 @@
   - the same script on libuv (tools/uvt/uvt-libuv), where it is installed (libuvs.py). By hand, and much more of it: tests/libuv/run
   - recordings of programs (tools/uvt/uvt-record) from the logs of logs/, logs that are cut or changed, and, with a C compiler and libuv, programs
     (records.py); and from logs that are drawn, of threads that are held up within a send (held.py)
+  - programs of which the last windows are kept, copies of them while they run, and programs that run already (keeps.py, kept.c)
   - orders that are forced upon real programs (tools/uvt/uvt-force), with a C compiler and libuv (forces.py, forces/)
   - what `why` says of programs whose true causes are known, and that it says nothing that they don't confirm (truths.py, truths/)
   - two recordings of one program beside each other (besides.py, beside/)
@@ -55,6 +56,7 @@ from tests.tools.fuzz import try_fuzz
 from tests.tools.held import try_held
 from tests.tools.interpreters import try_interpreters
 from tests.tools.javascripts import try_javascript
+from tests.tools.keeps import try_keeps
 from tests.tools.libuvs import try_libuv
 from tests.tools.panes import try_panes
 from tests.tools.records import try_records
@@ -308,6 +310,7 @@ PARTS: dict[str, Callable[[Tries], None]] = {
     "truths": try_truths,
     "besides": try_besides,
     "records": try_records,
+    "keeps": try_keeps,
     "held": try_held,
     "forces": try_forces,
     "javascript": try_javascript,

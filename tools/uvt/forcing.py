@@ -21,7 +21,7 @@ from pathlib import Path
 
 from uvt.conversation import Conversation, Fault, Script
 from uvt.hangs import place_in, read_hang
-from uvt.record.run import Part, from_fresh, from_log, recorder, room_for, sanitizers, why_not, with_hooks
+from uvt.record.run import Part, from_fresh, from_log, recorder, room_for, sanitizers, taken, why_not, with_hooks
 
 SECTIONS = {"pending", "idle", "prepare", "done", "async", "check", "closing", "timers"}
 ASKS = {"now", "alive", "timeout", "due", "hasref", "active", "closing"}
@@ -390,7 +390,7 @@ def run(
         if logs and (records(ran) if callable(records) else records):
             said = io.StringIO()
             with contextlib.redirect_stdout(said):
-                from_fresh(logs[0], name, False, part, signal_of(-status) if status < 0 and not ran.late else "")
+                from_fresh(taken(logs[0], Path(f"{name}.log")), name, False, part, signal_of(-status) if status < 0 and not ran.late else "")
             ran.recorded = said.getvalue()
         return ran
 

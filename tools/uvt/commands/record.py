@@ -1,7 +1,12 @@
 """Records a program on libuv, and makes recordings of its loops, for `uvt replay` and `uvt debug`.
 
   ./uvt record [-o NAME] PROGRAM [ARG..]    runs the program, unmodified, under the recorder
-  ./uvt record [-o NAME] --log FILE         takes a log that was kept
+  ./uvt record [-o NAME] --log FILE         takes a log that was kept, or a ring
+  ./uvt record --keep MIB [--late MS] PROGRAM [ARG..]
+                                            of a program that runs for long: its last MIB megabytes of log alone are kept. ./uvt dump PID
+                                            makes recordings of them while it runs. --late: what stood around a callback that took MS, a timer
+                                            that began so late or a poll that ended so late is kept apart (of the four longest)
+  ./uvt record --keep MIB [--late MS]       without a program: prints what has to be in the environment of one that somebody else starts
 
 It writes NAME.log, and for each loop with callbacks NAME.rec (NAME.1.rec, .. where there are several), and beside it NAME.notes, which
 says where each name comes from and what else is known. Without -o NAME is the program's name. Of each loop it says how many callbacks and
@@ -31,7 +36,10 @@ from pathlib import Path
 
 from launch.tool import run_tool
 from uvt.conversation import Fault
-from uvt.record.run import MOST, Part, from_log, from_program
+from uvt.record.run import MOST, Keep, Part, from_keeping, from_log, from_program, words_to_start_with
+
+# How many MiB are kept where nobody says.
+KEPT = 64
 
 
 def natural(text: str) -> int:
@@ -70,11 +78,15 @@ def main() -> int:
     reader.add_argument(
         "--lift", action="store_true", help="a second recording, NAME.lift.rec: each timer and immediate of JavaScript is a handle of its own"
     )
+    reader.add_argument("--keep", type=positive, nargs="?", const=KEPT, metavar="MIB", help=f"only so many MiB of the log ({KEPT} without a number)")
+    reader.add_argument("--late", type=positive, metavar="MS", help="with --keep: apart what stood around something that took so long")
     reader.add_argument("program", nargs=argparse.REMAINDER, metavar="PROGRAM", help="the program, and its words")
     asked = reader.parse_args()
     words = asked.program[1:] if asked.program[:1] == ["--"] else asked.program
-    if bool(words) == bool(asked.log):
+    if bool(words) == bool(asked.log) and not (asked.keep and not asked.log):
         reader.error("a program, or --log FILE")
+    if (asked.keep and asked.log) or (asked.late and not asked.keep):
+        reader.error("--keep is for a program that runs, and --late goes with it")
     for number in (signal.SIGTERM, signal.SIGHUP):
         signal.signal(number, end)
     worst = asked.begin is None and asked.last is None and (asked.worst or asked.most is None)
@@ -83,6 +95,12 @@ def main() -> int:
     def record() -> int:
         if asked.lift and asked.bare:
             raise Fault("--lift takes what --bare leaves out")
+        if asked.keep:
+            keep = Keep(asked.keep, asked.late or 0)
+            if words:
+                return from_keeping(words, asked.name, keep, part, asked.bare, asked.lift)
+            print(*words_to_start_with(asked.name, keep, asked.bare), sep="\n")
+            return 0
         return from_log(asked.log, asked.name, part, asked.lift) if asked.log else from_program(words, asked.name, part, asked.bare, asked.lift)
 
     return run_tool("uvt-record", record, failed=2)

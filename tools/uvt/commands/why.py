@@ -5,6 +5,7 @@
   ./uvt why FILE           without a name: which names there are, and what stands out. The longest callbacks, the latest timers, sends
                            and requests, when the pool was full, what kept the loop alive, who spun; each with its step.
                            (`./uvt why < FILE` does so too)
+  ./uvt why [NAME] X.ring  of what was kept of a program (./uvt record --keep): it is recorded first, into this folder
   ./uvt why FILE.log       what a log says by itself, at once: the longest callbacks, and who waited for the loop. Before ./uvt build the log
                            beside a long recording is told so first, since the whole answer takes longer then
 
@@ -25,6 +26,7 @@ from __future__ import annotations
 
 import argparse
 import difflib
+import glob
 import re
 import sys
 from pathlib import Path
@@ -36,6 +38,8 @@ from uvt.conversation import INSTALLED, Fault, Script, is_proved, read_descripto
 from uvt.javascript import PLACE, fitted
 from uvt.overview import Overview
 from uvt.progress import Teller
+from uvt.record import ring
+from uvt.record.run import Part, from_log
 from uvt.walk import Walk, longest_way
 from uvt.why import why
 from uvt.why_javascript import WhyJavaScript
@@ -92,9 +96,21 @@ def of_log(name: str | None, path: Path) -> list[str] | None:
     return [*log_summary.told(data), f"make a recording, and ask that: {'uvt' if INSTALLED else './uvt'} record --log {path}"]
 
 
+def of_ring(path: Path) -> Path:
+    """The recording that is made of a ring, beside where we are: of its loops the one with the most in it."""
+    before = set(Path().glob("*.rec"))
+    from_log(path, None, Part(worst=True))
+    made = [it for it in Path().glob(f"{glob.escape(ring.name_of(path))}*.rec") if it not in before or it.stat().st_mtime >= path.stat().st_mtime]
+    if not made:
+        raise Fault(f"{path}: nothing of it could be recorded")
+    return max(made, key=lambda it: it.stat().st_size)
+
+
 def answered(name: str | None, path: Path | None) -> list[str]:
     if path is None and sys.stdin.isatty():
         raise Fault("a recording or a script is wanted: ./uvt why NAME FILE, or ./uvt why NAME < FILE; --help says more")
+    if path and ring.is_ring(path):
+        path = of_ring(path)
     if path and (lines := of_log(name, path)):
         return lines
     script, commands = read_input(path) if path else read_descriptor(sys.stdin.buffer)

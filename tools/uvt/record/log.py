@@ -22,6 +22,8 @@ ADDRESS = re.compile(r"- A (\d{1,9}) ([0-9a-f]{1,16}) (\S+) (.*)")
 WORKERS = re.compile(r"- N (\d{1,9})")
 ENDED = re.compile(r"- X (SIG[A-Z0-9]{1,12}|signal \d{1,3})")
 TURNED = re.compile(r"- W ([1-9]\d{0,9})")
+COPIED = re.compile(r"- D (\d{1,19})")
+BASE = re.compile(r"- Z \d{1,19}")
 UNSEEN = re.compile(r"- U (-|uv_[a-z_0-9]+) (.+)")
 PLACE = re.compile(r"- J place (\d{1,9}) (.*)")
 HOME = re.compile(r"- J home (.*)")
@@ -159,6 +161,8 @@ class Log:
     ended: str = ""
     # it is a ring's, whose first window isn't the program's first one
     turned: bool = False
+    # of a copy of the ring of a living program: when it was made, in ms of the first loop's time
+    copied: int | None = None
     # why nothing of the program's libuv can be seen, in a sentence
     blind: str = ""
 
@@ -273,6 +277,10 @@ def read_log(data: bytes) -> Log:
             log.workers = within(int(workers[1]))
         elif turned := TURNED.fullmatch(text):
             log.turned = int(turned[1]) > 1
+        elif copied := COPIED.fullmatch(text):
+            log.copied = int(copied[1])
+        elif BASE.fullmatch(text):
+            continue
         elif ended := ENDED.fullmatch(text):
             log.ended = ended[1]
         elif unseen := UNSEEN.fullmatch(text):

@@ -7,6 +7,7 @@ import fcntl
 import glob
 import os
 import re
+import shlex
 import shutil
 import signal
 import struct
@@ -20,13 +21,13 @@ from pathlib import Path
 from uvt.conversation import INSTALLED, OUT, Fault, built_program
 from uvt.notes import LEFT_OUT, NODES_ALONE, Notes, signal_name
 from uvt.progress import Teller
+from uvt.record import ring
 from uvt.record.differences import PAGE, heading_of, says
 from uvt.record.follow import CALLS, MANY_WORKERS, Follower, NeedsWake, Outcome
 from uvt.record.lift import CantLift, NothingToLift, lift
 from uvt.record.log import NO_CLOCK, Event, Log, read_log
 from uvt.record.names import name_addresses, named_log
 from uvt.record.polls import Polls, compare
-from uvt.record.ring import is_ring, log_of
 from uvt.record.script import Call, Done, End, Program, program_of
 from uvt.record.steps import Steps
 from uvt.record.window import NoPart, begin_of, starts_of, window
@@ -119,19 +120,26 @@ def followed(program: Program, workers: int) -> Outcome:
         workers = MANY_WORKERS
 
 
+def is_all_of(events: list[Event]) -> bool:
+    """Is the first line of this loop in what was kept of a ring? (That stands with the words, too.)"""
+    return [it.type for it in events[:2]] == ["L", "L"]
+
+
+def behind_the_first(events: list[Event], part: Part) -> tuple[list[Event], Part]:
+    """Nothing before the first place at which all of it was written down can be followed."""
+    known = [at for at in starts_of(events) if begin_of(events, at) >= 0]
+    if not known:
+        raise NoPart("no recording can begin in what was kept of it: there is no place where all that the loop had was written down")
+    if part.worst and sum(it.type == "B" for it in events) > part.most:
+        return events[begin_of(events, known[0]) :], part
+    return events, replace(part, begin=events[known[0] - 1].now)
+
+
 def chosen(log: Log, events: list[Event], part: Part) -> tuple[list[Event], str, str]:
     """The part of a loop's events that is asked for; where it begins and where it is cut, in a sentence each."""
     began = cut = ""
-    if log.turned and part.begin is None and part.last is None:
-        # (nothing before the first place where all of it was written down)
-        known = [at for at in starts_of(events) if begin_of(events, at) >= 0]
-        if not known:
-            raise NoPart("no recording can begin in what was kept of it: there is no place where all that the loop had was written down")
-        begin = events[known[0] - 1].now
-        if not part.worst or sum(it.type == "B" for it in events) <= part.most:
-            part = replace(part, begin=begin)
-        else:
-            events = events[next(it for it in range(known[0] - 1, -1, -1) if events[it].words == "all") :]
+    if log.turned and part.begin is None and part.last is None and not is_all_of(events):
+        events, part = behind_the_first(events, part)
     if part.worst and sum(it.type == "B" for it in events) > part.most:
         return around(log, events, part.most)
     time = part.begin if part.last is None else max(0, events[-1].now - part.last)
@@ -222,18 +230,26 @@ def foreign_lines(made: Made) -> dict[int, str]:
     return found
 
 
-def where_it_ended(made: Made, by: str) -> str:
-    """What the loop was at as a signal ended the program, in a sentence; `` where none did, or the recording doesn't go so far."""
-    if not by or not made.is_whole() or not made.program.callbacks():
+def where_it_ended(made: Made, log: Log, loop: int) -> str:
+    """What the loop was at as a signal ended the program, or its ring was copied, in a sentence; `` where neither was, or the recording doesn't
+    go so far."""
+    if not (log.ended or log.copied is not None) or not made.is_whole() or not made.program.callbacks():
         return ""
+    at = max(0, log.copied - log.behind(loop)) if log.copied is not None else 0
+    by = log.ended or f"copied at {at} ms of its time"
     last = next(it for it in reversed(made.program.items) if isinstance(it, (Call, Done, End)))
     if isinstance(last, End):
         return f"{by}: this loop was in no run"
     call = last.call if isinstance(last, Done) else last
     function = Notes(functions=made.program.functions).function(call.callback, call.name, call.number)
     kind = {"on": "callback", "after": "after callback", "closed": "close callback"}[call.callback]
-    where = f"in no callback, behind the {kind}" if isinstance(last, Done) else f"in the {kind}"
-    return f"{by}: this loop was {where} of {call.name}{f', {function}' if function else ''}{in_javascript(made.program, last)}"
+    inside = isinstance(last, Call)
+    since = max((it.clock for it in log.loops[loop] if it.type in "BE" and it.clock != NO_CLOCK), default=NO_CLOCK)
+    long = f", for {at - since} ms" if inside else f", which ended {at - since} ms before"
+    if log.copied is None or since == NO_CLOCK:
+        long = ""
+    where = f"in the {kind}" if inside else f"in no callback, behind the {kind}"
+    return f"{by}: this loop was {where} of {call.name}{f', {function}' if function else ''}{long}{in_javascript(made.program, last)}"
 
 
 def in_javascript(program: Program, last: Call | Done) -> str:
@@ -258,7 +274,7 @@ def spent_of(program: Program) -> dict[tuple[str, str, int], Spent]:
     return found
 
 
-def notes_of(made: Made, note: str, ended: str = "") -> Notes:
+def notes_of(made: Made, note: str, where: str = "") -> Notes:
     """What is known of a recording beside its steps."""
     steps = made.outcome.recording[made.outcome.recording.index("begin") + 1 : made.outcome.recording.index("calls")]
     outside = {at for at, it in enumerate(steps, 1) if it.split(" ")[0] in ("send", "take", "finish")}
@@ -274,7 +290,7 @@ def notes_of(made: Made, note: str, ended: str = "") -> Notes:
         made.outcome.times | stand.queued,
         made.program.came,
         made.polls.said(),
-        where_it_ended(made, ended),
+        where,
         made.outcome.by,
         made.program.javascript,
         [name for _, name in made.program.again],
@@ -344,7 +360,7 @@ def whose(program: Program, is_node: bool) -> str:
     return next((said for word, said in OWN.items() if word in functions), "node's own: it has no JavaScript")
 
 
-def told(made: Made, loop: int, path: Path, note: str, whose: str = "") -> list[str]:
+def told(made: Made, loop: int, path: Path, note: str, whose: str = "", copied: str = "") -> list[str]:
     """What is said of a loop: how far its recording goes, and the command that opens it."""
     outcome, program = made.outcome, made.program
     head = f"loop {loop}: {outcome.callbacks} of {outcome.of} callbacks, {outcome.steps} steps: "
@@ -356,7 +372,7 @@ def told(made: Made, loop: int, path: Path, note: str, whose: str = "") -> list[
     else:
         lines = [head + "same"]
     loud = [*by_other_threads(program), *queued_again(program), *written_over(program)]
-    said = (whose, program.began, program.stopped, note, *loud, made.polls.said())
+    said = (whose, program.began, program.stopped, note, copied, *loud, made.polls.said())
     lines += [f"    {it}" for it in said if it]
     if outcome.answers:
         lines.append(f"    {len(outcome.answers)} answers differ, first: {outcome.answers[0]}")
@@ -386,7 +402,7 @@ def put(path: Path, loop: int, made: Made, log: Log) -> None:
     """Writes the recording of a loop, and its notes."""
     recording = ("\n".join(made.outcome.recording) + "\n").encode()
     write(path, recording)
-    notes = notes_of(made, log.note, log.ended)
+    notes = notes_of(made, log.note, where_it_ended(made, log, loop))
     notes.loop = loop
     write(path.with_suffix(".notes"), notes.text(recording).encode())
 
@@ -415,7 +431,7 @@ def from_data(data: bytes, log: Log, name: str, part: Part = Part(), lifts: bool
     for loop, it in made:
         path = Path(f"{name}.rec" if len(made) == 1 or loop == first else f"{name}.{loop}.rec")
         put(path, loop, it, log)
-        lines += told(it, loop, path, log.note, whose(it.program, first is not None))
+        lines += told(it, loop, path, log.note, whose(it.program, first is not None), where_it_ended(it, log, loop) if log.copied is not None else "")
         whole &= it.is_whole()
         if lifts and it.program.javascript.language != "JavaScript":
             lines.append("--lift is for programs in node: there is no second recording")
@@ -430,20 +446,23 @@ def from_data(data: bytes, log: Log, name: str, part: Part = Part(), lifts: bool
 
 
 def from_log(path: Path, name: str | None, part: Part, lifts: bool = False) -> int:
-    """A log that was kept."""
+    """A log, or a ring, that was kept."""
+    if ring.is_ring(path):
+        return 0 if from_fresh(ring.log_of(path), name or ring.name_of(path), False, part, "", lifts) else 1
     try:
-        data = log_of(path) if is_ring(path) else path.read_bytes()
+        data = path.read_bytes()
     except OSError as fault:
         raise Fault(f"{path}: {fault.strerror}") from None
-    if is_ring(path):
-        # (kept as a log, with its symbols)
-        log = read_log(data)
-        name_addresses(log)
-        data = named_log(data, log)
-        write(Path(f"{name or path.name.removesuffix('.ring')}.log"), data)
     lines, whole = from_data(data, read_log(data), name or path.name.removesuffix(".log"), part, lifts)
     print("\n".join(lines), flush=True)
     return 0 if whole else 1
+
+
+def from_process(process: int, name: str | None, part: Part, lifts: bool = False) -> int:
+    """A copy of what a program that runs has kept."""
+    built_program()
+    living = ring.ring_of_process(process)
+    return 0 if from_fresh(ring.of_process(living), name or f"{living.program}.{process}", False, part, "", lifts) else 1
 
 
 # ---- a program
@@ -592,9 +611,20 @@ def with_hooks(environment: dict[str, str]) -> dict[str, str]:
     }
 
 
-def run_program(words: list[str], folder: Path, bare: bool) -> tuple[int, int]:
-    """Runs it with the recorder. The log's place is the folder's. Answers its process and its status."""
-    environment = dict(os.environ, UVT_LOG=str(folder / "log"))
+@dataclass
+class Keep:
+    """What is kept of a log: so many windows of a MiB; and apart what took so many ms, 0: nothing."""
+
+    windows: int
+    late: int = 0
+
+    def environment(self) -> dict[str, str]:
+        return {"UVT_KEEP": str(self.windows)} | ({"UVT_LATE": str(self.late)} if self.late else {})
+
+
+def run_program(words: list[str], prefix: Path, bare: bool, keep: Keep | None = None) -> tuple[int, int]:
+    """Runs it with the recorder, which writes PREFIX.PID.log. Answers its process and its status."""
+    environment = dict(os.environ, UVT_LOG=str(prefix)) | (keep.environment() if keep else {})
     environment["LD_PRELOAD"] = " ".join(filter(None, [*sanitizers(words[0]), str(recorder()), os.environ.get("LD_PRELOAD", "")]))
     try:
         program = subprocess.Popen(words, env=environment if bare else with_hooks(environment))
@@ -634,7 +664,7 @@ def from_program(words: list[str], name: str | None, part: Part, bare: bool = Fa
     built_program()
     folder = room_for(name)
     try:
-        pid, status = run_program(words, folder, bare)
+        pid, status = run_program(words, folder / "log", bare)
         said = ended(status)
         if said:
             print(said, flush=True)
@@ -645,7 +675,7 @@ def from_program(words: list[str], name: str | None, part: Part, bare: bool = Fa
         for path in logs:
             process = name if len(logs) == 1 else f"{name}.{path.name.split('.')[1]}"
             by = signal_name(-status) if status < 0 and path in last_of(logs, pid) else ""
-            whole &= from_fresh(path, process, len(logs) > 1, part, by, lifts)
+            whole &= from_fresh(taken(path, Path(f"{process}.log")), process, len(logs) > 1, part, by, lifts)
         return 0 if whole else 1
     finally:
         shutil.rmtree(folder, ignore_errors=True)
@@ -656,14 +686,60 @@ def last_of(logs: list[Path], process: int) -> list[Path]:
     return [it for it in logs if it.name.split(".")[1].split("-")[0] == str(process)][-1:]
 
 
-def from_fresh(path: Path, name: str, several: bool, part: Part, ended_by: str = "", lifts: bool = False) -> bool:
+def words_to_start_with(name: str | None, keep: Keep, bare: bool) -> list[str]:
+    """What has to be in the environment of a program that somebody else starts, a line each, as a shell and systemd's EnvironmentFile take it."""
+    preload = " ".join(filter(None, [str(recorder()), os.environ.get("LD_PRELOAD", "")]))
+    ours = {"UVT_LOG": str(Path(name or "uvt").resolve())} | keep.environment() | {"LD_PRELOAD": preload}
+    if not bare:
+        ours |= {name: it for name, it in with_hooks(dict(os.environ)).items() if it != os.environ.get(name)}
+    return [f"{name}={shlex.quote(it)}" for name, it in ours.items()]
+
+
+def kept_rings(prefix: Path) -> set[Path]:
+    return {it for it in prefix.parent.glob(f"{glob.escape(prefix.name)}.*.ring") if ring.is_ring(it)}
+
+
+def from_keeping(words: list[str], name: str | None, keep: Keep, part: Part, bare: bool = False, lifts: bool = False) -> int:
+    """Runs a program of which the last windows are kept, and makes recordings of these, and of those that were kept apart."""
+    name = name or name_for(words)
+    built_program()
+    prefix = Path(name).resolve()
+    before = kept_rings(prefix)
+    pid, status = run_program(words, prefix, bare, keep)
+    if said := ended(status):
+        print(said, flush=True)
+    rings = sorted(kept_rings(prefix) - before, key=lambda it: it.stat().st_mtime_ns)
+    if not rings:
+        raise Fault(nothing_recorded(words[0], status))
+    processes = {ring.words_of(it) for it in rings}
+    whole = True
+    for path in rings:
+        late = re.search(r"\.(late-\d+)\.ring", path.name)
+        process = path.name.removeprefix(f"{prefix.name}.").split(".")[0]
+        called = ".".join(filter(None, [name, process if len(processes) > 1 else "", late[1] if late else ""]))
+        if late:
+            print(f"kept apart, since something took {keep.late} ms and longer:", flush=True)
+        by = signal_name(-status) if status < 0 and not late and process.split("-")[0] == str(pid) else ""
+        whole &= from_fresh(ring.log_of(path), called, len(processes) > 1 and not late, part, by, lifts)
+    # (all of it stands in the logs now)
+    for path in [*rings, *processes]:
+        path.unlink(missing_ok=True)
+    return 0 if whole else 1
+
+
+def taken(path: Path, kept: Path) -> bytes:
     """A log that has just been written. It is kept first, and then gets its symbols: so it isn't lost where the disk is full."""
-    kept = Path(f"{name}.log")
     try:
         data = path.read_bytes()
         path.replace(kept)
     except OSError as fault:
         raise Fault(f"{kept}: {fault.strerror}") from None
+    return data
+
+
+def from_fresh(data: bytes, name: str, several: bool, part: Part, ended_by: str = "", lifts: bool = False) -> bool:
+    """A log without its symbols. It gets them, and is kept with them."""
+    kept = Path(f"{name}.log")
     if not data.strip(b"\0"):
         raise Fault("the disk had no room for the log")
     data = data.rstrip(b"\0")
@@ -679,7 +755,7 @@ def from_fresh(path: Path, name: str, several: bool, part: Part, ended_by: str =
     try:
         write(kept, named_log(data, log))
     except Fault as fault:
-        print(f"uvt-record: {fault}: the log stays as it is, without its symbols", file=sys.stderr)
+        print(f"uvt-record: {fault}: the log has no symbols, or isn't there", file=sys.stderr)
     if several:
         print(f"process {log.process}, {log.program}", flush=True)
     lines, whole = from_data(data, log, name, part, lifts)

@@ -23,8 +23,11 @@ def starts_of(events: list[Event]) -> list[int]:
 def begin_of(events: list[Event], at: int) -> int:
     """The first event of the iteration whose poll comes next: the callbacks of idle and prepare handles before it. -1 where these ask
     something, which would stand there twice."""
-    all_at = next(it for it in range(at - 1, -1, -1) if events[it].type == "K" and events[it].words == "all")
+    end, all_at = at, next(it for it in range(at - 1, -1, -1) if events[it].type == "K" and events[it].words == "all")
     at = all_at
+    # (in a ring the places and callbacks stand in front of it)
+    while at and events[at - 1].type in "CV":
+        at -= 1
     while at and (events[at - 1].type == "E" or events[at - 1].type == "B" and events[at - 1].words.endswith((" idle", " prepare"))):
         begun = next((it for it in range(at - 1, -1, -1) if events[it].type == "B"), 0)
         if not events[begun].words.endswith((" idle", " prepare")):
@@ -32,7 +35,16 @@ def begin_of(events: list[Event], at: int) -> int:
         if any(it.type == "O" for it in events[begun:at]):
             return -1
         at = begun
+    # (the first events of a ring: of the iteration there may have been more)
+    if not any(it.type not in "CVL" for it in events[:at]) and any(is_called_first(it) for it in events[all_at:end]):
+        return -1
     return at
+
+
+def is_called_first(event: Event) -> bool:
+    """Is it the line of all that there was of a handle that is called before the poll?"""
+    words = event.words.split(" ")
+    return event.type == "K" and len(words) > 2 and words[1] in ("idle", "prepare") and words[2] == "1"
 
 
 def made_again(events: list[Event], at: int, form: int) -> list[Event]:
@@ -80,5 +92,7 @@ def window(events: list[Event], time: int, form: int) -> tuple[list[Event], int]
     mode = next((it.words.split(" ")[0] for it in reversed(events[:begin]) if it.type == "R"), "default")
     places = [it for it in events[:at] if it.type in "CV"]
     kept = [it for it in events[begin:] if it.type != "K" and (it.type not in "CV" or it.line > events[at - 1].line)]
+    # (all of a loop that waits is written down behind its poll, and the poll once more)
+    kept = [replace(it, type="P") if number == 0 and it.type == "p" else it for number, it in enumerate(kept)]
     run = Event("R", 0, NO_CLOCK, mode, events[at - 1].line)
     return [*places, *made_again(events, at, form), run, *(moved(it, now) for it in kept)], now

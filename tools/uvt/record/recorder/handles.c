@@ -24,6 +24,13 @@ REAL(uv_handle_get_type)
 
 /* ---- what callbacks and watchers have in common */
 
+static void note_late_timer(struct object *timer) {
+    uint64_t now = clock_ms();
+    if (timer->due && now > timer->due) note_late(now, now - timer->due);
+    /* (one that repeats was started again by libuv) */
+    timer->due = ((uv_timer_t *)timer->address)->timeout;
+}
+
 /* (libuv stops some watchers before their last callback: at the end of a stream, for a signal that comes once. The op belongs behind it,
  * since who isn't active isn't called) */
 struct object *enter(void *handle, const char *what, const char *known) {
@@ -31,6 +38,7 @@ struct object *enter(void *handle, const char *what, const char *known) {
     struct object *object = find(handle);
     if (object) {
         settle_all(object->loop, object);
+        if (minds_late() && object->type == UV_TIMER) note_late_timer(object);
         object->loop->begun++;
         if (!object->watcher && strcmp(object->kind, "async") != 0) object->loop->away++;
         write_line(object->loop, 'B', "on %d %s%s%s", object->id, what, *known ? " " : "", known);
@@ -148,10 +156,31 @@ struct loop *running_here(void) {
     return run_here;
 }
 
+void is_in_run(struct loop *loop) {
+    run_here = loop;
+    loop->thread = pthread_self();
+    loop->running = 1;
+    loop->mode = UV_RUN_DEFAULT;
+    loop->adopted = true;
+}
+
+REAL(uv_loop_alive)
+
+/* (that run wasn't seen to begin, and isn't seen to end) */
+static void end_adopted(struct loop *loop) {
+    settle_all(loop, NULL);
+    loop->adopted = false;
+    loop->running--;
+    write_line(loop, 'r', "%d", CALL(uv_loop_alive)(loop->uv) != 0);
+    if (run_here == loop) run_here = NULL;
+}
+
 int uv_run(uv_loop_t *uv, uv_run_mode mode) {
     if (INSIDE()) return CALL(uv_run)(uv, mode);
     lock();
-    struct loop *loop = loop_of(uv), *outer = run_here;
+    struct loop *loop = loop_of(uv);
+    if (loop && loop->adopted) end_adopted(loop);
+    struct loop *outer = run_here;
     uv_run_mode outer_mode = loop ? loop->mode : mode;
     if (loop) {
         settle_all(loop, NULL);
@@ -367,6 +396,7 @@ int uv_timer_again(uv_timer_t *handle) {
     bool nothing = CALL(uv_timer_get_repeat)(handle) == 0;
     int answer = REALLY(CALL(uv_timer_again)(handle));
     struct object *object = asked(handle);
+    if (object && answer == 0) object->due = handle->timeout;
     if (answer != 0 || !nothing) write_op(object, "again", "", answer);
     else if (object) write_line(object->loop, 'I', "%d %s", object->id, __func__);
     unlock();
@@ -383,7 +413,7 @@ int uv_timer_start(uv_timer_t *handle, uv_timer_cb callback, uint64_t timeout, u
     snprintf(words, sizeof words, " %llu %llu", (unsigned long long)timeout, (unsigned long long)repeat);
     lock();
     int answer = REALLY(CALL(uv_timer_start)(handle, on_timer, timeout, repeat));
-    if (answer == 0) object->callback = (void *)callback;
+    if (answer == 0) object->callback = (void *)callback, object->due = handle->timeout;
     name_callback(object, (void *)callback, OWN, "timer");
     write_op(object, "start", words, answer);
     unlock();
@@ -405,6 +435,29 @@ void uv_timer_set_repeat(uv_timer_t *handle, uint64_t repeat) {
 /* ---- async handles */
 
 CALLBACK(async)
+
+#define ADOPT(TYPE, KIND)                                                \
+    case TYPE: {                                                         \
+        uv_##KIND##_t *it = object->address;                             \
+        object->callback = (void *)it->KIND##_cb;                        \
+        if (!object->callback) return;                                   \
+        it->KIND##_cb = on_##KIND;                                       \
+        name_callback(object, object->callback, OWN, #KIND);             \
+        break;                                                           \
+    }
+
+void adopt_own(struct object *object) {
+    switch (object->type) {
+        ADOPT(UV_TIMER, timer)
+        ADOPT(UV_IDLE, idle)
+        ADOPT(UV_PREPARE, prepare)
+        ADOPT(UV_CHECK, check)
+        ADOPT(UV_ASYNC, async)
+    default: break;
+    }
+    if (object->type == UV_TIMER) object->due = ((uv_timer_t *)object->address)->timeout;
+}
+
 REAL(uv_async_init)
 REAL(uv_async_send)
 

@@ -407,6 +407,11 @@ static const char *hook_functions(uintptr_t lowest) {
     make_bridges(recorder);
     close_capstone();
     protect((uintptr_t)bridges, (uintptr_t)bridges + bridges_size, PROT_READ | PROT_EXEC);
+    if (!attaches) put_jumps();
+    return NULL;
+}
+
+void put_jumps(void) {
     for (int at = 0; at < function_count; at++) {
         struct function *function = &functions[at];
         if (!function->bridge || same_place(function)) continue;
@@ -419,10 +424,12 @@ static const char *hook_functions(uintptr_t lowest) {
         put_jump(function);
         protect(from, to, PROT_READ | PROT_EXEC);
     }
-    return NULL;
 }
 
 #else
+
+void put_jumps(void) {
+}
 
 static const char *hook_functions(uintptr_t lowest) {
     (void)lowest;
@@ -523,6 +530,27 @@ static int ask_file(struct dl_phdr_info *info, size_t size, void *word) {
 void hook_program(void) {
     struct asked_file asked = {.address = NULL};
     if (dl_iterate_phdr(ask_file, &asked)) hook_file(asked.file);
+}
+
+static int ask_library(struct dl_phdr_info *info, size_t size, void *word) {
+    struct asked_file *asked = word;
+    if (!strstr(info->dlpi_name, "libuv.so")) return 0;
+    asked->address = (const void *)(info->dlpi_addr + info->dlpi_phdr[0].p_vaddr);
+    for (int at = 0; at < info->dlpi_phnum; at++) {
+        const ElfW(Phdr) *part = &info->dlpi_phdr[at];
+        uintptr_t from = info->dlpi_addr + part->p_vaddr;
+        if (part->p_type != PT_LOAD) continue;
+        if (part->p_flags & PF_X) {
+            add_text_of_libuv(from, from + part->p_memsz);
+            asked->address = (const void *)from;
+        }
+    }
+    return ask_file(info, size, asked);
+}
+
+void hook_library(void) {
+    struct asked_file asked = {.address = NULL};
+    if (dl_iterate_phdr(ask_library, &asked)) hook_file(asked.file);
 }
 
 /* (the program was looked at already, a file is looked at once, and of two libuvs in a process the first is recorded) */

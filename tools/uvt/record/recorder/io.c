@@ -169,6 +169,34 @@ START(uv_fs_event_start, callback, OWN, "fs_event", on_fs_event,
 START(uv_fs_poll_start, callback, OWN, "fs_poll", on_fs_poll,
       (uv_fs_poll_t * handle, uv_fs_poll_cb callback, const char *path, unsigned number), W_PATH)
 
+/* ---- what was started before the recorder came */
+
+#define ADOPT(FIELD, TYPE, CALLBACK_FIELD, ROLE, WHAT, INSTEAD)                    \
+    {                                                                              \
+        TYPE *it = object->address;                                                \
+        object->FIELD = (void *)it->CALLBACK_FIELD;                                \
+        if (it->CALLBACK_FIELD) it->CALLBACK_FIELD = INSTEAD;                      \
+        name_callback(object, object->FIELD, ROLE, WHAT);                          \
+    }
+
+/* (of fs_poll libuv keeps the callback in memory of its own: it stays the program's) */
+void adopt_watcher(struct object *object) {
+    switch (object->type) {
+    case UV_TCP:
+    case UV_NAMED_PIPE:
+    case UV_TTY:
+        ADOPT(callback, uv_stream_t, read_cb, OWN, "read", on_read)
+        ADOPT(second, uv_stream_t, connection_cb, CONNECTION, "connection", on_connection)
+        break;
+    case UV_UDP: ADOPT(callback, uv_udp_t, recv_cb, OWN, "receive", on_receive) break;
+    case UV_POLL: ADOPT(callback, uv_poll_t, poll_cb, OWN, "poll", on_poll) break;
+    case UV_SIGNAL: ADOPT(callback, uv_signal_t, signal_cb, OWN, "signal", on_signal) break;
+    case UV_FS_EVENT: ADOPT(callback, uv_fs_event_t, cb, OWN, "fs_event", on_fs_event) break;
+    case UV_PROCESS: ADOPT(callback, uv_process_t, exit_cb, OWN, "exit", on_exit_of) break;
+    default: break;
+    }
+}
+
 #define STOP(NAME, TYPE)                            \
     REAL(NAME)                                      \
     int NAME(TYPE *handle) {                        \

@@ -22,6 +22,7 @@ enum { WINDOW = 1 << 20, NOTE = 64, LINE = 4096 };
 
 bool off = true;
 __thread int inside;
+__thread bool passing;
 __thread const char *called;
 __thread const void *called_from;
 static __thread int locked;
@@ -30,14 +31,6 @@ static char prefix[3072];
 static int file = -1;
 static char *window;
 static size_t used, windows;
-/* A ring (UVT_KEEP=MIB): so many windows are kept, and the next one is written over the oldest. 0: all are. What lines refer to (places, which libuv) stands
- * in a file of its own then, PREFIX.PID.words, and the windows, each with its number in front, in PREFIX.PID.ring. Both can be copied at any time.
- * UVT_LATE=MS: behind a callback that took so long, or a wait that ended so much later, the ring stays as PREFIX.PID.late-N.ring, and another one begins. */
-static size_t keep, number, late;
-static int words = -1;
-static uint64_t late_at;
-static int late_count;
-enum { MOST_LATE = 16, BEHIND_LATE = 1000 };
 static struct text {
     uintptr_t from, to;
 } texts[8]; /* of libuv */
@@ -85,56 +78,14 @@ bool is_locked_here(void) {
 
 /* ---- the file */
 
-static bool may_grow_to(size_t size) {
+bool may_grow_to(size_t size) {
     struct rlimit limit;
     /* (a file past its limit ends the program with a signal) */
     return getrlimit(RLIMIT_FSIZE, &limit) != 0 || limit.rlim_cur == RLIM_INFINITY || size <= limit.rlim_cur;
 }
 
-size_t ring_window(void) {
-    return keep ? number : 0;
-}
-
-/* The next window of the ring. */
-static bool turn(void) {
-    size_t at = windows % keep;
-    char *next = MAP_FAILED;
-    if (windows >= keep || (may_grow_to((at + 1) * WINDOW) && posix_fallocate(file, (off_t)(at * WINDOW), WINDOW) == 0))
-        next = mmap(NULL, WINDOW, PROT_READ | PROT_WRITE, MAP_SHARED, file, (off_t)(at * WINDOW));
-    if (next == MAP_FAILED) {
-        if (window) strcpy(window + used, "- ! no room\n");
-        off = true;
-        return false;
-    }
-    if (window) munmap(window, WINDOW);
-    memset(next, 0, WINDOW);
-    window = next;
-    windows++;
-    used = (size_t)snprintf(window, NOTE, "- W %zu\n", ++number);
-    return true;
-}
-
-/* The ring stays as it is, and another one begins. */
-static void keep_late(void) {
-    char name[4096], other[4096];
-    late_at = 0;
-    if (++late_count > MOST_LATE) return;
-    snprintf(name, sizeof name, "%s.%d.ring", prefix, (int)getpid());
-    snprintf(other, sizeof other, "%s.%d.late-%d.ring", prefix, (int)getpid(), late_count);
-    rename(name, other);
-    close(file);
-    file = open(name, O_RDWR | O_CREAT | O_TRUNC | O_CLOEXEC, 0644);
-    windows = 0;
-    if (file < 0 || !turn()) off = true;
-}
-
-void note_late(uint64_t clock, uint64_t took) {
-    if (late && took >= late && !late_at) late_at = clock;
-}
-
 /* The next window. Without room for it the last one says so at its end, and nothing is recorded any more. */
 static bool next_window(void) {
-    if (keep) return turn();
     size_t size = (windows + 1) * (size_t)WINDOW;
     char *next = MAP_FAILED;
     if (may_grow_to(size) && posix_fallocate(file, (off_t)(size - WINDOW), WINDOW) == 0)
@@ -151,11 +102,11 @@ static bool next_window(void) {
     return true;
 }
 
-static void write_words(const char *text, size_t length) {
-    if (write(words, text, length) != (ssize_t)length) off = true;
-}
-
 static void write_text(const char *text, size_t length) {
+    if (keeps()) {
+        if (!write_ring(text, length)) off = true;
+        return;
+    }
     if (used + length > WINDOW - NOTE && !next_window()) return;
     memcpy(window + used, text, length);
     used += length;
@@ -166,6 +117,12 @@ int workers(void) {
     int count = asked ? atoi(asked) : 4;
     if (count == 0) return 1;
     return count < 0 || count > 1024 ? 1024 : count; /* as libuv has it */
+}
+
+/* The lines to which others refer: in a ring they stand apart. */
+static void write_word(const char *text, size_t length) {
+    if (!keeps()) write_text(text, length);
+    else if (!write_words(text, length)) off = true;
 }
 
 static int first_workers;
@@ -191,50 +148,45 @@ static void write_head(void) {
     program[length < 0 ? 0 : length] = 0;
     int size = snprintf(text, sizeof text, "uvt-log 2 %s %d %d %s\n", CALL(uv_version_string)(), (int)getpid(),
                         first_workers, program);
-    if (keep) write_words(text, (size_t)size);
-    else write_text(text, (size_t)size);
+    write_word(text, (size_t)size);
     for (int at = 0; at < unseen_count; at++) {
         size = snprintf(text, sizeof text, "- U %s %s\n", unseen[at].function, unseen[at].why);
-        if (keep) write_words(text, (size_t)size);
-        else write_text(text, (size_t)size);
+        write_word(text, (size_t)size);
     }
 }
 
 /* The file is made with the first line of the first loop. (A program that replaced itself by exec has the same process: its file stays.) */
-static bool open_log(void) {
+static bool open_file(void) {
     char name[4096];
-    if (window) return true;
-    if (keep) {
-        snprintf(name, sizeof name, "%s.%d.words", prefix, (int)getpid());
-        words = open(name, O_WRONLY | O_CREAT | O_TRUNC | O_APPEND | O_CLOEXEC, 0644);
-        snprintf(name, sizeof name, "%s.%d.ring", prefix, (int)getpid());
-        file = open(name, O_RDWR | O_CREAT | O_TRUNC | O_CLOEXEC, 0644);
-        if (words < 0 || file < 0 || !turn()) {
-            off = true;
-            return false;
-        }
-        write_head();
-        if (getcwd(name, sizeof name)) write_line(NULL, 'J', "home %s", name);
-        return true;
-    }
+    if (keeps()) return open_ring(prefix);
     snprintf(name, sizeof name, "%s.%d.log", prefix, (int)getpid());
     for (int more = 2; (file = open(name, O_RDWR | O_CREAT | O_EXCL | O_CLOEXEC, 0644)) < 0 && errno == EEXIST; more++)
         snprintf(name, sizeof name, "%s.%d-%d.log", prefix, (int)getpid(), more);
-    if (file < 0 || !next_window()) {
+    return file >= 0 && next_window();
+}
+
+static bool is_open;
+
+static bool open_log(void) {
+    char name[4096];
+    if (is_open) return true;
+    is_open = open_file();
+    if (!is_open) {
         off = true;
         return false;
     }
     write_head();
     if (getcwd(name, sizeof name)) write_line(NULL, 'J', "home %s", name);
+    if (keeps() && first_base()) write_line(NULL, 'Z', "%u", first_base());
     return true;
 }
 
 void note_unseen(const char *function, const char *why) {
-    if (window && !function) {
+    if (is_open && !function) {
         write_line(NULL, 'U', "- %s", why);
         off = true;
     }
-    if (window || unseen_count == sizeof unseen / sizeof *unseen) return;
+    if (is_open || unseen_count == sizeof unseen / sizeof *unseen) return;
     unseen[unseen_count++] = (struct unseen){function ? function : "-", why};
     if (!function && open_log()) off = true;
 }
@@ -365,7 +317,7 @@ static bool note_time(struct loop *loop, char type, uint64_t clock, struct usage
     }
     if (type == 'T') here.work_clock = clock, here.work_usage = usage_by(clock, false);
     if (ends) times->end = clock, note_late(clock, clock - times->begin);
-    if (late_at && type == 'B' && clock >= late_at + BEHIND_LATE) keep_late();
+    if (type == 'B') look_at_late(clock);
     *took = clock - (ends ? times->begin : here.work_clock);
     if (ends) return used_since(clock, times->begin, &times->usage, used);
     return type == 'F' && used_since(clock, here.work_clock, &here.work_usage, used);
@@ -438,9 +390,10 @@ void write_line(struct loop *loop, char type, const char *format, ...) {
     line.text[line.length++] = '\n';
     if (loop) loop->lines++;
     if (type == 'B' && running_here() == loop && !forces()) in_callback = loop, in_work = 0;
-    /* (what other lines refer to) */
-    if (keep && (!loop || type == 'L')) write_words(line.text, line.length);
-    else write_text(line.text, line.length);
+    if (passing) write_text(line.text, line.length);
+    else if (!loop || (type == 'L' && keeps())) write_word(line.text, line.length);
+    /* (in the ring it says that the loop begins here) */
+    if (loop && (type != 'L' || !loop->adopted)) write_text(line.text, line.length);
 }
 
 const char *answer_text(int answer) {
@@ -452,10 +405,15 @@ bool is_behind(const struct loop *loop) {
     return !off && loop->uv && clock_ms() >= CALL(uv_now)(loop->uv) + SHORT;
 }
 
+static uint64_t starts;
+
+uint64_t next_start(void) {
+    return ++starts;
+}
+
 void write_op(struct object *object, const char *word, const char *rest, int answer) {
-    static uint64_t starts;
     if (!object) return;
-    if (answer == 0 && strcmp(word, "start") == 0) object->order = ++starts;
+    if (answer == 0 && strcmp(word, "start") == 0) object->order = next_start();
     write_line(object->loop, 'O', "%s %%%d%s = %s", word, object->id, rest, answer_text(answer));
 }
 
@@ -552,10 +510,10 @@ static void __attribute__((constructor)) begin(void) {
     const char *named = getenv("UVT_LOG");
     if (!named || strlen(named) >= sizeof prefix) return;
     strcpy(prefix, named);
-    if (getenv("UVT_KEEP")) keep = (size_t)atoi(getenv("UVT_KEEP"));
-    if (getenv("UVT_LATE")) late = (size_t)atoi(getenv("UVT_LATE"));
-    if (keep == 1) keep = 2;
+    ask_for_ring();
     pthread_atfork(before_fork, after_fork, in_child);
+    attaches = getenv("UVT_ATTACH") != NULL;
+    if (attaches) return;
     off = false;
     hook_program();
 }
@@ -563,6 +521,5 @@ static void __attribute__((constructor)) begin(void) {
 static void __attribute__((destructor)) end(void) {
     if (off || !window) return;
     off = true;
-    if (keep) return;
     if (ftruncate(file, (off_t)((windows - 1) * (size_t)WINDOW + used)) != 0) return;
 }

@@ -48,6 +48,7 @@ struct known {
     uint64_t key;
     int number;
     bool is;
+    size_t in; /* the window of a ring in which it was written last */
 };
 
 struct looks {
@@ -67,7 +68,7 @@ static struct looks *all;
 static pthread_mutex_t all_of_them = PTHREAD_MUTEX_INITIALIZER;
 static int stacks_written;
 
-static uint64_t clock_now(void) {
+static uint64_t looks_clock(void) {
     struct timespec time;
     clock_gettime(CLOCK_MONOTONIC, &time);
     return (uint64_t)time.tv_sec * 1000 + (uint64_t)time.tv_nsec / 1000000;
@@ -131,9 +132,13 @@ static int stack_of(struct looks *looks, void *node, int *numbers, unsigned most
         int place = place_of_node(looks, node), line = line_of_node(node);
         uint64_t key = mix(mix(mix(2, (unsigned)below), (unsigned)place), (unsigned)line);
         struct known *stack = known_at(looks->stacks, STACKS, &looks->stack_count, key);
-        if (stack->number < 0) {
-            stack->number = stacks_written++;
+        if (stack->number < 0) stack->number = stacks_written++, stack->in = (size_t)-1;
+        if (stack->in != ring_window()) {
+            /* (of stacks there are ever more: in a ring they go with it, and are written anew) */
+            passing = true;
             write_line(NULL, 'J', "stack %d %d %d %d", stack->number, below, place, line);
+            passing = false;
+            stack->in = ring_window();
         }
         found = stack->number;
     }
@@ -185,7 +190,7 @@ static void write_looks(struct looks *looks, bool go_on) {
     unlock();
     if (profile) profile_end()(profile);
     inside--;
-    looks->written = clock_now();
+    looks->written = looks_clock();
     looks->begun = loop->begun;
     napi_close_handle_scope(looks->env, scope);
 }
@@ -206,7 +211,7 @@ static void on_interrupt(void *isolate, void *given) {
     struct looks *looks = given;
     (void)isolate;
     if (looks != looks_here) return;
-    if (clock_now() - looks->written >= EACH / 2 || ended_by) write_looks(looks, true);
+    if (looks_clock() - looks->written >= EACH / 2 || ended_by) write_looks(looks, true);
     if (ended_by) end_by_signal();
 }
 
@@ -219,7 +224,7 @@ static void *watch(void *none) {
         until.tv_sec++;
         sem_timedwait(&wake, &until);
         pthread_mutex_lock(&all_of_them);
-        uint64_t now = clock_now();
+        uint64_t now = looks_clock();
         for (struct looks *it = all; it; it = it->next) {
             if (!it->profiler || (!ended_by && now - it->interrupted < EACH)) continue;
             it->interrupted = now;
@@ -245,7 +250,7 @@ static void begin_watch(void) {
 int wait_before_looks(struct loop *loop) {
     struct looks *looks = looks_here;
     if (!looks || !looks->profiler || looks->begun == loop->begun) return -1;
-    uint64_t since = clock_now() - looks->written;
+    uint64_t since = looks_clock() - looks->written;
     return since >= EACH ? 0 : (int)(EACH - since);
 }
 
@@ -292,7 +297,7 @@ void begin_looks(napi_env env) {
     profiler_start()(looks->profiler, title(looks, 0), BY_LINES, true, UINT_MAX);
     inside--;
     napi_close_handle_scope(env, scope);
-    looks->written = looks->interrupted = clock_now();
+    looks->written = looks->interrupted = looks_clock();
     looks_here = looks;
     napi_add_env_cleanup_hook(env, forget, looks);
     pthread_mutex_lock(&all_of_them);

@@ -12,7 +12,7 @@
 
 static struct loop **loops; /* of the closed ones those alone that were closed since the last one was made */
 static int loop_count, loop_room, loops_made;
-static uint64_t first_base;
+static uint64_t base_of_first;
 static struct object **buckets, *unused;
 static size_t bucket_count, object_count;
 static int ids;
@@ -32,8 +32,8 @@ static struct loop *add_loop(uv_loop_t *uv) {
     struct loop *loop = calloc(1, sizeof *loop);
     if (!loop) return NULL;
     *loop = (struct loop){.uv = uv, .number = loops_made++, .base = CALL(uv_now)(uv), .thread = pthread_self()};
-    if (loop->number == 0) first_base = loop->base;
-    loop->behind = (int)((int64_t)loop->base - (int64_t)first_base);
+    if (loop->number == 0) base_of_first = loop->base;
+    loop->behind = (int)((int64_t)loop->base - (int64_t)base_of_first);
     loops[loop_count++] = loop;
     force_loop(loop);
     return loop;
@@ -59,7 +59,17 @@ struct loop *loop_of(uv_loop_t *uv) {
     if (last && last->uv == uv) return last;
     for (int at = loop_count - 1; at >= 0; at--)
         if (loops[at]->uv == uv) return last = loops[at];
-    return last = add_loop(uv);
+    /* (one that was there before the recorder is taken over as it polls) */
+    return attaches ? NULL : (last = add_loop(uv));
+}
+
+uint64_t first_base(void) {
+    return base_of_first;
+}
+
+void each_loop(void (*tell)(struct loop *)) {
+    for (int at = 0; at < loop_count; at++)
+        if (loops[at]->uv) tell(loops[at]);
 }
 
 /* ---- objects */
@@ -190,15 +200,42 @@ int object_total(void) {
 
 /* ---- where they and their callbacks lie */
 
-enum { PLACES = 4096, TRIES = 8 };
+enum { PAGES = 4096, PLACES = 1024 };
 
-/* (a place that has no room gets another number the next time; the file's own symbols count from where it was loaded) */
+struct place {
+    const void *address;
+    int number;
+};
+
+static struct place *places;
+static size_t place_room;
+static int place_count;
+
+/* Where that is, or is to be put. */
+static struct place *place_at(struct place *all, size_t room, const void *address) {
+    size_t at = ((uintptr_t)address * 0x9E3779B97F4A7C15u >> 32) & (room - 1);
+    while (all[at].address && all[at].address != address) at = (at + 1) & (room - 1);
+    return &all[at];
+}
+
+/* (half of them are free) */
+static bool grow_places(void) {
+    size_t room = place_room ? 2 * place_room : PLACES;
+    struct place *more = calloc(room, sizeof *more);
+    if (!more) return false;
+    for (size_t at = 0; at < place_room; at++)
+        if (places[at].address) *place_at(more, room, places[at].address) = places[at];
+    free(places);
+    places = more;
+    place_room = room;
+    return true;
+}
+
+/* (the file's own symbols count from where it was loaded) */
 int address_number(const void *address) {
-    static struct { const void *address; int number; } places[PLACES];
-    static int count;
-    size_t at = ((uintptr_t)address * 0x9E3779B97F4A7C15u >> 40) % PLACES;
-    for (int tries = 0; tries < TRIES && places[at].address; tries++, at = (at + 1) % PLACES)
-        if (places[at].address == address) return places[at].number;
+    if (2 * (size_t)place_count >= place_room && !grow_places()) return -1;
+    struct place *place = place_at(places, place_room, address);
+    if (place->address) return place->number;
     Dl_info info;
     struct link_map *map;
     if (!dladdr1(address, &info, (void **)&map, RTLD_DL_LINKMAP) || !info.dli_fname || !map) return -1;
@@ -208,21 +245,20 @@ int address_number(const void *address) {
     if (length >= 0) file[length] = 0;
     else if (!realpath(*map->l_name ? map->l_name : info.dli_fname, file)) snprintf(file, sizeof file, "%s", info.dli_fname);
     const char *symbol = info.dli_saddr == address && info.dli_sname ? info.dli_sname : "-";
-    write_line(NULL, 'A', "%d %x %s %s", count, (uint64_t)((uintptr_t)address - map->l_addr), symbol, file);
-    places[at].address = address;
-    places[at].number = count;
-    return count++;
+    write_line(NULL, 'A', "%d %x %s %s", place_count, (uint64_t)((uintptr_t)address - map->l_addr), symbol, file);
+    *place = (struct place){address, place_count};
+    return place_count++;
 }
 
 /* (most handles lie in memory that was allocated, many in a page: such a page is remembered) */
 void name_place(struct object *object) {
-    static uintptr_t elsewhere[PLACES];
+    static uintptr_t elsewhere[PAGES];
     if (!object) return;
     uintptr_t page = (uintptr_t)object->address >> 12;
-    if (elsewhere[page % PLACES] == page) return;
+    if (elsewhere[page % PAGES] == page) return;
     int place = address_number(object->address);
     if (place >= 0) write_line(object->loop, 'V', "%d %d %d", object->id, place, object->size);
-    else elsewhere[page % PLACES] = page;
+    else elsewhere[page % PAGES] = page;
 }
 
 void name_callback(struct object *object, void *callback, enum role role, const char *what) {

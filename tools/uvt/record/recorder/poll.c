@@ -35,16 +35,52 @@ static void tell_one(struct object *it) {
     write_line(it->loop, 'K', "%d %s %d %d %d %u %u %u", it->id, it->kind, active, referenced, closing, due, repeat, order);
 }
 
-static void tell_all(struct loop *loop) {
-    size_t in = ring_window();
-    long since = loop->lines - loop->counted;
-    if (in ? in == loop->told_in || since < MANY * object_total() : since < OFTEN + MANY * object_total()) return;
-    if (in) each(loop, name_again);
+static void tell(struct loop *loop) {
     write_line(loop, 'K', "all");
     each(loop, tell_one);
     write_line(loop, 'K', "end");
     loop->counted = loop->lines;
-    loop->told_in = in;
+}
+
+/* In a ring once in each window, but not more than a quarter of it, so that a recording may begin in any part of it; with the places and the callbacks,
+ * since lines that said these may be gone. A ring has room for four times of all, and more. (At the second poll in a window all of that iteration
+ * is in it.) */
+enum { SHARE = 4 };
+
+static bool is_to_be_told(const struct loop *loop) {
+    uint64_t since = ring_bytes() - loop->told_at;
+    return !loop->told_in || (loop->told_in != ring_window() && since >= SHARE * loop->told_size);
+}
+
+static void tell_again(struct loop *loop) {
+    static uint64_t sizes;
+    uint64_t begin = ring_bytes();
+    each(loop, name_again);
+    tell(loop);
+    sizes += ring_bytes() - begin - loop->told_size;
+    loop->told_size = ring_bytes() - begin;
+    loop->told_at = begin;
+    loop->told_in = ring_window();
+    ring_needs(2 * SHARE * sizes);
+}
+
+/* A loop that waits writes nothing, and the ring goes on: the lines are written for it, as they were at its poll, with that poll once more. */
+static void tell_of_one_that_waits(struct loop *loop) {
+    if (!loop->waiting || !loop->told_in || !is_to_be_told(loop)) return;
+    tell_again(loop);
+    write_line(loop, 'p', "%d", loop->poll.timeout);
+}
+
+static void tell_all(struct loop *loop) {
+    static size_t told_in;
+    if (!keeps()) {
+        if (loop->lines - loop->counted >= OFTEN + MANY * object_total()) tell(loop);
+        return;
+    }
+    if (is_to_be_told(loop) && (loop->poll.in == ring_window() || !loop->told_in)) tell_again(loop);
+    if (told_in == ring_window()) return;
+    told_in = ring_window();
+    each_loop(tell_of_one_that_waits);
 }
 
 /* ---- the poll: what libuv asks of the system */
@@ -65,7 +101,8 @@ int epoll_create1(int flags) {
 
 static struct loop *polls(int descriptor, const void *caller) {
     struct loop *loop = running_here();
-    if (off || !loop || !loop->uv || !is_from_libuv(caller)) return NULL;
+    if (off || (!loop && !attaches) || (loop && !loop->uv) || !is_from_libuv(caller)) return NULL;
+    if (!loop && !(loop = adopt_loop(descriptor))) return NULL;
     return CALL(uv_backend_fd)(loop->uv) == descriptor ? loop : NULL;
 }
 
@@ -91,7 +128,7 @@ static void note_poll(struct loop *loop, int timeout) {
     }
     write_line(loop, again ? 'p' : 'P', "%d", timeout);
     loop->waiting = true;
-    loop->poll = (struct poll){.begun = loop->begun, .away = loop->away, .timeout = timeout, .wait = wait};
+    loop->poll = (struct poll){.begun = loop->begun, .away = loop->away, .timeout = timeout, .wait = wait, .in = ring_window()};
     if (wait > 0) loop->poll.clock = clock_ms(), loop->poll.waited = waited_by(loop->poll.clock, false);
     unlock();
 }
@@ -110,6 +147,7 @@ static void note_late_poll(struct loop *loop, int got) {
     struct poll *poll = &loop->poll;
     int fault = got < 0 ? errno : 0;
     uint64_t clock = poll->wait > 0 && !forces() ? clock_ms() : 0, end = poll->clock + (uint64_t)poll->wait;
+    if (clock > end && minds_late()) note_late(clock, clock - end);
     if (clock < end + LATE || poll->waited == UNKNOWN) return;
     lock();
     uint64_t waited = waited_by(clock, true) - poll->waited;
@@ -120,8 +158,11 @@ static void note_late_poll(struct loop *loop, int got) {
 
 static int note_events(struct loop *loop, const struct epoll_event *events, int got) {
     if (!loop) return got;
+    /* (another loop may write down what this one has, while it waits) */
+    if (keeps()) lock();
     loop->waiting = false;
     note_late_poll(loop, got);
+    if (keeps()) unlock();
     bool in_vain = true;
     for (int at = 0; at < got && in_vain; at++) in_vain = !is_for_somebody(loop->uv, &events[at]);
     loop->poll.got = got;

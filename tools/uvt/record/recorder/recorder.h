@@ -37,11 +37,13 @@ struct loop {
     pthread_t thread; /* that of the last uv_run, or of its init */
     int running; /* how many uv_run are under way */
     bool waiting; /* for events, in a poll */
+    bool adopted; /* its run began before the recorder came */
     struct object *unsettled; /* watchers whose callback has just ended: see settle() */
     struct object *looked; /* one of its handles, which lie in a ring: the next one whose memory is looked at (memory.c) */
     uint64_t looked_at; /* the loop's time as that was done last */
     int looks; /* how often, up to FEW */
-    size_t told_in; /* the window of the ring in which all of it was written down last */
+    size_t told_in; /* the window of the ring in which all of it was written down last, */
+    uint64_t told_at, told_size; /* behind how many bytes, and in how many */
     long lines, counted; /* of it in the log; and how many there were as all of it was last written down */
     uv_run_mode mode; /* of the uv_run that is under way */
     long begun, away; /* how many callbacks and runs have begun, and how many of them in no poll */
@@ -55,6 +57,7 @@ struct loop {
     struct poll {
         long begun, away; /* the same as libuv asked for events */
         int timeout, got; /* how long it waits, and how many events it got; negative where it was interrupted */
+        size_t in; /* which window of the ring */
         bool in_vain; /* none of these is for anybody */
         int wait; /* how long the system is asked to wait */
         uint64_t clock, waited; /* as it began; and how long the thread had waited for a processor by then */
@@ -70,6 +73,7 @@ struct object {
     struct loop *loop;
     int id;
     const char *kind; /* NULL of a request of a stream */
+    uint64_t due; /* of a timer, as it was started last */
     uint64_t order; /* of an idle, prepare or check handle: the how-manieth start it was */
     bool handle;
     bool watcher; /* a handle of I/O, signals, files or processes */
@@ -96,6 +100,9 @@ struct object {
 };
 
 struct loop *loop_of(uv_loop_t *uv);
+/* The loop's time as the first one was first seen, 0 where none was; and does it of each loop. */
+uint64_t first_base(void);
+void each_loop(void (*tell)(struct loop *));
 struct loop *new_loop(uv_loop_t *uv);
 /* The last one that was made or asked for in this thread, NULL if there is none. */
 struct loop *last_loop(void);
@@ -136,10 +143,12 @@ bool is_locked_here(void);
  * of a callback or work that took long enough how long its thread was on the processor.
  * The format knows %d, %u (64 bits), %x (64 bits) and %s. */
 void write_line(struct loop *loop, char type, const char *format, ...);
-/* Where the log is a ring: the number of its window, from 1; else 0. */
-size_t ring_window(void);
-/* Something took so long. */
-void note_late(uint64_t clock, uint64_t took);
+/* May a file have this size? (Past its limit the program would be ended by a signal.) */
+bool may_grow_to(size_t size);
+/* The clock, in ms. */
+uint64_t clock_ms(void);
+/* What is written now without a loop isn't kept for ever in a ring. */
+extern __thread bool passing;
 /* How many workers the pool has, by the environment as it is now; the line that says so where that isn't what the first line has. */
 int workers(void);
 void write_workers(void);
@@ -172,6 +181,25 @@ void put_off_stacks(void);
 void no_stacks(void);
 void forget_stacks(void);
 void write_stacks(struct loop *loop);
+
+/* ---- a log that is a ring (ring.c) */
+
+/* Reads the wish for one from the environment; is the log one; makes its files; and writes a line, or one to which others refer. */
+void ask_for_ring(void);
+bool keeps(void);
+bool open_ring(const char *prefix);
+bool write_ring(const char *text, size_t length);
+bool write_words(const char *text, size_t length);
+/* The number of its window, from 1 on, 0 where the log is no ring; how many bytes were written; and how many are kept. */
+size_t ring_window(void);
+uint64_t ring_bytes(void);
+uint64_t ring_room(void);
+/* So many bytes are to be kept at the least. */
+void ring_needs(uint64_t bytes);
+/* Something took so long; are such things to be kept apart; and does so, where one was noted a while ago. */
+void note_late(uint64_t clock, uint64_t took);
+bool minds_late(void);
+void look_at_late(uint64_t clock);
 
 /* ---- the real functions (log.c) */
 
@@ -216,6 +244,22 @@ void see_caller(const void *caller);
 void *own_function(const char *name);
 /* Calls of a function of it can't be seen, or (NULL) of none, and then nothing is recorded: a line behind the first one says why. */
 void note_unseen(const char *function, const char *why);
+
+/* The jumps, where they weren't put at once, since the program runs; and the same of the library libuv. */
+void put_jumps(void);
+void hook_library(void);
+
+/* ---- a program that runs already (attach.c) */
+
+extern bool attaches; /* it is one */
+/* The loop that polls this descriptor in this thread, with its handles; NULL where it isn't found, or can't be taken over now. */
+struct loop *adopt_loop(int descriptor);
+/* The callbacks that a handle has become the recorder's. */
+void adopt_own(struct object *handle);
+void adopt_watcher(struct object *handle);
+uint64_t next_start(void);
+/* This thread is in a run of this loop that began before. */
+void is_in_run(struct loop *loop);
 
 /* ---- an order that is forced (force.c): a library of its own, compiled with FORCE. The recorder by itself has nothing of it */
 

@@ -1,0 +1,256 @@
+/* A ring (UVT_KEEP=MIB): of the log the last MIB windows are kept, each of one MiB, and the next one is written over the oldest.
+ *
+ * PREFIX.PID.ring has the windows, each with its number in front. What lines refer to (places in files, functions of JavaScript, which libuv)
+ * stands in PREFIX.PID.words, which grows with the program's text, and not with time. Both may be copied at any time, and stay as they are if the
+ * program is killed. In each window a recording may begin: of each loop all that it has is written there (poll.c).
+ *
+ * UVT_LATE=MS: behind a callback that took so long, a timer that began so late, or a poll that ended so late, the ring goes on for a while,
+ * stays as PREFIX.PID.late-N.ring, and another one begins. Of more than MOST_LATE those with the longest stay.
+ *
+ * Of processes that have ended the rings of the last LEFT stay: a program that is started again and again fills no disk. */
+#define _GNU_SOURCE
+#include "recorder.h"
+
+#include <dirent.h>
+#include <errno.h>
+#include <fcntl.h>
+#include <stdio.h>
+#include <stdlib.h>
+#include <string.h>
+#include <sys/file.h>
+#include <sys/mman.h>
+#include <sys/stat.h>
+#include <unistd.h>
+
+enum { WINDOW = 1 << 20, NOTE = 64, FEWEST = 2, MOST = 1 << 16, MOST_LATE = 4, BEHIND_LATE = 1000, LEFT = 3, GROUPS = 512 };
+
+static size_t keep; /* how many windows; 0: no ring */
+static char prefix[3072], process[32]; /* PREFIX.PROCESS.ring */
+static int file = -1, words = -1;
+static char *window;
+static size_t slot, slots, used; /* the window's place in the file, how many the file has, and how much of it is used */
+static size_t number; /* of the window, from 1 */
+static uint64_t before; /* bytes in windows that are full */
+
+/* What took long: since when, as what, in which window; and how long what is kept apart took. */
+static uint64_t late, late_at, late_took, kept[MOST_LATE];
+static size_t late_in;
+
+/* What couldn't be written into the words yet. */
+static char waits[1 << 16];
+static size_t waiting;
+
+bool keeps(void) {
+    return keep > 0;
+}
+
+size_t ring_window(void) {
+    return keep ? number : 0;
+}
+
+uint64_t ring_bytes(void) {
+    return before + used;
+}
+
+uint64_t ring_room(void) {
+    return (uint64_t)keep * WINDOW;
+}
+
+/* (the windows that there are keep their order: the next one is the oldest, or, behind the last one, new) */
+void ring_needs(uint64_t bytes) {
+    size_t wanted = (size_t)(bytes / WINDOW) + 1;
+    if (wanted > keep && wanted <= MOST) keep = wanted;
+}
+
+static void name_of(char *name, size_t size, const char *end) {
+    snprintf(name, size, "%s.%s.%s", prefix, process, end);
+}
+
+/* ---- windows */
+
+/* Where the file can't grow the ring has as many windows as there are. */
+static char *map_next(size_t *next) {
+    *next = window ? slot + 1 : 0;
+    if (*next >= keep) *next = 0;
+    if (*next >= slots) {
+        size_t size = (*next + 1) * (size_t)WINDOW;
+        if (may_grow_to(size) && posix_fallocate(file, (off_t)(size - WINDOW), WINDOW) == 0) slots = *next + 1;
+        else if (slots >= FEWEST) *next = 0;
+        else return MAP_FAILED;
+    }
+    return mmap(NULL, WINDOW, PROT_READ | PROT_WRITE, MAP_SHARED, file, (off_t)(*next * (size_t)WINDOW));
+}
+
+static bool turn(void) {
+    size_t next;
+    char *mapped = map_next(&next);
+    if (mapped == MAP_FAILED) {
+        if (window) strcpy(window + used, "- ! no room\n");
+        return false;
+    }
+    if (window) munmap(window, WINDOW), before += used;
+    memset(mapped, 0, WINDOW);
+    window = mapped;
+    slot = next;
+    used = (size_t)snprintf(window, NOTE, "- W %zu\n", ++number);
+    return true;
+}
+
+bool write_ring(const char *text, size_t length) {
+    if (used + length > WINDOW - NOTE && !turn()) return false;
+    memcpy(window + used, text, length);
+    used += length;
+    return true;
+}
+
+/* (a disk may be full for a while: what has no room waits) */
+bool write_words(const char *text, size_t length) {
+    if (waiting + length > sizeof waits) return false;
+    memcpy(waits + waiting, text, length);
+    waiting += length;
+    ssize_t done = write(words, waits, waiting);
+    if (done > 0) memmove(waits, waits + done, waiting -= (size_t)done);
+    return true;
+}
+
+/* ---- what took long */
+
+static void keep_late(void) {
+    char name[4096], other[4096], end[32];
+    int at = 0;
+    for (int it = 1; it < MOST_LATE; it++)
+        if (kept[it] < kept[at]) at = it;
+    late_at = 0;
+    if (kept[at] >= late_took) return;
+    kept[at] = late_took;
+    snprintf(end, sizeof end, "late-%d.ring", at + 1);
+    name_of(name, sizeof name, "ring");
+    name_of(other, sizeof other, end);
+    int fresh = -1;
+    if (rename(name, other) == 0) fresh = open(name, O_RDWR | O_CREAT | O_TRUNC | O_CLOEXEC, 0644);
+    if (fresh < 0) return;
+    close(file);
+    munmap(window, WINDOW);
+    before += used;
+    window = NULL;
+    file = fresh;
+    slots = 0;
+    if (!turn()) off = true;
+}
+
+void note_late(uint64_t clock, uint64_t took) {
+    if (!late || took < late || (late_at && took <= late_took)) return;
+    /* (of a longer one that comes meanwhile as much is to stand behind it) */
+    late_at = clock;
+    late_in = number;
+    late_took = took;
+}
+
+bool minds_late(void) {
+    return late > 0;
+}
+
+/* (in front of a callback, so that it isn't cut) */
+void look_at_late(uint64_t clock) {
+    if (late_at && (clock >= late_at + BEHIND_LATE || number - late_in >= (keep + 1) / 2)) keep_late();
+}
+
+/* ---- its files */
+
+struct group {
+    char process[32];
+    time_t at;
+};
+
+/* The process of a file of a ring, in front of the last or last but one point; false for another file. */
+static bool process_of(const char *name, const char *base, char *found, size_t size) {
+    size_t length = strlen(base);
+    if (strncmp(name, base, length) != 0 || name[length] != '.') return false;
+    const char *from = name + length + 1, *end = strchr(from, '.');
+    if (!end || end == from || (size_t)(end - from) >= size || strspn(from, "0123456789-") != (size_t)(end - from)) return false;
+    if (strcmp(end, ".words") != 0 && strcmp(end, ".ring") != 0 && (strncmp(end, ".late-", 6) != 0 || !strstr(end, ".ring"))) return false;
+    memcpy(found, from, (size_t)(end - from));
+    found[end - from] = 0;
+    return true;
+}
+
+/* Who is alive has its words locked. (By their numbers processes of another container can't be told.) */
+static bool is_over(const char *its) {
+    char name[4096];
+    snprintf(name, sizeof name, "%s.%s.words", prefix, its);
+    int descriptor = open(name, O_RDONLY | O_CLOEXEC);
+    if (descriptor < 0) return errno == ENOENT;
+    bool free = flock(descriptor, LOCK_EX | LOCK_NB) == 0;
+    close(descriptor);
+    return free;
+}
+
+static int by_age(const void *one, const void *other) {
+    time_t a = ((const struct group *)one)->at, b = ((const struct group *)other)->at;
+    return a < b ? 1 : a > b ? -1 : 0;
+}
+
+static void clear_away(void) {
+    static struct group groups[GROUPS];
+    char folder[3072], name[4096], its[32];
+    const char *base = strrchr(prefix, '/');
+    int count = 0, over = 0;
+    if (!base || (size_t)(base - prefix) >= sizeof folder) return;
+    snprintf(folder, sizeof folder, "%.*s", (int)(base - prefix + 1), prefix);
+    base++;
+    DIR *all = opendir(folder);
+    if (!all) return;
+    for (struct dirent *it; (it = readdir(all));) {
+        struct stat about;
+        int at = 0;
+        if (!process_of(it->d_name, base, its, sizeof its)) continue;
+        while (at < count && strcmp(groups[at].process, its) != 0) at++;
+        if (at == GROUPS) continue;
+        if (at == count) strcpy(groups[count].process, its), groups[count++].at = 0;
+        snprintf(name, sizeof name, "%s%s", folder, it->d_name);
+        if (stat(name, &about) == 0 && about.st_mtime > groups[at].at) groups[at].at = about.st_mtime;
+    }
+    qsort(groups, (size_t)count, sizeof *groups, by_age);
+    rewinddir(all);
+    for (int at = 0; at < count; at++) {
+        if (!is_over(groups[at].process) || over++ < LEFT) groups[at].process[0] = 0;
+    }
+    for (struct dirent *it; (it = readdir(all));) {
+        if (!process_of(it->d_name, base, its, sizeof its)) continue;
+        for (int at = 0; at < count; at++)
+            if (strcmp(groups[at].process, its) == 0) unlinkat(dirfd(all), it->d_name, 0);
+    }
+    closedir(all);
+}
+
+bool open_ring(const char *named) {
+    char name[4096];
+    strcpy(prefix, named);
+    clear_away();
+    snprintf(process, sizeof process, "%d", (int)getpid());
+    name_of(name, sizeof name, "words");
+    /* (a program that replaced itself by exec has the same process) */
+    for (int more = 2; (words = open(name, O_WRONLY | O_CREAT | O_EXCL | O_APPEND | O_CLOEXEC, 0644)) < 0 && errno == EEXIST; more++) {
+        snprintf(process, sizeof process, "%d-%d", (int)getpid(), more);
+        name_of(name, sizeof name, "words");
+    }
+    if (words < 0) return false;
+    flock(words, LOCK_SH | LOCK_NB);
+    name_of(name, sizeof name, "ring");
+    file = open(name, O_RDWR | O_CREAT | O_TRUNC | O_CLOEXEC, 0644);
+    /* (what came before isn't there) */
+    if (attaches) number = 1;
+    return file >= 0 && turn();
+}
+
+static size_t number_in(const char *name) {
+    const char *text = getenv(name);
+    long found = text ? atol(text) : 0;
+    return found < 0 ? 0 : found > MOST ? MOST : (size_t)found;
+}
+
+void ask_for_ring(void) {
+    keep = number_in("UVT_KEEP");
+    late = number_in("UVT_LATE");
+    if (keep && keep < FEWEST) keep = FEWEST;
+}
