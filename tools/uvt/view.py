@@ -10,14 +10,14 @@ from pathlib import Path
 from typing import Callable, Iterator
 
 from uvt.arrivals import behind, came
-from uvt.conversation import Conversation, Script
+from uvt.conversation import Conversation, Fault, Script, packed
 from uvt.javascript import OUTSIDE
 from uvt.notes import Request
 from uvt.places import MEANT, Place, next_line, read_place
 from uvt.waits import Wait
 from uvt.walk import Took, Walk
 from uvt.overview import Overview
-from uvt.why import FIFTH, Why
+from uvt.why import FIFTH, Why, named
 from uvt.why_javascript import WhyJavaScript
 from uvt.why_requests import under_way
 
@@ -27,6 +27,9 @@ SEND = re.compile(r"(out )?send \S+ = \S+")
 
 # Of so many steps the timers' heap is kept: it is asked for with the memory, which takes longer.
 HEAPS = 20_000
+# So many steps a page has at the most, and so many lines of `why` a name has on a page that is a part.
+MOST = 40_000
+WHYS = 1_000
 # From how many ms on a late call is red: in a recording the clock's millisecond is none.
 RED, RED_RECORDED = 1, 5
 # From how many ms on a callback has its name in the loop's lane.
@@ -35,14 +38,38 @@ LONG = 2
 FUNCTIONS = 12
 
 
-def all_states(script: Script, steps: list[str], heaps: bool, tell: Callable[[int, int], None]) -> Iterator[tuple[list[str], str]]:
-    """The text of the state at each length, from 0 on; and the line of the timers' heap, where that is asked for."""
+@dataclass
+class Part:
+    """From which length to which the page goes, where it opens, and why it has no more; `` where it has all."""
+
+    begin: int
+    end: int
+    opens: int
+    why: str
+
+
+def part_of(walk: Walk, at: int | None) -> Part:
+    """All of a run; of a long one the steps around one of them, or around what stands out: the longest callback."""
+    if at is not None and not 0 <= at <= walk.length:
+        raise Fault(f"there is no step {at}: there are {walk.length}")
+    if walk.length <= MOST:
+        return Part(0, walk.length, at or 0, "")
+    longest = max((it for it in walk.tooks if it.is_callback()), key=Took.took, default=None)
+    opens = at if at is not None else longest.first if longest else walk.length
+    begin = max(0, min(opens - MOST // 2, walk.length - MOST))
+    around = f"around step {at}" if at is not None or not longest else f"around {named(longest).rstrip(',')}, which took longest: {longest.took()} ms"
+    why = f"A PART: this page has the steps {begin} to {begin + MOST} of {walk.length}, {around}; with --at STEP uvt view has others"
+    return Part(begin, begin + MOST, opens, why)
+
+
+def all_states(script: Script, steps: list[str], part: Part, heaps: bool, tell: Callable[[int, int], None]) -> Iterator[tuple[list[str], str]]:
+    """The text of the state at each length of the part; and the line of the timers' heap, where that is asked for."""
     word, last = ("image", ("counts ", "refused ")) if heaps else ("state", ("done-yet",))
     with Conversation(script) as talk:
-        text = f"{word}\n" + "".join(f"{it}\n{word}\n" for it in steps)
+        text = packed(steps[: part.begin]) + f"{word}\n" + "".join(f"{it}\n{word}\n" for it in steps[part.begin : part.end])
         writer = threading.Thread(target=talk.send_quietly, args=(text,), daemon=True)
         writer.start()
-        for at in range(len(steps) + 1):
+        for at in range(part.end - part.begin + 1):
             line = talk.read_line()
             while not line.startswith("steps "):
                 line = talk.read_line()
@@ -51,7 +78,7 @@ def all_states(script: Script, steps: list[str], heaps: bool, tell: Callable[[in
                 rows.append(talk.read_line())
             end = next(it for it in range(len(rows) - 1, -1, -1) if rows[it].startswith("done-yet")) + 1
             yield rows[:end], next((it for it in rows[end:] if it.startswith("heap")), "")
-            tell(at, len(steps))
+            tell(at, part.end - part.begin)
         writer.join()
 
 
@@ -85,8 +112,9 @@ class Lane:
 class Page:
     """The states of a session as the changes from one to the next, and the lanes."""
 
-    def __init__(self, walk: Walk, tell: Callable[[int, int], None] = lambda *_: None) -> None:
+    def __init__(self, walk: Walk, tell: Callable[[int, int], None] = lambda *_: None, at: int | None = None) -> None:
         self.walk = walk
+        self.part, self.asked = part_of(walk, at), at is not None
         self.names = walk.script.names()
         # from which length on the heap has these slots
         self.heaps: list[list[int]] = []
@@ -98,7 +126,8 @@ class Page:
         self.lanes = {it: Lane(it, "name") for it in self.names}
         self.workers: dict[int, Lane] = {}
         before: dict[int, str] = {}
-        for length, (rows, heap) in enumerate(all_states(walk.script, walk.steps, walk.length <= HEAPS, tell)):
+        heaps = self.part.end - self.part.begin <= HEAPS
+        for length, (rows, heap) in enumerate(all_states(walk.script, walk.steps, self.part, heaps, tell), self.part.begin):
             before = self.see(length, rows, before)
             if heap and (not self.heaps or self.heaps[-1][1] != self.texts.number(heap)):
                 self.heaps.append([length, self.texts.number(heap)])
@@ -181,10 +210,20 @@ class Page:
         found, late = {}, []
         for name in self.names:
             answers = Why(self.walk, name)
-            found[name] = answers.answer()
+            found[name] = self.cut(answers.answer())
             called = [it for it in answers.history.waits if it.how == "called"]
-            late += [[it.ended, name, *by] for it in called if (by := self.late_by(answers, it))[0] > 0]
+            late += [[it.ended, name, *by] for it in called if self.has(it.ended) and (by := self.late_by(answers, it))[0] > 0]
         return found, sorted(late)
+
+    def has(self, step: int) -> bool:
+        """Is this step on the page?"""
+        return self.part.begin <= step <= self.part.end
+
+    def cut(self, lines: list[str]) -> list[str]:
+        """On a page that is a part, so many lines at the most."""
+        if not self.part.why or len(lines) <= WHYS:
+            return lines
+        return [*lines[:WHYS], f"and {len(lines) - WHYS} lines more: `uvt why` has them"]
 
     def late_by(self, answers: Why, wait: Wait) -> tuple[int, str]:
         """How late a timer was called; of a callback of I/O how long behind the end of its poll, or its last call."""
@@ -211,6 +250,7 @@ class Page:
             now += [it for it, begins in changes if begins]
             now = [it for it in now if (it, False) not in changes]
             lane.now(step, under_way(now))
+        lane.parts = [it for it in lane.parts if it[0] <= self.part.end]
         return [lane] if mine else []
 
     def values(self) -> dict[str, object]:
@@ -221,9 +261,11 @@ class Page:
         lanes[1:1] = functions
         asked = WhyJavaScript(self.walk) if functions else None
         whys.update({it.name: asked.answer(it.name) for it in functions})
-        if any(SEND.fullmatch(it) for it in self.walk.lines):
+        begin, end = self.part.begin, self.part.end
+        said, steps = self.walk.lines[begin : end + 1], self.walk.steps[begin:end]
+        if any(SEND.fullmatch(it) for it in said):
             lanes.append(Lane("sends", "sends"))
-        if any(it.startswith("io ") for it in self.walk.steps):
+        if any(it.startswith("io ") for it in steps):
             lanes.append(Lane("what came", "came"))
         return {
             "script": self.walk.script.lines,
@@ -232,9 +274,13 @@ class Page:
             "base": self.base,
             "changes": self.changes,
             "next": self.lines_done,
-            "steps": [self.texts.number(it) for it in self.walk.steps],
-            "said": [self.texts.number(it) for it in self.walk.lines],
-            "clock": list(self.walk.clocks),
+            "begin": begin,
+            "opens": self.part.opens,
+            "asked": self.asked,
+            "of": self.walk.length,
+            "steps": [self.texts.number(it) for it in steps],
+            "said": [self.texts.number(it) for it in said],
+            "clock": list(self.walk.clocks[begin : end + 1]),
             "lanes": [{"name": it.name, "what": it.what, "parts": it.parts} for it in lanes],
             "late": late,
             "why": whys,
@@ -242,7 +288,7 @@ class Page:
             "recorded": bool(self.walk.notes.names),
             "heaps": self.heaps,
             "long": self.long(),
-            "part": "\n".join(self.walk.notes.loud()),
+            "part": "\n".join([*filter(None, [self.part.why]), *self.walk.notes.loud()]),
             "from": RED_RECORDED if self.walk.notes.names else RED,
             "kinds": {name: kind for name, (kind, _) in self.walk.notes.names.items()},
             "meant": MEANT,
@@ -260,12 +306,13 @@ class Page:
 
     def came(self) -> list[list[object]]:
         """The callbacks of I/O: their steps, whose, and what came, where the notes say that."""
-        calls = [(step, *self.walk.calls[step][1:]) for step in range(1, self.walk.length + 1) if self.walk.steps[step - 1].startswith("io ")]
+        calls = [(step, *self.walk.calls[step][1:]) for step in range(max(1, self.part.begin), self.part.end + 1) if self.walk.steps[step - 1].startswith("io ")]
         return [[step, name, self.walk.notes.came(name, call)] for step, name, call in calls]
 
     def long(self) -> list[list[object]]:
         """The callbacks that took long: their first and last step, whose, and how many ms."""
-        found = [it for it in self.walk.tooks if it.is_callback() and it.took() >= LONG]
+        part = self.part
+        found = [it for it in self.walk.tooks if it.is_callback() and it.took() >= LONG and it.first <= part.end and it.last >= part.begin]
         return [[it.first, it.last, self.in_javascript(it) or it.what.rpartition(" of ")[2], it.took()] for it in found]
 
     def in_javascript(self, took: Took) -> str:
@@ -280,7 +327,7 @@ class Page:
         lanes: dict[str, Lane] = {}
         for span in javascript.spans:
             who, step = javascript.who(span), steps.get(span.call)
-            if step is None or who.where == "-" or who.where.startswith(OUTSIDE):
+            if step is None or not self.has(step) or who.where == "-" or who.where.startswith(OUTSIDE):
                 continue
             name = who.where if who.function == "(anonymous)" else who.function
             if name in self.lanes or name not in lanes and len(lanes) == FUNCTIONS:
@@ -291,8 +338,8 @@ class Page:
         return list(lanes.values())
 
 
-def html(walk: Walk, tell: Callable[[int, int], None] = lambda *_: None) -> str:
+def html(walk: Walk, tell: Callable[[int, int], None] = lambda *_: None, at: int | None = None) -> str:
     """The page: the template with the values in it."""
     # (`<` could end the element that the values stand in)
-    values = json.dumps(Page(walk, tell).values(), separators=(",", ":")).replace("<", "\\u003c")
+    values = json.dumps(Page(walk, tell, at).values(), separators=(",", ":")).replace("<", "\\u003c")
     return TEMPLATE.read_text().replace("/*VALUES*/null", values)

@@ -1,6 +1,7 @@
 """A run as a page for a browser, in one file that works offline.
 
   ./uvt view FILE > run.html                a recording, or a script with `begin` and the steps behind it
+  ./uvt view --at STEP FILE > run.html      of a run of more than 40,000 steps those around this one; without it those around its longest callback
   ./uvt view --trace-event FILE > run.json    the same for the Performance panel of Chrome's DevTools, and for Perfetto
   ./uvt view --cpuprofile FILE > run.cpuprofile    the JavaScript of a recording of node alone, as `node --cpu-prof` writes it
 
@@ -25,7 +26,7 @@ from uvt.view import html
 from uvt.walk import Walk, longest_way
 
 
-def show(path: Path, how: str) -> int:
+def show(path: Path, how: str, at: int | None) -> int:
     script, commands = read_input(path)
     steps, states = Teller("uvt-view", "steps"), Teller("uvt-view", "states")
     with Walk(script, longest_way(script, commands), tell=steps.tell) as walk:
@@ -35,7 +36,7 @@ def show(path: Path, how: str) -> int:
                 f"{path}: no function was found under way in it: it is no recording of a program in node, or one of --bare, or by an earlier uvt"
             )
         if how == "page":
-            page = html(walk, states.tell)
+            page = html(walk, states.tell, at)
         else:
             page = json.dumps(cpu_profile(walk, Times(walk)) if how == "cpuprofile" else trace_events(walk))
         states.done()
@@ -51,5 +52,6 @@ def main() -> int:
         "--trace-event", action="store_const", dest="how", const="trace-event", help="the trace event format, for DevTools and Perfetto"
     )
     hows.add_argument("--cpuprofile", action="store_const", dest="how", const="cpuprofile", help="V8's profile of a program in node")
+    reader.add_argument("--at", type=int, metavar="STEP", help="of a long run the steps around this one")
     asked = reader.parse_args()
-    return run_tool("uvt-view", lambda: show(asked.file, asked.how or "page"), failed=1)
+    return run_tool("uvt-view", lambda: show(asked.file, asked.how or "page", asked.at), failed=1)
