@@ -40,6 +40,8 @@ class StandIn(NamedTuple):
             "STAND_IN": self.room,
             "XDG_CACHE_HOME": os.path.join(self.room, "cache"),
             "RT_JOBS": "4",
+            # (what is compiled is counted: so nothing beside it)
+            "UVT_ONE": "1",
         }
 
     def write(self, name: str, text: str) -> None:

@@ -11,6 +11,7 @@ import random
 import re
 import shutil
 import subprocess
+import sys
 import tempfile
 from pathlib import Path
 
@@ -509,13 +510,18 @@ def try_talk(check: Check, folder: str) -> None:
     try_early(check, Path(folder))
 
 
+EARLY = "import sys; sys.path.insert(0, sys.argv.pop(1)); from uvt.commands import why; why.MANY = 20_000; sys.exit(why.main())"
+
+
 def try_early(check: Check, folder: Path) -> None:
-    """Before the build a long recording's log is told first: by a program of this path, which `why` takes for the one before its proofs."""
+    """Before the build a very long recording's log is told first: by a program of this path, which `why` takes for the one before its proofs.
+    This one isn't so long, but for a `why` that is told otherwise."""
     program = folder / "unproved" / "uvt"
     program.parent.mkdir()
     program.symlink_to(built_program())
     for uvt, early in ((str(program), True), (built_program(), "unproved" in built_program())):
-        ran = subprocess.run([WHY, "talk.rec"], cwd=folder, capture_output=True, text=True, timeout=LONG, env=dict(os.environ, UVT=uvt))
+        words = [sys.executable, "-c", EARLY, str(ROOT / "tools"), "talk.rec"]
+        ran = subprocess.run(words, cwd=folder, capture_output=True, text=True, timeout=LONG, env=dict(os.environ, UVT=uvt))
         told = re.match(r"before the loop is led through its \d+ steps:\n\d+ callbacks, \d+ ms, by the log alone\n", ran.stdout)
         check("why, a long recording before the build", bool(told) == early and "\nask next: " in ran.stdout, ran.stdout[:2000])
     ran = subprocess.run([WHY, "talk.log"], cwd=folder, capture_output=True, text=True, timeout=LONG, env=os.environ)

@@ -179,10 +179,12 @@ build_changed() {
 }
 
 # Where there are more processors than one, the search is compiled beside the first program, with what these leave, by a call of its own, which
-# has its own lock: who wants the search soon finds it there, or waits for the rest. It ends as it likes; nothing here waits for it.
+# has its own lock: who wants the search soon finds it there, or waits for the rest. Nothing here waits for it; where this call is interrupted, so is
+# that one. UVT_ONE=1 has only what is asked for compiled.
 also_find() {
-    [ "$crate" = uvt ] && [ ! -d "$root/out/uvt_find" ] && [ "$(nproc 2>/dev/null || echo 1)" -gt 1 ] && command -v setsid >/dev/null || return 0
+    [ -z "$UVT_ONE" ] && [ "$crate" = uvt ] && [ ! -d "$root/out/uvt_find" ] && [ "$(nproc 2>/dev/null || echo 1)" -gt 1 ] && command -v setsid >/dev/null || return 0
     setsid nice "$root/uvt" path find </dev/null >/dev/null 2>&1 9>&- &
+    also=$!
 }
 
 # The same for the program before its proofs, which is compiled while the sums are made.

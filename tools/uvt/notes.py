@@ -10,7 +10,6 @@ Of handles of I/O tools ask `is_io(NAME)`, `thing(NAME)` (`a tcp`) and `came(NAM
 from __future__ import annotations
 
 import bisect
-import hashlib
 import itertools
 import os
 import signal
@@ -71,6 +70,13 @@ SIGNS = {
 # How `part` begins where all callbacks that are left out are of node's own handles; and what is said of that.
 NODES_ALONE = "it lacks node's own"
 LEFT_OUT = "what node's own handles are called for at its end is left out, and nothing of the program's JavaScript"
+
+
+def sum_of(data: bytes) -> str:
+    # (where there are no notes, nobody needs it)
+    import hashlib
+
+    return hashlib.sha256(data).hexdigest()
 
 
 @dataclass
@@ -209,7 +215,7 @@ class Notes:
         )
 
     def text(self, recording: bytes) -> str:
-        lines = [f"{HEAD} {hashlib.sha256(recording).hexdigest()}"]
+        lines = [f"{HEAD} {sum_of(recording)}"]
         lines += [f"part {self.part}"] if self.part else []
         lines += [f"polls {self.polls}"] if self.polls else []
         lines += [f"ended {self.ended}"] if self.ended else []
@@ -378,7 +384,7 @@ def read_notes(path: Path, recording: bytes) -> Notes:
         lines = harmless(path.with_suffix(".notes").read_text(encoding="utf-8", errors="replace")).split("\n")
     except (OSError, ValueError):
         return notes
-    if lines and lines[0] == f"{HEAD} {hashlib.sha256(recording).hexdigest()}":
+    if lines and lines[0] == f"{HEAD} {sum_of(recording)}":
         for line in lines[1:]:
             take(notes, line)
     return notes

@@ -306,7 +306,11 @@ class Page:
 
     def came(self) -> list[list[object]]:
         """The callbacks of I/O: their steps, whose, and what came, where the notes say that."""
-        calls = [(step, *self.walk.calls[step][1:]) for step in range(max(1, self.part.begin), self.part.end + 1) if self.walk.steps[step - 1].startswith("io ")]
+        calls = [
+            (step, *self.walk.calls[step][1:])
+            for step in range(max(1, self.part.begin), self.part.end + 1)
+            if self.walk.steps[step - 1].startswith("io ")
+        ]
         return [[step, name, self.walk.notes.came(name, call)] for step, name, call in calls]
 
     def long(self) -> list[list[object]]:

@@ -6,7 +6,6 @@ began each callback, and on the ms that it had for it.
 
 from __future__ import annotations
 
-import difflib
 
 from uvt.conversation import Fault
 from uvt.javascript import LEAST, OUTSIDE, JavaScript, Place, Resource, Span, at, fitted
@@ -175,6 +174,8 @@ class WhyJavaScript:
     def found(self, name: str) -> list[str]:
         looks = [it for it in self.js.looks if it.under.outer.is_(name) or it.under.inner.is_(name)]
         if not looks:
+            import difflib
+
             near = difflib.get_close_matches(name, [*self.walk.script.names(), *self.functions()], 1)
             seen = f"no function or line of {self.js.language} that was seen"
             raise Fault(f"no name `{name}`, and {seen}" + (f": did you mean `{near[0]}`?" if near else ""))

@@ -24,8 +24,6 @@ UVT names another program than the launcher ./uvt.
 
 from __future__ import annotations
 
-import argparse
-import difflib
 import glob
 import re
 import sys
@@ -33,7 +31,6 @@ from pathlib import Path
 
 from launch.tool import run_tool
 from uvt import log_summary
-from uvt.beside import beside
 from uvt.conversation import INSTALLED, Fault, Script, is_proved, read_descriptor, read_input
 from uvt.javascript import PLACE, fitted
 from uvt.overview import Overview
@@ -57,6 +54,8 @@ def read_asked(words: list[str]) -> tuple[str | None, Path | None]:
 
 def known(script: Script, name: str) -> str:
     if name not in script.names():
+        import difflib
+
         near = difflib.get_close_matches(name, script.names(), 1)
         raise Fault(f"no name `{name}`" + (f": did you mean `{near[0]}`?" if near else ""))
     return name
@@ -134,6 +133,8 @@ def answered_beside(good: Path, words: list[str]) -> list[str]:
     name, bad = read_asked(words)
     if name is not None or bad is None:
         raise Fault("two recordings are wanted, and no name: ./uvt why --beside GOOD.rec BAD.rec")
+    from uvt.beside import beside
+
     walks: list[Walk] = []
     try:
         for path in (good, bad):
@@ -151,6 +152,11 @@ def answer(words: list[str], good: str | None) -> int:
 
 
 def main() -> int:
+    # (names and files alone need no reader of options, which takes longer to load than all the rest of this file)
+    if not any(it.startswith("-") for it in sys.argv[1:]):
+        return run_tool("uvt-why", lambda: answer(sys.argv[1:], None), failed=1)
+    import argparse
+
     reader = argparse.ArgumentParser(description=__doc__, formatter_class=argparse.RawDescriptionHelpFormatter)
     reader.add_argument("words", nargs="*", metavar="NAME FILE", help="a name that the script declares, and a file; both may be left out")
     reader.add_argument("--beside", metavar="GOOD.rec", help="another recording of the same program, with which that of FILE is compared")
