@@ -19,6 +19,7 @@ import hashlib
 import io
 import os
 import platform
+import py_compile
 import re
 import shutil
 import subprocess
@@ -136,7 +137,22 @@ def tools_of(prefix: str, packed: bool) -> Items:
         elif path.parent.name == "commands":
             item = item._replace(data=re.sub(rb"\./uvt(?![\w-])", b"uvt", item.data))
         items[f"lib/uvt/{name}"] = item
-    return items
+    return {**items, **compiled(items, prefix)}
+
+
+def compiled(items: Items, prefix: str) -> Items:
+    """What Python compiles of these sources, for the Python that packs them: else each call of a tool compiles them anew. (Another Python takes no
+    notice of it; nor does any where a source was changed since.)"""
+    found = {}
+    with tempfile.TemporaryDirectory() as room:
+        source, made = os.path.join(room, "it.py"), os.path.join(room, "it.pyc")
+        for name, item in items.items():
+            folder, _, file = name.rpartition("/")
+            if file.endswith(".py"):
+                Path(source).write_bytes(item.data)
+                py_compile.compile(source, made, f"{prefix}/{name}", doraise=True, invalidation_mode=py_compile.PycInvalidationMode.CHECKED_HASH)
+                found[f"{folder}/__pycache__/{file[:-3]}.{sys.implementation.cache_tag}.pyc"] = Item(Path(made).read_bytes())
+    return found
 
 
 def pages_of(prefix: str) -> Items:
