@@ -182,7 +182,8 @@ build_changed() {
 # has its own lock: who wants the search soon finds it there, or waits for the rest. Nothing here waits for it; where this call is interrupted, so is
 # that one. UVT_ONE=1 has only what is asked for compiled.
 also_find() {
-    [ -z "$UVT_ONE" ] && [ "$crate" = uvt ] && [ ! -d "$root/out/uvt_find" ] && [ "$(nproc 2>/dev/null || echo 1)" -gt 1 ] && command -v setsid >/dev/null || return 0
+    [ -z "$UVT_ONE" ] && [ "$crate" = uvt ] && [ ! -d "$root/out/uvt_find" ] && command -v setsid >/dev/null || return 0
+    [ "$(nproc 2>/dev/null || echo 1)" -gt 1 ] || return 0
     setsid nice "$root/uvt" path find </dev/null >/dev/null 2>&1 9>&- &
     also=$!
 }
