@@ -242,6 +242,7 @@ LOADED = """(async () => {
     tasks: entries.filter((it) => it.name === 'RunTask').length,
     functions: [...new Set(calls.map((it) => it.callFrame.functionName))].length,
     initiators: data.Initiators.eventToInitiator.size,
+    range: data.Meta.traceBounds.range,
     tracks: Object.fromEntries(tracks.map(([name, entries]) => [name, entries.length])),
     shown: late ? all(document).filter((it) => it.classList.contains('timeline-details-view')).map((it) => it.innerText).join(' ') : '',
   });
@@ -252,17 +253,22 @@ def try_devtools(tries: Tries, browser: Browser, path: Path, picture: Path | Non
     """What the file has is there: each task, each track, who asked for what, and `why` of a late timer."""
     text = path.read_text()
     browser.ask("Page.navigate", url="devtools://devtools/bundled/devtools_app.html?panel=timeline")
-    time.sleep(4)
+    time.sleep(2)
     browser.value(f"globalThis.text = {json.dumps(text)}; globalThis.file = {json.dumps(path.name)}; 1")
-    found = browser.ask("Runtime.evaluate", expression=LOADED, awaitPromise=True, returnByValue=True)
-    tries.check(f"{path.name}: DevTools take it", "value" in found["result"], found)
-    if "value" not in found["result"]:
+    for _ in range(10):
+        found = browser.ask("Runtime.evaluate", expression=LOADED, awaitPromise=True, returnByValue=True)
+        if "No locale data" not in str(found.get("exceptionDetails")):
+            break
+        # (its own page isn't there yet)
+        time.sleep(2)
+    tries.check(f"{path.name}: DevTools take it", "exceptionDetails" not in found, found)
+    if "exceptionDetails" in found:
         return
     has = json.loads(found["result"]["value"])
     print(f"{path.name}: {has}", flush=True)
     events = json.loads(text).get("traceEvents", [])
     late = [it for it in events if it["ph"] == "b" and " is late by " in it["name"]]
-    tries.check(f"{path.name}: functions", has["functions"] > 3, has)
+    tries.check(f"{path.name}: functions", has["functions"] > 3 and has["range"] > 0, has)
     tries.check(f"{path.name}: tasks", has["tasks"] == sum(it["name"] == "RunTask" for it in events), has)
     tries.check(f"{path.name}: arrows", has["initiators"] >= sum(it["ph"] == "s" and it["pid"] == 2 for it in events), has)
     tries.check(f"{path.name}: late timers", has["tracks"].get("late timers", 0) == len(late), has)

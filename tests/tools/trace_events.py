@@ -206,7 +206,11 @@ def try_javascript(check: Check, folder: str) -> None:
         children = {child for it in profile["nodes"] for child in it["children"]}
         hits = sum(it["hitCount"] for it in profile["nodes"])
         good = children == {it["id"] for it in profile["nodes"]} - {1} and hits == len(profile["samples"]) == len(profile["timeDeltas"])
-        check(f"the profile of {name}.js", good and profile["endTime"] == sum(profile["timeDeltas"]), ran.stdout[:300])
+        check(
+            f"the profile of {name}.js",
+            good and profile["endTime"] - profile["startTime"] == sum(profile["timeDeltas"]) and profile["startTime"] > 0,
+            ran.stdout[:300],
+        )
 
 
 def try_changed(check: Check) -> None:

@@ -36,6 +36,8 @@ SLACK = 1000
 # So far lie two samples apart where nothing changes.
 EACH = 1000
 ROOT, PROGRAM, IDLE = 1, 2, 3
+# When a profile begins: DevTools take 0 for no time at all.
+START = 1_000_000
 
 
 @dataclass
@@ -315,6 +317,7 @@ class JavaScriptTrace:
             why, below = answers.delay(span)
             name = f"{resource.named()} is late by {late} ms"
             rows = [("why", why), *[("where", it) for it in below[:1]], ("timer", ", ".join(filter(None, [resource.what(), resource.asked()])))]
+            rows += [("asked for", chain)] if (chain := answers.origins.chain(resource.id)) else []
             rows += [("due", f"{span.due} ms"), ("called", f"{span.begin} ms, {answers.where(span)}")]
             self.measure("late timers", name, 1000.0 * (span.due or 0), 1000.0 * span.begin, "error", f"late by {late} ms: {why}", rows)
 
@@ -400,4 +403,4 @@ def cpu_profile(walk: Walk, times: Times) -> dict[str, object]:
         row = {"id": id, "callFrame": it["callFrame"], "hitCount": hits.get(id, 0), "children": children.get(id, [])}
         row |= {"positionTicks": [{"line": line, "ticks": count} for line, count in sorted(ticks[id].items())]} if id in ticks else {}
         rows.append(row)
-    return {"nodes": rows, "startTime": 0, "endTime": sum(deltas), "samples": taken, "timeDeltas": deltas}
+    return {"nodes": rows, "startTime": START, "endTime": START + sum(deltas), "samples": taken, "timeDeltas": deltas}
