@@ -157,7 +157,7 @@ def agreement(session: list[str], recording: Path) -> str:
 
 @dataclass
 class Order:
-    """In which order the program is to run: a session's, or, with a seed, one at random: behind the session where there is one."""
+    """In which order the program is to run: a session's, or, with a seed, one at random."""
 
     script: Script | None = None
     commands: list[str] = field(default_factory=list)
@@ -235,7 +235,7 @@ def environment_of(words: list[str], folder: Path, order: Order) -> dict[str, st
         "ASAN_OPTIONS": ":".join(filter(None, ["detect_leaks=0", os.environ.get("ASAN_OPTIONS", "")])),
     }
     if order.seed is not None:
-        given |= {"UVT_FORCE_RANDOM": str(order.seed), "UVT_FORCE_STALL": str(order.stall), "UVT_FORCE_UNTIL": str(order.endless)}
+        return given | {"UVT_FORCE_RANDOM": str(order.seed), "UVT_FORCE_STALL": str(order.stall), "UVT_FORCE_UNTIL": str(order.endless)}
     if not order.script:
         return given
     (folder / "schedule").write_text("\n".join(order.rows) + "\n")

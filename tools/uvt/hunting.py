@@ -3,7 +3,6 @@
 from __future__ import annotations
 
 import itertools
-import random
 import re
 import subprocess
 import tempfile
@@ -13,7 +12,7 @@ from collections.abc import Callable, Iterator
 from dataclasses import dataclass, field, replace
 from pathlib import Path
 
-from uvt.conversation import Fault, Script, read_bytes, read_input
+from uvt.conversation import Fault, read_bytes, read_input
 from uvt.forcing import Order, Ran, badly, limit, recording_of, remake, run
 from uvt.record.run import Part
 
@@ -25,12 +24,8 @@ NAMELESS = {"run", "stoploop", "updatetime", "closeloop"}
 # How long the first run and a search may take, in seconds; how long a stall is where no callback of the recording took longer, in ms; and how many
 # orders at random come before the questions, and behind them.
 FIRST, SEARCH, STALL, BEFORE, BEHIND = 10, 15, 15, 10, 100
-# Of so many callbacks it is seen who came before whom.
-ORDERED = 60
 # So many callbacks of each run are looked at.
 LOOKED = Part(most=2000)
-# How often an order at random comes behind the first steps of one that was new.
-BEHIND_ANOTHER = 0.5
 CODES = ("ESTALE", "EINVAL", "EBUSY")
 # Of so many names each pair is asked about: of more than that, of neighbours alone.
 PAIRS = 12
@@ -47,9 +42,6 @@ class Recorded:
     called: list[str] = field(default_factory=list)
     # how long its longest callback took, in ms, or STALL where none took longer
     longest: int = 0
-    # what force takes of it, and in which order its callbacks came: who came first of two, and who came next behind whom
-    script: Script | None = None
-    orders: set[tuple[str, str, str]] = field(default_factory=set)
 
     def __post_init__(self) -> None:
         for line in self.lines:
@@ -98,14 +90,10 @@ class Recorded:
 def read(path: Path) -> Recorded:
     text = path.read_text(errors="replace").splitlines()
     begin, calls = text.index("begin"), text.index("calls")
-    script = read_input(path)[0]
-    outside = script.notes.outside
+    outside = read_input(path)[0].notes.outside
     ticks = [int(it.split(" ")[1]) for at, it in enumerate(text[begin + 1 : calls], 1) if it.startswith("tick ") and at not in outside]
     called = list(dict.fromkeys(it.split(" ")[1] for it in text[calls + 1 : -1] if it.split(" ")[0] in ("call", "after")))
-    came = [" ".join(it.split(" ")[:2]) for it in text[calls + 1 : -1]]
-    firsts = list(dict.fromkeys(came))[:ORDERED]
-    orders = {("before", *it) for it in itertools.combinations(firsts, 2)} | {("then", *it) for it in zip(came, came[1:])}
-    return Recorded(text[1:begin], text[begin + 1 : calls], called=called, longest=max([STALL, *ticks]), script=script, orders=orders)
+    return Recorded(text[1:begin], text[begin + 1 : calls], called=called, longest=max([STALL, *ticks]))
 
 
 def names_in(line: str) -> list[str]:
@@ -206,9 +194,8 @@ class Hunt:
         self.until = None if seconds is None else self.began + seconds
         self.asked: set[tuple[str, str]] = set()
         self.known: dict[tuple[str, str], list[str]] = {}
-        # orders that were seen, and the runs that showed new ones
-        self.orders: set[tuple[str, str, str]] = set()
-        self.bases: list[Recorded] = []
+        # how long the runs took, and what was made of their logs, in seconds
+        self.running = self.recording = 0.0
         self.counts = Counts()
         self.first = Ran(0, 0)
         self.loop = 0
@@ -233,25 +220,27 @@ class Hunt:
             return how
         return other_output(ran.output, self.first.output) if self.same_output and not ran.late else ""
 
-    def force(self, order: Order, records: bool = True, limited: bool = True) -> Ran:
+    def force(self, order: Order, records: bool | Callable[[Ran], object] = True, limited: bool = True) -> Ran:
         """Forces it. One that isn't LIMITED is neither left out nor cut where no time is left."""
         left, allowed = self.left() if limited else SEARCH, limit(self.first)
         self.runs += 1
         order.endless = int(1000 * self.first.seconds) if self.first.late else 0
-        cut = limited and self.until is not None and left < allowed
+        cut, before = limited and self.until is not None and left < allowed, time.monotonic()
         ran = run(self.words, order, str(self.folder / f"run{self.runs}"), left if cut else allowed, records, LOOKED)
+        self.running += ran.seconds
+        self.recording += time.monotonic() - before - ran.seconds
         if cut and ran.late and not ran.hangs:
             # (that it had no end by then says nothing)
             raise TimeOver
         return ran
 
+    def teaches(self, ran: Ran) -> bool:
+        """Is a run at random to be recorded? One that ends badly is; of the others some, so that recording takes no longer than running."""
+        return self.recording <= self.running or bool(self.badly(ran))
+
     def recorded(self, ran: Ran) -> Recorded | None:
         path = recording_of(ran.name, self.loop)
-        found = read(path) if path.exists() else None
-        if found and not found.orders <= self.orders:
-            self.orders |= found.orders
-            self.bases.append(found)
-        return found
+        return read(path) if path.exists() else None
 
     def begin(self) -> Recorded | Bad:
         """The first run, which nobody forces. Of several loops the one that has the most callbacks is hunted."""
@@ -392,19 +381,10 @@ class Hunt:
         self.counts.random += 1
         self.tell(f"order {seed} at random")
         stall = STALL if seed % 2 else 0
-        lot = random.Random(seed)
-        order = Order(seed=seed, stall=stall, loop=self.loop)
-        behind = ""
-        if self.bases and lot.random() < BEHIND_ANOTHER:
-            # (what is rare twice comes behind what was rare once)
-            base = lot.choice(self.bases)
-            count = lot.randint(1, max(1, len(base.steps) - 1))
-            order = Order(base.script, base.steps[:count], self.loop, seed=seed, stall=stall)
-            behind = f", behind {count} steps of another one"
-        ran = self.force(order)
+        ran = self.force(Order(seed=seed, stall=stall, loop=self.loop), self.teaches)
         if not (how := self.badly(ran)):
             return self.recorded(ran)
-        by, path = f"order {seed} at random{behind}", recording_of(ran.name, self.loop)
+        by, path = f"order {seed} at random", recording_of(ran.name, self.loop)
         if Path(f"{ran.name}.log").exists():
             remake(ran.name)
         if not path.exists():

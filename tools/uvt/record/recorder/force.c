@@ -1,7 +1,6 @@
 /* Forces the order of a session upon the program: what comes from outside comes only where the session has it.
  *
  * UVT_FORCE=SCHEDULE  a line for each line of the session's run, made by tools/uvt/forcing.py
- * UVT_FORCE_RANDOM=N  an order at random, of this number: behind the session's last step where there is one
  * UVT_FORCE_SAID=FILE where it says what it did, and where the program departs from the session
  * UVT_FORCE_AT=FILE   a page: how far it has come (struct page), also where the program is ended by a signal
  * UVT_FORCE_LOOP=N    the loop of this number, as the log has it; else the first one
@@ -51,12 +50,6 @@ const struct item *at_cursor(void) {
     return cursor < item_count ? &items[cursor] : NULL;
 }
 
-/* All of it has come: from here on nothing is forced, or an order at random is. */
-static void session_over(const char *why) {
-    if (state == FORCING && goes_on_at_random) at_random = true;
-    else set_free(why);
-}
-
 /* The callback of the last step goes on with all as the session left it: until it is over nothing comes from outside. */
 static void step_done(void) {
     page->steps = items[cursor].step;
@@ -65,7 +58,7 @@ static void step_done(void) {
     if (cursor == item_count) {
         page->done = 1;
         say("DONE %d", items[item_count - 1].step);
-        if (depth == 0) session_over(NULL);
+        if (depth == 0) set_free(NULL);
     }
 }
 
@@ -87,7 +80,6 @@ static void do_take(const struct item *item) {
         worker->number = item->number;
         worker->name = item->name;
         worker->may_take = true;
-        if (item->name >= 0) note_take(worker, names[item->name].id);
         pthread_cond_broadcast(&changed);
         if (!WAIT(worker->place >= TAKEN)) depart("worker %ld didn't take %s", item->number, name_of(item->name));
         else if (worker->place == ASLEEP) depart("worker %ld takes nothing: the pool has nothing for it", item->number);
@@ -384,7 +376,7 @@ static void pass_ops(void) {
 
 static void depart_for_good(const char *what, const struct item *it) {
     depart("the program has %s there, where the session has `%s`: from here on it runs freely", what, it ? it->text : "its end");
-    session_over(NULL);
+    set_free(NULL);
 }
 
 static int early_id = -1; /* its close callback has begun with an earlier one */
@@ -427,12 +419,7 @@ void force_event(struct loop *loop, char type, const char *words) {
         return;
     }
     /* (a run in the callback of the last step) */
-    if (cursor == item_count && strchr("RPr", type)) session_over(NULL);
-    if (at_random) {
-        random_event(type, words);
-        return;
-    }
-    if (type == 'O') note_op(words);
+    if (cursor == item_count && strchr("RPr", type)) set_free(NULL);
     int held = unlock_all();
     const struct item *it;
     switch (type) {
@@ -443,7 +430,7 @@ void force_event(struct loop *loop, char type, const char *words) {
         break;
     case 'E':
         if (--depth == 0) advance(false);
-        if (depth == 0 && cursor == item_count) session_over(NULL);
+        if (depth == 0 && cursor == item_count) set_free(NULL);
         break;
     case 'R':
         pass_ops();
@@ -662,8 +649,7 @@ static bool poll_in_order(int descriptor, struct epoll_event *events, int room, 
 bool force_poll(struct loop *loop, int descriptor, struct epoll_event *events, int room, int timeout, int *got) {
     if (state != FORCING || loop != forced || !is_leader()) return false;
     leads++;
-    bool is = !at_random && poll_in_order(descriptor, events, room, timeout, got);
-    if (!is && at_random && state == FORCING) is = poll_at_random(descriptor, events, room, timeout, got);
+    bool is = at_random ? poll_at_random(descriptor, events, room, timeout, got) : poll_in_order(descriptor, events, room, timeout, got);
     leads--;
     return is;
 }
@@ -783,13 +769,11 @@ void force_loop(struct loop *loop) {
     const char *schedule = getenv("UVT_FORCE"), *random = getenv("UVT_FORCE_RANDOM"), *which = getenv("UVT_FORCE_LOOP");
     if (state != NOT_FORCING || forced || loop->number != (which ? atoi(which) : 0)) return;
     if (random) {
-        goes_on_at_random = schedule != NULL;
         const char *jumps = getenv("UVT_FORCE_STALL"), *until = getenv("UVT_FORCE_UNTIL");
         begin_random(strtoull(random, NULL, 10), jumps ? atoi(jumps) : 0, until ? strtoull(until, NULL, 10) : 0);
+        begin_forcing(loop);
         unsetenv("UVT_FORCE_RANDOM");
-        at_random = !schedule;
-        if (!schedule) begin_forcing(loop);
-        if (!schedule) return;
+        return;
     }
     FILE *read = schedule ? fopen(schedule, "re") : NULL;
     if (!read) return;

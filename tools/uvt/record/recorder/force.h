@@ -80,18 +80,20 @@ void set_free(const char *why);
 /* ---- gates (force_gates.c) */
 
 /* In naps: how long a gate is closed; however busy the machine is; where the leader waits; and where something else can be tried first. */
-enum { PATIENCE = 300, AT_MOST = 1000, BLOCKED = 300, SOON = 20, QUICKLY = 10 };
+enum { PATIENCE = 300, AT_MOST = 1000, BLOCKED = 300, SOON = 20, QUICKLY = 10, IN_VAIN = 4 };
 extern pthread_mutex_t gate;
 extern pthread_cond_t changed;
 extern long progress; /* grows with each step: a gate that waits long without it opens */
 extern int patience;
 extern int leader_id;
+extern volatile int leader_late; /* how many of its waits until a time have run out (force_waits.c) */
 extern int leads; /* the leader does what the session has: else it is in the program's code, or in libuv's */
 
 int own_id(void);
 bool is_leader(void);
 void wait_a_little(void);
 char state_of(int thread);
+bool is_awake(int thread);
 bool somebody_runs(void);
 void come_to_rest(void);
 void come_to_gate(void);
@@ -116,12 +118,14 @@ void leave_gate(void);
 #define WAIT_FOR_LEADER(CONDITION)                                          \
     ({                                                                      \
         long seen = progress;                                               \
-        int waited = 0;                                                     \
+        int waited = 0, late = leader_late;                                 \
         come_to_gate();                                                     \
         while (state == FORCING && !(CONDITION) && waited < BLOCKED) {      \
             wait_a_little();                                                \
-            if (seen != progress || leads || state_of(leader_id) != 'S') seen = progress, waited = 0; \
-            else waited += sleeps_for_ever(leader_id) ? QUICKLY : 1; \
+            if (seen != progress || leads) seen = progress, waited = 0, late = leader_late; \
+            else if (leader_late - late >= IN_VAIN) waited = BLOCKED;       \
+            else if (is_awake(leader_id)) waited = 0;                       \
+            else waited += is_no_help(leader_id) ? QUICKLY : 1;             \
         }                                                                   \
         leave_gate();                                                       \
         waited < BLOCKED;                                                   \
@@ -161,11 +165,7 @@ struct sender *sender_of(int name);
 /* ---- an order at random (force_random.c) */
 
 extern bool at_random;
-extern bool goes_on_at_random; /* behind the session */
 void begin_random(uint64_t number, int jumps, uint64_t until);
-/* What an order at random has to know of what was before. */
-void note_op(const char *words);
-void note_take(const struct worker *worker, int id);
 void maybe_choose(void);
 /* How many requests no worker has yet. (At random; else nobody knows: -1.) */
 int how_many_wait(void);
@@ -177,8 +177,8 @@ bool poll_at_random(int descriptor, struct epoll_event *events, int room, int ti
 extern int watch_id; /* the thread that looks on */
 extern volatile bool idle_poll; /* the loop waits with no time limit, and nothing that is known could come */
 void begin_watch(void);
-/* Does it sleep until somebody wakes it, with no time limit? */
-bool sleeps_for_ever(int thread);
+/* Does it sleep until somebody wakes it, with no time limit? Or is it gone, or the one that asks (it made the loop, and another one ran it)? */
+bool is_no_help(int thread);
 
 #pragma GCC visibility pop
 

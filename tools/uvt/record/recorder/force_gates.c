@@ -91,6 +91,11 @@ char state_of(int thread) {
     return behind && behind[1] == ' ' ? behind[2] : 0;
 }
 
+bool is_awake(int thread) {
+    char state = state_of(thread);
+    return thread != own_id() && state && state != 'S';
+}
+
 static bool is_at_gate(int thread) {
     for (int at = 0; at < gate_count; at++)
         if (at_gates[at] == thread) return true;
@@ -130,11 +135,11 @@ bool somebody_runs(void) {
 /* Threads of the program come to their gates, or to what they wait for: it isn't the machine's matter how far they are where the loop goes on. One
  * that runs on and on is not waited for again and again. */
 void come_to_rest(void) {
-    enum { NAPS = 20, IN_VAIN = 10 };
+    enum { NAPS = 20, TOO_OFTEN = 10 };
     static int in_vain;
     struct timespec time = {0, 500000};
     take_nap();
-    for (int naps = 0; in_vain < IN_VAIN; naps++) {
+    for (int naps = 0; in_vain < TOO_OFTEN; naps++) {
         pthread_mutex_lock(&gate);
         bool runs = somebody_runs();
         pthread_mutex_unlock(&gate);

@@ -86,8 +86,8 @@ static struct thread look_at(int id) {
     }
 }
 
-bool sleeps_for_ever(int thread) {
-    return look_at(thread).sleep == FOR_EVER;
+bool is_no_help(int thread) {
+    return thread == own_id() || !state_of(thread) || look_at(thread).sleep == FOR_EVER;
 }
 
 /* (a worker at its gate, where there is nothing that it could take) */
@@ -130,10 +130,11 @@ static bool has_outside(void) {
     }
     struct itimerval timer = {0};
     getitimer(ITIMER_REAL, &timer);
-    unsigned long caught = (unsigned long)number_in("/proc/self/status", "SigCgt:", 16), by_hand = 0;
-    static const int HAND[] = {SIGHUP, SIGINT, SIGQUIT, SIGTERM, SIGUSR1, SIGUSR2, SIGALRM, SIGCONT, SIGWINCH};
-    for (size_t at = 0; at < sizeof HAND / sizeof *HAND; at++) by_hand |= 1ul << (HAND[at] - 1);
-    return (caught & by_hand) || timer.it_value.tv_sec || timer.it_value.tv_usec;
+    /* (what a fault raises, a child's end, and what glibc keeps for itself, come from nobody outside) */
+    static const int OWN[] = {SIGILL, SIGTRAP, SIGABRT, SIGBUS, SIGFPE, SIGSEGV, SIGPIPE, SIGCHLD, SIGSYS, 32, 33};
+    unsigned long caught = (unsigned long)number_in("/proc/self/status", "SigCgt:", 16);
+    for (size_t at = 0; at < sizeof OWN / sizeof *OWN; at++) caught &= ~(1ul << (OWN[at] - 1));
+    return caught || timer.it_value.tv_sec || timer.it_value.tv_usec;
 }
 
 /* ---- stacks: each thread tells its own */

@@ -8,7 +8,7 @@
 #include <unistd.h>
 
 enum { WAITING = 4096, IDLE = 20, ASLEEP_SO_LONG = 50 };
-bool at_random, goes_on_at_random;
+bool at_random;
 static uint64_t seed;
 static int stall; /* the clock may jump so far at once, in ms */
 static uint64_t last; /* nothing is forced once it has moved so far, in ms: 0 is never */
@@ -41,7 +41,7 @@ static void no_more_waiting(int id) {
  *
  * No way of choosing is good for all: so how it is chosen is by lot, too, once for each order. */
 
-enum { RANKS = 4096 };
+enum { RANKS = 4096, FAIR = 50 };
 static bool ranked, eager; /* eager: a worker that can take a request does, so that those behind it can be taken */
 static unsigned changes; /* one in so many choices changes a rank, 0: none */
 static unsigned rarely; /* something comes at one in so many places */
@@ -69,6 +69,7 @@ void begin_random(uint64_t number, int jumps, uint64_t until) {
     changes = CHANGES[up_to(3)];
     rarely = PLACES[up_to(4)];
     clock_rank = new_rank();
+    at_random = true;
 }
 
 /* What can come from outside. */
@@ -103,7 +104,8 @@ static int all_choices(struct choice *found) {
 static void come(const struct choice *choice) {
     if (choice->what == A_TAKE) {
         int id = waiting[0];
-        note_take(choice->worker, id);
+        no_more_waiting(id);
+        of_worker[choice->worker - pool] = id;
         choice->worker->may_take = true;
         pthread_cond_broadcast(&changed);
         WAIT(choice->worker->place >= TAKEN);
@@ -136,20 +138,21 @@ static void come(const struct choice *choice) {
 static const struct choice *one_of(const struct choice *all, int count) {
     if (!count) return NULL;
     const struct choice *found = &all[up_to((unsigned)count)];
+    static const unsigned *last_rank;
+    static int row;
     if (!ranked) return found;
     for (int tries = 0; tries < 2; tries++) {
         for (int at = 0; at < count; at++)
             if (all[at].what == A_TAKE && eager) return &all[at];
             else if (*all[at].rank > *found->rank) found = &all[at];
-        if (!changes || up_to(changes) != 0) break;
+        /* (a timer that repeats would keep back all others for ever) */
+        row = found->rank == last_rank ? row + (count > 1) : 0;
+        last_rank = found->rank;
+        if (row < FAIR && (!changes || up_to(changes) != 0)) break;
         *found->rank = 1 + up_to(15);
+        row = 0;
     }
     return found;
-}
-
-void note_take(const struct worker *worker, int id) {
-    no_more_waiting(id);
-    of_worker[worker - pool] = id;
 }
 
 static bool choose(void) {
@@ -217,21 +220,18 @@ bool poll_at_random(int descriptor, struct epoll_event *events, int room, int ti
 }
 
 void random_event(char type, const char *words) {
+    struct shown shown = read_shown(words);
     if (type == 'B' && depth++ == 0) chain_rank = strncmp(words, "after ", 6) == 0 ? *rank_at(atoi(words + 6)) : 0;
     if (type == 'B') behind_poll = false;
     if (type == 'E' && --depth == 0) chain_rank = 0, maybe_choose();
-    if (type == 'O') note_op(words);
-}
-
-void note_op(const char *words) {
-    struct shown shown = read_shown(words);
+    if (type != 'O') return;
     if (strcmp(shown.word, "queue") == 0 && waiting_count < WAITING) {
         waiting[waiting_count++] = shown.id;
         rank_of[(unsigned)shown.id % RANKS] = chain_rank && up_to(4) ? chain_rank : new_rank();
         chain_rank = 0;
     }
     if (strcmp(shown.word, "cancel") == 0 && strcmp(shown.answer, "ok") == 0) no_more_waiting(shown.id);
-    if (at_random && strcmp(shown.word, "init") == 0 && strcmp(shown.rest, "async") == 0) {
+    if (strcmp(shown.word, "init") == 0 && strcmp(shown.rest, "async") == 0) {
         struct object *object = object_by_id(shown.id);
         struct name *more = realloc(names, (size_t)(name_count + 1) * sizeof *names);
         if (!more) return;

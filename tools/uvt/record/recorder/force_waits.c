@@ -34,7 +34,11 @@ static bool is_own(const struct timespec *until) {
     return until && state != NOT_FORCING && until->tv_sec >= 0 && until->tv_nsec >= 0 && until->tv_nsec < 1000000000;
 }
 
+/* (the loop's thread waits again and again for what a thread at a gate has, as Python's does for its lock) */
+volatile int leader_late;
+
 static int through(int answer, bool late, clockid_t id, const struct timespec *until) {
+    if (late && is_leader()) leader_late++;
     uint64_t now = late && state == FORCING ? own_now(id) : 0;
     if (now && now < in_ns(until)) force_slept(in_ns(until) - now);
     return answer;
