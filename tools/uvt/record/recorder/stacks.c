@@ -4,7 +4,7 @@
  * ever comes, and none comes while the thread waits in the system. The signal is SIGURG, which is ignored where nobody wants it. Where the program wants it
  * (its handler isn't the default one), no stack is taken. The handler writes into a buffer of its thread; the lines come as the callback ends. */
 #define _GNU_SOURCE
-#include "recorder.h"
+#include "javascript.h"
 
 #include <dlfcn.h>
 #include <errno.h>
@@ -171,7 +171,8 @@ static struct stacks *mine(void) {
 
 /* A callback begins in a millisecond in which none had begun: the signals are put off. */
 void put_off_stacks(void) {
-    struct stacks *stacks = mine();
+    /* (of JavaScript there are looks, and its own code has no tables by which a stack could be followed) */
+    struct stacks *stacks = env_here ? NULL : mine();
     if (!stacks || stacks->refused || !usable) return;
     /* (one that the program has blocked it may wait for by another way) */
     sigset_t blocked;
