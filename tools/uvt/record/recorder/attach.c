@@ -16,7 +16,6 @@
 #include <sys/uio.h>
 #include <unistd.h>
 
-bool attaches;
 REAL(uv_walk)
 REAL(uv_is_active)
 REAL(uv_has_ref)

@@ -23,6 +23,8 @@
 #define CAN_HOOK 1
 #endif
 
+bool attaches;
+
 /* ---- the functions of a file that are libuv's */
 
 struct function {
