@@ -1,5 +1,5 @@
 -- States with the same youngest form go on alike.
-use Rattle.uv_generations.proofs.Names.{◌≡◌, ℕ, List, [], ◌∷◌, length, Option, None, slice_get, refl, ap, sym, subst, ◌∙◌, arith, Event, Seen, Slot, Content, Program, State, Next, Moves, Refuses, held}
+use Rattle.uv_generations.proofs.Names.{◌≡◌, ℕ, List, [], ◌∷◌, length, Option, None, slice_get, refl, ap, sym, ◌∙◌, arith, Event, Seen, Slot, Content, Program, State, Next, Moves, held}
 use Rattle.std.proofs.Common.{suc}
 use Rattle.std.proofs.lemmas.Option.{slice_get_past, slice_get_cases}
 use Rattle.std.specs.Prelude.{option_map, ◌≤◌}
@@ -13,7 +13,7 @@ use Rattle.uv_generations.proofs.Slots.{held_renamed}
 use Rattle.uv_generations.proofs.Slots.{next_renamed}
 use Rattle.uv_generations.proofs.Twice.{lines_unfreed}
 use Rattle.uv_generations.proofs.Base.{youngest_more, youngest_same}
-use Rattle.uv_generations.proofs.Grows.{Stays, next_grows}
+use Rattle.uv_slots.proofs.Grows.{next_grows}
 
 -- ---- a step is that of the youngest form, renamed
 

@@ -3,8 +3,6 @@ pub mod More
 pub mod Slots
 pub mod Twice
 pub mod Base
-mod Grows
 pub mod Alike
 pub mod Reached
 pub mod Bare
-pub mod Ordered
