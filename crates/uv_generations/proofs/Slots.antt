@@ -6,7 +6,7 @@ use Rattle.uv_records.specs.Slots.{next_unused}
 use Rattle.uv_model.specs.Next.{next}
 use Rattle.uv_slots.proofs.Relabel.{Relabel}
 use Rattle.uv_slots.proofs.RelabeledSlots.{named_relabeled}
-use Rattle.uv_slots.proofs.RelabeledSteps.{next_relabeled}
+use Rattle.uv_slots.proofs.Relabeling.{next_relabeled}
 use Rattle.uv_generations.specs.More.{Frees, CanRename}
 use Rattle.uv_generations.proofs.More.{rename, renamed, renamed_named, renamed_slots, renamed_arena, renamed_next}
 

@@ -2,8 +2,7 @@ mod Names
 pub mod Cases
 pub mod Later
 pub mod Slots
-pub mod Timers
-mod Ops
+mod ByLater
 pub mod Steps
 pub mod Short
 pub mod Retimed

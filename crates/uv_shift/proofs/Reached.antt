@@ -14,7 +14,7 @@ use Rattle.uv_shift.specs.Shift.{FitsOp, IsShort, IsShortOp}
 use Rattle.uv_shift.specs.Earliest.{IsTimed}
 use Rattle.uv_shift.proofs.Short.{held_short, after_short}
 use Rattle.uv_shift.proofs.Slots.{front_held}
-use Rattle.uv_shift.proofs.Timers.{first_due_held}
+use Rattle.uv_shift.proofs.Slots.{first_due_held}
 
 -- ---- the loop's time, after however many steps
 

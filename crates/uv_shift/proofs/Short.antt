@@ -17,7 +17,7 @@ use Rattle.uv_model.specs.Next.{take}
 use Rattle.uv_model.specs.After.{after}
 use Rattle.uv_shift.specs.Shift.{IsShortOp, IsShort}
 use Rattle.uv_shift.proofs.Slots.{front_held, live_held}
-use Rattle.uv_shift.proofs.Timers.{first_due_held}
+use Rattle.uv_shift.proofs.Slots.{first_due_held}
 
 abbrev IsShortIn : ℕ → Option HandleRecord → Type 0
 IsShortIn n None = Unit {0}

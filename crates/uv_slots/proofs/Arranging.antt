@@ -9,8 +9,8 @@ use Rattle.uv_slots.specs.Arranged.{IsOrder, place_of, arranged_slots, arranged_
 use Rattle.uv_slots.proofs.Orders.{Fits, same_place, place_behind, get_arranged, set_arranged, push_arranged, length_arranged, any_arranged}
 use Rattle.uv_slots.proofs.Relabel.{Relabel}
 use Rattle.uv_slots.proofs.RelabeledSlots.{handle_relabeled, front_relabeled, named_relabeled}
-use Rattle.uv_slots.proofs.RelabeledTimers.{first_due_relabeled}
-use Rattle.uv_slots.proofs.RelabeledSteps.{next_relabeled}
+use Rattle.uv_slots.proofs.RelabeledSlots.{first_due_relabeled}
+use Rattle.uv_slots.proofs.Relabeling.{next_relabeled}
 
 pub held_arranged : (o : List ℕ) (slots : List (Slot Content)) (id : Id) → Fits o slots →
     held (arranged_slots o slots) (arranged_id o id) ≡ held slots id

@@ -1,12 +1,10 @@
 mod Names
 pub mod Orders
 pub mod Relabel
-pub mod RelabeledLists
 pub mod RelabeledSlots
-pub mod RelabeledTimers
-mod RelabeledOps
-pub mod RelabeledSteps
+pub mod Relabeling
 pub mod Arranging
+mod Naming
 pub mod Whole
 pub mod Twice
 pub mod Kept

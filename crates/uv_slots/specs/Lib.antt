@@ -1,3 +1,4 @@
 pub mod Arranged
 pub mod NamedForm
 pub mod Buried
+pub mod Alike

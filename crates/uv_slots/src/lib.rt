@@ -1,10 +1,12 @@
 //! Slots in another order, and names that forget the slot of what is gone: the loop goes on alike.
 //!
-//! Its calls have no code: each is a theorem. Read `specs/Arranged.antt`, `specs/NamedForm.antt` and `specs/Buried.antt`.
+//! Its calls have no code: each is a theorem. Read `specs/Arranged.antt`, `specs/NamedForm.antt`, `specs/Buried.antt` and `specs/Alike.antt`.
 #![tactic(auto)]
 
 mod buried;
 mod laws;
+mod swapped;
 
 pub use buried::{burying_stays, names_buried, reads_buried};
 pub use laws::{named_forms, slots_arrange, takes_alike};
+pub use swapped::names_change_places;

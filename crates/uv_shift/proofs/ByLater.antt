@@ -1,0 +1,150 @@
+-- All times later are a change of the state: a step goes as it does.
+use Rattle.uv_shift.proofs.Names.{◌≡◌, ◌∙◌, ℕ, ◌+◌, ◌&&◌, ◌<◌, List, Bool, true, false, Option, Some, None, refl, ap, ap₂, sym, arith, list_any, nat_le, slice_get, slice_set, Id, Due, due_cmp, Var, Kind, Slot, Content, State, Program, HandleRecord, named, begun_at, handle, front, live, live_id, arena_size, held, Place, Main, Running, Run, Body, Stage, Poll, Moves, Seen, Event, Loop, Take, Finish, Cancel, Send, Io, Tick}
+use Rattle.uv_records.specs.declared.named.Named.{Named}
+use Rattle.std.specs.Prelude.{map, option_map, ◌^◌, ◌-◌, ◌≤◌}
+use Rattle.std.proofs.lemmas.List.{map-id}
+use Rattle.uv_ids.specs.declared.seen.Site.{Site}
+use Rattle.uv_script.specs.declared.op.Op.TheVariants as op
+use Rattle.uv_records.specs.Dues.{due_after}
+use Rattle.uv_records.specs.Handles.{is_timer}
+use Rattle.uv_records.specs.Walks.{Walk}
+use Rattle.uv_work.specs.declared.content.Content.TheVariants as content
+use Rattle.uv_model.specs.Content.{content_keeps, content_pends, is_used}
+use Rattle.uv_model.specs.Limits.{LATEST}
+use Rattle.uv_model.specs.Next as steps
+use Rattle.uv_model.specs.Next.{Next, Refuses, next, first_due}
+use Rattle.uv_shift.specs.Shift.{By, shift, shift_line, shift_next, ClockFits}
+use Rattle.uv_shift.proofs.Later.{CanShift, shift_due, shift_if, shift_content, shift_run, shift_place}
+use Rattle.uv_shift.proofs.Slots.{front_held, first_due_held}
+use Rattle.uv_alike.specs.Changed.{Change, Comes, changed, changed_content, changed_live, changed_body, changed_run, changed_place, changed_walk, changed_line, changed_event, changed_next}
+use Rattle.uv_alike.specs.Hides.{Hides, IsExact}
+use Rattle.uv_alike.proofs.Same.{option_same, any_same, lines_same, main_same, event_same, runs_same}
+use Rattle.uv_alike.proofs.Mapped.{slot_of, held_mapped, turns_mapped, finds_mapped, takes_mapped, frees_mapped, live_mapped}
+use Rattle.uv_alike.proofs.Exact.{next_exact}
+
+abbrev pub by_later : By → Change
+by_later d = record {
+  var = λ v. v; id = λ x. x; slots = map (slot_of (shift_content d)); free = λ ns. ns;
+  due = shift_due d; due_in = λ active k due. shift_if (active && is_timer k) d due;
+  time = λ n. n + d.ms; clock = λ n. n + d.ms; start = λ n. n + d.starts;
+  names = λ ns. ns; count = λ n. n; runs = λ rs. rs;
+}
+
+module _ (d : By) where
+  content_same : (x : Content) → shift_content d x ≡ changed_content (by_later d) x
+  content_same (content.Handle h) = refl
+  content_same (content.Request r) = refl
+
+  live_same : (x : Option (Id × Content)) → option_map (λ (t : Id × Content). (t.0, shift_content d t.1)) x ≡ option_map (changed_live (by_later d)) x
+  live_same None = refl
+  live_same (Some t) = ap (λ x. Some (t.0, x)) (content_same t.1)
+
+  keeps : (test : Option Content → Bool) → ((x : Option Content) → test (option_map (shift_content d) x) ≡ test x) → (s : State) →
+      list_any (λ (slot : Slot Content). test slot.content) (map (slot_of (shift_content d)) s.arena.slots)
+      ≡ list_any (λ (slot : Slot Content). test slot.content) s.arena.slots
+  keeps test same s = any_same (shift_content d) test same s.arena.slots
+
+  order_later : (a b : Due) → due_cmp (shift_due d a) (shift_due d b) ≡ due_cmp a b
+  order_later a b = grind arith
+
+  le_later : (a b : ℕ) → nat_le (a + d.ms) (b + d.ms) ≡ nat_le a b
+  le_later a b = grind arith
+
+  left_later : (a b : ℕ) → a + d.ms - (b + d.ms) ≡ a - b
+  left_later a b = grind arith
+
+  -- a due time that isn't cut
+  due_later : (time start timeout : ℕ) → time + d.ms + timeout < 2 ^ 64 → due_after (time + d.ms) (start + d.starts) timeout ≡ shift_due d (due_after time start timeout)
+  due_later time start timeout fits = grind arith
+
+  if_timer : (k : Kind) (due : Due) → is_timer k ≡ true → shift_if (true && is_timer k) d due ≡ shift_due d due
+  if_timer k due e = rw e refl
+
+  hides_later : (p : Program) (s : State) → CanShift p d s → Hides (by_later d) p s
+  hides_later p s can =
+      let f = shift_content d in
+      record {
+        same = λ a b. refl;
+        holds = λ x. held_mapped f s.arena.slots x ∙ ap (λ g. option_map g (held s.arena.slots x)) (λ i y. content_same y i);
+        turns = λ x old new e. rw (sym (content_same new)) (turns_mapped f s.arena.slots x new);
+        finds = finds_mapped f s.arena;
+        takes = λ x new e. rw (sym (content_same new)) (takes_mapped f x new s.arena);
+        frees = λ x old e. frees_mapped f (arena_size p).last_generation x s.arena;
+        keeps = keeps content_keeps (λ x. grind arith) s;
+        pends = keeps content_pends (λ x. grind arith) s;
+        uses = keeps is_used (λ x. grind arith) s;
+        order = order_later;
+        passed = λ a. le_later a.at s.time;
+        left = λ a. left_later a.at s.time;
+        rests = λ active k due e. rw e refl;
+        ticks = if_timer;
+        more = omega arith;
+        repeats = λ x h e. due_later s.time s.next_start h.repeat (can.repeats x h e);
+        starts = λ at v timeout repeat e. due_later s.time s.next_start timeout (can.starts at (op.Start v timeout repeat) e);
+        fires = λ t e due. if_timer t.1.kind due (can.ready t e);
+        falls = λ t e due. if_timer t.1.kind due (can.first t e);
+        waits = λ n. omega arith;
+        over = λ n. le_later n s.clock;
+        clocks = refl;
+        known = λ v. refl;
+        lives = λ v. live_mapped f s (changed (by_later d) s) (named s v).id refl ∙ live_same (live s v);
+        binds = λ v x e. refl;
+        lines = λ kind v n. lines_same (by_later d) (λ v. refl) _;
+        main = λ line e. main_same (by_later d) (λ v. refl) _;
+      }
+
+  -- ---- a step
+
+  body_same : (x : Option Body) → option_map (changed_body (by_later d)) x ≡ x
+  body_same x = option_same _ (λ b. refl) x
+
+  place_same : (place : Place) → changed_place (by_later d) place ≡ shift_place d place
+  place_same (Main line) = refl
+  place_same (Running run) = ap₂ (λ stage body. Running (record run { stage = stage; body = body })) (grind arith) (body_same run.body)
+
+  walk_same : (w : Walk Id) → changed_walk (by_later d) w ≡ w
+  walk_same w = λ i. record { list = map-id w.list i; yet = map-id w.yet i }
+
+  changed_same : (s : State) → changed (by_later d) s ≡ shift d s
+  changed_same s = λ i. record (shift d s) {
+    place = place_same s.place i;
+    ready = map-id s.ready i;
+    watchers = record {
+      idle = walk_same s.watchers.idle i;
+      prepare = walk_same s.watchers.prepare i;
+      check = walk_same s.watchers.check i;
+      async = walk_same s.watchers.async i;
+    };
+    closing = walk_same s.closing i;
+    waiting = map-id s.waiting i;
+    done = walk_same s.done i;
+  }
+
+  line_same : (p : Program) (line : Seen) → changed_line (by_later d) p line ≡ shift_line p d line
+  line_same p line = grind arith
+
+  next_same : (p : Program) (x : Next) → changed_next (by_later d) p x ≡ shift_next p d x
+  next_same p (Moves s None) = ap (λ u. Moves u None) (changed_same s)
+  next_same p (Moves s (Some line)) = ap₂ (λ u l. Moves u (Some l)) (changed_same s) (line_same p line)
+  next_same p (Refuses why) = refl
+
+  exact : (p : Program) (s : State) → IsExact (by_later d) p s
+  exact p s = record {
+    bound = λ x. x;
+    get = λ u v same. refl;
+    set = λ u v x same. refl;
+    body = λ kind v call n. sym (body_same _);
+    count = λ n. refl;
+  }
+
+  ticks : (s : State) (e : Event) → ClockFits (shift d s) e → Comes (by_later d) s e
+  ticks s (Tick ms) fits = (omega arith, grind arith)
+  ticks s (Take k) fits = runs_same s k
+  ticks s (Finish k) fits = runs_same s k
+  ticks s e fits = tt
+
+  pub next_later : (p : Program) (s : State) (e : Event) → CanShift p d s → ClockFits (shift d s) e →
+      next p (shift d s) e ≡ shift_next p d (next p s e)
+  next_later p s e can fits =
+      ap₂ (next p) (sym (changed_same s)) (sym (event_same (by_later d) (λ v. refl) e))
+      ∙ next_exact (by_later d) p s (hides_later p s can) (exact p s) e (ticks s e fits) ∙ next_same p (next p s e)

@@ -1,0 +1,113 @@
+-- Names in another order, as a change: names that are alike may change places.
+use Rattle.uv_slots.proofs.Names.{◌≡◌, ◌∙◌, ℕ, zero, suc, ◌+◌, ◌<◌, List, [], ◌∷◌, length, drop, arith, refl, ap, ap₂, sym, Bool, true, false, Option, Some, None, list_any, slice_get, slice_set, nat_lt, if◌then◌else◌, Id, Var, Slot, Content, State, Program, HandleRecord, Named, named, with_named, live, live_id, unbound, lines_in, CallbackLine, MainOp, Op, Body, Run, Place, Main, Running, Seen, Event, Loop, Take, Finish, Cancel, Send, Io, Tick, Callback, Moves, arena_size, held, Stage, Poll}
+use Rattle.std.specs.Prelude.{◌≤◌, ◌||◌, map, option_map, unwrap_or, is_some}
+use Rattle.std.proofs.lemmas.List.{drop-map, map-id}
+use Rattle.std.proofs.lemmas.Option.{slice_get-map}
+use Rattle.uv_records.specs.Names as names
+use Rattle.uv_script.specs.Program.{is_for, next_line}
+use Rattle.uv_work.specs.declared.content.Content.TheVariants as content
+use Rattle.uv_model.specs.Content.{content_keeps, content_pends, is_used}
+use Rattle.uv_model.specs.Next as steps
+use Rattle.uv_model.specs.Next.{Next, next}
+use Rattle.uv_slots.specs.Arranged.{IsOrder, place_of, arranged_slots}
+use Rattle.uv_slots.proofs.Orders.{Fits, get_arranged, set_arranged}
+use Rattle.uv_slots.specs.Alike.{moved_var, moved_content, by_names, AreAlike}
+use Rattle.uv_alike.specs.Changed.{Change, Comes, changed, changed_content, changed_live, changed_callback, changed_main, changed_body, changed_event, changed_next}
+use Rattle.uv_alike.specs.Hides.{Hides, IsExact}
+use Rattle.uv_alike.proofs.Same.{option_same, any_same, runs_same}
+use Rattle.uv_alike.proofs.Mapped.{slot_of, held_mapped, turns_mapped, finds_mapped, takes_mapped, frees_mapped, live_mapped}
+use Rattle.uv_alike.proofs.Exact.{next_exact}
+
+in_range : {X : Type 0} (xs : List X) (n : ℕ) → nat_lt n (length xs) ≡ is_some (slice_get xs n)
+in_range [] n = grind arith
+in_range (x ∷ xs) zero = grind arith
+in_range (x ∷ xs) (suc n) = grind (arith, (in_range xs n))
+
+module _ (o : List ℕ) where
+  content_same : (x : Content) → moved_content o x ≡ changed_content (by_names o) x
+  content_same (content.Handle h) = refl
+  content_same (content.Request r) = refl
+
+  live_same : (x : Option (Id × Content)) → option_map (λ (t : Id × Content). (t.0, moved_content o t.1)) x ≡ option_map (changed_live (by_names o)) x
+  live_same None = refl
+  live_same (Some t) = ap (λ x. Some (t.0, x)) (content_same t.1)
+
+  fits : (p : Program) (s u : State) → AreAlike p o s → u.names ≡ s.names → Fits o u.names
+  fits p s u alike same = rw same (record { order = alike.order; within = alike.within })
+
+  named_moved : (u : State) (v : Var) → Fits o u.names → named (changed (by_names o) u) (moved_var o v) ≡ named u v
+  named_moved u v fits = ap (λ x. unwrap_or x unbound) (get_arranged o u.names v.0 fits)
+
+  keeps : (test : Option Content → Bool) → ((x : Option Content) → test (option_map (moved_content o) x) ≡ test x) → (s : State) →
+      list_any (λ (slot : Slot Content). test slot.content) (map (slot_of (moved_content o)) s.arena.slots)
+      ≡ list_any (λ (slot : Slot Content). test slot.content) s.arena.slots
+  keeps test same s = any_same (moved_content o) test same s.arena.slots
+
+  hides_names : (p : Program) (s : State) → AreAlike p o s → Hides (by_names o) p s
+  hides_names p s alike =
+      let f = moved_content o in
+      let at = fits p s s alike refl in
+      record {
+        same = λ a b. refl;
+        holds = λ x. held_mapped f s.arena.slots x ∙ ap (λ g. option_map g (held s.arena.slots x)) (λ i y. content_same y i);
+        turns = λ x old new e. rw (sym (content_same new)) (turns_mapped f s.arena.slots x new);
+        finds = finds_mapped f s.arena;
+        takes = λ x new e. rw (sym (content_same new)) (takes_mapped f x new s.arena);
+        frees = λ x old e. frees_mapped f (arena_size p).last_generation x s.arena;
+        keeps = keeps content_keeps (λ x. grind arith) s;
+        pends = keeps content_pends (λ x. grind arith) s;
+        uses = keeps is_used (λ x. grind arith) s;
+        order = λ a b. refl;
+        passed = λ a. refl;
+        left = λ a. refl;
+        rests = λ active k due e. refl;
+        ticks = λ k due e. refl;
+        more = refl;
+        repeats = λ x h e. refl;
+        starts = λ at v timeout repeat e. refl;
+        fires = λ t e due. refl;
+        falls = λ t e due. refl;
+        waits = λ n. refl;
+        over = λ n. refl;
+        clocks = refl;
+        known = λ v. in_range (arranged_slots o s.names) (place_of o v.0) ∙ ap is_some (get_arranged o s.names v.0 at) ∙ sym (in_range s.names v.0);
+        lives = λ v. ap (λ (n : Named). live_id (changed (by_names o) s) n.id) (named_moved s v at)
+            ∙ live_mapped f s (changed (by_names o) s) (named s v).id refl ∙ live_same (live s v);
+        binds = λ v x e. ap (λ (n : Named). slice_set (arranged_slots o s.names) (place_of o v.0) (record n { id = Some x })) (named_moved s v at)
+            ∙ set_arranged o s.names v.0 (record (named s v) { id = Some x }) at;
+        lines = λ kind v n. ap (λ ls. slice_get ls n) (alike.lines kind v) ∙ slice_get-map (changed_callback (by_names o)) (lines_in p kind v) n;
+        main = alike.main;
+      }
+
+  -- ---- a step
+
+  next_line_moved : (call number : ℕ) (lines : List CallbackLine) → next_line call number (map (changed_callback (by_names o)) lines) ≡ next_line call number lines
+  next_line_moved call number [] = refl
+  next_line_moved call number (l ∷ ls) = ap (λ x. if is_for call l.call then Some number else x) (next_line_moved call (number + 1) ls)
+
+  body_moved : (kind : Callback) (v : Var) (call : ℕ) (x : Option ℕ) →
+      steps.body_at kind (moved_var o v) call x ≡ option_map (changed_body (by_names o)) (steps.body_at kind v call x)
+  body_moved kind v call None = refl
+  body_moved kind v call (Some n) = refl
+
+  exact : (p : Program) (s : State) → AreAlike p o s → IsExact (by_names o) p s
+  exact p s alike = record {
+    bound = λ x. x;
+    get = λ u v same. named_moved u v (fits p s u alike same);
+    set = λ u v x same. ap (λ ns. record (changed (by_names o) u) { names = ns }) (set_arranged o u.names v.0 x (fits p s u alike same));
+    body = λ kind v call n. ap (λ ls. steps.body_at kind (moved_var o v) call (next_line call n (drop n ls))) (alike.lines kind v)
+        ∙ ap (λ ls. steps.body_at kind (moved_var o v) call (next_line call n ls)) (drop-map (changed_callback (by_names o)) n (lines_in p kind v))
+        ∙ ap (steps.body_at kind (moved_var o v) call) (next_line_moved call n (drop n (lines_in p kind v)))
+        ∙ body_moved kind v call (next_line call n (drop n (lines_in p kind v)));
+    count = λ n. refl;
+  }
+
+  -- a step from the state whose alike names have changed places is the step from the state itself, so changed
+  pub next_moved : (p : Program) (s : State) (e : Event) → AreAlike p o s →
+      next p (changed (by_names o) s) (changed_event (by_names o) e) ≡ changed_next (by_names o) p (next p s e)
+  next_moved p s e alike = next_exact (by_names o) p s (hides_names p s alike) (exact p s alike) e (by e) where
+    by : (e : Event) → Comes (by_names o) s e
+    by (Tick ms) = (refl, refl)
+    by (Take k) = runs_same s k
+    by (Finish k) = runs_same s k
+    by e = tt
