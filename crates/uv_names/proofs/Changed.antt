@@ -35,7 +35,6 @@ use Rattle.uv_model.specs.State.{State, named, with_named, with_handle, live, li
 use Rattle.uv_model.specs.Timers.{restarted, stopped}
 use Rattle.uv_model.specs.Ops as ops
 use Rattle.uv_model.specs.Ops.{Coded, do_op}
-use Rattle.uv_names.proofs.Cases.{by_found, by_test}
 
 abbrev pub changed_body : (ℕ → ℕ) → Body → Body
 changed_body c body = record body { call = c body.call }
@@ -64,12 +63,6 @@ abbrev pub as_is : {A : Type 0} → A → A
 as_is x = x
 
 module _ (f : Named → Named) (c : ℕ → ℕ) (r : List (Option Id) → List (Option Id)) where
-  abbrev pub changed_done : ops.Done → ops.Done
-  changed_done x = record { state = changed f c r x.state; answer = x.answer }
-
-  abbrev pub changed_coded : Coded → Coded
-  changed_coded x = record { state = changed f c r x.state; code = x.code }
-
   -- ---- a name
 
   pub with_named_changed : (s : State) (v : Var) (x : Named) → with_named (changed f c r s) v (f x) ≡ changed f c r (with_named s v x)
@@ -90,114 +83,3 @@ module _ (f : Named → Named) (c : ℕ → ℕ) (r : List (Option Id) → List 
     pub live_changed : (v : Var) → live (changed f c r s) v ≡ live s v
     live_changed v = ap (λ (x : Named). live_id (changed f c r s) x.id) (named_changed s v hides.unbound)
         ∙ live_alike s (f (named s v)).id ∙ hides.live (named s v)
-
-    pub live_handle_changed : (v : Var) → live_handle (changed f c r s) v ≡ live_handle s v
-    live_handle_changed v = ap as_handle (live_changed v)
-
-    pub live_request_changed : (v : Var) → live_request (changed f c r s) v ≡ live_request s v
-    live_request_changed v = ap as_request (live_changed v)
-
-    -- ---- an op on a handle
-
-    by_handle : (t : Result (Id × HandleRecord) Code) (why : HandleRecord → Option Code) (does : State → Id → HandleRecord → ops.Done) →
-        ((id : Id) (h : HandleRecord) → does (changed f c r s) id h ≡ changed_done (does s id h)) →
-        ops.on_handle (changed f c r s) t why (does (changed f c r s)) ≡ changed_done (ops.on_handle s t why (does s))
-    by_handle (Err code) why does same = refl
-    by_handle (Ok t) why does same = by_found as_is changed_done (why t.1) (λ code e. refl) (same t.0 t.1)
-
-    on_handle_changed : (v : Var) (why : HandleRecord → Option Code) (does : State → Id → HandleRecord → ops.Done) →
-        ((id : Id) (h : HandleRecord) → does (changed f c r s) id h ≡ changed_done (does s id h)) →
-        ops.on_handle (changed f c r s) (live_handle (changed f c r s) v) why (does (changed f c r s))
-        ≡ changed_done (ops.on_handle s (live_handle s v) why (does s))
-    on_handle_changed v why does same =
-        ap (λ t. ops.on_handle (changed f c r s) t why (does (changed f c r s))) (live_handle_changed v) ∙ by_handle (live_handle s v) why does same
-
-    -- ---- what is made
-
-    by_live : (o : Option (Id × Content)) (made : State → Id → State) →
-        ((id : Id) → next_free s.arena ≡ Some id → made (changed f c r s) id ≡ changed f c r (made s id)) →
-        ops.make (changed f c r s) o (made (changed f c r s)) ≡ changed_done (ops.make s o (made s))
-    by_live (Some t) made same = refl
-    by_live None made same = by_found as_is changed_done (next_free s.arena)
-        (λ id e. ap (λ (x : State). record { state = x; answer = answer.Id id }) (same id e))
-        refl
-
-    make_changed : (v : Var) (made : State → Id → State) →
-        ((id : Id) → next_free s.arena ≡ Some id → made (changed f c r s) id ≡ changed f c r (made s id)) →
-        ops.make (changed f c r s) (live (changed f c r s) v) (made (changed f c r s)) ≡ changed_done (ops.make s (live s v) (made s))
-    make_changed v made same = ap (λ o. ops.make (changed f c r s) o (made (changed f c r s))) (live_changed v) ∙ by_live (live s v) made same
-
-    -- a state that has the names of this one
-    bound_changed : (u : State) (v : Var) (id : Id) → next_free s.arena ≡ Some id →
-        ops.bound_to (changed f c r u) v id ≡ changed f c r (ops.bound_to u v id)
-    bound_changed u v id e =
-        ap (λ (x : Named). with_named (changed f c r u) v (record x { id = Some id })) (named_changed u v hides.unbound)
-        ∙ ap (with_named (changed f c r u) v) (sym (hides.fresh id e (named u v)))
-        ∙ with_named_changed u v (record (named u v) { id = Some id })
-
-    new_changed : (v : Var) (k : Kind) (id : Id) → next_free s.arena ≡ Some id →
-        ops.with_new (changed f c r s) v k id ≡ changed f c r (ops.with_new s v k id)
-    new_changed v k id e =
-        let u = record s { arena = taken id (content.Handle (inited v k)) s.arena } in
-        ap (λ t. ops.bound_to t v id) (listed u) ∙ bound_changed (ops.listed_last u k id) v id e
-      where
-        listed : (u : State) → ops.listed_last (changed f c r u) k id ≡ changed f c r (ops.listed_last u k id)
-        listed u = by_test as_is (changed f c r) (is_async k) refl refl
-
-    queued_changed : (v : Var) (task : Task) (id : Id) → next_free s.arena ≡ Some id →
-        ops.with_queued (changed f c r s) v task id ≡ changed f c r (ops.with_queued s v task id)
-    queued_changed v task id e =
-        bound_changed (record s { arena = taken id (content.Request (queued v task)) s.arena; waiting = s.waiting ++ id ∷ [] }) v id e
-
-    -- ---- requests and sends
-
-    pub cancel_changed : (t : Result (Id × Request) Code) → ops.cancel (changed f c r s) t ≡ changed_done (ops.cancel s t)
-    cancel_changed (Err code) = refl
-    cancel_changed (Ok t) = by_test as_is changed_done (list_any (same_id t.0) s.waiting) refl refl
-
-    by_send : (t : Result (Id × HandleRecord) Code) → ops.send (changed f c r s) t ≡ changed_coded (ops.send s t)
-    by_send (Err code) = refl
-    by_send (Ok t) = by_found as_is changed_coded (send_refusal t.1) (λ code e. refl) refl
-
-    pub send_changed : (v : Var) → ops.send (changed f c r s) (live_handle (changed f c r s) v) ≡ changed_coded (ops.send s (live_handle s v))
-    send_changed v = ap (ops.send (changed f c r s)) (live_handle_changed v) ∙ by_send (live_handle s v)
-
-  -- ---- the ops on handles
-
-  pub restarted_changed : (s : State) (id : Id) (h : HandleRecord) → restarted (changed f c r s) id h ≡ changed f c r (restarted s id h)
-  restarted_changed s id h = by_test as_is (changed f c r) (h.repeat == 0) refl refl
-
-  by_kind : (s : State) (id : Id) (h : HandleRecord) (k : Option WatcherKind) →
-      found_or k (λ k. ops.watcher_started (changed f c r s) k id h) (with_handle (changed f c r s) id (activated h))
-      ≡ changed f c r (found_or k (λ k. ops.watcher_started s k id h) (with_handle s id (activated h)))
-  by_kind s id h k = by_found as_is (changed f c r) k (λ k e. refl) refl
-
-  watcher_changed : (s : State) (id : Id) (h : HandleRecord) → ops.start_watcher (changed f c r s) id h ≡ changed_done (ops.start_watcher s id h)
-  watcher_changed s id h = ap ops.succeeds (by_test as_is (changed f c r) h.active refl (by_kind s id h (watcher_kind h.kind)))
-
-  pub op_changed : (s : State) → Hides f s → (o : Op) → do_op (changed f c r s) o ≡ changed_done (do_op s o)
-  op_changed s hides (op.Init v k) = make_changed s hides v (λ u. ops.with_new u v k) (new_changed s hides v k)
-  op_changed s hides (op.Queue v task) = make_changed s hides v (λ u. ops.with_queued u v task) (queued_changed s hides v task)
-  op_changed s hides (op.Cancel v) = ap (ops.cancel (changed f c r s)) (live_request_changed s hides v) ∙ cancel_changed s hides (live_request s v)
-  op_changed s hides (op.Start v timeout repeat) =
-      on_handle_changed s hides v start_timer_refusal (λ u. ops.start u timeout repeat) (λ id h. refl)
-  op_changed s hides (op.StartWatcher v) = on_handle_changed s hides v start_watcher_refusal ops.start_watcher (watcher_changed s)
-  op_changed s hides (op.Stop v) = on_handle_changed s hides v stop_refusal ops.stop (λ id h. refl)
-  op_changed s hides (op.Again v) = on_handle_changed s hides v again_refusal ops.again
-      (λ id h. ap ops.succeeds (restarted_changed (stopped s id h) id h))
-  op_changed s hides (op.SetRepeat v repeat) = on_handle_changed s hides v timer_refusal (λ u. ops.set_repeat u repeat) (λ id h. refl)
-  op_changed s hides (op.DueIn v) =
-      on_handle_changed s hides v timer_refusal (λ u id h. ops.says u (answer.Number (due_in u.time h))) (λ id h. refl)
-  op_changed s hides (op.Close v) = on_handle_changed s hides v close_refusal ops.close (λ id h. refl)
-  op_changed s hides (op.Ref v) = on_handle_changed s hides v no_refusal (λ u. ops.set_referenced u true) (λ id h. refl)
-  op_changed s hides (op.Unref v) = on_handle_changed s hides v no_refusal (λ u. ops.set_referenced u false) (λ id h. refl)
-  op_changed s hides (op.HasRef v) = on_handle_changed s hides v no_refusal (λ u id h. ops.says u (answer.Flag h.referenced)) (λ id h. refl)
-  op_changed s hides (op.IsActive v) = on_handle_changed s hides v no_refusal (λ u id h. ops.says u (answer.Flag h.active)) (λ id h. refl)
-  op_changed s hides (op.IsClosing v) = on_handle_changed s hides v no_refusal (λ u id h. ops.says u (answer.Flag h.closing)) (λ id h. refl)
-  op_changed s hides (op.Send v) = ap ops.says_code (send_changed s hides v)
-  op_changed s hides op.StopLoop = refl
-  op_changed s hides op.UpdateTime = refl
-  op_changed s hides op.Now = refl
-  op_changed s hides op.IsAlive = refl
-  op_changed s hides op.Timeout = refl
-  op_changed s hides op.CloseLoop = by_test as_is changed_done (ops.is_in_use s) refl refl

@@ -1,4 +1,3 @@
-mod Cases
 pub mod Changed
 pub mod Walk
 pub mod Rebound

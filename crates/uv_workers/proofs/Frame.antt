@@ -17,7 +17,8 @@ use Rattle.uv_model.specs.Next as steps
 use Rattle.uv_model.specs.Next.{Next, Moves, Refuses, next}
 use Rattle.uv_names.proofs.Changed.{as_is, changed, changed_run, Hides, named_changed, with_named_changed}
 use Rattle.uv_names.proofs.Rebound.{same_place}
-use Rattle.uv_names.proofs.Walk.{SeesAlike, loop_alike, cancels_alike, sent_to_alike, io_alike, tick_alike}
+use Rattle.uv_names.proofs.Walk.{SeesAlike, by_named, event_alike}
+use Rattle.uv_alike.specs.Changed.{Comes}
 use Rattle.uv_workers.specs.Workers.{is_of_worker}
 
 -- the state whose workers run these
@@ -72,14 +73,12 @@ module _ (running : List (Option Id)) where
   hides s = record { unbound = refl; live = λ x. refl; fresh = λ id e x. refl }
 
   left_same : (p : Program) (s : State) (e : Event) → is_of_worker e ≡ false → next p (left s) e ≡ put_next running (next p s e)
-  unfolding next
-  left_same p s Loop other = loop_alike p as_is as_is these as_is (put_next running) (sees p) s (hides s) s.place
-  left_same p s (Cancel v) other = cancels_alike p as_is as_is these as_is (put_next running) (sees p) s (hides s) v
-  left_same p s (Send v) other = sent_to_alike p as_is as_is these as_is (put_next running) (sees p) s (hides s) v
-  left_same p s (Io v) other = io_alike p as_is as_is these as_is (put_next running) (sees p) s (hides s) v
-  left_same p s (Tick ms) other = tick_alike p as_is as_is these as_is (put_next running) (sees p) s ms
-  left_same p s (Take k) other = absurd (let f : ⊥ = cc in f)
-  left_same p s (Finish k) other = absurd (let f : ⊥ = cc in f)
+  left_same p s e other = event_alike as_is as_is these p as_is (put_next running) (sees p) s (hides s) e (by e other) where
+    by : (e : Event) → is_of_worker e ≡ false → Comes (by_named as_is as_is these) s e
+    by (Take k) other = absurd (let f : ⊥ = cc in f)
+    by (Finish k) other = absurd (let f : ⊥ = cc in f)
+    by (Tick ms) other = (refl, refl)
+    by e other = tt
 
   pub next_same : (p : Program) (s : State) (e : Event) → is_of_worker e ≡ false → next p (put running s) e ≡ put_next running (next p s e)
   next_same p s e other = ap (λ u. next p u e) (sym (left_put s)) ∙ left_same p s e other
