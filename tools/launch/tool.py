@@ -45,6 +45,8 @@ def run_tool(tool: str, work: Callable[[], int], failed: int, what: str = "the o
         sys.stderr.close()
     except OSError as fault:
         print(f"{tool}: {fault.filename or what}: {fault.strerror}", file=sys.stderr)
+    except MemoryError:
+        print(f"{tool}: there is too little memory for {what}", file=sys.stderr)
     except KeyboardInterrupt:
         return INTERRUPTED
     return failed

@@ -280,6 +280,8 @@ def started(work: Callable[..., None], *words: object) -> threading.Thread:
     before = signal.pthread_sigmask(signal.SIG_BLOCK, [signal.SIGINT])
     try:
         thread.start()
+    except RuntimeError:
+        raise Fault("the system gives it no further thread: too little memory, or too many processes (ulimit)") from None
     finally:
         signal.pthread_sigmask(signal.SIG_SETMASK, before)
     return thread

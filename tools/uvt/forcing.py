@@ -223,6 +223,7 @@ def environment_of(words: list[str], folder: Path, order: Order) -> dict[str, st
     """What the program, and no tool around it, finds in its environment."""
     given = {
         "UVT_LOG": str(folder / "log"),
+        "UVT_ENDS_WITH": str(os.getpid()),
         "UVT_FORCE_SAID": str(folder / "said"),
         "UVT_FORCE_AT": str(folder / "at"),
         "UVT_FORCE_LOOP": str(order.loop),

@@ -4,13 +4,12 @@ from __future__ import annotations
 
 import json
 import re
-import threading
 from dataclasses import dataclass, field
 from pathlib import Path
 from typing import Callable, Iterator
 
 from uvt.arrivals import behind, came
-from uvt.conversation import Conversation, Fault, Script, packed
+from uvt.conversation import Conversation, Fault, Script, packed, started
 from uvt.javascript import OUTSIDE
 from uvt.notes import Request
 from uvt.places import MEANT, Place, next_line, read_place
@@ -67,8 +66,7 @@ def all_states(script: Script, steps: list[str], part: Part, heaps: bool, tell: 
     word, last = ("image", ("counts ", "refused ")) if heaps else ("state", ("done-yet",))
     with Conversation(script) as talk:
         text = packed(steps[: part.begin]) + f"{word}\n" + "".join(f"{it}\n{word}\n" for it in steps[part.begin : part.end])
-        writer = threading.Thread(target=talk.send_quietly, args=(text,), daemon=True)
-        writer.start()
+        writer = started(talk.send_quietly, text)
         for at in range(part.end - part.begin + 1):
             line = talk.read_line()
             while not line.startswith("steps "):

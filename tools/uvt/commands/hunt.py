@@ -43,7 +43,7 @@ from launch.tool import run_tool
 from uvt.conversation import INSTALLED, ROOT, Fault, built_program
 from uvt.hunting import Bad, Counts, Hunt, counted
 from uvt.notes import harmless
-from uvt.record.run import recorder, write
+from uvt.record.run import recorder, room_in, write
 from uvt.reports import junit, sarif
 
 WELL, FAULT, BADLY, INTERRUPTED = 0, 2, 3, 130
@@ -218,7 +218,7 @@ def part_of(text: str) -> tuple[int, int]:
 
 def hunted(words: list[str], name: str, seconds: float | None, part: tuple[int, int], same_output: bool, seed: int, reports: list[str]) -> int:
     search, teller = prepare(), Teller()
-    folder = Path(tempfile.mkdtemp(prefix="uvt-hunt."))
+    folder = room_in(Path(tempfile.gettempdir()), "uvt-hunt.")
     hunt = Hunt(words, search, folder, seconds, part, teller.tell, same_output, seed)
     teller.counts = hunt.counts
     bad, ended = None, ""

@@ -530,12 +530,16 @@ def is_alive(process: int) -> bool:
 
 
 def room_for(name: str) -> Path:
-    """A folder for the logs of a run, beside where they are to be kept. One that a killed call has left there goes."""
-    beside, mine = Path(name).resolve().parent, f".{Path(name).name}."
+    """A folder for the logs of a run, beside where they are to be kept."""
+    return room_in(Path(name).resolve().parent, f".{Path(name).name}.")
+
+
+def room_in(beside: Path, mine: str) -> Path:
+    """A folder of this call's own in another one. One that a killed call of the same user has left there goes."""
     try:
         for left in beside.glob(f"{glob.escape(mine)}*"):
             found = re.fullmatch(re.escape(mine) + r"(\d+)\.\w+", left.name)
-            if found and not is_alive(int(found[1])):
+            if found and not is_alive(int(found[1])) and left.lstat().st_uid == os.getuid():
                 shutil.rmtree(left, ignore_errors=True)
         return Path(tempfile.mkdtemp(prefix=f"{mine}{os.getpid()}.", dir=beside))
     except OSError as fault:
@@ -624,7 +628,8 @@ class Keep:
 
 def run_program(words: list[str], prefix: Path, bare: bool, keep: Keep | None = None) -> tuple[int, int]:
     """Runs it with the recorder, which writes PREFIX.PID.log. Answers its process and its status."""
-    environment = dict(os.environ, UVT_LOG=str(prefix)) | (keep.environment() if keep else {})
+    # (a ring stays beside the program, which may go on without this tool)
+    environment = dict(os.environ, UVT_LOG=str(prefix)) | (keep.environment() if keep else {"UVT_ENDS_WITH": str(os.getpid())})
     environment["LD_PRELOAD"] = " ".join(filter(None, [*sanitizers(words[0]), str(recorder()), os.environ.get("LD_PRELOAD", "")]))
     try:
         program = subprocess.Popen(words, env=environment if bare else with_hooks(environment))

@@ -8,12 +8,14 @@
 #include <fcntl.h>
 #include <link.h>
 #include <pthread.h>
+#include <signal.h>
 #include <stdarg.h>
 #include <stdatomic.h>
 #include <stdio.h>
 #include <stdlib.h>
 #include <string.h>
 #include <sys/mman.h>
+#include <sys/prctl.h>
 #include <sys/resource.h>
 #include <time.h>
 #include <unistd.h>
@@ -506,10 +508,19 @@ static void in_child(void) {
     mutex = (pthread_mutex_t)PTHREAD_RECURSIVE_MUTEX_INITIALIZER_NP;
 }
 
+/* Who is killed can't end the program that it has started: the system does. (UVT_ENDS_WITH=PROCESS: only of its own child, and of none of that one's) */
+static void end_with(const char *who) {
+    pid_t parent = who ? (pid_t)atoi(who) : 0;
+    if (parent <= 1 || getppid() != parent) return;
+    prctl(PR_SET_PDEATHSIG, SIGTERM);
+    if (getppid() != parent) raise(SIGTERM);
+}
+
 static void __attribute__((constructor)) begin(void) {
     const char *named = getenv("UVT_LOG");
     if (!named || strlen(named) >= sizeof prefix) return;
     strcpy(prefix, named);
+    end_with(getenv("UVT_ENDS_WITH"));
     ask_for_ring();
     pthread_atfork(before_fork, after_fork, in_child);
     attaches = getenv("UVT_ATTACH") != NULL;
