@@ -515,7 +515,7 @@ EARLY = "import sys; sys.path.insert(0, sys.argv.pop(1)); from uvt.commands impo
 
 def try_early(check: Check, folder: Path) -> None:
     """Before the build a very long recording's log is told first: by a program of this path, which `why` takes for the one before its proofs.
-    This one isn't so long, but for a `why` that is told otherwise."""
+    This one isn't so long, except for a `why` that is told otherwise."""
     program = folder / "unproved" / "uvt"
     program.parent.mkdir()
     program.symlink_to(built_program())

@@ -121,7 +121,8 @@ def calls_of(page: Path) -> list[tuple[str, str | None]]:
     blocks = BLOCK.findall(page.read_text())
     found = []
     for block, behind in zip(blocks, [*blocks[1:], ""]):
-        if re.match(r"(printf .* \| )?\./uvt (why|shell|view) ", block) and block.count("\n") == 1:
+        # (the two of --beside are the reader's own recordings)
+        if re.match(r"(printf .* \| )?\./uvt (why|shell|view) (?!--beside)", block) and block.count("\n") == 1:
             is_call = re.match(r"(printf|\./uvt |cp |mkdir )", behind)
             found.append((block.strip(), None if is_call or " > " in block or not behind else behind))
     return found
