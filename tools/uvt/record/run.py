@@ -5,6 +5,7 @@ from __future__ import annotations
 import collections
 import fcntl
 import glob
+import itertools
 import os
 import re
 import shlex
@@ -423,22 +424,48 @@ def lifted(log: Log, loop: int, path: Path, part: Part) -> tuple[list[str], bool
     return told(made, loop, path, log.note, what), made.is_whole()
 
 
+# So many loops in a row of which the same is said are told together.
+ALIKE = 4
+
+
+def folded(rows: list[tuple[int, list[str]]]) -> list[str]:
+    """What is said of each loop; once of those in a row that are alike, as a program has them that makes a loop for each of its tasks."""
+
+    def of_any(row: tuple[int, list[str]]) -> str:
+        loop, lines = row
+        text = re.sub(rf"^loop {loop}: (.*), \d+ steps:", r"loop K: \1:", "\n".join(lines))
+        return re.sub(rf"\.{loop}\.(lift\.)?rec$", r".K.\1rec", text, flags=re.MULTILINE)
+
+    found: list[str] = []
+    for text, some in itertools.groupby(rows, of_any):
+        those = list(some)
+        if len(those) < ALIKE:
+            found += [line for _, lines in those for line in lines]
+        else:
+            found.append(f"loops {those[0][0]} to {those[-1][0]}, K in what follows, are alike:")
+            found += [f"    {line}" for line in text.split("\n")]
+    return found
+
+
 def from_data(data: bytes, log: Log, name: str, part: Part = Part(), lifts: bool = False) -> tuple[list[str], bool]:
     """Makes the recordings of a log, and writes them. Answers what is to be said, and whether all go all the way."""
     made, lines = all_made(log, part)
     whole = True
     first = loop_of_javascript(made)
+    rows: list[tuple[int, list[str]]] = []
     for loop, it in made:
         path = Path(f"{name}.rec" if len(made) == 1 or loop == first else f"{name}.{loop}.rec")
         put(path, loop, it, log)
-        lines += told(it, loop, path, log.note, whose(it.program, first is not None), where_it_ended(it, log, loop) if log.copied is not None else "")
+        where = where_it_ended(it, log, loop) if log.copied is not None else ""
+        rows.append((loop, told(it, loop, path, log.note, whose(it.program, first is not None), where)))
         whole &= it.is_whole()
         if lifts and it.program.javascript.language != "JavaScript":
-            lines.append("--lift is for programs in node: there is no second recording")
+            rows[-1][1].append("--lift is for programs in node: there is no second recording")
         elif lifts and it.program.javascript:
             more, well = lifted(log, loop, path.with_suffix(".lift.rec"), part)
-            lines += more
+            rows[-1][1].extend(more)
             whole &= well
+    lines += folded(rows)
     if not made:
         lines.append(f"no loop with callbacks in {log.lines} lines of the log" + (f": {log.note}" if log.note else ""))
         whole = False
