@@ -372,13 +372,18 @@ static struct function *same_place(const struct function *function) {
     return function > functions && before->at == function->at && before->bridge ? before : NULL;
 }
 
-/* Of those that wait it is enough to see what they ask of the C library. */
+/* Of those that wait it is enough to see what they ask of the C library, unless an order is forced: its gates stand there. */
 static bool waits(const char *name) {
+#ifdef FORCE
+    (void)name;
+    return false;
+#else
     static const char *const all[] = {"uv_mutex_lock", "uv_rwlock_rdlock", "uv_rwlock_wrlock", "uv_cond_wait", "uv_cond_timedwait",
                                       "uv_sem_wait", "uv_barrier_wait", "uv_thread_join", "uv_sleep"};
     for (size_t at = 0; at < sizeof all / sizeof *all; at++)
         if (strcmp(name, all[at]) == 0) return true;
     return false;
+#endif
 }
 
 /* The bridges of all functions that the recorder stands before. */
