@@ -7,7 +7,7 @@ import subprocess
 import tempfile
 import threading
 import time
-from concurrent.futures import ThreadPoolExecutor
+from concurrent.futures import FIRST_EXCEPTION, ThreadPoolExecutor, wait
 from dataclasses import dataclass, field
 from typing import Callable
 
@@ -17,6 +17,8 @@ from uvt.offered import Offered, near_lines, offered
 FOUND, NEVER, UNSETTLED = 0, 1, 3
 # By which numbers of states a search comes to as many as are asked for: what isn't settled was followed so far at least.
 FIRST_STATES, GROWTH = 1_000, 10
+# How often it is looked how far the questions are, in seconds.
+LOOKS = 0.25
 LATEST = re.compile(r"latest (\d+) ms.*: (?:not settled within )?(\d+) states?")
 KINDS = {"timer": "timer", "async": "async"}
 
@@ -178,12 +180,15 @@ def rows_of(
         row.worst[orders.what] = asker.latest(row.name, orders)
         with asker.lock:
             done += 1
-            tell(done, len(asks))
 
     pool = ThreadPoolExecutor(jobs)
     try:
-        for it in [pool.submit(one, ask) for ask in asks]:
-            it.result()
+        under_way = {pool.submit(one, ask) for ask in asks}
+        while under_way:
+            ended, under_way = wait(under_way, timeout=LOOKS, return_when=FIRST_EXCEPTION)
+            for it in ended:
+                it.result()
+            tell(done, len(asks))
     except BaseException:
         pool.shutdown(wait=False, cancel_futures=True)
         asker.stop()

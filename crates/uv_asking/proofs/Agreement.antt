@@ -452,7 +452,7 @@ question_found names fields q (is.code_of c name v e h) =
     (found_both (λ (d : Code) (u : Var). question.Code d (Some u)) (sure (code_found c)) (place_found names name v h))
 
 -- a part is any but `find latest NAME`
-NotLatest : Part → Type 0
+abbrev NotLatest : Part → Type 0
 NotLatest (Latest v) = ⊥
 NotLatest p = Unit {0}
 

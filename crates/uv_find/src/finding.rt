@@ -65,6 +65,21 @@ fn find_behind<M: Machine>(alloc: Global, orders: &mut Orders<M>, limit: usize) 
     }
 }
 
+/// Searches in the same way, and leaves no step out of those that are found.
+pub fn find_any<M: Machine>(alloc: Global, orders: &mut Orders<M>, limit: usize) -> Answer
+    requires here { place_answers orders.old.rules orders.old.spot.place orders.old.rules.question ≡ false }
+    ensures found { Finds orders.old.rules orders.old.spot limit result orders.new.spot }
+    ensures rules { orders.new.rules ≡ orders.old.rules }
+{
+    match search(alloc, orders, limit) {
+        Found::Way(reached) => Answer::Found(reached.keys),
+        Found::Never(places) => Answer::Never(places),
+        Found::Unsettled => Answer::Unsettled,
+        Found::TooDeep => Answer::TooDeep,
+        Found::OutOfMemory(places) => Answer::OutOfMemory(places),
+    }
+}
+
 /// The key of a place tells all of it that decides what comes after, of those that steps lead to. It does nothing, and is called for its
 /// clause.
 pub fn place_keys_tell()

@@ -24,7 +24,7 @@ mod steps;
 mod terms;
 
 pub use choices::{Choice, Moved, Taken};
-pub use finding::{Answer, each_finishes, find, place_keys_tell};
+pub use finding::{Answer, each_finishes, find, find_any, place_keys_tell};
 pub use forgetting::may_forget;
 pub use kept::{Along, Kept};
 pub use latest::{Rung, Risen, rise};

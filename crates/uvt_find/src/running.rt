@@ -15,7 +15,7 @@ use std::alloc::Global;
 use std::io::Write;
 use uv_engine::{Sink, Source, write_text};
 use uv_asking::Question;
-use uv_find::{Answer, Orders, Risen, find, may_forget, rise};
+use uv_find::{Answer, Orders, Risen, find, find_any, may_forget, rise};
 use uv_ids::{Fault, Var};
 use uv_inquiry::{
     Inquiry, at_least_text, found_text, latest_text, may_never_end, never_text, no_end_text, out_of_memory_text, read_inquiry,
@@ -161,7 +161,12 @@ fn ends_at<M: Machine>(
     let late = risen.ms.saturating_sub(1);
     let mut orders = begun::<M>(alloc, inquiry)?;
     orders.ask_late(name, late);
-    match find(alloc, &mut orders, states as usize) {
+    // (where more isn't settled it will be asked again, so the steps needn't be the fewest)
+    let found = match risen.settled {
+        Some(_) => find(alloc, &mut orders, states as usize),
+        None => find_any(alloc, &mut orders, states as usize),
+    };
+    match found {
         Answer::Found(_) => match risen.settled {
             Some(kept) => Ok(Told {
                 text: latest_text(alloc, inquiry, orders.steps(), late, kept as u64)?,
