@@ -1,9 +1,8 @@
 -- A change that keeps every count: a step from the changed state is the changed step.
-use Rattle.uv_alike.proofs.Names.{◌≡◌, ◌∙◌, ℕ, ◌+◌, refl, ap, ap₂, sym, Option, Some, None, Id, Var, State, Program, Named, named, with_named, counted, count_of, Body, Run, Running, Seen, Event, Callback, Moves}
-use Rattle.std.specs.Prelude.{option_map}
+use Rattle.uv_alike.proofs.Names.{◌≡◌, ◌∙◌, refl, ap, ap₂, Option, Some, Var, State, Program, Named, named, with_named, counted, count_of, Body, Run, Running, Seen, Event, Callback, Moves}
 use Rattle.uv_model.specs.Next as steps
 use Rattle.uv_model.specs.Next.{Next, next}
-use Rattle.uv_alike.specs.Changed.{Change, Comes, changed, changed_body, changed_run, changed_line, changed_event, changed_next}
+use Rattle.uv_alike.specs.Changed.{Change, Comes, changed, changed_run, changed_line, changed_event, changed_next}
 use Rattle.uv_alike.specs.Hides.{Hides, SeesAlike, IsExact}
 use Rattle.uv_alike.proofs.Walk.{next_alike}
 
@@ -15,7 +14,8 @@ module _ (c : Change) (p : Program) (s : State) (hides : Hides c p s) (exact : I
       ap (λ (n : Named). Moves (record (with_named (changed c u) (c.var v) (record n { calls = counted kind n.calls }))
       { place = Running (record (changed_run c run) { body = steps.body_from p kind (c.var v) (count_of kind (counted kind n.calls)) 0 }) })
       (Some (changed_line c p line))) (exact.get u v same)
-      ∙ ap₂ (λ (t : State) (b : Option Body). Moves (record t { place = Running (record (changed_run c run) { body = b }) }) (Some (changed_line c p line)))
+      ∙ ap₂ (λ (t : State) (b : Option Body). Moves (record t { place = Running (record (changed_run c run) { body = b }) })
+      (Some (changed_line c p line)))
       (exact.set u v (record (named u v) { calls = counts }) same) (exact.body kind v (count_of kind counts) 0)
 
   sees : SeesAlike c p s (λ x. x) (changed_next c p)

@@ -1,5 +1,6 @@
 mod Names
 pub mod Cases
+mod Ops
 pub mod Walk
 pub mod Same
 pub mod Exact

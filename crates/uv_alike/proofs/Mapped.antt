@@ -1,5 +1,5 @@
 -- Slots whose contents are changed, each by one function, under the same ids.
-use Rattle.uv_alike.proofs.Names.{◌≡◌, ◌∙◌, ◌++◌, ◌==◌, ℕ, ◌+◌, List, [], ◌∷◌, length, drop, arith, refl, ap, ap₂, sym, Option, Some, None, Id, Slot, Slots, Content, State, held, with_held, live_id, with_id, next_free, next_id, taken, taken_from, freed, slice_get}
+use Rattle.uv_alike.proofs.Names.{◌≡◌, ◌∙◌, ◌==◌, ℕ, ◌+◌, List, [], ◌∷◌, arith, refl, ap, sym, Option, Some, None, Id, Slot, Slots, Content, State, held, with_held, live_id, with_id, next_free, next_id, taken, taken_from, freed}
 use Rattle.std.specs.Prelude.{map, option_map}
 use Rattle.std.proofs.lemmas.List.{length-map, map-append, map-set}
 use Rattle.std.proofs.lemmas.Option.{slice_get-map}
@@ -16,7 +16,8 @@ module _ (f : Content → Content) where
   pub held_mapped : (slots : List (Slot Content)) (id : Id) → held (map slot_of slots) id ≡ option_map f (held slots id)
   held_mapped slots id = rw (slice_get-map slot_of slots id.slot) (grind arith)
 
-  pub turns_mapped : (slots : List (Slot Content)) (id : Id) (x : Content) → with_held (map slot_of slots) id (f x) ≡ map slot_of (with_held slots id x)
+  pub turns_mapped : (slots : List (Slot Content)) (id : Id) (x : Content) → with_held (map slot_of slots) id (f x)
+      ≡ map slot_of (with_held slots id x)
   turns_mapped slots id x = sym (map-set slot_of slots id.slot _)
 
   next_mapped : (slots : List (Slot Content)) (unused : ℕ) (free : List ℕ) → next_id (map slot_of slots) unused free ≡ next_id slots unused free
@@ -35,7 +36,8 @@ module _ (f : Content → Content) where
 
   pub frees_mapped : (last : ℕ) (id : Id) (a : Slots Content) → freed last id (mapped a) ≡ mapped (freed last id a)
   frees_mapped last id a = if_shift mapped (id.generation == last) (id.generation == last) _ _ _ _ refl
-      (ap (λ slots. record (mapped a) { slots = slots }) (sym (map-set slot_of a.slots id.slot (record { generation = id.generation; content = None }))))
+      (ap (λ slots. record (mapped a) { slots = slots })
+      (sym (map-set slot_of a.slots id.slot (record { generation = id.generation; content = None }))))
       (ap (λ slots. record (mapped a) { slots = slots; free = id.slot ∷ a.free })
       (sym (map-set slot_of a.slots id.slot (record { generation = id.generation + 1; content = None }))))
 

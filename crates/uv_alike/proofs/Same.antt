@@ -1,10 +1,9 @@
 -- What a change leaves as it is: names, or ids, or the lines of calls.
-use Rattle.uv_alike.proofs.Names.{◌≡◌, List, [], ◌∷◌, Option, Some, None, refl, ap, sym, ◌∙◌, Id, Var, Op, MainOp, CallbackLine, Event, Loop, Take, Finish, Cancel, Send, Io, Tick, Body, Slot, Content, list_any, Bool, ap₂, ℕ, State, slice_get, slice_set}
+use Rattle.uv_alike.proofs.Names.{◌≡◌, List, [], ◌∷◌, Option, Some, None, refl, ap, sym, Id, Var, Op, MainOp, CallbackLine, Event, Loop, Take, Finish, Cancel, Send, Io, Tick, Slot, Content, list_any, Bool, ap₂, ℕ, State, slice_get, slice_set}
 use Rattle.std.specs.Prelude.{◌||◌, map, option_map}
-use Rattle.uv_records.specs.Walks.{Walk}
 use Rattle.uv_script.specs.declared.op.Op.TheVariants as op
 use Rattle.uv_script.specs.declared.op.MainOp.TheVariants as main
-use Rattle.uv_alike.specs.Changed.{Change, changed_op, changed_callback, changed_main, changed_event, changed_walk}
+use Rattle.uv_alike.specs.Changed.{Change, changed_op, changed_callback, changed_main, changed_event}
 
 pub option_same : {X : Type 0} (f : X → X) → ((x : X) → f x ≡ x) → (o : Option X) → option_map f o ≡ o
 option_same f same None = refl
@@ -25,8 +24,10 @@ any_same f test same (x ∷ xs) = ap₂ (λ a b. a || b) (same x.content) (any_s
 -- what the workers run, where no id is another
 pub runs_same : (s : State) (k : ℕ) → (slice_get s.running k ≡ option_map (option_map (λ (x : Id). x)) (slice_get s.running k))
     × ((x : Option Id) → slice_set s.running k (option_map (λ (y : Id). y) x) ≡ slice_set s.running k x)
-runs_same s k =
-    (sym (option_same _ (λ x. option_same (λ (y : Id). y) (λ y. refl) x) (slice_get s.running k)), λ x. ap (slice_set s.running k) (option_same (λ (y : Id). y) (λ y. refl) x))
+runs_same s k = (
+  sym (option_same _ (λ x. option_same (λ (y : Id). y) (λ y. refl) x) (slice_get s.running k)),
+  λ x. ap (slice_set s.running k) (option_same (λ (y : Id). y) (λ y. refl) x),
+)
 
 -- where no name is named anew, the script and the events stay
 module _ (c : Change) (var : (v : Var) → c.var v ≡ v) where

@@ -1,54 +1,43 @@
 -- A state that is changed: ids, slots, times, starts, names and who runs what, each by a function of its own.
-use Rattle.std.specs.List.{list_any}
-use Rattle.std.specs.Prelude.{◌≡◌, ℕ, ◌+◌, ◌&&◌, ◌==◌, List, Bool, true, false, Option, Some, None, drop, length, slice_get, slice_set, nat_le, nat_lt}
-use Rattle.uv_ids.specs.Due.{due_cmp}
+use Rattle.std.specs.Prelude.{◌≡◌, ℕ, ◌+◌, List, Bool, Option, Some, None, slice_get, slice_set, nat_le}
 use Rattle.uv_ids.specs.declared.due.Due.{Due}
 use Rattle.uv_ids.specs.declared.event.Event.{Event}
-use Rattle.uv_ids.specs.declared.event.Event.TheVariants.{Loop, Take, Finish, Cancel, Send, Io, Tick}
+use Rattle.uv_ids.specs.declared.event.Event.TheVariants.{Take, Finish, Cancel, Send, Io, Tick}
 use Rattle.uv_ids.specs.declared.id.Id.{Id}
 use Rattle.uv_ids.specs.declared.id.Var.{Var}
 use Rattle.uv_ids.specs.declared.phase.Kind.{Kind}
-use Rattle.uv_ids.specs.declared.seen.Callback.{Callback}
 use Rattle.uv_ids.specs.declared.seen.Seen.{Seen}
-use Rattle.uv_model.specs.Ids.{same_id}
 use Rattle.uv_model.specs.Next.{Moves}
-use Rattle.uv_model.specs.State.{State, front, live, handle}
+use Rattle.uv_model.specs.State.{State}
 use Rattle.uv_model.specs.declared.place.Body.{Body}
 use Rattle.uv_model.specs.declared.place.Place.{Place}
 use Rattle.uv_model.specs.declared.place.Place.TheVariants.{Main, Running}
 use Rattle.uv_model.specs.declared.place.Run.{Run}
 use Rattle.uv_model.specs.declared.place.Stage.{Stage}
 use Rattle.uv_model.specs.declared.place.Stage.TheVariants.{Poll}
-use Rattle.uv_records.specs.Handles.{begun_at}
-use Rattle.uv_records.specs.Slots.{Slots, held, with_held, next_free, taken, freed}
+use Rattle.uv_records.specs.Slots.{Slots}
 use Rattle.uv_records.specs.declared.handle.HandleRecord.{HandleRecord}
 use Rattle.uv_records.specs.declared.named.Named.{Named}
 use Rattle.uv_records.specs.declared.slot.Slot.{Slot}
-use Rattle.uv_script.specs.Program.{Program, arena_size, lines_in}
+use Rattle.uv_script.specs.Program.{Program}
 use Rattle.uv_script.specs.declared.op.CallbackLine.{CallbackLine}
 use Rattle.uv_script.specs.declared.op.MainOp.{MainOp}
 use Rattle.uv_script.specs.declared.op.Op.{Op}
 use Rattle.uv_work.specs.declared.content.Content.{Content}
 use Rattle.uv_work.specs.declared.request.Request.{Request}
-use Rattle.std.specs.Prelude.{map, option_map, ◌-◌}
+use Rattle.std.specs.Prelude.{map, option_map}
 use Rattle.uv_ids.specs.declared.code.Answer.{Answer}
 use Rattle.uv_ids.specs.declared.code.Answer.TheVariants as answer
-use Rattle.uv_ids.specs.declared.fault.Why.{Why}
 use Rattle.uv_ids.specs.declared.seen.Site.{Site}
 use Rattle.uv_ids.specs.declared.seen.Site.TheVariants as site
 use Rattle.uv_ids.specs.declared.seen.Seen.TheVariants as seen
 use Rattle.uv_script.specs.declared.op.Op.TheVariants as op
 use Rattle.uv_script.specs.declared.op.MainOp.TheVariants as main
 use Rattle.uv_script.specs.Program.{op_at}
-use Rattle.uv_records.specs.Dues.{due_after}
-use Rattle.uv_records.specs.Handles.{is_timer}
-use Rattle.uv_records.specs.Names as names
 use Rattle.uv_records.specs.Walks.{Walk}
 use Rattle.uv_work.specs.declared.content.Content.TheVariants as content
 use Rattle.uv_model.specs.Limits.{LATEST}
 use Rattle.uv_model.specs.State.{Watchers}
-use Rattle.uv_model.specs.Content.{content_keeps, content_pends, is_used}
-use Rattle.uv_model.specs.Next as steps
 use Rattle.uv_model.specs.Next.{Next, Refuses}
 
 pub record Change : Type 0 where

@@ -1,10 +1,8 @@
 -- What the step of a state may read and write of a change, and two ways to look at a step.
 use Rattle.std.specs.List.{list_any}
-use Rattle.std.specs.Prelude.{◌≡◌, ℕ, ◌+◌, ◌&&◌, ◌==◌, List, Bool, true, false, Option, Some, None, drop, length, slice_get, slice_set, nat_le, nat_lt}
+use Rattle.std.specs.Prelude.{◌≡◌, ℕ, ◌+◌, ◌&&◌, Bool, true, false, Option, Some, length, slice_get, slice_set, nat_le, nat_lt}
 use Rattle.uv_ids.specs.Due.{due_cmp}
 use Rattle.uv_ids.specs.declared.due.Due.{Due}
-use Rattle.uv_ids.specs.declared.event.Event.{Event}
-use Rattle.uv_ids.specs.declared.event.Event.TheVariants.{Loop, Take, Finish, Cancel, Send, Io, Tick}
 use Rattle.uv_ids.specs.declared.id.Id.{Id}
 use Rattle.uv_ids.specs.declared.id.Var.{Var}
 use Rattle.uv_ids.specs.declared.phase.Kind.{Kind}
@@ -13,43 +11,26 @@ use Rattle.uv_ids.specs.declared.seen.Seen.{Seen}
 use Rattle.uv_model.specs.Ids.{same_id}
 use Rattle.uv_model.specs.Next.{Moves}
 use Rattle.uv_model.specs.State.{State, front, live, handle, named, with_named}
-use Rattle.uv_model.specs.declared.place.Body.{Body}
-use Rattle.uv_model.specs.declared.place.Place.{Place}
 use Rattle.uv_model.specs.declared.place.Place.TheVariants.{Main, Running}
 use Rattle.uv_model.specs.declared.place.Run.{Run}
-use Rattle.uv_model.specs.declared.place.Stage.{Stage}
-use Rattle.uv_model.specs.declared.place.Stage.TheVariants.{Poll}
-use Rattle.uv_records.specs.Handles.{begun_at}
-use Rattle.uv_records.specs.Slots.{Slots, held, with_held, next_free, taken, freed}
+use Rattle.uv_records.specs.Slots.{held, with_held, next_free, taken, freed}
 use Rattle.uv_records.specs.declared.handle.HandleRecord.{HandleRecord}
 use Rattle.uv_records.specs.declared.named.Named.{Named}
 use Rattle.uv_records.specs.declared.slot.Slot.{Slot}
 use Rattle.uv_script.specs.Program.{Program, arena_size, lines_in}
-use Rattle.uv_script.specs.declared.op.CallbackLine.{CallbackLine}
-use Rattle.uv_script.specs.declared.op.MainOp.{MainOp}
-use Rattle.uv_script.specs.declared.op.Op.{Op}
 use Rattle.uv_work.specs.declared.content.Content.{Content}
-use Rattle.uv_work.specs.declared.request.Request.{Request}
-use Rattle.std.specs.Prelude.{map, option_map, ◌-◌}
-use Rattle.uv_ids.specs.declared.code.Answer.{Answer}
-use Rattle.uv_ids.specs.declared.code.Answer.TheVariants as answer
+use Rattle.std.specs.Prelude.{option_map, ◌-◌}
 use Rattle.uv_ids.specs.declared.fault.Why.{Why}
 use Rattle.uv_ids.specs.declared.seen.Site.{Site}
-use Rattle.uv_ids.specs.declared.seen.Site.TheVariants as site
-use Rattle.uv_ids.specs.declared.seen.Seen.TheVariants as seen
 use Rattle.uv_script.specs.declared.op.Op.TheVariants as op
-use Rattle.uv_script.specs.declared.op.MainOp.TheVariants as main
 use Rattle.uv_script.specs.Program.{op_at}
 use Rattle.uv_records.specs.Dues.{due_after}
 use Rattle.uv_records.specs.Handles.{is_timer}
 use Rattle.uv_records.specs.Names as names
-use Rattle.uv_records.specs.Walks.{Walk}
-use Rattle.uv_work.specs.declared.content.Content.TheVariants as content
-use Rattle.uv_model.specs.State.{Watchers}
 use Rattle.uv_model.specs.Content.{content_keeps, content_pends, is_used}
 use Rattle.uv_model.specs.Next as steps
 use Rattle.uv_model.specs.Next.{Next, Refuses}
-use Rattle.uv_alike.specs.Changed.{Change, changed_handle, changed_request, changed_content, changed_arena, changed_walk, changed_watchers, changed_entry, changed_body, changed_stage, changed_run, changed_place, changed, changed_pair, changed_job, changed_live, changed_op, changed_callback, changed_main, changed_event, changed_site, Comes, changed_answer, changed_line, changed_next}
+use Rattle.uv_alike.specs.Changed.{Change, changed_content, changed_arena, changed_body, changed_run, changed, changed_live, changed_callback, changed_main, changed_line}
 
 module _ (c : Change) (p : Program) where
   -- what the step of a state may read and write
@@ -63,7 +44,8 @@ module _ (c : Change) (p : Program) where
     pub takes : (x : Id) (new : Content) → next_free s.arena ≡ Some x
         → taken (c.id x) ((changed_content c) new) ((changed_arena c) s.arena) ≡ (changed_arena c) (taken x new s.arena)
     pub frees : (x : Id) (old : Content) → held s.arena.slots x ≡ Some old
-        → freed (arena_size p).last_generation (c.id x) ((changed_arena c) s.arena) ≡ (changed_arena c) (freed (arena_size p).last_generation x s.arena)
+        → freed (arena_size p).last_generation (c.id x) ((changed_arena c) s.arena)
+        ≡ (changed_arena c) (freed (arena_size p).last_generation x s.arena)
     -- all slots
     pub keeps : list_any (λ (slot : Slot Content). content_keeps slot.content) (c.slots s.arena.slots)
         ≡ list_any (λ (slot : Slot Content). content_keeps slot.content) s.arena.slots
@@ -105,10 +87,15 @@ module _ (c : Change) (p : Program) where
     pub stays : (u : State) (line : Option Seen) → left (Moves ((changed c) u) (option_map (changed_line c p) line)) ≡ right (Moves u line)
     -- a callback begins, in a state with the names of this one
     pub calls : (u : State) (run : Run) (kind : Callback) (v : Var) (line : Seen) → u.names ≡ s.names
-        → left (steps.calls p ((changed c) u) ((changed_run c) run) kind (c.var v) ((changed_line c p) line)) ≡ right (steps.calls p u run kind v line)
+        → left (steps.calls p ((changed c) u) ((changed_run c) run) kind (c.var v) ((changed_line c p) line))
+        ≡ right (steps.calls p u run kind v line)
     -- the body of a call goes on
     pub goes : (u : State) (run : Run) (kind : Callback) (v : Var) (call number : ℕ) (line : Seen)
-        → left (Moves (record ((changed c) u) { place = Running (record ((changed_run c) run) { body = steps.body_from p kind (c.var v) (c.count call) number }) }) (Some ((changed_line c p) line)))
+        → left (Moves (record ((changed c) u) {
+          place =
+              Running (record ((changed_run c) run) { body = steps.body_from p kind (c.var v) (c.count call) number });
+        })
+        (Some ((changed_line c p) line)))
         ≡ right (Moves (record u { place = Running (record run { body = steps.body_from p kind v call number }) }) (Some line))
 
 -- a change that keeps every count, seen in a state with the names of this one
@@ -119,5 +106,6 @@ pub record IsExact (c : Change) (p : Program) (s : State) : Type 0 where
   pub set : (u : State) (v : Var) (x : Named) → u.names ≡ s.names
       → with_named (changed c u) (c.var v) (record x { id = bound x.id }) ≡ changed c (with_named u v x)
   -- the lines of its callbacks
-  pub body : (kind : Callback) (v : Var) (call n : ℕ) → steps.body_from p kind (c.var v) call n ≡ option_map (changed_body c) (steps.body_from p kind v call n)
+  pub body : (kind : Callback) (v : Var) (call n : ℕ) → steps.body_from p kind (c.var v) call n
+      ≡ option_map (changed_body c) (steps.body_from p kind v call n)
   pub count : (n : ℕ) → c.count n ≡ n

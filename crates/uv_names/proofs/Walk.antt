@@ -43,15 +43,25 @@ pub record SeesAlike (p : Program) (f : Named → Named) (c : ℕ → ℕ) (r : 
       → left (steps.calls p (of_names.changed f c r u) (of_names.changed_run c run) kind v line) ≡ right (steps.calls p u run kind v line)
   -- the body of a call goes on
   pub goes : (u : State) (run : Run) (kind : Callback) (v : Var) (call number : ℕ) (line : Seen)
-      → left (Moves (record (of_names.changed f c r u) { place = Running (record run { body = steps.body_from p kind v (c call) number }) }) (Some line))
+      → left (Moves (record (of_names.changed f c r u) { place = Running (record run { body = steps.body_from p kind v (c call) number }) })
+      (Some line))
       ≡ right (Moves (record u { place = Running (record run { body = steps.body_from p kind v call number }) }) (Some line))
 
 module _ (f : Named → Named) (c : ℕ → ℕ) (r : List (Option Id) → List (Option Id)) where
   abbrev pub by_named : Change
   by_named = record {
-    var = λ v. v; id = λ x. x; slots = λ slots. slots; free = λ ns. ns;
-    due = λ due. due; due_in = λ active k due. due; time = λ n. n; clock = λ n. n; start = λ n. n;
-    names = map f; count = c; runs = r;
+    var = λ v. v;
+    id = λ x. x;
+    slots = λ slots. slots;
+    free = λ ns. ns;
+    due = λ due. due;
+    due_in = λ active k due. due;
+    time = λ n. n;
+    clock = λ n. n;
+    start = λ n. n;
+    names = map f;
+    count = c;
+    runs = r;
   }
 
   content_same : (x : Content) → changed_content by_named x ≡ x
@@ -87,7 +97,8 @@ module _ (f : Named → Named) (c : ℕ → ℕ) (r : List (Option Id) → List 
     clocks = refl;
     known = λ v. search length-map;
     lives = λ v. live_changed f of_names.as_is of_names.as_is s can v ∙ sym (option_same _ live_same (live s v));
-    binds = λ v x e. ap (λ (n : Named). slice_set (map f s.names) v.0 (record n { id = Some x })) (named_changed f of_names.as_is of_names.as_is s v can.unbound)
+    binds = λ v x e. ap (λ (n : Named). slice_set (map f s.names) v.0 (record n { id = Some x }))
+        (named_changed f of_names.as_is of_names.as_is s v can.unbound)
         ∙ ap (slice_set (map f s.names) v.0) (sym (can.fresh x e (named s v))) ∙ sym (map-set f s.names v.0 (record (named s v) { id = Some x }));
     lines = λ kind v n. lines_same by_named (λ v. refl) _;
     main = λ line e. main_same by_named (λ v. refl) _;
@@ -136,7 +147,8 @@ module _ (f : Named → Named) (c : ℕ → ℕ) (r : List (Option Id) → List 
     goes = λ u run kind v call number line.
         ap₂ (λ (t : State) (q : Run). left (Moves (record t { place = Running (record q { body = steps.body_from p kind v (c call) number }) })
         (Some (changed_line by_named p line)))) (changed_same u) (run_same run)
-        ∙ ap (λ l. left (Moves (record (of_names.changed f c r u) { place = Running (record run { body = steps.body_from p kind v (c call) number }) }) (Some l)))
+        ∙ ap (λ l. left (Moves
+        (record (of_names.changed f c r u) { place = Running (record run { body = steps.body_from p kind v (c call) number }) }) (Some l)))
         (line_same p line)
         ∙ old.goes u run kind v call number line;
   }

@@ -24,10 +24,18 @@ use Rattle.uv_alike.proofs.Exact.{next_exact}
 
 abbrev pub by_later : By → Change
 by_later d = record {
-  var = λ v. v; id = λ x. x; slots = map (slot_of (shift_content d)); free = λ ns. ns;
-  due = shift_due d; due_in = λ active k due. shift_if (active && is_timer k) d due;
-  time = λ n. n + d.ms; clock = λ n. n + d.ms; start = λ n. n + d.starts;
-  names = λ ns. ns; count = λ n. n; runs = λ rs. rs;
+  var = λ v. v;
+  id = λ x. x;
+  slots = map (slot_of (shift_content d));
+  free = λ ns. ns;
+  due = shift_due d;
+  due_in = λ active k due. shift_if (active && is_timer k) d due;
+  time = λ n. n + d.ms;
+  clock = λ n. n + d.ms;
+  start = λ n. n + d.starts;
+  names = λ ns. ns;
+  count = λ n. n;
+  runs = λ rs. rs;
 }
 
 module _ (d : By) where
@@ -54,7 +62,8 @@ module _ (d : By) where
   left_later a b = grind arith
 
   -- a due time that isn't cut
-  due_later : (time start timeout : ℕ) → time + d.ms + timeout < 2 ^ 64 → due_after (time + d.ms) (start + d.starts) timeout ≡ shift_due d (due_after time start timeout)
+  due_later : (time start timeout : ℕ) → time + d.ms + timeout < 2 ^ 64 → due_after (time + d.ms) (start + d.starts) timeout
+      ≡ shift_due d (due_after time start timeout)
   due_later time start timeout fits = grind arith
 
   if_timer : (k : Kind) (due : Due) → is_timer k ≡ true → shift_if (true && is_timer k) d due ≡ shift_due d due

@@ -81,7 +81,8 @@ module _ (o : List ℕ) where
 
   -- ---- a step
 
-  next_line_moved : (call number : ℕ) (lines : List CallbackLine) → next_line call number (map (changed_callback (by_names o)) lines) ≡ next_line call number lines
+  next_line_moved : (call number : ℕ) (lines : List CallbackLine) → next_line call number (map (changed_callback (by_names o)) lines)
+      ≡ next_line call number lines
   next_line_moved call number [] = refl
   next_line_moved call number (l ∷ ls) = ap (λ x. if is_for call l.call then Some number else x) (next_line_moved call (number + 1) ls)
 

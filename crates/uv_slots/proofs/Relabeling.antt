@@ -18,9 +18,18 @@ use Rattle.uv_alike.proofs.Exact.{next_exact}
 
 abbrev pub by_relabel : Relabel → Change
 by_relabel o = record {
-  var = λ v. v; id = o.id; slots = o.slots; free = o.free;
-  due = λ due. due; due_in = λ active k due. due; time = λ n. n; clock = λ n. n; start = λ n. n;
-  names = map (relabeled_named o); count = λ n. n; runs = map (option_map o.id);
+  var = λ v. v;
+  id = o.id;
+  slots = o.slots;
+  free = o.free;
+  due = λ due. due;
+  due_in = λ active k due. due;
+  time = λ n. n;
+  clock = λ n. n;
+  start = λ n. n;
+  names = map (relabeled_named o);
+  count = λ n. n;
+  runs = map (option_map o.id);
 }
 
 module _ (o : Relabel) where

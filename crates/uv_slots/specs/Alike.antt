@@ -25,9 +25,18 @@ moved_slot o slot = record slot { content = option_map (moved_content o) slot.co
 -- each name is told where another one was
 abbrev pub by_names : List ℕ → Change
 by_names o = record {
-  var = moved_var o; id = λ x. x; slots = map (moved_slot o); free = λ ns. ns;
-  due = λ due. due; due_in = λ active k due. due; time = λ n. n; clock = λ n. n; start = λ n. n;
-  names = arranged_slots o; count = λ n. n; runs = λ rs. rs;
+  var = moved_var o;
+  id = λ x. x;
+  slots = map (moved_slot o);
+  free = λ ns. ns;
+  due = λ due. due;
+  due_in = λ active k due. due;
+  time = λ n. n;
+  clock = λ n. n;
+  start = λ n. n;
+  names = arranged_slots o;
+  count = λ n. n;
+  runs = λ rs. rs;
 }
 
 -- names that are alike where the state stands: a name has the lines of the one whose place it takes, so renamed, and the main program's
