@@ -1,5 +1,5 @@
 //! How late a timer is called at most, over all orders: one search after another, each of which asks for later than the last one found.
-ghost use Rattle.std.specs.Prelude.{◌≡◌, true, false};
+ghost use Rattle.std.specs.Prelude.{◌≡◌, ◌≤◌, true, false};
 ghost use Rattle.uv_find.specs.Found.{GoesBack, Looks, RisesTo};
 ghost use Rattle.uv_find.specs.Holding.{asks_late};
 ghost use Rattle.uv_find.specs.Questions.{place_answers};
@@ -25,7 +25,7 @@ pub enum Rung {
 /// How late it is called at most.
 #[derive(Clone, Copy)]
 pub struct Risen {
-    /// So late is the first number of ms that wasn't found, one more than the latest that was; 0 where none was.
+    /// So late is the first number of ms that wasn't found, one more than the latest that was; the first where none was.
     pub ms: u64,
     /// So late it is called in no order. So many places were kept then. None where that isn't settled.
     pub settled: Option<usize>,
@@ -49,12 +49,19 @@ fn look<M: Machine>(alloc: Global, orders: &mut Orders<M>, limit: usize) -> Rung
     }
 }
 
-/// Searches for later and later calls of the timer from where the orders stand, until there is none.
-pub fn rise<M: Machine>(alloc: Global, orders: &mut Orders<M>, name: Var, limit: usize) -> Risen
+/// Searches for later and later calls of the timer from where the orders stand, from so many ms on, until there is none.
+pub fn rise<M: Machine>(
+    alloc: Global,
+    orders: &mut Orders<M>,
+    name: Var,
+    first: u64,
+    limit: usize,
+) -> Risen
     requires late { asks_late orders.old.rules.question ≡ true }
-    ensures { RisesTo orders.old.rules orders.old.spot name limit result.ms result.settled }
+    ensures rises { RisesTo orders.old.rules orders.old.spot name limit result.ms result.settled }
+    ensures least { first ≤ result.ms }
 {
-    let mut ms = 0;
+    let mut ms = first;
     'rounds: for _ in 0..ROUNDS {
         orders.ask_late(name, ms);
         match look(alloc, orders, limit) {
@@ -70,7 +77,9 @@ pub fn rise<M: Machine>(alloc: Global, orders: &mut Orders<M>, name: Var, limit:
 }
 
 /// One more than the larger one.
-fn above(late: u64, ms: u64) -> u64 {
+fn above(late: u64, ms: u64) -> u64
+    ensures { ms ≤ result }
+{
     if late < ms {
         ms.saturating_add(1)
     } else {

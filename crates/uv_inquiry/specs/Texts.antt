@@ -60,21 +60,33 @@ bounds_text names None clock most = within_text names clock most
 unfoldable pub never_text : Program → Asked → ℕ → List ℕ
 never_text p a states = codes "never" ++ bounds_text p.names a.differ a.clock a.most ++ codes ": " ++ states_text states ++ codes ", every order\n"
 
+-- so many ms late within these bounds
+unfoldable pub late_text : Program → Asked → ℕ → List ℕ
+late_text p a late = codes "latest " ++ decimal late ++ codes " ms" ++ bounds_text p.names a.differ a.clock a.most
+
+-- so many steps and states, of every order
+unfoldable pub every_text : ℕ → ℕ → List ℕ
+every_text steps states = codes ", in " ++ steps_text steps ++ codes ": " ++ states_text states ++ codes ", every order\n"
+
 -- in an order of these steps the timer is called so many ms late, and in none later; so many states were seen
 unfoldable pub latest_text : Program → Asked → List Event → ℕ → ℕ → List ℕ
-latest_text p a es late states =
-    codes "latest " ++ decimal late ++ codes " ms" ++ bounds_text p.names a.differ a.clock a.most ++ codes ", in " ++ steps_text (length es)
-    ++ codes ": " ++ states_text states ++ codes ", every order\n" ++ session_text p es
-
--- in an order of these steps it is called so many ms late; whether later isn't settled within so many states
-unfoldable pub at_least_text : Program → List Event → ℕ → ℕ → List ℕ
-at_least_text p es late states =
-    codes "latest " ++ decimal late ++ codes " ms at least, in " ++ steps_text (length es) ++ codes ": not settled within " ++ states_text states
-    ++ codes "\n" ++ session_text p es
+latest_text p a es late states = late_text p a late ++ every_text (length es) states ++ session_text p es
 
 -- there are more states than were to be kept
 unfoldable pub unsettled_text : ℕ → List ℕ
 unsettled_text states = codes "not settled within " ++ states_text states ++ codes "\n"
+
+-- so many ms late at least
+unfoldable pub some_text : ℕ → List ℕ
+some_text late = codes "latest " ++ decimal late ++ codes " ms at least"
+
+-- so many steps, and more states than were to be kept
+unfoldable pub more_text : ℕ → ℕ → List ℕ
+more_text steps states = codes ", in " ++ steps_text steps ++ codes ": " ++ unsettled_text states
+
+-- in an order of these steps it is called so many ms late; whether later isn't settled within so many states
+unfoldable pub at_least_text : Program → List Event → ℕ → ℕ → List ℕ
+at_least_text p es late states = some_text late ++ more_text (length es) states ++ session_text p es
 
 -- memory was refused, and so many states were seen until then
 unfoldable pub out_of_memory_text : ℕ → List ℕ

@@ -5,7 +5,7 @@ ghost use Rattle.std.specs.Prelude.{◌≡◌, ◌++◌, None, IfOk, IfErr};
 ghost use Rattle.uv_ids.specs.declared.fault.Fault.TheVariants.{Memory};
 ghost use Rattle.uv_script.specs.Writes.{Writes};
 ghost use Rattle.uv_asking.specs.Asked.{asked_in};
-ghost use Rattle.uv_inquiry.specs.Texts.{latest_text, at_least_text, steps_text, states_text, calls_text, found_text, bound_text, more_bound, more_bounds, within_text, bounds_text, moved_text, clock_too, never_text, unsettled_text, out_of_memory_text, too_deep_text, no_end_text};
+ghost use Rattle.uv_inquiry.specs.Texts.{late_text, every_text, latest_text, some_text, more_text, at_least_text, steps_text, states_text, calls_text, found_text, bound_text, more_bound, more_bounds, within_text, bounds_text, moved_text, clock_too, never_text, unsettled_text, out_of_memory_text, too_deep_text, no_end_text};
 
 use crate::inquiry::Inquiry;
 use crate::session::push_session;
@@ -97,16 +97,32 @@ pub fn push_latest(
 ) -> Result<(), AllocError>
     ensures { Writes result text.old.items (latest_text inquiry.now.script (asked_in inquiry.now.asking) steps.now late states) text.new.items }
 {
+    push_late(text, inquiry, late)?;
+    push_every(text, steps.len() as u64, states)?;
+    push_session(text, &inquiry.script, steps)
+}
+
+/// So many ms late within the bounds.
+#[tactic(auto, using(uv_script::proofs::Writing::writing), unfolding(crate::specs::Texts::late_text))]
+fn push_late(text: &mut Vec<u8>, inquiry: &Inquiry, late: u64) -> Result<(), AllocError>
+    ensures { Writes result text.old.items (late_text inquiry.now.script (asked_in inquiry.now.asking) late) text.new.items }
+{
     text.extend_from_slice(b"latest ")?;
     push_number(text, late)?;
     text.extend_from_slice(b" ms")?;
-    push_every_bound(text, inquiry.script.names(), &inquiry.asking)?;
+    push_every_bound(text, inquiry.script.names(), &inquiry.asking)
+}
+
+/// So many steps and states, of every order.
+#[tactic(auto, using(uv_script::proofs::Writing::writing), unfolding(crate::specs::Texts::every_text))]
+fn push_every(text: &mut Vec<u8>, steps: u64, states: u64) -> Result<(), AllocError>
+    ensures { Writes result text.old.items (every_text steps states) text.new.items }
+{
     text.extend_from_slice(b", in ")?;
-    push_steps(text, steps.len() as u64)?;
+    push_steps(text, steps)?;
     text.extend_from_slice(b": ")?;
     push_states(text, states)?;
-    text.extend_from_slice(b", every order\n")?;
-    push_session(text, &inquiry.script, steps)
+    text.extend_from_slice(b", every order\n")
 }
 
 /// The steps in which the timer is called so many ms late, as a session, behind a line that says so, and that it isn't settled whether later.
@@ -136,14 +152,30 @@ pub fn push_at_least(
 ) -> Result<(), AllocError>
     ensures { Writes result text.old.items (at_least_text script.now steps.now late states) text.new.items }
 {
+    push_some(text, late)?;
+    push_more_states(text, steps.len() as u64, states)?;
+    push_session(text, script, steps)
+}
+
+/// So many ms late at least.
+#[tactic(auto, using(uv_script::proofs::Writing::writing), unfolding(crate::specs::Texts::some_text))]
+fn push_some(text: &mut Vec<u8>, late: u64) -> Result<(), AllocError>
+    ensures { Writes result text.old.items (some_text late) text.new.items }
+{
     text.extend_from_slice(b"latest ")?;
     push_number(text, late)?;
-    text.extend_from_slice(b" ms at least, in ")?;
-    push_steps(text, steps.len() as u64)?;
-    text.extend_from_slice(b": not settled within ")?;
-    push_states(text, states)?;
-    text.extend_from_slice(b"\n")?;
-    push_session(text, script, steps)
+    text.extend_from_slice(b" ms at least")
+}
+
+/// So many steps, and more states than were to be kept.
+#[tactic(auto, using(uv_script::proofs::Writing::writing), unfolding(crate::specs::Texts::more_text))]
+fn push_more_states(text: &mut Vec<u8>, steps: u64, states: u64) -> Result<(), AllocError>
+    ensures { Writes result text.old.items (more_text steps states) text.new.items }
+{
+    text.extend_from_slice(b", in ")?;
+    push_steps(text, steps)?;
+    text.extend_from_slice(b": ")?;
+    push_unsettled(text, states)
 }
 
 /// That there are more states than were to be kept.

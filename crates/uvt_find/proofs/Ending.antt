@@ -1,19 +1,21 @@
 -- What is found, and how a run ends.
-use Rattle.std.proofs.Common.{◌≡◌, ℕ, List, ◌+◌, ◌≤◌, length, Err, refl, sym, subst}
+use Rattle.std.proofs.Common.{◌≡◌, ℕ, List, ◌+◌, ◌≤◌, length, Err, Some, true, refl, sym, subst}
 use Rattle.uv_ids.specs.declared.event.Event.{Event}
 use Rattle.uv_ids.specs.declared.fault.Fault.{Fault}
 use Rattle.uv_ids.specs.declared.fault.Fault.TheVariants as fault
 use Rattle.uv_script.specs.Program.{Program}
 use Rattle.uv_model.specs.After.{STEPS}
+use Rattle.uv_ids.specs.declared.id.Var.{Var}
 use Rattle.uv_asking.specs.Asked.{Asked}
+use Rattle.uv_asking.specs.declared.asking.Question.TheVariants.{Late}
 use Rattle.uv_find.specs.declared.finding.Answer.{Answer}
 use Rattle.uv_find.specs.declared.finding.Answer.TheVariants as answer
-use Rattle.uv_find.specs.Orders.{Rules}
-use Rattle.uv_find.specs.Found.{Finds}
+use Rattle.uv_find.specs.Orders.{Rules, asked_late}
+use Rattle.uv_find.specs.Found.{Finds, IsNever, RisesTo}
 use Rattle.uv_find.specs.Spots.{Spot, rules_of, first_spot}
 use Rattle.uv_inquiry.specs.Grammar.{ReadsInquiry}
-use Rattle.uv_inquiry.specs.Texts.{found_text, never_text, unsettled_text, too_deep_text, out_of_memory_text}
-use Rattle.uvt_find.specs.Status.{Answers, found, never, unsettled, too_deep, out_of_memory, Ran, bad_line, nothing_read, status_of}
+use Rattle.uv_inquiry.specs.Texts.{latest_text, at_least_text, found_text, never_text, unsettled_text, too_deep_text, out_of_memory_text}
+use Rattle.uvt_find.specs.Status.{Answers, found, never, latest, at_least, unsettled, too_deep, out_of_memory, Ran, bad_line, nothing_read, status_of}
 
 module _ (p : Program) (a : Asked) (r : Rules) (s t : Spot) (rules : r ≡ rules_of p a) (spot : s ≡ first_spot r) where
   begun : (x : Answer) → Finds r s a.states x t → Finds (rules_of p a) (first_spot (rules_of p a)) a.states x t
@@ -38,6 +40,32 @@ module _ (p : Program) (a : Asked) (r : Rules) (s t : Spot) (rules : r ≡ rules
 
   pub tells_no_memory : (n : ℕ) → Finds r s a.states (answer.OutOfMemory n) t → Answers p a (out_of_memory_text n) 3
   tells_no_memory n f = let g = begun (answer.OutOfMemory n) f in out_of_memory n g.1.0 g.1.1 g.0
+
+-- how late the timer is called at most
+module _ (p : Program) (a : Asked) (name : Var) (ms : ℕ) (greatest : a.greatest ≡ true) (question : a.question ≡ Late name ms) where
+  pub never_late : (n : ℕ) → RisesTo (rules_of p a) (first_spot (rules_of p a)) name a.states ms (Some n) → Answers p a (never_text p a n) 1
+  never_late n f =
+      never n (subst (λ q. IsNever (record (rules_of p a) { question = q }) (first_spot (rules_of p a)) n) (sym question) f.1) f.0
+
+  module _ (late : ℕ) (r : Rules) (s t : Spot) (rules : r ≡ asked_late (rules_of p a) name late) (spot : s ≡ first_spot r) where
+    asked_again : (x : Answer) → Finds r s a.states x t →
+        Finds (asked_late (rules_of p a) name late) (first_spot (asked_late (rules_of p a) name late)) a.states x t
+    asked_again x f =
+        subst (λ u. Finds u (first_spot u) a.states x t) rules (subst (λ u. Finds r u a.states x t) spot f)
+
+    pub tells_latest : (n states : ℕ) → Finds r s a.states (answer.Found n) t →
+        RisesTo (rules_of p a) (first_spot (rules_of p a)) name a.states (late + 1) (Some states) →
+        Answers p a (latest_text p a t.steps late states) 0
+    tells_latest n states f more =
+        let g = asked_again (answer.Found n) f in
+        subst (λ (es : List Event). Answers p a (latest_text p a es late states) 0) (sym g.1.1.0)
+        (latest name ms g.1.0 t.place late states greatest question g.1.1.1 more.1 more.0)
+
+    pub tells_at_least : (n : ℕ) → Finds r s a.states (answer.Found n) t → Answers p a (at_least_text p t.steps late a.states) 3
+    tells_at_least n f =
+        let g = asked_again (answer.Found n) f in
+        subst (λ (es : List Event). Answers p a (at_least_text p es late a.states) 3) (sym g.1.1.0)
+        (at_least name ms g.1.0 t.place late greatest question g.1.1.1)
 
 -- what is read that asks nothing
 pub unread : (input old : List ℕ) (f : Fault) → ReadsInquiry input (Err f) → Ran input old old (status_of f)

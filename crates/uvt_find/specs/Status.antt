@@ -9,6 +9,7 @@ use Rattle.uv_script.specs.Program.{Program}
 use Rattle.uv_engine.specs.Devices.{ReaderCounts, WriterCounts}
 use Rattle.uv_script.specs.Writes.{CutShort}
 use Rattle.uv_asking.specs.Asked.{Asked}
+use Rattle.uv_asking.specs.declared.asking.Question.TheVariants.{Late}
 use Rattle.uv_find.specs.Orders.{Place, asked_late, beginning}
 use Rattle.uv_find.specs.Courses.{IsAnswer}
 use Rattle.uv_find.specs.Found.{AreReached, IsNever, IsMore, IsDeepest}
@@ -24,12 +25,12 @@ pub data Answers (p : Program) (a : Asked) : List ℕ → ℕ → Type 0 where
   -- no events do, however many (`NeverAnswered`); the places that they lead to are told apart by so many keys
   never : (states : ℕ) → IsNever (rules_of p a) (first_spot (rules_of p a)) states → states ≤ a.states → Answers p a (never_text p a states) 1
   -- these events call the timer that is asked about so many ms late, and no events call it later
-  latest : (name : Var) (es : List Event) (q : Place) (late states : ℕ) → a.greatest ≡ true →
+  latest : (name : Var) (ms : ℕ) (es : List Event) (q : Place) (late states : ℕ) → a.greatest ≡ true → a.question ≡ Late name ms →
       IsAnswer (asked_late (rules_of p a) name late) (beginning (rules_of p a)) es q →
       IsNever (asked_late (rules_of p a) name (late + 1)) (first_spot (rules_of p a)) states → states ≤ a.states →
       Answers p a (latest_text p a es late states) 0
   -- these events call it so many ms late; whether others do later isn't settled
-  at_least : (name : Var) (es : List Event) (q : Place) (late : ℕ) → a.greatest ≡ true →
+  at_least : (name : Var) (ms : ℕ) (es : List Event) (q : Place) (late : ℕ) → a.greatest ≡ true → a.question ≡ Late name ms →
       IsAnswer (asked_late (rules_of p a) name late) (beginning (rules_of p a)) es q → Answers p a (at_least_text p es late a.states) 3
   -- it isn't settled whether any events call it
   nothing_settled : a.greatest ≡ true → Answers p a (unsettled_text a.states) 3

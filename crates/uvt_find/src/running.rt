@@ -2,11 +2,11 @@
 ghost use Rattle.std.specs.Prelude.{◌≡◌, ◌≢◌, ◌^◌, IfOk, IfErr};
 ghost use Rattle.uv_engine.specs.Devices.{IsTooLong, OnAnswer, ReaderCounts, TakesWithin, WriterCounts};
 ghost use Rattle.uv_script.specs.Writes.{Writes};
-ghost use Rattle.std.specs.Prelude.{◌<◌, true};
+ghost use Rattle.std.specs.Prelude.{◌<◌, ◌+◌, true, Some};
+ghost use Rattle.uv_asking.specs.declared.asking.Question.TheVariants.{Late};
+ghost use Rattle.uv_find.specs.Orders.{asked_late};
 ghost use Rattle.uv_find.specs.Found.{RisesTo};
-ghost use Rattle.uv_find.specs.Holding.{asks_late};
 ghost use Rattle.uv_find.specs.Spots.{rules_of, first_spot};
-ghost use Rattle.uv_inquiry.specs.Texts.{unsettled_text};
 ghost use Rattle.uv_ids.specs.declared.fault.Fault.TheVariants.{Memory, Write as WriteFault};
 ghost use Rattle.uv_asking.specs.Asked.{asked_in};
 ghost use Rattle.uvt_find.specs.Status.{Answers, EndsBy, IsAnswerStatus, IsReplyFault, IsRunFault, MayEnd, Ran, Responds, status_by, status_of};
@@ -83,8 +83,14 @@ fn answer<M: Machine>(alloc: Global, inquiry: &Inquiry) -> Result<Told, Fault>
     ensures err { IfErr result (λ fault. fault ≡ Memory) }
 {
     let mut orders = begun::<M>(alloc, inquiry)?;
-    match (inquiry.asking.greatest, inquiry.asking.question) {
-        (true, Question::Late(name, _)) => latest::<M>(alloc, inquiry, orders, name),
+    match inquiry.asking.question {
+        Question::Late(name, ms) => {
+            if inquiry.asking.greatest {
+                latest(alloc, inquiry, &mut orders, name, ms)
+            } else {
+                search(alloc, inquiry, &mut orders)
+            }
+        }
         _ => search(alloc, inquiry, &mut orders),
     }
 }
@@ -97,48 +103,87 @@ fn begun<M: Machine>(alloc: Global, inquiry: &Inquiry) -> Result<Orders<M>, Faul
     ensures err { IfErr result (λ fault. fault ≡ Memory) }
 {
     let machine = M::begin(alloc, copied(alloc, &inquiry.script)?)?;
-    Ok(Orders::new(alloc, machine, &inquiry.asking)?)
+    let orders = Orders::new(alloc, machine, &inquiry.asking)?;
+    Ok(orders)
 }
 
 /// How late the timer is called at most, and an order in which it is.
 fn latest<M: Machine>(
     alloc: Global,
     inquiry: &Inquiry,
-    orders: Orders<M>,
+    orders: &mut Orders<M>,
     name: Var,
+    ms: u64,
 ) -> Result<Told, Fault>
     requires back { M.BackWantsMemory → ⊥ }
-    requires rules { orders.rules ≡ rules_of inquiry.now.script (asked_in inquiry.now.asking) }
-    requires spot { orders.spot ≡ first_spot orders.rules }
+    requires rules { orders.old.rules ≡ rules_of inquiry.now.script (asked_in inquiry.now.asking) }
+    requires spot { orders.old.spot ≡ first_spot orders.old.rules }
     requires greatest { inquiry.now.asking.greatest ≡ true }
-    requires question { asks_late inquiry.now.asking.question ≡ true }
+    requires question { inquiry.now.asking.question ≡ Late name ms }
     ensures told { IfOk result (λ told. Answers inquiry.now.script (asked_in inquiry.now.asking) told.text.items told.status) }
     ensures err { IfErr result (λ fault. fault ≡ Memory) }
 {
-    let mut orders = orders;
     let states = inquiry.asking.states;
-    let risen = rise(alloc, &mut orders, name, states as usize);
-    if risen.ms == 0 {
-        return match risen.settled {
-            Some(kept) => Ok(Told {
-                text: never_text(alloc, inquiry, kept as u64)?,
-                status: 1,
-            }),
-            None => not_settled(alloc, states),
-        };
+    let risen = rise(alloc, orders, name, ms, states as usize);
+    if ms < risen.ms {
+        ends_at::<M>(alloc, inquiry, name, ms, risen)
+    } else {
+        called_never(alloc, inquiry, name, ms, risen)
     }
-    ends_at::<M>(alloc, inquiry, name, risen)
+}
+
+/// In no order it is called as late as is asked, or that isn't settled.
+fn called_never(
+    alloc: Global,
+    inquiry: &Inquiry,
+    name: Var,
+    ms: u64,
+    risen: Risen,
+) -> Result<Told, Fault>
+    requires greatest { inquiry.now.asking.greatest ≡ true }
+    requires question { inquiry.now.asking.question ≡ Late name ms }
+    requires risen { let r = rules_of inquiry.now.script (asked_in inquiry.now.asking)
+        in RisesTo r (first_spot r) name inquiry.now.asking.states risen.ms risen.settled }
+    requires none { risen.ms ≡ ms }
+    ensures told { IfOk result (λ told. Answers inquiry.now.script (asked_in inquiry.now.asking) told.text.items told.status) }
+    ensures err { IfErr result (λ fault. fault ≡ Memory) }
+{
+    match risen.settled {
+        Some(kept) => Ok(Told {
+            text: never_text(alloc, inquiry, kept as u64)?,
+            status: 1,
+        }),
+        None => not_settled(alloc, inquiry),
+    }
 }
 
 /// Nothing was settled.
-fn not_settled(alloc: Global, states: u32) -> Result<Told, Fault>
-    ensures told { IfOk result (λ told. (told.text.items ≡ unsettled_text states) × (told.status ≡ 3)) }
+fn not_settled(alloc: Global, inquiry: &Inquiry) -> Result<Told, Fault>
+    requires greatest { inquiry.now.asking.greatest ≡ true }
+    ensures told { IfOk result (λ told. Answers inquiry.now.script (asked_in inquiry.now.asking) told.text.items told.status) }
     ensures err { IfErr result (λ fault. fault ≡ Memory) }
 {
-    Ok(Told {
-        text: unsettled_text(alloc, u64::from(states))?,
-        status: 3,
-    })
+    let text = unsettled_text(alloc, u64::from(inquiry.asking.states))?;
+    Ok(Told { text, status: 3 })
+}
+
+/// The orders of what is asked, and of this many ms.
+fn begun_late<M: Machine>(
+    alloc: Global,
+    inquiry: &Inquiry,
+    name: Var,
+    ms: u64,
+    late: u64,
+) -> Result<Orders<M>, Fault>
+    requires back { M.BackWantsMemory → ⊥ }
+    requires question { inquiry.now.asking.question ≡ Late name ms }
+    ensures rules { IfOk result (λ orders. orders.rules ≡ asked_late (rules_of inquiry.now.script (asked_in inquiry.now.asking)) name late) }
+    ensures spot { IfOk result (λ orders. orders.spot ≡ first_spot orders.rules) }
+    ensures err { IfErr result (λ fault. fault ≡ Memory) }
+{
+    let mut orders = begun::<M>(alloc, inquiry)?;
+    orders.ask_late(name, late);
+    Ok(orders)
 }
 
 /// The order in which it is called as late as that.
@@ -146,38 +191,78 @@ fn ends_at<M: Machine>(
     alloc: Global,
     inquiry: &Inquiry,
     name: Var,
+    ms: u64,
     risen: Risen,
 ) -> Result<Told, Fault>
     requires back { M.BackWantsMemory → ⊥ }
     requires greatest { inquiry.now.asking.greatest ≡ true }
-    requires question { asks_late inquiry.now.asking.question ≡ true }
+    requires question { inquiry.now.asking.question ≡ Late name ms }
     requires risen { let r = rules_of inquiry.now.script (asked_in inquiry.now.asking)
         in RisesTo r (first_spot r) name inquiry.now.asking.states risen.ms risen.settled }
-    requires some { 0 < risen.ms }
+    requires some { ms < risen.ms }
+    ensures told { IfOk result (λ told. Answers inquiry.now.script (asked_in inquiry.now.asking) told.text.items told.status) }
+    ensures err { IfErr result (λ fault. fault ≡ Memory) }
+{
+    let late = risen.ms.saturating_sub(1);
+    let mut orders = begun_late::<M>(alloc, inquiry, name, ms, late)?;
+    match risen.settled {
+        Some(kept) => settled(alloc, inquiry, &mut orders, name, ms, late, kept),
+        None => at_least(alloc, inquiry, &mut orders, name, ms, late),
+    }
+}
+
+/// The fewest steps that are found, where it is settled that it is called no later.
+fn settled<M: Machine>(
+    alloc: Global,
+    inquiry: &Inquiry,
+    orders: &mut Orders<M>,
+    name: Var,
+    ms: u64,
+    late: u64,
+    kept: usize,
+) -> Result<Told, Fault>
+    requires rules { orders.old.rules ≡ asked_late (rules_of inquiry.now.script (asked_in inquiry.now.asking)) name late }
+    requires spot { orders.old.spot ≡ first_spot orders.old.rules }
+    requires greatest { inquiry.now.asking.greatest ≡ true }
+    requires question { inquiry.now.asking.question ≡ Late name ms }
+    requires risen { let r = rules_of inquiry.now.script (asked_in inquiry.now.asking)
+        in RisesTo r (first_spot r) name inquiry.now.asking.states (late + 1) (Some kept) }
     ensures told { IfOk result (λ told. Answers inquiry.now.script (asked_in inquiry.now.asking) told.text.items told.status) }
     ensures err { IfErr result (λ fault. fault ≡ Memory) }
 {
     let states = inquiry.asking.states;
-    let late = risen.ms.saturating_sub(1);
-    let mut orders = begun::<M>(alloc, inquiry)?;
-    orders.ask_late(name, late);
-    // (where more isn't settled it will be asked again, so the steps needn't be the fewest)
-    let found = match risen.settled {
-        Some(_) => find(alloc, &mut orders, states as usize),
-        None => find_any(alloc, &mut orders, states as usize),
-    };
-    match found {
-        Answer::Found(_) => match risen.settled {
-            Some(kept) => Ok(Told {
-                text: latest_text(alloc, inquiry, orders.steps(), late, kept as u64)?,
-                status: 0,
-            }),
-            None => Ok(Told {
-                text: at_least_text(alloc, &inquiry.script, orders.steps(), late, u64::from(states))?,
-                status: 3,
-            }),
-        },
-        _ => not_settled(alloc, states),
+    match find(alloc, orders, states as usize) {
+        Answer::Found(_) => Ok(Told {
+            text: latest_text(alloc, inquiry, orders.steps(), late, kept as u64)?,
+            status: 0,
+        }),
+        _ => not_settled(alloc, inquiry),
+    }
+}
+
+/// Steps that are found, where that isn't settled. It will be asked again, so they needn't be the fewest.
+fn at_least<M: Machine>(
+    alloc: Global,
+    inquiry: &Inquiry,
+    orders: &mut Orders<M>,
+    name: Var,
+    ms: u64,
+    late: u64,
+) -> Result<Told, Fault>
+    requires rules { orders.old.rules ≡ asked_late (rules_of inquiry.now.script (asked_in inquiry.now.asking)) name late }
+    requires spot { orders.old.spot ≡ first_spot orders.old.rules }
+    requires greatest { inquiry.now.asking.greatest ≡ true }
+    requires question { inquiry.now.asking.question ≡ Late name ms }
+    ensures told { IfOk result (λ told. Answers inquiry.now.script (asked_in inquiry.now.asking) told.text.items told.status) }
+    ensures err { IfErr result (λ fault. fault ≡ Memory) }
+{
+    let states = inquiry.asking.states;
+    match find_any(alloc, orders, states as usize) {
+        Answer::Found(_) => Ok(Told {
+            text: at_least_text(alloc, &inquiry.script, orders.steps(), late, u64::from(states))?,
+            status: 3,
+        }),
+        _ => not_settled(alloc, inquiry),
     }
 }
 
