@@ -42,7 +42,7 @@ WORDS = (
     "var main on after closed thread begin order 1.43 1.44 1.45 slots workers init start stop again repeat due ref unref hasref "
     "active close closing send "
     "closeloop stoploop updatetime now alive timeout queue cancel run default once nowait timer idle prepare check async io timers heap loop "
-    "tick back forward take finish break call code section poll clear rback trace state image record quit uvt calls end debug OK EINVAL EBUSY "
+    "tick back forward take finish break call code section poll clear rback trace walk state image record quit uvt calls end debug OK EINVAL EBUSY "
     "ECANCELED EBOUND EFULL ESTALE EKIND a b r t 0 1 2 3 4 9 64 65 255 256 1000 1001 1024 1025 4096 65535 65536 16777215 16777216 4294967295 "
     "4294967296 4611686018427387904 4611686018427387905 18446744073709551615 18446744073709551616 @1 @2 @0 @4294967295 #"
 ).split()

@@ -177,7 +177,7 @@ def see_line(seen, line, body, kinds):
 
 def see_reply(seen, command, lines, body, kinds):
     word = command.split(" ")[0]
-    if word in ("trace", "record"):
+    if word in ("trace", "walk", "record"):
         return
     for line in lines:
         if line.startswith("refused "):

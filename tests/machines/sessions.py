@@ -222,7 +222,7 @@ def commands(draw, names, workers):
         rows[at:at] = ["break code ECANCELED"] * 257
     if draw.random() < 0.3:
         rows += ["back 1"] * draw.randint(1, 40)
-    return rows + draw.choice([["trace"], ["trace", "record"], ["trace", "back 9", "trace", "forward 9", "trace"]])
+    return rows + draw.choice([["trace"], ["trace", "record"], ["walk"], ["trace", "back 9", "trace", "forward 9", "trace"]])
 
 
 def session(draw):

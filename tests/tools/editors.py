@@ -308,6 +308,7 @@ RIGHT_COMMANDS = [
     *(f"break code {it}" for it in ("ok", "EINVAL", "EBUSY", "ECANCELED", "EBOUND", "EFULL", "ESTALE", "EKIND")),
     *(f"break section {it}" for it in ("pending", "idle", "prepare", "poll", "done", "async", "check", "closing", "timers")),
     "trace",
+    "walk",
     "state",
     "image",
     "record",

@@ -45,7 +45,8 @@ COMMANDS = [
     ("take K, finish K", "worker K takes a request, or finishes it"),
     ("cancel NAME, send NAME", "from outside, as another thread does"),
     ("io NAME", "the callback of a handle of I/O comes, in a script with the line `io`"),
-    ("trace, state, image, record", "shows the steps, the state, the memory, the recording"),
+    ("trace, walk", "shows the lines of the steps; `walk` with the number of the step in front"),
+    ("state, image, record", "shows the state, the memory, the recording"),
     ("state NAME", "shows what one name is bound to"),
     ("quit", "ends"),
 ]
@@ -62,6 +63,7 @@ FORMS = {
     "forward": ["N"],
     "rback": [""],
     "trace": [""],
+    "walk": [""],
     "state": ["", "NAME"],
     "image": [""],
     "record": [""],

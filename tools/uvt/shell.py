@@ -16,7 +16,7 @@ from uvt.walk import OUTSIDE, Walk
 from uvt.why import why
 from uvt.why_javascript import WhyJavaScript
 
-OWN = ["loop", "take", "finish", "cancel", "send", "io", "tick", "back", "forward", "break", "rback", "trace", "state", "image", "record"]
+OWN = ["loop", "take", "finish", "cancel", "send", "io", "tick", "back", "forward", "break", "rback", "trace", "walk", "state", "image", "record"]
 INFO = ["timers", "handles", "requests", "loop", "breaks"]
 SHORT = {
     "s": "step",

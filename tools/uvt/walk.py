@@ -20,7 +20,7 @@ from uvt.spent import Spent
 # outside, and is the callback itself; all that its body does is the loop's.
 OUTSIDE = ("take", "finish", "cancel", "send", "tick", "io")
 MOVES = ("back", "rback", "forward")
-SHOWS = ("state", "image", "trace", "record")
+SHOWS = ("state", "image", "trace", "walk", "record")
 LISTS = {"call": "on", "after": "after", "closed": "closed"}
 WORDS = {"on": "the callback", "after": "the after callback", "closed": "the close callback"}
 CALLBACKS = tuple(f"{it} of " for it in WORDS.values())
