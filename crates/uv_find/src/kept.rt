@@ -204,11 +204,7 @@ fn due_of(handle: HandleRecord, due: u64, other: u64, clock: u64) -> u64
     ensures { result ≡ due_of (is_timer handle.kind) handle.active handle.pending handle.due.at due other clock }
 {
     if handle.is_timer() {
-        if handle.active {
-            handle.due.at
-        } else {
-            other
-        }
+        if handle.active { handle.due.at } else { other }
     } else if handle.pending {
         due
     } else {

@@ -27,7 +27,7 @@ pub use choices::{Choice, Moved, Taken};
 pub use finding::{Answer, each_finishes, find, find_any, place_keys_tell};
 pub use forgetting::may_forget;
 pub use kept::{Along, Kept};
-pub use latest::{Rung, Risen, rise};
+pub use latest::{Risen, Rung, rise};
 pub use left::Left;
 pub use orders::{Made, Orders, Was};
 pub use recorded::Passed;

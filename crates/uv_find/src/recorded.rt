@@ -47,12 +47,7 @@ fn comes_by<M: Machine>(machine: &M, kept: Kept, recorded: Option<Recorded>) -> 
 }
 
 /// The recorded event of this number, where what it is for was made.
-fn comes<M: Machine>(
-    machine: &M,
-    recorded: &[Recorded],
-    kept: Kept,
-    number: usize,
-) -> Option<Event>
+fn comes<M: Machine>(machine: &M, recorded: &[Recorded], kept: Kept, number: usize) -> Option<Event>
     ensures { result ≡ comes recorded.now (after (M.program machine.now) (M.standing machine.now)) kept number }
 {
     comes_by(machine, kept, recorded.get(number).copied())
@@ -205,10 +200,25 @@ fn past<M: Machine>(
     ensures past { IfOk result (λ past_it. option_map passed_of past_it
         ≡ past (rules_by session.old.program terms.now) (place_by session.old left.now.items kept) count) }
 {
-    let Some(spare) = spare_behind(session, &terms.recorded, kept, count, left, kept.along.spare)? else {
+    let Some(spare) = spare_behind(
+        session,
+        &terms.recorded,
+        kept,
+        count,
+        left,
+        kept.along.spare,
+    )?
+    else {
         return Ok(None);
     };
-    let left = hold_back(session, &terms.recorded, kept, count, left, *left.allocator())?;
+    let left = hold_back(
+        session,
+        &terms.recorded,
+        kept,
+        count,
+        left,
+        *left.allocator(),
+    )?;
     Ok(Some(Passed { left, spare }))
 }
 

@@ -27,8 +27,18 @@ pub record Draft : Type 0 where
 
 -- before the first line
 abbrev pub unsaid : Draft
-unsaid = record { offers = []; differ = None; recorded = []; takes = []; clock = None; most = []; states = None; full = false; question = None;
-  greatest = false }
+unsaid = record {
+  offers = [];
+  differ = None;
+  recorded = [];
+  takes = [];
+  clock = None;
+  most = [];
+  states = None;
+  full = false;
+  question = None;
+  greatest = false;
+}
 
 -- nothing is said twice: no offer, no time of a callback, no bound, and no second question. And there is room for one more offer. What came in a
 -- recording is said behind `may differ`, and beside that nothing else may come, but that the clock goes on where the loop waits

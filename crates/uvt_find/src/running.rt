@@ -13,13 +13,13 @@ ghost use Rattle.uvt_find.specs.Status.{Answers, EndsBy, IsAnswerStatus, IsReply
 
 use std::alloc::Global;
 use std::io::Write;
-use uv_engine::{Sink, Source, write_text};
 use uv_asking::Question;
+use uv_engine::{Sink, Source, write_text};
 use uv_find::{Answer, Orders, Risen, find, find_any, may_forget, rise};
 use uv_ids::{Fault, Var};
 use uv_inquiry::{
-    Inquiry, at_least_text, found_text, latest_text, may_never_end, never_text, no_end_text, out_of_memory_text, read_inquiry,
-    too_deep_text, unsettled_text,
+    Inquiry, at_least_text, found_text, latest_text, may_never_end, never_text, no_end_text,
+    out_of_memory_text, read_inquiry, too_deep_text, unsettled_text,
 };
 use uv_model::Machine;
 use uv_script::Script;
@@ -259,7 +259,13 @@ fn at_least<M: Machine>(
     let states = inquiry.asking.states;
     match find_any(alloc, orders, states as usize) {
         Answer::Found(_) => Ok(Told {
-            text: at_least_text(alloc, &inquiry.script, orders.steps(), late, u64::from(states))?,
+            text: at_least_text(
+                alloc,
+                &inquiry.script,
+                orders.steps(),
+                late,
+                u64::from(states),
+            )?,
             status: 3,
         }),
         _ => not_settled(alloc, inquiry),
