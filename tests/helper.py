@@ -12,7 +12,10 @@ from typing import Any, Callable
 
 ROOT = Path(__file__).resolve().parent.parent
 EXAMPLES = ROOT / "crates" / "examples" / "data"
-SECONDS = 120
+# How long a command may take. It is for one that hangs: on a quiet machine each takes less than a tenth of it, so none fails where much else runs.
+SECONDS = 1200
+# The status of a command that took longer, as that of `timeout`.
+LATE = 124
 Ended = tuple[int, bytes, bytes]
 Check = Callable[..., None]
 
@@ -47,8 +50,45 @@ class Tries:
         return 1 if self.failed else 0
 
 
+def limited(words: list[Any], seconds: float = SECONDS, **how: Any) -> subprocess.CompletedProcess[Any]:
+    """Runs a command as `subprocess.run` does. One that takes longer than so many seconds is ended: its status is LATE then, and a line says so."""
+    try:
+        return subprocess.run(words, timeout=seconds, **how)
+    except subprocess.TimeoutExpired as late:
+        say_late(words, seconds)
+        empty = "" if any(how.get(it) for it in ("text", "encoding", "universal_newlines")) else b""
+        # (what came until then is of bytes, whatever was asked)
+        out, errors = (bytes(it or b"").decode(errors="replace") if empty == "" else it or b"" for it in (late.stdout, late.stderr))
+        return subprocess.CompletedProcess(words, LATE, out, errors)
+
+
+def say_late(words: Any, seconds: float) -> None:
+    command = words if isinstance(words, str) else " ".join(map(str, words))
+    print(f"it took longer than {seconds:g} s, and was ended: {command[:400]}", flush=True)
+
+
+def talked(process: subprocess.Popen[Any], text: Any = None, seconds: float = SECONDS) -> tuple[Any, Any]:
+    """What a process that was started writes up to its end, on its output and its errors. One that takes longer is ended, as by `limited`."""
+    try:
+        return process.communicate(text, timeout=seconds)
+    except subprocess.TimeoutExpired:
+        say_late(process.args, seconds)
+        process.kill()
+        return process.communicate()
+
+
+def waited(process: subprocess.Popen[Any], seconds: float = SECONDS) -> int:
+    """The status of a process that was started; LATE where it took longer and was ended."""
+    try:
+        return process.wait(seconds)
+    except subprocess.TimeoutExpired:
+        say_late(process.args, seconds)
+        process.kill()
+        process.wait()
+        return LATE
+
+
 def run(words: list[Any], text: bytes = b"", **how: Any) -> Ended:
     """Runs a command on its input: its status, its output and its errors."""
-    seconds = how.pop("timeout", SECONDS)
-    ended = subprocess.run(words, input=text, stdout=subprocess.PIPE, stderr=subprocess.PIPE, timeout=seconds, **how)
+    ended = limited(words, input=text, stdout=subprocess.PIPE, stderr=subprocess.PIPE, **how)
     return ended.returncode, ended.stdout, ended.stderr

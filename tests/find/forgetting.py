@@ -10,7 +10,6 @@ from __future__ import annotations
 
 import argparse
 import os
-import subprocess
 import sys
 from collections import Counter
 from concurrent.futures import ProcessPoolExecutor
@@ -19,11 +18,10 @@ from random import Random
 from typing import NamedTuple
 
 from tests.find import answer, asked, holding, normal, scripts
-from tests.helper import Tries
+from tests.helper import Tries, limited
 
 ROOT = Path(__file__).resolve().parent.parent.parent
 BUILT = ROOT / "crates/uvt_find/out/uvt_find"
-SECONDS = 300
 HOW = ("forgetting", "holding")
 
 
@@ -53,7 +51,7 @@ def question(seed: int, states: int) -> str:
 
 def answered(program: str, text: str) -> tuple[answer.Answer, int]:
     """The answer, and how many states it took."""
-    ran = subprocess.run([program], input=text, capture_output=True, text=True, timeout=SECONDS)
+    ran = limited([program], input=text, capture_output=True, text=True)
     got = answer.read(ran.stdout)
     if got is None:
         raise ValueError(f"status {ran.returncode}, and no answer: {(ran.stderr or ran.stdout).strip()[:200]}")
@@ -80,7 +78,7 @@ def try_script(program: str, states: int, seed: int) -> Tried:
     try:
         short, some = answered(program, text)
         whole, all_states = answered(program, text.replace("\nbegin\n", "\nbegin\nfull\n"))
-    except (ValueError, subprocess.TimeoutExpired) as fault:
+    except ValueError as fault:
         return Tried(seed, "no answer", 0, str(fault))
     if "not settled" in (short.kind, whole.kind):
         is_settled = short.kind != "not settled"

@@ -5,9 +5,10 @@ import os
 import subprocess
 from pathlib import Path
 
+from tests.helper import limited
+
 ROOT = Path(__file__).resolve().parent.parent.parent
 FOUND = 0
-SECONDS = 300
 
 
 def order_of(version: str) -> str:
@@ -16,4 +17,4 @@ def order_of(version: str) -> str:
 
 
 def run(tool: str, *words: str) -> subprocess.CompletedProcess[str]:
-    return subprocess.run([str(ROOT / "tools" / "uvt" / tool), *words], capture_output=True, text=True, timeout=SECONDS, env=os.environ)
+    return limited([str(ROOT / "tools" / "uvt" / tool), *words], capture_output=True, text=True, env=os.environ)

@@ -9,7 +9,6 @@ from __future__ import annotations
 
 import argparse
 import re
-import subprocess
 import sys
 import tempfile
 from collections import Counter
@@ -32,10 +31,7 @@ def session_of(seed: int, order: str, folder: Path) -> Path | None:
         return None
     asked, session = folder / "asked", folder / "session"
     asked.write_text(f"order {order}\n{text}", encoding="ascii")
-    try:
-        found = run("uvt-find", str(asked), "-o", str(session))
-    except subprocess.TimeoutExpired:
-        return None
+    found = run("uvt-find", str(asked), "-o", str(session))
     if found.returncode != FOUND:
         return None
     return session if any(it.startswith("send ") for it in steps_of(session)) else None

@@ -2,16 +2,14 @@
 
 from __future__ import annotations
 
-import subprocess
 from collections import Counter
 from dataclasses import dataclass, field
 
+from tests.helper import limited
 from tests.libuv.model import SWITCHES, Model, switches_of
 from tests.libuv.planted import obey
 from tests.libuv.programs import Program
 from uvt.libuv.runner import Library, common, run_programs
-
-SECONDS = 60
 
 
 @dataclass
@@ -26,7 +24,7 @@ class Tested:
         if self.planted:
             return obey(self.planted, program.text, commands)
         given = "\n".join([*program.script(), "begin", *commands, ""])
-        ran = subprocess.run([self.path, "debug"], input=given, capture_output=True, text=True, timeout=SECONDS)
+        ran = limited([self.path, "debug"], input=given, capture_output=True, text=True)
         if ran.returncode != 0:
             return [f"status {ran.returncode}: {ran.stderr.strip()}"]
         return [it for it in map(common, ran.stdout.splitlines()) if it is not None]

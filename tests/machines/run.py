@@ -18,19 +18,18 @@ import tempfile
 from collections import Counter
 from concurrent.futures import ProcessPoolExecutor
 
-from tests.helper import Tries
+from tests.helper import Tries, limited
 from tests.machines import build
 from tests.machines import seen
 from tests.machines import sessions
 
-SECONDS = 120
 MANY = 10000
 SIDE_BY_SIDE = 3
 LONGEST = b"var i\nmain init i idle\nmain start i\nmain run default\nbegin\nloop 16777216\nloop\nstate\nback 1\nloop 2\nstate\n"
 
 
 def run(program, text):
-    ended = subprocess.run([program, "debug"], input=text, stdout=subprocess.PIPE, stderr=subprocess.PIPE, timeout=SECONDS)
+    ended = limited([program, "debug"], input=text, stdout=subprocess.PIPE, stderr=subprocess.PIPE)
     return ended.returncode, ended.stdout, ended.stderr
 
 

@@ -12,10 +12,9 @@ HERE = os.path.dirname(os.path.realpath(__file__))
 ROOT = os.path.dirname(os.path.dirname(HERE))
 
 from launch import reasons
-from tests.helper import Check, run
+from tests.helper import Check, limited, run, waited
 from tests.program import scripts
 
-SECONDS = 60
 BAD_COMMAND = b"uvt: bad command line\n"
 SCRIPT = b"var t\nmain init t timer\nbegin\nloop\n"
 # A plain file whose first byte can't be read, whoever asks.
@@ -92,7 +91,7 @@ def try_recordings(check: Check, uvt: str, folder: str) -> None:
             "got %r" % ((status, output, errors),),
         )
         with open(path, "rb") as file:
-            ended = subprocess.run([uvt, word], stdin=file, stdout=subprocess.PIPE, stderr=subprocess.PIPE, timeout=SECONDS)
+            ended = limited([uvt, word], stdin=file, stdout=subprocess.PIPE, stderr=subprocess.PIPE)
         check(
             "%s of a recording, redirected" % word,
             (ended.returncode, ended.stdout) == (2, b"")
@@ -109,7 +108,7 @@ def at_terminal(words: List[str], typed: List[bytes]) -> "tuple[int, bytes, byte
         os.close(theirs)
         # (the terminal keeps what comes before it is read)
         os.write(ours, b"".join(typed))
-        status = call.wait(SECONDS)
+        status = waited(call)
         os.close(ours)
         output.seek(0)
         errors.seek(0)
@@ -368,7 +367,7 @@ def try_bad_file(check: Check, uvt: str, path: str, what: str, told: "tuple[str,
         due += b"uvt: line %d is: %s\n" % (number, shown(lines[number - 1]))
     due += b"uvt: %s\n" % sentence
     with open(path, "rb") as file:
-        ended = subprocess.run([uvt, word], stdin=file, stdout=subprocess.PIPE, stderr=subprocess.PIPE, timeout=SECONDS)
+        ended = limited([uvt, word], stdin=file, stdout=subprocess.PIPE, stderr=subprocess.PIPE)
     same(check, what + ", redirected", (ended.returncode, ended.stdout, ended.stderr), (2, b"", due))
     return due
 

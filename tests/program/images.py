@@ -7,14 +7,13 @@ import re
 import subprocess
 from typing import List, Tuple
 
-from tests.helper import Check
+from tests.helper import Check, limited
 
 HERE = os.path.dirname(os.path.realpath(__file__))
-SECONDS = 120
 
 
 def answered(uvt: str, lines: List[str]) -> str:
-    ended = subprocess.run([uvt, "debug"], input=("\n".join(lines) + "\n").encode(), stdout=subprocess.PIPE, timeout=SECONDS)
+    ended = limited([uvt, "debug"], input=("\n".join(lines) + "\n").encode(), stdout=subprocess.PIPE)
     return ended.stdout.decode()
 
 

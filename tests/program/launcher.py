@@ -17,10 +17,10 @@ from typing import List, NamedTuple, Set, Tuple
 HERE = os.path.dirname(os.path.realpath(__file__))
 ROOT = os.path.dirname(os.path.dirname(HERE))
 
-from tests.helper import Check, Tries, run
+from tests.helper import Check, Tries, limited, run, talked, waited
 from tests.program.called import SCRIPT, same
 
-SECONDS = 60
+SECONDS = 600
 NO_KIT = tempfile.TemporaryDirectory(prefix="uvt-path-")
 
 
@@ -143,7 +143,7 @@ def try_first_call(check: Check, kit: StandIn) -> None:
         time.sleep(0.05)
     with open(source, "ab") as out:
         out.write(b"// changed while it is compiled\n")
-    same(check, "a first call behind a change", (changed.communicate(SCRIPT, timeout=SECONDS)[0], changed.returncode), (b"init t timer = 0.0\n", 0))
+    same(check, "a first call behind a change", (talked(changed, SCRIPT)[0], changed.returncode), (b"init t timer = 0.0\n", 0))
     same(check, "it compiles anew", [line[0] for line in kit.log()], ["tries", "tries"])
     kit.write("took", "0.05")
     same(check, "a call behind a change while it was compiled", kit.call(["debug"], SCRIPT)[:2], (0, b"init t timer = 0.0\n"))
@@ -199,7 +199,7 @@ def try_builds(check: Check, kit: StandIn) -> None:
     while len([1 for what, _ in kit.log() if what == "ends"]) < 6 and time.monotonic() < until:
         time.sleep(0.05)
     build.send_signal(signal.SIGTERM)
-    errors = build.communicate(timeout=SECONDS)[1]
+    errors = talked(build)[1]
     check("a build that is stopped", build.returncode == 70 and b"stopped" in errors, "status %d, errors %r" % (build.returncode, errors))
     time.sleep(1)
     done = {crate for what, crate in kit.log() if what == "ends"}
@@ -224,7 +224,7 @@ def try_builds(check: Check, kit: StandIn) -> None:
 
     kit.write("fails", "")
     both = [subprocess.Popen([kit.uvt(), "build"], env=kit.env(), stdout=subprocess.DEVNULL, stderr=subprocess.PIPE) for _ in (1, 2)]
-    said = [it.communicate(timeout=SECONDS)[1] for it in both]
+    said = [talked(it)[1] for it in both]
     same(check, "two builds at once", [it.returncode for it in both], [0, 0])
     check("one of them waits", any(b"another call is building the program" in it for it in said), "errors %r" % said)
     log = kit.log()
@@ -284,7 +284,7 @@ def try_order(check: Check, kit: StandIn) -> None:
     except OSError:
         pass
     os.close(ours)
-    same(check, "a build at a terminal", build.wait(SECONDS), 0)
+    same(check, "a build at a terminal", waited(build), 0)
     line = rb"\r\x1b\[Kuvt: \d+ of \d+ crates, \d+ functions proved, \d+:\d\d, about "
     check("its line is rewritten", re.search(line, said) is not None, "got %r" % said[-500:])
     first = re.search(rb"of (\d+) crates, 4 at a time: about (\d+) minutes from nothing", said)
@@ -338,7 +338,7 @@ def try_unanswered(check: Check, kit: StandIn) -> None:
     while not kit.log() and time.monotonic() < until:
         time.sleep(0.05)
     os.killpg(call.pid, signal.SIGINT)
-    output, errors = call.communicate(timeout=SECONDS)
+    output, errors = talked(call)
     same(check, "a first call that is interrupted", (call.returncode, output, [line[0] for line in kit.log()]), (130, b"", ["tries"]))
     same(check, "what it leaves", sorted(os.listdir(os.path.join(kit.folder, "out", "uvt", "unproved"))), ["lock"])
     kit.write("took", "0.05")
@@ -364,7 +364,7 @@ def try_typed(check: Check, kit: StandIn) -> None:
     call = subprocess.Popen([kit.uvt(), "debug", script], env=kit.env(), stdin=theirs, stdout=subprocess.PIPE, stderr=subprocess.PIPE)
     os.close(theirs)
     os.write(ours, b"loop\nquit\n")
-    output, errors = call.communicate(timeout=SECONDS)
+    output, errors = talked(call)
     os.close(ours)
     same(check, "a first call at a terminal", (call.returncode, output), (0, b"init t timer = 0.0\nrefused ended\n"))
     check("a first call at a terminal, what is said", b"before its proofs" in errors and b"after the file you may type" in errors, "got %r" % errors)
@@ -374,7 +374,7 @@ def try_typed(check: Check, kit: StandIn) -> None:
     call.stdin.flush()
     same(check, "a first call over an open pipe", call.stdout.readline(), b"init t timer = 0.0\n")
     call.stdin.write(b"loop\n")
-    same(check, "a first call over an open pipe, the rest", call.communicate(timeout=SECONDS)[0], b"refused ended\n")
+    same(check, "a first call over an open pipe, the rest", talked(call)[0], b"refused ended\n")
 
 
 def try_changes(check: Check, kit: StandIn) -> None:
@@ -409,12 +409,12 @@ def try_with_kit(check: Check, copy: str, folder: str) -> None:
     """In a copy without a built program: the first commands of docs/TOUR.md and README.md, and a build that is stopped and taken up again."""
     uvt, env = os.path.join(copy, "uvt"), {**os.environ, "XDG_CACHE_HOME": os.path.join(folder, "cache")}
     with open(os.path.join(copy, "examples", "late-timer.uvt"), "rb") as script, open(os.path.join(copy, "examples", "late-timer.out"), "rb") as due:
-        ended = subprocess.run([uvt, "debug"], stdin=script, stdout=subprocess.PIPE, stderr=subprocess.PIPE, timeout=600, env=env)
+        ended = limited([uvt, "debug"], stdin=script, stdout=subprocess.PIPE, stderr=subprocess.PIPE, env=env)
         same(check, "the first answer", (ended.returncode, ended.stdout), (0, due.read()))
     check("the first answer, what is said", ended.stderr.count(b"\n") == 2 and ended.stderr.count(b"uvt: ") == 2, "got %r" % ended.stderr)
     with open(os.path.join(copy, "examples", "late-timer.uvt"), "rb") as script:
         began = time.monotonic()
-        again = subprocess.run([uvt, "why", "beat"], stdin=script, stdout=subprocess.PIPE, stderr=subprocess.PIPE, timeout=600, env=env)
+        again = limited([uvt, "why", "beat"], stdin=script, stdout=subprocess.PIPE, stderr=subprocess.PIPE, env=env)
         check(
             "a second answer, by a tool",
             again.returncode == 0 and b"late by 35 ms" in again.stdout and time.monotonic() - began < 10,
@@ -426,7 +426,7 @@ def try_with_kit(check: Check, copy: str, folder: str) -> None:
         first = next((line for line in build.stderr if re.match(rb"uvt: [1-9]\d* of \d+ crates, ", line)), b"")
         build.terminate()
         build.stderr.read()
-        same(check, "a real build that is stopped, turn %d" % turn, build.wait(SECONDS), 70)
+        same(check, "a real build that is stopped, turn %d" % turn, waited(build), 70)
         proved = re.search(rb", (\d+) functions proved", first)
         # (what is taken over isn't proved now; in the first turn that is so where another copy on this machine had proved it)
         check("a real build, turn %d: its first crate" % turn, proved is not None and (turn == 1 or proved[1] == b"0"), "got %r" % first)

@@ -3,7 +3,7 @@ import random
 import re
 import subprocess
 
-SECONDS = 60
+from tests.helper import limited
 
 
 def script(draw):
@@ -62,7 +62,7 @@ def first_lines(text, asked):
 def try_run(uvt, seed):
     """What is wrong with the run of that number; None where it came to its end and its recording is replayed as `same`."""
     text, asked = script(random.Random(seed))
-    ended = subprocess.run([uvt] + words(asked), input=text.encode(), stdout=subprocess.PIPE, stderr=subprocess.PIPE, timeout=SECONDS)
+    ended = limited([uvt] + words(asked), input=text.encode(), stdout=subprocess.PIPE, stderr=subprocess.PIPE)
     if ended.returncode or ended.stderr:
         return "status %d, errors %r" % (ended.returncode, ended.stderr)
     lines = ended.stdout.decode().splitlines()
@@ -76,6 +76,6 @@ def try_run(uvt, seed):
         return "%d requests were done, %d takes, %d finishes" % (done, takes, finishes)
     if sends > text.count("\nthread "):
         return "%d sends, and %d lines of threads" % (sends, text.count("\nthread "))
-    replayed = subprocess.run([uvt, "replay"], input=ended.stdout, stdout=subprocess.PIPE, stderr=subprocess.PIPE, timeout=SECONDS)
+    replayed = limited([uvt, "replay"], input=ended.stdout, stdout=subprocess.PIPE, stderr=subprocess.PIPE)
     real = (replayed.returncode, replayed.stdout, replayed.stderr)
     return None if real == (0, b"same\n", b"") else "its replay: %r" % (real,)

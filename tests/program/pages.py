@@ -25,7 +25,7 @@ import tempfile
 from pathlib import Path
 from typing import NamedTuple, Optional
 
-from tests.helper import Check
+from tests.helper import Check, limited
 
 PAGES = ("README.md", "docs/TOUR.md", "docs/TOOLS.md", "docs/RECORD.md", "docs/FIND.md", "docs/HUNT.md")
 COMMANDS = (
@@ -102,7 +102,6 @@ LOG = Path(__file__).resolve().parent.parent / "tools" / "logs" / "late.log"
 HUNG = Path(__file__).resolve().parent.parent / "tools" / "truths" / "hangup.log"
 # What is said of a time of a real run where others had the processor meanwhile.
 BUSY = re.compile(r", (\d+|none) of them on the processor")
-SECONDS = 120
 # Of README.md.
 MOST_LINES = 200
 
@@ -246,13 +245,12 @@ class Walker:
 
     def run(self, command: str, folder: str) -> "subprocess.CompletedProcess[str]":
         with tempfile.NamedTemporaryFile("r") as where:
-            ended = subprocess.run(
+            ended = limited(
                 ["sh", "-c", '%s\nstatus=$?\npwd >"$WHERE"\nexit $status' % command],
                 cwd=folder,
                 env={**self.env, "WHERE": where.name},
                 capture_output=True,
                 text=True,
-                timeout=SECONDS,
             )
             if command.startswith("cd "):
                 self.folder = where.read().strip() or self.folder

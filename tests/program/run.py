@@ -51,7 +51,7 @@ import sys
 import tempfile
 
 HERE = os.path.dirname(os.path.realpath(__file__))
-from tests.helper import Tries
+from tests.helper import Tries, limited, talked, waited
 from tests.libuv import cases
 from tests.machines import build
 from tests.program import asked
@@ -66,7 +66,7 @@ from tests.program import scripts
 from tests.program import widths
 
 ROOT = os.path.dirname(os.path.dirname(HERE))
-SECONDS = 60
+SECONDS = 600
 TRIES = Tries("program")
 check = TRIES.check
 
@@ -83,7 +83,7 @@ def copy_to(folder):
 
 
 def run(uvt, words, text):
-    return subprocess.run([uvt] + words, input=text, stdout=subprocess.PIPE, stderr=subprocess.PIPE, timeout=SECONDS)
+    return limited([uvt] + words, input=text, stdout=subprocess.PIPE, stderr=subprocess.PIPE)
 
 
 def difference(real, wanted):
@@ -265,7 +265,7 @@ def try_open_pipe(uvt):
         check("an open pipe, %r" % line, got == answer.encode(), "wanted %r, got %r" % (answer, got))
     program.stdin.write(b"quit\n")
     program.stdin.flush()
-    check("an open pipe, the end", program.wait(SECONDS) == 0 and program.stdout.read() == b"")
+    check("an open pipe, the end", waited(program) == 0 and program.stdout.read() == b"")
 
 
 def try_terminal(uvt, folder):
@@ -277,7 +277,7 @@ def try_terminal(uvt, folder):
     first = read_for(program.stdout.fileno(), b"init t timer = 0.0\n", SECONDS)
     os.write(ours, b"loop\nquit\n")
     rest = read_for(program.stdout.fileno(), b"refused ended\n", SECONDS)
-    ended = program.wait(SECONDS)
+    ended = waited(program)
     errors = program.stderr.read()
     os.close(ours)
     os.close(theirs)
@@ -414,12 +414,9 @@ def try_endless_line(uvt):
     """A line without an end is refused as its 257th byte comes: the input is endless, the memory and the time are not."""
     for word in ("debug", "replay", "live"):
         with open("/dev/zero", "rb") as zeros:
+            # (it is ended before its memory is what the machine has)
             started = subprocess.Popen([uvt, word], stdin=zeros, stdout=subprocess.PIPE, stderr=subprocess.PIPE)
-            try:
-                written, said = started.communicate(timeout=30)
-            except subprocess.TimeoutExpired:
-                started.kill()
-                written, said = started.communicate()
+            written, said = talked(started, seconds=30)
         real = (started.returncode, written, said)
         check("%s of a line without an end" % word, real == (2, b"", b"uvt: bad script line 1\n"), "got %r" % (real,))
 
@@ -575,9 +572,7 @@ def try_all(uvt, folder, room):
 
 
 def try_claims(folder):
-    ended = subprocess.run(
-        [os.path.join(folder, "tools", "make", "claims"), "--check"], stdout=subprocess.PIPE, stderr=subprocess.PIPE, timeout=SECONDS
-    )
+    ended = limited([os.path.join(folder, "tools", "make", "claims"), "--check"], stdout=subprocess.PIPE, stderr=subprocess.PIPE)
     check("the page of claims", ended.returncode == 0, ended.stderr.decode("utf-8", "replace").strip())
 
 
@@ -592,7 +587,7 @@ def try_by_hand():
             fault = str(why)
         check("the program over the plain loop", not fault, fault)
     for words in (["tests/order/run", "--look"], ["tests/edits/run", "--look"]):
-        ended = subprocess.run([os.path.join(ROOT, words[0]), *words[1:]], stdout=subprocess.PIPE, stderr=subprocess.STDOUT, timeout=SECONDS)
+        ended = limited([os.path.join(ROOT, words[0]), *words[1:]], stdout=subprocess.PIPE, stderr=subprocess.STDOUT)
         check(" ".join(words), ended.returncode == 0, ended.stdout.decode("utf-8", "replace").strip())
 
 

@@ -19,10 +19,9 @@ ROOT = Path(__file__).resolve().parent.parent.parent
 EXAMPLES = ROOT / "crates" / "examples" / "data"
 TOOL = str(ROOT / "tools" / "uvt" / "uvt-find")
 from tests.find.costs import growing
-from tests.helper import Check, Tries
+from tests.helper import Check, Tries, limited, talked
 from launch import reasons
 
-SECONDS = 300
 FOUND, NEVER, BAD, UNSETTLED, INTERRUPTED = 0, 1, 2, 3, 130
 # A pool of eight with twelve requests, whose orders no search settles within some seconds.
 ENDLESS = "\n".join(
@@ -137,13 +136,13 @@ BAD_LINES = [
 
 
 def run(words: list[str], text: str = "") -> subprocess.CompletedProcess[str]:
-    return subprocess.run([TOOL, *words], input=text, capture_output=True, text=True, timeout=SECONDS, env=os.environ)
+    return limited([TOOL, *words], input=text, capture_output=True, text=True, env=os.environ)
 
 
 def debugged(session: str) -> list[str]:
     """What `uvt debug` prints of a session."""
     program = os.environ.get("UVT") or str(ROOT / "uvt")
-    return subprocess.run([program, "debug"], input=session, capture_output=True, text=True, timeout=SECONDS).stdout.splitlines()
+    return limited([program, "debug"], input=session, capture_output=True, text=True).stdout.splitlines()
 
 
 def try_example(check: Check, name: str, due: Due, folder: str) -> None:
@@ -224,7 +223,7 @@ def try_lines(check: Check, folder: str) -> None:
     search = subprocess.Popen([TOOL, path], stdout=subprocess.PIPE, stderr=subprocess.PIPE, text=True)
     time.sleep(INTERRUPTED_AFTER)
     search.send_signal(signal.SIGINT)
-    out, errors = search.communicate(timeout=SECONDS)
+    out, errors = talked(search)
     check(
         "find, interrupted",
         search.returncode == INTERRUPTED and re.fullmatch(r"not settled within 10+ states: interrupted\n", out) is not None,

@@ -12,7 +12,7 @@ import tempfile
 from pathlib import Path
 
 ROOT = Path(__file__).resolve().parent.parent.parent
-from tests.helper import Check, Tries
+from tests.helper import Check, Tries, limited
 from tests.tools.daps import BEFORE_SENDS, CONVERSATIONS
 from uvt.conversation import Fault
 from uvt.libuv.runner import installed
@@ -20,11 +20,10 @@ from uvt.libuv.runner import installed
 EXAMPLES = ROOT / "crates" / "examples" / "data"
 # (by Python itself: without a PATH no script would start)
 TOOL = [sys.executable, str(ROOT / "tools" / "start.py"), "libuv"]
-SECONDS = 60
 
 
 def ran(path: Path, **environment: str) -> subprocess.CompletedProcess[str]:
-    return subprocess.run([*TOOL, str(path)], capture_output=True, text=True, timeout=SECONDS, env={**os.environ, **environment})
+    return limited([*TOOL, str(path)], capture_output=True, text=True, env={**os.environ, **environment})
 
 
 def try_absence(check: Check) -> None:

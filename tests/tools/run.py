@@ -40,13 +40,12 @@ import os
 import pty
 import select
 import signal
-import subprocess
 import tempfile
 import time
 from pathlib import Path
 from typing import Callable
 
-from tests.helper import EXAMPLES, ROOT, Tries
+from tests.helper import EXAMPLES, ROOT, Tries, limited
 from tests.tools.daps import BEFORE_SENDS, CONVERSATIONS, try_adapter
 from tests.tools.editors import try_editors
 from tests.tools.finds import try_find
@@ -73,7 +72,7 @@ from uvt.conversation import Conversation, Fault, Script, read_input
 from uvt.notes import Notes
 
 SHELL = str(ROOT / "tools" / "uvt" / "uvt-shell")
-SECONDS = 30
+SECONDS = 300
 
 
 # ---- the conversation
@@ -118,7 +117,7 @@ def try_faults(tries: Tries) -> None:
 
 
 def shelled(path: Path, lines: list[str]) -> tuple[list[str], int, str]:
-    ran = subprocess.run([SHELL, str(path)], input="\n".join(lines) + "\n", capture_output=True, text=True, timeout=SECONDS, env=os.environ)
+    ran = limited([SHELL, str(path)], input="\n".join(lines) + "\n", capture_output=True, text=True, env=os.environ)
     return ran.stdout.splitlines(), ran.returncode, ran.stderr
 
 
@@ -225,9 +224,7 @@ def try_noted(tries: Tries) -> None:
         at = out.index("call r 0.0")
         tries.check("shell, what came", out[at + 1] == "    tcp: 5 bytes were read" and not status and not told, f"{out} {told}")
         tries.check("shell, what came in another session nobody says", out[-1] == "call r 0.0", out)
-        ended = subprocess.run(
-            [str(ROOT / "tools" / "uvt" / "uvt-why"), "r", str(path)], capture_output=True, text=True, timeout=SECONDS, env=os.environ
-        )
+        ended = limited([str(ROOT / "tools" / "uvt" / "uvt-why"), "r", str(path)], capture_output=True, text=True, env=os.environ)
         tries.check("why, what came", "step 9, call 1: it left the poll: tcp: 5 bytes were read, and when nobody knows" in ended.stdout, ended.stdout)
 
 

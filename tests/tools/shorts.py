@@ -2,13 +2,14 @@
 
 from __future__ import annotations
 
-import subprocess
 import tempfile
 from contextlib import redirect_stdout
 from io import StringIO
 from pathlib import Path
 from typing import Protocol
 from unittest.mock import patch
+
+from tests.helper import limited
 
 ROOT = Path(__file__).resolve().parent.parent.parent
 from make.shorten.bodies import bodies, merged, whole_left
@@ -198,5 +199,5 @@ def try_shorter(tries: Tries) -> None:
     for part in (try_reading, try_copies, try_choice, try_drop, try_rounds):
         part(tries)
     for words in (["no_crate"], ["--kinds", "no", "uv_heap"], ["--files", "No", "uv_heap"], ["--jobs", "0", "uv_heap"]):
-        ended = subprocess.run([str(ROOT / "tools" / "make" / "shorter"), *words], capture_output=True, text=True, timeout=60, check=False)
+        ended = limited([str(ROOT / "tools" / "make" / "shorter"), *words], capture_output=True, text=True, check=False)
         tries.check(f"shorter, bad words {words}", ended.returncode == 2 and ended.stderr.startswith("shorter: "), ended.stderr)

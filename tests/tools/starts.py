@@ -8,7 +8,7 @@ import subprocess
 import time
 from pathlib import Path
 
-from tests.helper import Tries
+from tests.helper import Tries, limited, talked
 
 ROOT = Path(__file__).resolve().parent.parent.parent
 LAUNCHER = str(ROOT / "uvt")
@@ -30,7 +30,7 @@ def interrupted(words: list[str], moment: float) -> str:
     ) as tool:
         time.sleep(moment)
         tool.send_signal(signal.SIGINT)
-        return tool.communicate(timeout=60)[1]
+        return talked(tool)[1]
 
 
 def try_starts(tries: Tries) -> None:
@@ -39,13 +39,11 @@ def try_starts(tries: Tries) -> None:
         tries.check(f"an interrupt {moment:.3f} s behind the start", "Traceback" not in said, said[-400:])
     for words in (["why", SCRIPT], ["view", SCRIPT], ["shell", SCRIPT]):
         with open("/dev/full", "wb") as full:
-            ran = subprocess.run([LAUNCHER, *words], stdin=subprocess.DEVNULL, stdout=full, stderr=subprocess.PIPE, text=True, timeout=60)
+            ran = limited([LAUNCHER, *words], stdin=subprocess.DEVNULL, stdout=full, stderr=subprocess.PIPE, text=True)
         tries.check(f"{words[0]}, a full output", ran.returncode != 0 and ran.stderr.count("\n") == 1 and "No space left" in ran.stderr, ran.stderr)
-        ran = subprocess.run(
-            ["sh", "-c", 'exec "$@" >&-', "sh", LAUNCHER, *words], stdin=subprocess.DEVNULL, stderr=subprocess.PIPE, text=True, timeout=60
-        )
+        ran = limited(["sh", "-c", 'exec "$@" >&-', "sh", LAUNCHER, *words], stdin=subprocess.DEVNULL, stderr=subprocess.PIPE, text=True)
         tries.check(f"{words[0]}, a closed output", ran.returncode != 0 and "Traceback" not in ran.stderr and bool(ran.stderr), ran.stderr)
     # (a shell has what it starts in the background take no interrupts)
     text = f'"{LAUNCHER}" why "{SCRIPT}" >/dev/null 2>&1 & sleep 0.05; kill -INT $!; wait $!'
-    status = subprocess.run(["sh", "-c", text], env=os.environ, timeout=60).returncode
+    status = limited(["sh", "-c", text], env=os.environ).returncode
     tries.check("no interrupt is taken in the background", status == 0, status)

@@ -5,19 +5,17 @@ from __future__ import annotations
 import collections
 import json
 import os
-import subprocess
 import tempfile
 from pathlib import Path
 
 ROOT = Path(__file__).resolve().parent.parent.parent
-from tests.helper import Check, Tries
+from tests.helper import Check, Tries, limited
 from uvt.record.log import read_log
 from uvt.record.run import from_data
 
 EXAMPLES = ROOT / "crates" / "examples" / "data"
 HERE = Path(__file__).resolve().parent
 VIEW = str(ROOT / "tools" / "uvt" / "uvt-view")
-SECONDS = 120
 # Of each phase the fields that it has to have beside ph, ts, pid, tid and name.
 FIELDS = {
     "B": ("cat",),
@@ -133,7 +131,7 @@ def wrong_of(text: str) -> tuple[list[dict], list[str]]:
 
 
 def traced(path: Path) -> str:
-    return subprocess.run([VIEW, "--trace-event", str(path)], capture_output=True, text=True, timeout=SECONDS, env=os.environ).stdout
+    return limited([VIEW, "--trace-event", str(path)], capture_output=True, text=True, env=os.environ).stdout
 
 
 def slice_of(events: list[dict], name: str) -> list[tuple[float, float]]:
@@ -192,16 +190,14 @@ def try_javascript(check: Check, folder: str) -> None:
         fired = {it["args"]["data"]["timerId"] for it in mine if it["name"] == "TimerFire"}
         check(f"each timer of {name}.js that is called was started", fired and fired <= installed, (fired, installed))
         late = [json.loads(it["args"]["detail"])["devtools"] for it in mine if it["ph"] == "b" and it["name"].rpartition(" is late by ")[1]]
-        said = subprocess.run(
-            [str(ROOT / "tools" / "uvt" / "uvt-why"), str(path)], capture_output=True, text=True, timeout=SECONDS, env=os.environ
-        ).stdout
+        said = limited([str(ROOT / "tools" / "uvt" / "uvt-why"), str(path)], capture_output=True, text=True, env=os.environ).stdout
         said = " ".join(said.split())
         for it in late[:1]:
             check(f"why a timer of {name}.js was late", dict(it["properties"])["why"][:60] in said, (it, said[:2000]))
         check(f"late timers of {name}.js", bool(late) == ("the latest timers of JavaScript" in said), late)
         arrows = {it["id"]: it["ph"] for it in mine if it["ph"] in "sf"}
         check(f"who asked for what in {name}.js", len(arrows) > 0 and set(arrows.values()) == {"f"}, arrows)
-        ran = subprocess.run([VIEW, "--cpuprofile", str(path)], capture_output=True, text=True, timeout=SECONDS, env=os.environ)
+        ran = limited([VIEW, "--cpuprofile", str(path)], capture_output=True, text=True, env=os.environ)
         profile = json.loads(ran.stdout)
         children = {child for it in profile["nodes"] for child in it["children"]}
         hits = sum(it["hitCount"] for it in profile["nodes"])

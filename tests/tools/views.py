@@ -10,14 +10,13 @@ import tempfile
 from pathlib import Path
 
 ROOT = Path(__file__).resolve().parent.parent.parent
-from tests.helper import Check, Tries
+from tests.helper import Check, Tries, limited
 from tests.tools.whys import BEHIND
 from uvt.conversation import Conversation, read_input
 from uvt.walk import longest_way
 
 EXAMPLES = ROOT / "crates" / "examples" / "data"
 VIEW = str(ROOT / "tools" / "uvt" / "uvt-view")
-SECONDS = 60
 # What the page is given.
 VALUES = re.compile(r'<script type="application/json" id="values">(.*)</script>')
 # A page's blocks of text, each with what stands in it.
@@ -25,7 +24,7 @@ BLOCK = re.compile(r"^```text\n(.*?)^```$", re.MULTILINE | re.DOTALL)
 
 
 def viewed(words: list[str]) -> subprocess.CompletedProcess[str]:
-    return subprocess.run([VIEW, *words], capture_output=True, text=True, timeout=SECONDS, env=os.environ)
+    return limited([VIEW, *words], capture_output=True, text=True, env=os.environ)
 
 
 def text_at(run: dict, table: dict[int, int], length: int) -> list[str]:
@@ -86,9 +85,7 @@ def try_requests(check: Check) -> None:
     """A stream's requests have a lane beside it: by its source the program writes twice in `main`, and the close callback cancels both."""
     with tempfile.TemporaryDirectory() as folder:
         log = ROOT / "tests" / "tools" / "truths" / "hangup.log"
-        subprocess.run(
-            [str(ROOT / "tools" / "uvt" / "uvt-record"), "-o", f"{folder}/hangup", "--log", str(log)], capture_output=True, timeout=SECONDS
-        )
+        limited([str(ROOT / "tools" / "uvt" / "uvt-record"), "-o", f"{folder}/hangup", "--log", str(log)], capture_output=True)
         run = json.loads(VALUES.search(viewed([f"{folder}/hangup.rec"]).stdout)[1])
     lanes = {it["name"]: it for it in run["lanes"]}
     names, closed = list(lanes), next(step for step, what in lanes["line"]["parts"] if what == "callback")
@@ -148,7 +145,7 @@ def try_pages(check: Check) -> None:
             with tempfile.TemporaryDirectory() as folder:
                 for name in ("uvt", "examples"):
                     (Path(folder) / name).symlink_to(ROOT / name)
-                ended = subprocess.run(["sh", "-c", call], cwd=folder, capture_output=True, text=True, timeout=SECONDS, env=os.environ)
+                ended = limited(["sh", "-c", call], cwd=folder, capture_output=True, text=True, env=os.environ)
             holds = ended.returncode == 0 and not ended.stderr and (shown is None or is_shown(shown, ended.stdout))
             check(f"{page.name}: {call}", holds, ended.stdout + ended.stderr)
 

@@ -4,14 +4,13 @@ from __future__ import annotations
 
 import os
 import random
-import subprocess
 from pathlib import Path
 from typing import Iterable
 from unittest.mock import patch
 from typing import Callable
 
 ROOT = Path(__file__).resolve().parent.parent.parent
-from tests.helper import Check, Tries
+from tests.helper import Check, Tries, limited
 from tests.machines import sessions
 from tests.tools.slow_why import Seen, SlowWhy
 from uvt.arrivals import behind, came, waited
@@ -24,7 +23,6 @@ from uvt.why import Why, why
 EXAMPLES = ROOT / "crates" / "examples" / "data"
 CONVERSATIONS = ROOT / "tests" / "program" / "conversations"
 WHY = str(ROOT / "tools" / "uvt" / "uvt-why")
-SECONDS = 60
 
 # Of each example a name, up to which of its commands it is run (`None`: the longest of its ways), and what the answer has to
 # contain: by hand, from the question at the example's head and the comments and steps below it.
@@ -359,7 +357,7 @@ def try_io(check: Check) -> None:
 
 def try_command(check: Check) -> None:
     def ran(name: str, text: str) -> tuple[int, str, str]:
-        ended = subprocess.run([WHY, name], input=text, capture_output=True, text=True, timeout=SECONDS, env=os.environ)
+        ended = limited([WHY, name], input=text, capture_output=True, text=True, env=os.environ)
         return ended.returncode, ended.stdout, ended.stderr
 
     late = (EXAMPLES / "late-timer.uvt").read_text()
