@@ -6,6 +6,7 @@ A block of text on a page is a block of commands if its first line begins with o
 status 0 (or the one of STATUS) and with nothing on the errors, and the block behind it is what its lines print: all of it, or with
 lines `..` parts of it. What is not run as it stands:
 
+  the tests   aren't run: `./uvt test` and `.ci/run` are what runs this
   apt-get     isn't run: where no compiler with libuv's header is there, the commands behind it that need one are left out, and that is said;
               so it is with gdb and GNU parallel
   real runs   of ./late and ./upload, and what is said of their recordings: the figures differ from run to run, so numbers count as equal. How much of
@@ -33,6 +34,7 @@ COMMANDS = (
     "uvt ",
     "tools/",
     "tests/",
+    ".ci/run",
     "make ",
     "cc ",
     "cp ",
@@ -196,6 +198,8 @@ class Walker:
     def why_left_out(self, command: str) -> str:
         if command.startswith("apt-get "):
             return "it changes the machine"
+        if command in ("./uvt test", ".ci/run"):
+            return "it is what runs this"
         if not self.libuv and re.search(r"^cc |record |late\.rec|hangup\.rec|uvt libuv |upload", command):
             return "there is no C compiler `cc` with libuv's header"
         for word, package in (("gdb", "gdb"), ("parallel", "parallel")):

@@ -1,10 +1,9 @@
-"""Tries the program as a user has it: tests/program/run [--built | --program PATH]
+"""Tries the program as a user has it: tests/program/run [--built | --program PATH [--search PATH]]
 
 It works on a copy of the repository in a temporary folder. There the launcher compiles the program before any proof for a first call, begins a
 build and is stopped, and builds the program; with --built the copy is then given the program and the search that this repository's
-launcher has built, and with --program (by hand) that file, as if it had been built: then only the search is compiled. And then these
-are tried, each by the
-launcher:
+launcher has built, and with --program that file, as if it had been built: then only the search is compiled, unless --search gives that, too
+(so does `./uvt test`, with the programs before their proofs). And then these are tried, each by the launcher:
 
   - each script of examples/ prints the .out beside it, and what `record` shows behind it is replayed as `same`
   - each recording of examples/ is replayed as the .out beside it says
@@ -39,6 +38,7 @@ launcher:
   - each allocation is refused in turn (tests/refused-allocations)
 
 It prints a line for each that failed, and at the end how many there were; status 1 if any failed."""
+import argparse
 import glob
 import os
 import pty
@@ -554,7 +554,7 @@ def try_all(uvt, folder, room):
     widths.try_widths(check, folder)
     try_packages(folder)
     tools = subprocess.run(
-        [os.path.join(folder, "tests", "tools", "run"), "--program", os.path.join(folder, "out", "uvt", "uvt")],
+        [os.path.join(folder, "tests", "tools", "run"), "-j", str(os.cpu_count() or 1), "--program", os.path.join(folder, "out", "uvt", "uvt")],
         stdout=subprocess.PIPE,
         stderr=subprocess.STDOUT,
     )
@@ -591,12 +591,25 @@ def try_by_hand():
         check(" ".join(words), ended.returncode == 0, ended.stdout.decode("utf-8", "replace").strip())
 
 
+def asked_for():
+    """The words of this call."""
+    reader = argparse.ArgumentParser(description=__doc__, formatter_class=argparse.RawDescriptionHelpFormatter)
+    reader.add_argument("--built", action="store_true", help="over the program and the search that the launcher has built")
+    reader.add_argument("--program", metavar="PATH", help="over this program")
+    reader.add_argument("--search", metavar="PATH", help="and this search")
+    asked = reader.parse_args()
+    for path in filter(None, (asked.program, asked.search)):
+        if not os.path.isfile(path):
+            reader.error("there is no file %s" % path)
+    if asked.built and asked.program or asked.search and not asked.program:
+        reader.error("--built has both programs, and --search stands beside --program")
+    return asked
+
+
 def main():
-    if sys.argv[1:] not in ([], ["--built"]) and not (sys.argv[1:2] == ["--program"] and len(sys.argv) == 3 and os.path.isfile(sys.argv[2])):
-        print(__doc__, file=sys.stdout if sys.argv[1:] == ["--help"] else sys.stderr)
-        return 0 if sys.argv[1:] == ["--help"] else 2
+    words = asked_for()
     for crate, word in (("uvt", "build"), ("uvt_find", "build find")):
-        if "--built" in sys.argv[1:] and not os.path.exists(os.path.join(ROOT, "out", crate, "sums")):
+        if words.built and not os.path.exists(os.path.join(ROOT, "out", crate, "sums")):
             check("the program %s is built" % crate, False, "there is none: ./uvt %s proves and builds it" % word)
             return TRIES.end()
     room = tempfile.mkdtemp(prefix="uvt-program-")
@@ -604,13 +617,16 @@ def main():
     try:
         copy_to(folder)
         uvt = os.path.join(folder, "uvt")
-        if sys.argv[1:2] == ["--program"] and len(sys.argv) == 3:
-            give(folder, sys.argv[2])
+        if words.program:
+            TRIES.leave_out("the launcher with the kit", "these programs were given as built")
+            give(folder, words.program)
         else:
             launcher.try_with_kit(check, folder, room)
-        if "--built" in sys.argv[1:]:
+        if words.search:
+            give(folder, words.search, "uvt_find")
+        if words.built:
             give_built(folder)
-        elif len(sys.argv) == 1:
+        elif not words.program:
             built = subprocess.run([uvt, "build"])
             check("the launcher builds", built.returncode == 0, "status %d" % built.returncode)
         try_all(uvt, folder, room)

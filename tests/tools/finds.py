@@ -126,7 +126,7 @@ BAD_LINES = [
         4,
         "`may send a 5` stands beside `may differ`: there what came in the recording may come, and nothing else but `may wait`",
     ),
-    ("var a\nbegin\nfind latest b\n", 3, "`b` is declared in no line `var`"),
+    ("var a\nbegin\nfind latest b\n", 3, "`b` isn't declared before this line"),
     ("var a\nbegin\nmay differ 1\nmay differ 2\nfind stuck\n", 4, "`may differ` stands in line 3 already, and a search has it once at most"),
     ("var a\nbegin\nfull\nfull\nfind stuck\n", 4, "`full` stands in line 3 already, and a search has it once at most"),
     ("var a\nbegin\nfull 1\nfind stuck\n", 3, "no line says `full 1`: it has the form `full`"),

@@ -1,4 +1,4 @@
-"""Tries the tools around the program: tests/tools/run [--program PATH] [PART..]
+"""Tries the tools around the program: tests/tools/run [--program PATH] [-j N] [PART..]
 
   - the conversation (tools/uvt/conversation.py): where an answer ends, texts cut into values, a script that is none
   - the shell (tools/uvt/uvt-shell): gdb's words over a pipe, and at a terminal completion, history and an interrupt; with --panes,
@@ -38,10 +38,13 @@ from __future__ import annotations
 import argparse
 import os
 import pty
+import re
 import select
 import signal
+import subprocess
 import tempfile
 import time
+from concurrent.futures import ThreadPoolExecutor
 from pathlib import Path
 from typing import Callable
 
@@ -71,6 +74,7 @@ from tests.tools.words import try_old_words
 from uvt.conversation import Conversation, Fault, Script, read_input
 from uvt.notes import Notes
 
+HERE = Path(__file__).resolve().parent
 SHELL = str(ROOT / "tools" / "uvt" / "uvt-shell")
 SECONDS = 300
 
@@ -319,12 +323,35 @@ PARTS: dict[str, Callable[[Tries], None]] = {
     "words": try_old_words,
     "form": try_form,
 }
+# Those that take longest, the longest one first.
+LONGEST = ("forces", "records", "unharmed", "keeps", "adapter", "javascript", "fuzz", "truths", "find")
+
+
+def tried_alone(program: list[str], name: str) -> tuple[int, int]:
+    """Tries a part in a process of its own, and says what that says. How many were tried, and how many failed."""
+    ran = subprocess.run([str(HERE / "run"), *program, name], stdout=subprocess.PIPE, stderr=subprocess.STDOUT, text=True, errors="replace")
+    *said, last = ran.stdout.splitlines() or [""]
+    counts = re.fullmatch(r"tools: (\d+) tried, (\d+) failed", last)
+    if not counts:
+        said += [last, f"tools: {name}: it ended with status {ran.returncode}, and without its count"]
+    print("".join(f"{line}\n" for line in said), end="", flush=True)
+    return (int(counts[1]), int(counts[2])) if counts else (1, 1)
+
+
+def try_side_by_side(tries: Tries, program: list[str], names: list[str], jobs: int) -> None:
+    """So many parts at a time, the longest ones first."""
+    ordered = [*(it for it in LONGEST if it in names), *(it for it in names if it not in LONGEST)]
+    with ThreadPoolExecutor(jobs) as pool:
+        for tried, failed in pool.map(lambda name: tried_alone(program, name), ordered):
+            tries.count += tried
+            tries.failed += failed
 
 
 def main() -> int:
     reader = argparse.ArgumentParser(description=__doc__, formatter_class=argparse.RawDescriptionHelpFormatter)
     reader.add_argument("--program", metavar="PATH", help="the program to be talked to, in place of that of ./uvt build")
     reader.add_argument("--panes", action="store_true", help="try the shell in tmux as well")
+    reader.add_argument("-j", dest="jobs", metavar="N", type=int, default=1, help="so many parts at a time, each by a process of its own")
     reader.add_argument("parts", nargs="*", metavar="PART", help=f"only these parts, of {', '.join(PARTS)}")
     asked = reader.parse_args()
     for name in asked.parts:
@@ -332,9 +359,12 @@ def main() -> int:
             reader.error(f"there is no part {name}: they are {', '.join(PARTS)}")
     if asked.program:
         os.environ["UVT"] = asked.program
-    tries = Tries("tools")
-    for name in asked.parts or PARTS:
-        PARTS[name](tries)
+    tries, names = Tries("tools"), asked.parts or list(PARTS)
+    if asked.jobs > 1 and len(names) > 1:
+        try_side_by_side(tries, ["--program", asked.program] if asked.program else [], names, asked.jobs)
+    else:
+        for name in names:
+            PARTS[name](tries)
     if asked.panes:
         try_panes(tries)
     return tries.end()

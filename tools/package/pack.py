@@ -98,7 +98,7 @@ def page_of(text: str, prefix: str) -> str:
 
 
 def usage_of(text: str, prefix: str, packed: bool) -> str:
-    lines = [it for it in text.splitlines() if not re.match(r"  \./uvt (build|install|uninstall) ", it)]
+    lines = [it for it in text.splitlines() if not re.match(r"  \./uvt (build|test|install|uninstall) ", it)]
     if not packed:
         at = next(at for at, it in enumerate(lines) if it.startswith("  ./uvt help"))
         lines.insert(at, "  ./uvt uninstall                  takes away all of it, and nothing else")
