@@ -54,6 +54,17 @@ QUESTIONS = [
         [r"2\d\d ms from its queueing"],
     ),
     Question(
+        "sweep",
+        "beat",
+        [r"late by 3\d ms: .*; others of on_closed \(sweep\.c:6\) took [23]\d ms in all"],
+        [r"(.*close callback of sessions_\d+,){7}"],
+    ),
+    Question(
+        "debounced",
+        "debounce",
+        [r"stood still through that callback, which took 8\d ms: so it is due up to 8\d ms too early, reckoned from its start"],
+    ),
+    Question(
         "drift",
         "beat",
         [r"late by 1\d ms: the callback of beat, on_beat \(drift\.c:5\), took 1\d ms, .*so the loop's time was \d+ ms still"],

@@ -81,6 +81,22 @@ def try_io(check: Check) -> None:
     check("what came", run["came"] == [[14, "slow", ""], [17, "fast", ""], [20, "slow", ""], [29, "fast", ""]], run["came"])
 
 
+def try_opening(check: Check) -> None:
+    """A recording is opened at its latest call, with what stands out beside it; a script at its beginning. Where somebody asks for a step, there."""
+    with tempfile.TemporaryDirectory() as folder:
+        log = ROOT / "tests" / "tools" / "truths" / "debounced.log"
+        limited([str(ROOT / "tools" / "uvt" / "uvt-record"), "-o", f"{folder}/debounced", "--log", str(log)], capture_output=True)
+        pages = [viewed(words).stdout for words in ([f"{folder}/debounced.rec"], [f"{folder}/debounced.rec", "--at", "3"])]
+    run, asked = (json.loads(VALUES.search(it)[1]) for it in pages)
+    # (by its source the program calls two timers, and the second one was due before it was started)
+    opened = run["texts"][run["said"][run["opens"]]]
+    check("a recording is opened at its latest call", run["recorded"] and opened.startswith("call debounce "), opened)
+    check("what stands out stands beside it", any(it.strip().startswith("debounce, step ") for it in run["overview"]), run["overview"])
+    check("a page that is opened where somebody asked for", asked["opens"] == 3, asked["opens"])
+    script = json.loads(VALUES.search(viewed([str(EXAMPLES / "late-timer.uvt")]).stdout)[1])
+    check("a script is opened at its beginning", (script["opens"], script["recorded"]) == (0, False), script["opens"])
+
+
 def try_requests(check: Check) -> None:
     """A stream's requests have a lane beside it: by its source the program writes twice in `main`, and the close callback cancels both."""
     with tempfile.TemporaryDirectory() as folder:
@@ -105,6 +121,7 @@ def try_view(check: Check) -> None:
     wanted = [[0, "nothing"], [3, "inactive"], [6, "active"], [21, "due"], [32, "ready"], [34, "callback"], [35, "inactive"]]
     check("the lane of a timer", lane["parts"] == wanted, lane["parts"])
     try_io(check)
+    try_opening(check)
     try_requests(check)
     ended = viewed([str(EXAMPLES / "nowhere.uvt")])
     check("the page of no file", ended.returncode == 1 and "No such file" in ended.stderr and "Traceback" not in ended.stderr, ended.stderr)

@@ -223,6 +223,11 @@ class Page:
             return lines
         return [*lines[:WHYS], f"and {len(lines) - WHYS} lines more: `uvt why` has them"]
 
+    def opens(self, late: list[list]) -> int:
+        """Where somebody asked for; a recording at its latest call."""
+        latest = max(late, key=lambda it: it[2], default=None)
+        return latest[0] if latest and self.walk.notes.names and not self.asked else self.part.opens
+
     def late_by(self, answers: Why, wait: Wait) -> tuple[int, str]:
         """How late a timer was called; of a callback of I/O how long behind the end of its poll, or its last call."""
         if wait.what == "io":
@@ -273,8 +278,7 @@ class Page:
             "changes": self.changes,
             "next": self.lines_done,
             "begin": begin,
-            "opens": self.part.opens,
-            "asked": self.asked,
+            "opens": self.opens(late),
             "of": self.walk.length,
             "steps": [self.texts.number(it) for it in steps],
             "said": [self.texts.number(it) for it in said],
