@@ -295,6 +295,12 @@ def try_order(check: Check, kit: StandIn) -> None:
     )
     same(check, "each crate after those that it depends on", order_faults(kit.log(), crates_below(kit)), [])
     same(check, "the crates that it needs, and no other", sorted(crate for what, crate in kit.log() if what == "ends"), needed(crates_below(kit)))
+    # (where much else runs, a crate of a tenth of a second is through before the next one has begun)
+    for took in ("1", "8"):
+        if most_at_once(kit.log()) < 3:
+            begin_anew(kit)
+            kit.write("took", took)
+            kit.call(["build"])
     check("several at a time", 3 <= most_at_once(kit.log()) <= 4, "most %d" % most_at_once(kit.log()))
 
 

@@ -12,6 +12,7 @@ lines `..` parts of it. What is not run as it stands:
   real runs   of ./late and ./upload, and what is said of their recordings: the figures differ from run to run, so numbers count as equal. How much of
               a time was on the processor is passed over: it is said where others had it meanwhile. Where the page goes on in another
               way by its own figures (a `tick`), the recording is that of its own run, whose log is kept (tests/tools/logs)
+  --beside    of the reader's own recordings: they are made of two logs of one program (tests/tools/beside)
   ./hangup    is a program of the tests, which an installed page hasn't beside it: in place of its run its log is taken (tests/tools/truths)
   packages    `tools/package/pack` and what is done with its files, where the program isn't a proved one: it refuses to pack that
 
@@ -100,7 +101,12 @@ SAYS.update(
 )
 # The line of a program that was compiled before its proofs.
 NOTICE = re.compile(r"uvt: this is the program before its proofs: .*\n")
+# What is said once of the parts in C that are compiled for a first recording, and a first order that is forced.
+COMPILED = re.compile(r"uvt: compiling [a-z ]+, once \([\d.]+ s\)\n")
 LOG = Path(__file__).resolve().parent.parent / "tools" / "logs" / "late.log"
+# The reader's own two recordings, and the modes of one program whose logs stand in for them.
+BESIDE = {"good": "base", "bad": "lock"}
+BESIDES = Path(__file__).resolve().parent.parent / "tools" / "beside"
 HUNG = Path(__file__).resolve().parent.parent / "tools" / "truths" / "hangup.log"
 # What is said of a time of a real run where others had the processor meanwhile.
 BUSY = re.compile(r", (\d+|none) of them on the processor")
@@ -226,6 +232,7 @@ class Walker:
             what = "%s:%d: %s" % (block.page, block.line, command)
             self.check(what, ended.returncode == STATUS.get(command, 0), "got %r" % ((ended.returncode, ended.stdout, ended.stderr),))
             errors = NOTICE.sub("", ended.stderr) if re.search("uvt (find|hunt) ", command) and not self.has_search else ended.stderr
+            errors = COMPILED.sub("", errors)
             self.check(what + ", its errors", errors == SAYS.get(command, ""), "got %r" % errors)
             output += ended.stdout
             if command.endswith("uvt record ./late"):
@@ -234,6 +241,10 @@ class Walker:
 
     def of_kept_program(self, command: str) -> str:
         """The same with a kept log in place of the run, where the program is one of the tests."""
+        if command.endswith(" --beside good.rec bad.rec"):
+            for name, mode in BESIDE.items():
+                shutil.copy(BESIDES / f"{mode}.log", self.folder)
+                self.run(f"{self.command} record -o {name} --log {mode}.log", self.folder)
         if not command.endswith(" record ./hangup"):
             return command
         shutil.copy(HUNG, self.folder)

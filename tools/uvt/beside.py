@@ -45,6 +45,10 @@ class Called:
     def own(self) -> int:
         return self.took - self.others
 
+    def gross(self) -> str:
+        """What it took, and what of that is left out as they are compared."""
+        return f"{self.took} ms{f', of which others had the processor for {self.others}' if self.others else ''}"
+
     def told(self) -> str:
         function = f" ({self.function.replace(' (', ', ').rstrip(')')})" if self.function else ""
         return f"{self.name}, {ONE[self.kind]} {self.number}{function}"
@@ -181,7 +185,7 @@ class Beside:
         for _, good, bad in told[:LINES]:
             cause = bad.cause
             on, did = (cause.on_processor(), cause.did()) if cause else ("", "")
-            rows.append(f"{bad.told()}: took {bad.took} ms{on} (in {self.good.file} {good.took} ms){did}")
+            rows.append(f"{bad.told()}: took {bad.took} ms{on} (in {self.good.file} {good.gross()}){did}")
             rows += [f"    behind it: {it}" for it in self.waited_for(bad)]
         if len(told) > LINES:
             rows.append(f"and {len(told) - LINES} more")
