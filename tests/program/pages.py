@@ -27,7 +27,7 @@ import tempfile
 from pathlib import Path
 from typing import NamedTuple, Optional
 
-from tests.helper import Check, limited
+from tests.helper import ROOT, Check, limited
 
 PAGES = ("README.md", "docs/TOUR.md", "docs/TOOLS.md", "docs/RECORD.md", "docs/FIND.md", "docs/HUNT.md")
 COMMANDS = (
@@ -290,6 +290,12 @@ class Walker:
         self.check("%s:%d: what is shown behind it" % (block.page, block.line), holds, "wanted %r, got %r" % (block.shown, output))
 
 
+def untracked(names: list[str]) -> list[str]:
+    """Those of these files of the top folder that git doesn't ignore."""
+    ended = subprocess.run(["git", "check-ignore", "--no-index", "--", *names, "out"], cwd=ROOT, capture_output=True, text=True)
+    return [it for it in names if it not in ended.stdout.split("\n")]
+
+
 def try_commands(check: Check, copy: str, room: str, proved: bool) -> None:
     """The copy has a program already, as behind the first command."""
     folder, home = os.path.join(room, "clone"), os.path.join(room, "home")
@@ -310,4 +316,6 @@ def try_commands(check: Check, copy: str, room: str, proved: bool) -> None:
             walker.walk(block)
     for it in walker.left_out:
         print("program: the pages: not run: " + it, flush=True)
+    left = untracked(sorted(set(os.listdir(folder)) - set(os.listdir(copy))))
+    check("the pages' commands leave nothing that git would list", not left, left)
     check("the pages: most commands were run", walker.count > 12, "only %d" % walker.count)
