@@ -2,18 +2,21 @@
 _uvt() {
     local word=${COMP_WORDS[COMP_CWORD]} command=${COMP_WORDS[1]} words=''
     if [ "$COMP_CWORD" = 1 ]; then
-        words='debug replay live why find worst shell view record force hunt libuv dap help'
+        words='debug replay live why find worst shell view record dump attach force hunt libuv dap help'
     else
         case $command in
-        help) [ "$COMP_CWORD" != 2 ] || words='why find worst shell view record force hunt libuv dap' ;;
+        help) [ "$COMP_CWORD" != 2 ] || words='why find worst shell view record dump attach force hunt libuv dap' ;;
         live) words='--workers' ;;
-        view) words='--trace-event --cpuprofile' ;;
+        why) words='--beside' ;;
+        view) words='--trace-event --cpuprofile --at' ;;
         libuv) words='--node' ;;
-        find) words='-o -j' ;;
+        find) words='-o -j --full' ;;
         worst) words='-o --no-sessions --differ --for --states -j --json' ;;
-        record) words='-o --log --bare --lift' ;;
-        force) words='-o --stop --early --random --stall --seed --loop --quiet' ;;
-        hunt) words='-o --for --part --join' ;;
+        record) words='-o --log --most --worst --last --from --bare --lift --keep --late' ;;
+        dump) words='-o' ;;
+        attach) words='-o --keep --late' ;;
+        force) words='-o --stop --early --random --stall --seed --loop --limit --test --quiet' ;;
+        hunt) words='-o --for --part --join --same-output --seed --report' ;;
         esac
     fi
     COMPREPLY=($(compgen -W "$words" -- "$word"))
