@@ -69,6 +69,7 @@ ENDS = {
     "hunt ./upload": 3,
     "force upload.hunt.uvt ./upload 2>&1": 3,
     "find examples/frame.rec 'find late vsync 52'": 1,
+    "worst --within 'vsync 50' examples/frame.rec": 1,
 }
 STATUS = {"%s %s" % (uvt, words): status for words, status in ENDS.items() for uvt in ("./uvt", "uvt")}
 # What says something on the errors, and is well.
@@ -231,7 +232,7 @@ class Walker:
             self.count += 1
             what = "%s:%d: %s" % (block.page, block.line, command)
             self.check(what, ended.returncode == STATUS.get(command, 0), "got %r" % ((ended.returncode, ended.stdout, ended.stderr),))
-            errors = NOTICE.sub("", ended.stderr) if re.search("uvt (find|hunt) ", command) and not self.has_search else ended.stderr
+            errors = NOTICE.sub("", ended.stderr) if re.search("uvt (find|hunt|worst) ", command) and not self.has_search else ended.stderr
             errors = COMPILED.sub("", errors)
             self.check(what + ", its errors", errors == SAYS.get(command, ""), "got %r" % errors)
             output += ended.stdout

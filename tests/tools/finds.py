@@ -17,7 +17,7 @@ from typing import NamedTuple
 
 ROOT = Path(__file__).resolve().parent.parent.parent
 EXAMPLES = ROOT / "crates" / "examples" / "data"
-TOOL = str(ROOT / "tools" / "uvt" / "uvt-find")
+TOOL, WORST, WHY = (str(ROOT / "tools" / "uvt" / f"uvt-{it}") for it in ("find", "worst", "why"))
 from tests.find.costs import growing
 from tests.helper import Check, Tries, limited, talked
 from launch import reasons
@@ -246,6 +246,28 @@ def try_recorded(check: Check) -> None:
     check("find, a recording with a line `may`", ran.returncode == NEVER and "so what came in the recording" not in ran.stderr, ran)
 
 
+# Of examples/frame.rec: a budget for each name, what is said, and the status. (By the answers to `find late` of docs/FIND.md.)
+BUDGETS = [
+    (["--within", "vsync 51"], "vsync: never later than 51 ms, in every order", FOUND),
+    (["--within", "load 9", "--within", "vsync 51"], "load: never later than 9 ms, in every order", FOUND),
+    (["--within", "load 9", "--within", "vsync 50"], "vsync: 51 ms late and more in an order: frame.vsync.uvt", NEVER),
+    (["--within", "vsync 51", "--states", "100"], "vsync: not settled whether it is ever later than 51 ms (more than 100 states)", UNSETTLED),
+    (["--within", "nobody 5"], "nobody is no timer, no async handle and no request that was called. These are: load, vsync", BAD),
+    (["--within", "vsync"], "`vsync` is no budget", BAD),
+]
+
+
+def try_budgets(check: Check, folder: str) -> None:
+    """How late a name may be: the status says whether that is settled, and an order that is later is kept, in which it is."""
+    for words, said, status in BUDGETS:
+        ran = limited([WORST, *words, str(EXAMPLES / "frame.rec")], capture_output=True, text=True, env=os.environ, cwd=folder)
+        check(f"worst, {words}", ran.returncode == status and said in ran.stdout + ran.stderr and "Traceback" not in ran.stderr, ran)
+    with open(Path(folder) / "frame.vsync.uvt", "rb") as session:
+        told = limited([WHY, "vsync"], stdin=session, capture_output=True, text=True, env=os.environ).stdout
+    late = [int(it) for it in re.findall(r"call \d+: late by (\d+) ms", told)]
+    check("worst, the order that is later", max(late, default=0) == 51, told)
+
+
 def try_near(check: Check, folder: str) -> None:
     """Orders that differ from a recording by so many steps from outside."""
     for name, moved, question, status in NEAR:
@@ -316,6 +338,7 @@ def try_find(tries: Tries) -> None:
     with tempfile.TemporaryDirectory() as folder:
         try_recorded(tries.check)
         try_near(tries.check, folder)
+        try_budgets(tries.check, folder)
         try_joined(tries.check, folder)
         for name, due in ANSWERS.items():
             try_example(tries.check, name, due, folder)

@@ -70,6 +70,21 @@ class Orders:
 
 
 @dataclass
+class Budget:
+    """A name, and how late it may be, in ms."""
+
+    name: str
+    ms: int
+
+    @classmethod
+    def of(cls, words: str) -> Budget:
+        name, _, ms = words.strip().rpartition(" ")
+        if not name or not re.fullmatch(r"\d{1,9}", ms):
+            raise Fault(f"`{words}` is no budget: it is a name and a number of ms, as 'heartbeat 50'")
+        return cls(name, int(ms))
+
+
+@dataclass
 class Asker:
     """Asks the program, so many states and seconds for each question at most."""
 
@@ -81,18 +96,32 @@ class Asker:
     lock: threading.Lock = field(default_factory=threading.Lock)
 
     def latest(self, name: str, orders: Orders) -> Worst:
-        """The latest call of a name. It is asked with more and more states; what a search found that was ended is kept."""
+        """The latest call of a name."""
+
+        def told(first: str) -> int | None:
+            found = LATEST.match(first)
+            return int(found[1]) if found else None
+
+        return self.asked(f"find latest {name}", orders, told)
+
+    def beyond(self, budget: Budget, orders: Orders) -> Worst:
+        """A call of a name that is later than its budget; settled without one where no order has it."""
+        late = budget.ms + 1
+        return self.asked(f"find late {budget.name} {late}", orders, lambda first: late if first.startswith("found ") else None)
+
+    def asked(self, question: str, orders: Orders, late_of: Callable[[str], int | None]) -> Worst:
+        """It is asked with more and more states; what a search found that was ended is kept."""
         worst, began, states = Worst(), time.monotonic(), min(FIRST_STATES, self.states)
         while True:
             left = self.seconds - (time.monotonic() - began)
-            status, first, session = self.ask([*orders.lines, f"most states {states}", f"find latest {name}"], left)
+            status, first, session = self.ask([*orders.lines, f"most states {states}", question], left)
             worst.seconds = time.monotonic() - began
             if status is None:
                 worst.why = f"more than {states // GROWTH} states, {self.seconds:.0f} s" if states > FIRST_STATES else f"{self.seconds:.0f} s"
                 return worst
-            told = LATEST.match(first)
-            if told:
-                worst.late, worst.session = int(told[1]), session
+            late = late_of(first)
+            if late is not None:
+                worst.late, worst.session = late, session
             if status in (FOUND, NEVER):
                 worst.settled = True
                 worst.states = int(re.findall(r"(\d+) states?", first)[-1])
@@ -156,15 +185,34 @@ class Row:
         return max(known, key=lambda it: it.late or 0, default=None)
 
 
+def known_kinds(script: Script, given: Offered, names: list[str]) -> dict[str, str]:
+    """What each name is that was called; these are among them."""
+    kinds = kinds_of(script, given)
+    unknown = next((it for it in names if it not in kinds), None)
+    if unknown:
+        raise Fault(f"{unknown} is no timer, no async handle and no request that was called. These are: {', '.join(sorted(kinds)) or 'none'}")
+    return kinds
+
+
+def beyond_budgets(script: Script, steps: list[str], asker: Asker, budgets: list[Budget], jobs: int) -> list[Worst]:
+    """Of each budget a call that is later, in any order of what came."""
+    given = offered(script, steps)
+    known_kinds(script, given, [it.name for it in budgets])
+    orders = Orders("every order", given.lines([]))
+    with ThreadPoolExecutor(jobs) as pool:
+        try:
+            return list(pool.map(lambda it: asker.beyond(it, orders), budgets))
+        except BaseException:
+            asker.stop()
+            raise
+
+
 def rows_of(
     script: Script, steps: list[str], asker: Asker, differ: list[int], names: list[str], jobs: int, tell: Callable[[int, int], None]
 ) -> tuple[list[str], list[Row]]:
     """The words of the sets of orders, and a row for each callback."""
     given = offered(script, steps)
-    kinds = kinds_of(script, given)
-    unknown = next((it for it in names if it not in kinds), None)
-    if unknown:
-        raise Fault(f"{unknown} is no timer, no async handle and no request that was called. These are: {', '.join(sorted(kinds)) or 'none'}")
+    kinds = known_kinds(script, given, names)
     rows = [
         Row(name, kind, sum(count for (which, it), count in given.calls.items() if it == name and which != "closed"))
         for name, kind in sorted(kinds.items(), key=lambda it: (list({"timer": 0, "async": 1, "request": 2}).index(it[1]), it[0]))

@@ -8,13 +8,15 @@
       --states N     so many states for each question at the most (3000000)
       -j N           so many questions at a time (1)
       --json         the same for a program
+      --within 'NAME MS'   in place of the table: is NAME never later than MS in any order? (several times for several names)
 
 A timer is late by the ms since it was due, an async handle by those since the first send that its call answers, a request by those since it was
 queued until its after callback. `in this run` is what was recorded. `1 moved`: at most so late where one step from outside comes at another place
 (`may differ 1`). `every order`: at most so late in any order of what came. Each number is proved by the search: an order with it is kept, and no
 order has more. `51+` says that it is so late at least, and more isn't settled: why stands below. `find latest NAME` (docs/FIND.md) asks the same.
 
-Status 0: all is settled. Status 3: something isn't. Status 2: no such recording or name.
+Status 0: all is settled; with --within each name keeps its budget. Status 1: a name is later in an order, which is kept as PREFIX.NAME.uvt.
+Status 3: something isn't settled. Status 2: no such recording or name.
 """
 
 from __future__ import annotations
@@ -25,12 +27,12 @@ import sys
 from pathlib import Path
 
 from launch.tool import run_tool
-from uvt.conversation import INSTALLED, Fault, read_input
+from uvt.conversation import INSTALLED, Fault, Script, read_input
 from uvt.progress import Teller
 from uvt.searching import search_program
-from uvt.worst import Asker, Row, rows_of, single
+from uvt.worst import Asker, Budget, Row, Worst, beyond_budgets, rows_of, single
 
-SETTLED, WRONG, OPEN = 0, 2, 3
+SETTLED, BEYOND, WRONG, OPEN = 0, 1, 2, 3
 
 
 def table(columns: list[str], rows: list[Row], files: dict[str, Path]) -> list[str]:
@@ -89,6 +91,35 @@ def as_json(recording: Path, columns: list[str], rows: list[Row], files: dict[st
     return json.dumps({"recording": str(recording), "callbacks": found}, indent=1)
 
 
+def budget_told(budget: Budget, found: Worst, path: Path | None) -> str:
+    if found.late is not None:
+        return f"{budget.name}: {found.late} ms late and more in an order{f': {path}' if path else ''}"
+    if found.settled:
+        return f"{budget.name}: never later than {budget.ms} ms, in every order ({found.states} states)"
+    return f"{budget.name}: not settled whether it is ever later than {budget.ms} ms ({found.why})"
+
+
+def keep_budgets(asker: Asker, recording: tuple[Script, list[str]], budgets: list[Budget], asked: argparse.Namespace) -> int:
+    """Answers of each budget, and the status of all."""
+    told, paths = beyond_budgets(*recording, asker, budgets, asked.jobs), []
+    for budget, found in zip(budgets, told):
+        is_kept = found.session and not asked.no_sessions
+        paths.append(Path(f"{asked.prefix or asked.recording.stem}.{budget.name}.uvt") if is_kept else None)
+        if paths[-1]:
+            paths[-1].write_bytes(found.session.encode("ascii", "surrogateescape"))
+    if asked.json:
+        rows = [
+            {"name": it.name, "ms": it.ms, "keeps": found.late is None if found.settled or found.late else None, "states": found.states}
+            | {"session": str(path) if path else None, "why": found.why or None}
+            for it, found, path in zip(budgets, told, paths)
+        ]
+        print(json.dumps({"recording": str(asked.recording), "budgets": rows}, indent=1))
+    else:
+        print("\n".join(budget_told(*it) for it in zip(budgets, told, paths)))
+    sys.stdout.flush()
+    return BEYOND if any(it.late is not None for it in told) else SETTLED if all(it.settled for it in told) else OPEN
+
+
 def main() -> int:
     reader = argparse.ArgumentParser(description=__doc__, formatter_class=argparse.RawDescriptionHelpFormatter)
     reader.add_argument("recording", type=Path, metavar="RECORDING")
@@ -100,6 +131,7 @@ def main() -> int:
     reader.add_argument("--for", dest="seconds", type=float, default=20, metavar="SECONDS")
     reader.add_argument("-j", dest="jobs", type=int, default=1, metavar="N")
     reader.add_argument("--json", action="store_true")
+    reader.add_argument("--within", action="append", metavar="'NAME MS'", default=[])
     asked = reader.parse_args()
     if asked.jobs < 1 or asked.states < 1 or asked.seconds <= 0 or any(it < 1 for it in asked.differ or []):
         reader.error("-j, --states, --for and --differ take numbers from 1 on")
@@ -108,8 +140,10 @@ def main() -> int:
         script, steps = read_input(asked.recording)
         if not steps:
             raise Fault(f"{asked.recording}: no steps stand behind `begin`, so nothing is known of a run. ./uvt record makes a recording")
-        teller = Teller("uvt worst", "questions")
         asker = Asker(script, search_program(), asked.states, asked.seconds)
+        if asked.within:
+            return keep_budgets(asker, (script, single(steps)), [Budget.of(it) for it in asked.within], asked)
+        teller = Teller("uvt worst", "questions")
         try:
             columns, rows = rows_of(script, single(steps), asker, sorted(set(asked.differ or [1])), asked.names, asked.jobs, teller.tell)
         finally:
