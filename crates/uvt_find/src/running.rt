@@ -149,10 +149,10 @@ fn called_never(
     ensures err { IfErr result (λ fault. fault ≡ Memory) }
 {
     match risen.settled {
-        Some(kept) => Ok(Told {
-            text: never_text(alloc, inquiry, kept as u64)?,
-            status: 1,
-        }),
+        Some(kept) => {
+            let text = never_text(alloc, inquiry, kept as u64)?;
+            Ok(Told { text, status: 1 })
+        }
         None => not_settled(alloc, inquiry),
     }
 }
@@ -230,8 +230,7 @@ fn settled<M: Machine>(
     ensures told { IfOk result (λ told. Answers inquiry.now.script (asked_in inquiry.now.asking) told.text.items told.status) }
     ensures err { IfErr result (λ fault. fault ≡ Memory) }
 {
-    let states = inquiry.asking.states;
-    match find(alloc, orders, states as usize) {
+    match find(alloc, orders, inquiry.asking.states as usize) {
         Answer::Found(_) => Ok(Told {
             text: latest_text(alloc, inquiry, orders.steps(), late, kept as u64)?,
             status: 0,
