@@ -1,7 +1,7 @@
 'use strict';
 const http = require('http');
 
-const orders = JSON.stringify(Array.from({ length: 200000 }, (_, id) => ({ id, price: (id * 37) % 1000, customer: id % 5000 })));
+const orders = JSON.stringify(Array.from({ length: 500000 }, (_, id) => ({ id, price: (id * 37) % 1000, customer: id % 5000 })));
 
 function report() {
   const spent = new Map();
@@ -17,8 +17,9 @@ server.listen(0, '127.0.0.1', () => {
   const { port } = server.address();
   const asked = Date.now();
   setTimeout(function remind() {
-    console.log(`reminded after ${Date.now() - asked} ms, in place of 20`);
-    server.close();
-  }, 20);
-  http.get({ host: '127.0.0.1', port, path: '/report' }, (response) => response.resume());
+    console.log(`reminded after ${Date.now() - asked} ms, in place of 100`);
+  }, 100);
+  http.get({ host: '127.0.0.1', port, path: '/report' }, (response) => {
+    response.resume().on('end', () => server.close());
+  });
 });
