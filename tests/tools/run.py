@@ -23,6 +23,8 @@
   - the same of programs in Python and Lua (interpreters.py, python/, lua/)
   - the search (tools/uvt/uvt-find): each example that asks, and what is said of bad lines (finds.py)
   - that a program under the recorder ends as without it, also under sanitizers and valgrind (unharmed.py)
+  - that nothing harms a program or its user: handlers that send, many loops, filters of system calls, who is killed, reports that hold
+    anything (harms.py, harms/)
   - how each tool begins and ends: interrupts, outputs that are full or closed (starts.py)
   - recordings, notes, logs, scripts and adapter messages that are changed at random, 1,000 of each (fuzz.py)
   - the tool that shortens proofs (tools/make/shorter), without the prover: what it makes of small lemmas (shorts.py)
@@ -55,6 +57,7 @@ from tests.tools.finds import try_find
 from tests.tools.forces import try_forces
 from tests.tools.formed import try_form
 from tests.tools.fuzz import try_fuzz
+from tests.tools.harms import try_harms
 from tests.tools.held import try_held
 from tests.tools.interpreters import try_interpreters
 from tests.tools.javascripts import try_javascript
@@ -313,6 +316,7 @@ PARTS: dict[str, Callable[[Tries], None]] = {
     "records": try_records,
     "keeps": try_keeps,
     "held": try_held,
+    "harms": try_harms,
     "forces": try_forces,
     "javascript": try_javascript,
     "interpreters": try_interpreters,

@@ -21,8 +21,9 @@ from uvt.node_names import InNode, in_node
 from uvt.spent import Spent
 
 HEAD = "uvt-notes 1"
-# What would steer a terminal: the control signs of ASCII and those of 0x80 to 0x9f, except for the line feed and the tab.
-CONTROL = {it: "?" for it in (*range(32), *range(127, 160)) if it not in (9, 10)}
+# What would steer a terminal: the control signs of ASCII and those of 0x80 to 0x9f, except for the line feed and the tab; and half signs, which no
+# output takes.
+CONTROL = {it: "?" for it in (*range(32), *range(127, 160), *range(0xD800, 0xE000)) if it not in (9, 10)}
 IN_A_LINE = 20
 # Handles of I/O by their kinds, in a person's words.
 THINGS = {

@@ -50,8 +50,8 @@ WELL, FAULT, BADLY, INTERRUPTED = 0, 2, 3, 130
 FORCE = "uvt force" if INSTALLED else "./uvt force"
 TIMES = {"": 1, "s": 1, "m": 60, "h": 3600}
 REPORT = "uvt-hunt 1"
-# Into so many parts a hunt is cut at the most.
-MOST_PARTS = 1_000_000
+# Into so many parts a hunt is cut at the most, and no count of a report is larger than that.
+MOST_PARTS, MOST_COUNTED = 1_000_000, 1e18
 
 
 def prepare() -> str:
@@ -149,17 +149,19 @@ def write_report(path: Path, hunt: Hunt, bad: Bad | None, ended: str) -> None:
 
 
 def read_report(path: str) -> dict[str, Any]:
+    """A report of a part, which may be anybody's file: it is refused where anything of it isn't as it is written here."""
     try:
         found: dict[str, Any] = json.loads(Path(path).read_text(encoding="utf-8"))
-        if found["form"] != REPORT:
-            raise ValueError
         mine, of = found["part"]
         words = found["program"]
-        if not (type(mine) is type(of) is int and 1 <= mine <= of <= MOST_PARTS) or not words or not all(isinstance(it, str) for it in words):
+        if found["form"] != REPORT or not (type(mine) is type(of) is int and 1 <= mine <= of <= MOST_PARTS):
+            raise ValueError
+        if type(words) is not list or not words or not all(is_text(it) for it in [*words, found["ended"]]):
             raise ValueError
         are_typed(Counts(**found["counts"]))
         if found["bad"]:
-            are_typed(Bad(**found["bad"]))
+            are_typed(bad := Bad(**found["bad"]))
+            bad.order.encode("ascii", "surrogateescape")
         return found
     except OSError as fault:
         raise Fault(f"{path}: {fault.strerror}") from None
@@ -167,29 +169,51 @@ def read_report(path: str) -> dict[str, Any]:
         raise Fault(f"{path}: this is no report of a part of a hunt") from None
 
 
+def is_text(value: object) -> bool:
+    return isinstance(value, str) and "\0" not in value
+
+
 def are_typed(found: Counts | Bad) -> None:
     """Refuses a report whose numbers are none, or whose texts are none."""
     for it in dataclasses.fields(found):
-        value = getattr(found, it.name)
-        if not isinstance(value, str if str(it.type) == "str" else (int, float)):
+        value, kind = getattr(found, it.name), str(it.type)
+        if kind == "list[str]":
+            good = isinstance(value, list) and all(is_text(one) for one in value)
+        else:
+            good = is_text(value) if kind == "str" else isinstance(value, (int, float)) and 0 <= value < MOST_COUNTED
+        if not good:
             raise ValueError
+
+
+def ranges(numbers: list[int]) -> str:
+    """`3`, `1 to 4, 7`."""
+    runs: list[list[int]] = []
+    for it in numbers:
+        if runs and runs[-1][-1] == it - 1:
+            runs[-1] = [runs[-1][0], it]
+        else:
+            runs.append([it])
+    return ", ".join(" to ".join(map(str, it)) for it in runs)
 
 
 def join(paths: list[str], name: str | None) -> int:
     """What all parts have found."""
     reports = [read_report(it) for it in paths]
     of, words = reports[0]["part"][1], reports[0]["program"]
+    seen: dict[int, str] = {}
     for path, it in zip(paths, reports):
         if it["part"][1] != of or it["program"] != words:
             raise Fault(f"{path}: this part is of another hunt than {paths[0]}")
+        if (other := seen.setdefault(it["part"][0], path)) is not path:
+            raise Fault(f"{path}: part {it['part'][0]} is there already, in {other}")
     all_counts = [Counts(**it["counts"]) for it in reports]
     total = Counts(**{it.name: sum(getattr(one, it.name) for one in all_counts) for it in dataclasses.fields(Counts)})
-    have = {it["part"][0] for it in reports}
-    missing = [str(it) for it in range(1, of + 1) if it not in have]
+    have = set(seen)
+    missing = [it for it in range(1, of + 1) if it not in have]
     cut = sorted(it["part"][0] for it in reports if it["ended"])
     bad = [(it["part"][0], Bad(**it["bad"])) for it in sorted(reports, key=lambda it: it["part"][0]) if it["bad"]]
     name = name or f"{Path(words[0]).name}.hunt"
-    lines = [f"part {', '.join(missing)} of {of} is missing"] if missing else []
+    lines = [f"part{'s' * (len(missing) > 1)} {ranges(missing)} of {of} {'are' if len(missing) > 1 else 'is'} missing"] if missing else []
     lines += [f"part {it} was interrupted" for it in cut]
     for number, one in bad:
         lines += [f"part {number} of {of}:", *of_bad(one, name if len(bad) == 1 else f"{name}.{number}", words)]
@@ -211,8 +235,8 @@ def seconds_of(text: str) -> float:
 
 def part_of(text: str) -> tuple[int, int]:
     found = re.fullmatch(r"(\d+)/(\d+)", text)
-    if not found or not 1 <= int(found[1]) <= int(found[2]):
-        raise argparse.ArgumentTypeError(f"{text}: a part is K/N, from 1/N to N/N")
+    if not found or not 1 <= int(found[1]) <= int(found[2]) <= MOST_PARTS:
+        raise argparse.ArgumentTypeError(f"{text}: a part is K/N, from 1/N to N/N, and N is a million at the most")
     return int(found[1]), int(found[2])
 
 

@@ -41,7 +41,11 @@ STACK_FROM = re.compile(r"(\d{1,9}) @((?:0|[1-9]\d{0,8})(?:<(?:0|[1-9]\d{0,8})){
 # What a thread had of the processor: ms on it, and of later logs ms in the kernel, page faults without the disk and with it, how often it gave the
 # processor away and was pushed off it, and ms that it waited for one.
 USED = rf"(?: cpu {NUMBER}(?: {NUMBER}){{6}}| cpu {NUMBER})?"
-NO_ROOM = "- ! no room"
+# Why nothing is recorded from a line on.
+ENDS = {
+    "- ! no room": "the disk had no room for more: the log ends at line {}",
+    "- ! filter": "the program filters its calls of the system, and what was made ready before that is full: the log ends at line {}",
+}
 CODE = r"(?:ok|E[A-Z0-9_]+)"
 WORDS = {
     "O": re.compile(
@@ -288,8 +292,8 @@ def read_log(data: bytes) -> Log:
                 log.blind = log.note = f"nothing can be seen of the libuv within the program: {unseen[2]}"
             else:
                 log.note = f"{unseen[1]} can't be seen ({unseen[2]}): what the program asks by it is missing"
-        elif text == NO_ROOM:
-            log.note = f"the disk had no room for more: the log ends at line {number}"
+        elif text in ENDS:
+            log.note = ENDS[text].format(number)
             return log
         else:
             log.note = f"line {number} of the log is none that the recorder writes: what stands before it was taken"

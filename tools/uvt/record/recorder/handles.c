@@ -144,7 +144,7 @@ int uv_loop_close(uv_loop_t *uv) {
     int busy = CALL(uv_loop_close)(uv);
     inside--;
     if (loop && busy) write_line(loop, 'O', "closeloop = %s", answer_text(busy));
-    if (loop && !busy) loop->uv = NULL;
+    if (loop && !busy) close_loop(loop);
     unlock();
     return busy;
 }
@@ -492,10 +492,8 @@ void send_held(struct object *object, uint64_t thread) {
     REALLY(CALL(uv_async_send)((uv_async_t *)object->address));
 }
 
-/* By the loop's thread it is an op; by another one it is a line of its own, before the send. (A signal's handler may send
- * while its thread is at a line: that send isn't recorded.) */
-int uv_async_send(uv_async_t *handle) {
-    if (INSIDE() || is_locked_here()) return CALL(uv_async_send)(handle);
+/* By the loop's thread it is an op; by another one it is a line of its own, before the send. */
+static int send_here(uv_async_t *handle) {
     lock();
     struct object *object = find(handle);
     pthread_t here = pthread_self();
@@ -525,5 +523,22 @@ int uv_async_send(uv_async_t *handle) {
     if (own) write_op(object, "send", "", answer);
     unlock();
     if (sender) force_sent(sender);
+    return answer;
+}
+
+__thread bool sends_here;
+
+/* (a signal's handler may send while its thread is at a line: that send isn't recorded. What the program was at by then it is at behind it, too) */
+int uv_async_send(uv_async_t *handle) {
+    const char *outer = called;
+    const void *outer_from = called_from;
+    if (INSIDE() || is_locked_here()) {
+        called = outer, called_from = outer_from;
+        return CALL(uv_async_send)(handle);
+    }
+    sends_here = true;
+    int answer = send_here(handle);
+    sends_here = false;
+    called = outer, called_from = outer_from;
     return answer;
 }

@@ -565,7 +565,7 @@ void hook_caller(const void *caller) {
     enum { FILES = 16 };
     static uintptr_t seen[FILES];
     struct asked_file asked = {.address = caller};
-    if (off || knows_libuv()) return;
+    if (off || filtered || knows_libuv()) return;
     lock();
     if (dl_iterate_phdr(ask_file, &asked) && strcmp(asked.file.name, "/proc/self/exe") != 0 && !strstr(asked.file.name, "libuv.so")) {
         int at = 0;

@@ -22,7 +22,7 @@
 
 enum { WINDOW = 1 << 20, NOTE = 64, LINE = 4096 };
 
-bool off = true;
+bool off = true, filtered;
 __thread int inside;
 __thread bool passing;
 __thread const char *called;
@@ -33,6 +33,8 @@ static char prefix[3072];
 static int file = -1;
 static char *window;
 static size_t used, windows;
+static char *ahead; /* windows that are there already */
+static size_t ahead_left;
 static struct text {
     uintptr_t from, to;
 } texts[8]; /* of libuv */
@@ -86,18 +88,23 @@ bool may_grow_to(size_t size) {
     return getrlimit(RLIMIT_FSIZE, &limit) != 0 || limit.rlim_cur == RLIM_INFINITY || size <= limit.rlim_cur;
 }
 
+static char *map_windows(size_t count) {
+    size_t begin = windows * (size_t)WINDOW, size = count * (size_t)WINDOW;
+    if (!may_grow_to(begin + size) || posix_fallocate(file, (off_t)begin, (off_t)size) != 0) return MAP_FAILED;
+    return mmap(NULL, size, PROT_READ | PROT_WRITE, MAP_SHARED, file, (off_t)begin);
+}
+
 /* The next window. Without room for it the last one says so at its end, and nothing is recorded any more. */
 static bool next_window(void) {
-    size_t size = (windows + 1) * (size_t)WINDOW;
     char *next = MAP_FAILED;
-    if (may_grow_to(size) && posix_fallocate(file, (off_t)(size - WINDOW), WINDOW) == 0)
-        next = mmap(NULL, WINDOW, PROT_READ | PROT_WRITE, MAP_SHARED, file, (off_t)(size - WINDOW));
+    if (ahead_left > 0) next = ahead, ahead += WINDOW, ahead_left--;
+    else if (!filtered) next = map_windows(1);
     if (next == MAP_FAILED) {
-        if (window) strcpy(window + used, "- ! no room\n");
+        if (window) strcpy(window + used, filtered ? "- ! filter\n" : "- ! no room\n");
         off = true;
         return false;
     }
-    if (window) munmap(window, WINDOW);
+    if (window && !filtered) munmap(window, WINDOW);
     window = next;
     used = 0;
     windows++;
@@ -144,12 +151,10 @@ static int unseen_count;
 
 /* The first line: which libuv, which process, how many workers, which program. */
 static void write_head(void) {
-    char text[LINE], program[2048];
-    ssize_t length = readlink("/proc/self/exe", program, sizeof program - 1);
+    char text[LINE];
     first_workers = workers();
-    program[length < 0 ? 0 : length] = 0;
-    int size = snprintf(text, sizeof text, "uvt-log 2 %s %d %d %s\n", CALL(uv_version_string)(), (int)getpid(),
-                        first_workers, program);
+    int size = snprintf(text, sizeof text, "uvt-log 2 %s %d %d %.2048s\n", CALL(uv_version_string)(), (int)getpid(),
+                        first_workers, name_of_program());
     write_word(text, (size_t)size);
     for (int at = 0; at < unseen_count; at++) {
         size = snprintf(text, sizeof text, "- U %s %s\n", unseen[at].function, unseen[at].why);
@@ -162,7 +167,7 @@ static bool open_file(void) {
     char name[4096];
     if (keeps()) return open_ring(prefix);
     snprintf(name, sizeof name, "%s.%d.log", prefix, (int)getpid());
-    for (int more = 2; (file = open(name, O_RDWR | O_CREAT | O_EXCL | O_CLOEXEC, 0644)) < 0 && errno == EEXIST; more++)
+    for (int more = 2; (file = open(name, O_RDWR | O_CREAT | O_EXCL | O_CLOEXEC, 0600)) < 0 && errno == EEXIST; more++)
         snprintf(name, sizeof name, "%s.%d-%d.log", prefix, (int)getpid(), more);
     return file >= 0 && next_window();
 }
@@ -181,6 +186,32 @@ static bool open_log(void) {
     if (getcwd(name, sizeof name)) write_line(NULL, 'J', "home %s", name);
     if (keeps() && first_base()) write_line(NULL, 'Z', "%u", first_base());
     return true;
+}
+
+/* So many windows are made ahead of a filter of system calls. */
+enum { AHEAD = 16 };
+static bool is_libuv_there(void);
+
+/* A filter may end the program for a call of the system that it hasn't thought of. So from the program's first word of one on the recorder asks the
+ * system for nothing more, and what it needs is there by then: the log, with room for some millions of bytes. */
+void before_filter(void) {
+    if (off || filtered || !is_libuv_there()) {
+        filtered = true;
+        return;
+    }
+    lock();
+    stop_stacks();
+    name_of_program();
+    if (open_log() && !keeps()) {
+        char *mapped = MAP_FAILED;
+        for (size_t count = AHEAD; count > 0 && mapped == MAP_FAILED; count /= 2) mapped = map_windows(ahead_left = count);
+        if (mapped == MAP_FAILED) ahead_left = 0;
+        ahead = mapped;
+    } else if (is_open) {
+        ring_ahead();
+    }
+    filtered = true;
+    unlock();
 }
 
 void note_unseen(const char *function, const char *why) {
@@ -268,8 +299,8 @@ static __thread struct {
 enum { SHORT = 2 };
 
 struct usage usage_by(uint64_t clock, bool anew) {
-    struct usage none = {0};
-    if (forces()) return none;
+    const struct usage none = {.waited = UNKNOWN};
+    if (forces() || filtered) return none;
     if (here.clock == clock && here.usage.processor && !anew) return here.usage;
     here.clock = clock;
     read_usage(&here.usage);
@@ -289,7 +320,7 @@ uint64_t clock_ms(void) {
 
 /* What this thread had of the processor since then; false where that was too short, or isn't known. */
 static bool used_since(uint64_t clock, uint64_t begin, const struct usage *before, struct usage *used) {
-    if (!begin || clock < begin + SHORT || forces()) return false;
+    if (!begin || clock < begin + SHORT || forces() || filtered) return false;
     struct usage now = usage_by(clock, true);
     used->processor = now.processor - before->processor;
     used->kernel = now.kernel - before->kernel;
@@ -313,7 +344,7 @@ static bool note_time(struct loop *loop, char type, uint64_t clock, struct usage
     if (type == 'B') {
         *times = (struct times){.begun = loop->begun, .begin = clock, .usage = loop->early ? loop->early_usage : usage_by(clock, false)};
         loop->early = 0;
-        if (here.put_off != clock) put_off_stacks();
+        if (here.put_off != clock && !filtered) put_off_stacks();
         here.put_off = clock;
         forget_stacks();
     }
@@ -445,6 +476,13 @@ static int find_text(struct dl_phdr_info *info, size_t size, void *none) {
     return 1;
 }
 
+/* (where none is there, none is loaded for the log's first line) */
+static bool is_libuv_there(void) {
+    void *found = has_own_libuv() ? NULL : dlopen("libuv.so.1", RTLD_LAZY | RTLD_NOLOAD);
+    if (found) dlclose(found);
+    return found || has_own_libuv();
+}
+
 /* The function of this name, of libuv or of the C library. The recorder isn't linked with libuv, so that a program
  * without it doesn't get it; and one may come by dlopen. */
 static void *look_up(const char *name) {
@@ -530,7 +568,7 @@ static void __attribute__((constructor)) begin(void) {
 }
 
 static void __attribute__((destructor)) end(void) {
-    if (off || !window) return;
+    if (off || !window || filtered) return;
     off = true;
     if (ftruncate(file, (off_t)((windows - 1) * (size_t)WINDOW + used)) != 0) return;
 }

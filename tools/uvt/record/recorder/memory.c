@@ -3,9 +3,7 @@
 #include "recorder.h"
 
 #include <errno.h>
-#include <stdarg.h>
 #include <stddef.h>
-#include <sys/prctl.h>
 #include <sys/uio.h>
 #include <unistd.h>
 
@@ -39,21 +37,6 @@ void leave_memory(struct object *handle) {
 
 /* ---- what lies there */
 
-/* A filter of system calls may end the program for a call that it hasn't thought of: from its first word on nobody asks. (Whoever loads one without
- * being root says first that no new privileges are wanted.) */
-static bool filtered;
-REAL(prctl)
-
-int prctl(int option, ...) {
-    va_list words;
-    va_start(words, option);
-    unsigned long two = va_arg(words, unsigned long), three = va_arg(words, unsigned long);
-    unsigned long four = va_arg(words, unsigned long), five = va_arg(words, unsigned long);
-    va_end(words);
-    if (option == PR_SET_SECCOMP || option == PR_SET_NO_NEW_PRIVS) filtered = true;
-    return CALL(prctl)(option, two, three, four, five);
-}
-
 /* (the memory may be gone: the system is asked for it, and says so. Where a sandbox lets nobody ask, nothing is known) */
 static ssize_t heads(struct object *const handles[], int count, uv_handle_t found[]) {
     if (filtered) return -1;
@@ -74,7 +57,7 @@ static bool is_on_stack(const struct object *handle) {
     pthread_attr_t attributes;
     void *from;
     size_t size;
-    if (pthread_getattr_np(handle->loop->thread, &attributes)) return false;
+    if (filtered || pthread_getattr_np(handle->loop->thread, &attributes)) return false;
     bool known = pthread_attr_getstack(&attributes, &from, &size) == 0;
     pthread_attr_destroy(&attributes);
     return known && (uintptr_t)handle->address - (uintptr_t)from < size;

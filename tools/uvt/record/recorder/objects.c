@@ -10,16 +10,29 @@
 #include <string.h>
 #include <unistd.h>
 
-static struct loop **loops; /* of the closed ones those alone that were closed since the last one was made */
+static struct loop **loops; /* that aren't closed */
 static int loop_count, loop_room, loops_made;
 static uint64_t base_of_first;
 static struct object **buckets, *unused;
 static size_t bucket_count, object_count;
 static int ids;
-static __thread struct loop *last; /* that this thread asked for */
+static __thread struct loop *last; /* that this thread asked for, */
+static __thread int last_number; /* and its number then: it may be another one since */
 REAL(uv_now)
 
 /* ---- loops */
+
+/* Closed ones that have no object any more: the next loop takes one of them. (They aren't freed, since a thread may have asked for them last, and looks
+ * whether that is still so.) */
+static struct loop *closed;
+
+static struct loop *take_closed(void) {
+    struct loop **at = &closed, *loop;
+    for (int looked = 0; (loop = *at) && loop->objects > 0 && looked < 8; looked++) at = &loop->next;
+    if (!loop || loop->objects > 0 || forces()) return calloc(1, sizeof *loop);
+    *at = loop->next;
+    return loop;
+}
 
 static struct loop *add_loop(uv_loop_t *uv) {
     if (loop_count == loop_room) {
@@ -29,7 +42,7 @@ static struct loop *add_loop(uv_loop_t *uv) {
         loops = more;
         loop_room = room;
     }
-    struct loop *loop = calloc(1, sizeof *loop);
+    struct loop *loop = take_closed();
     if (!loop) return NULL;
     *loop = (struct loop){.uv = uv, .number = loops_made++, .base = CALL(uv_now)(uv), .thread = pthread_self()};
     if (loop->number == 0) base_of_first = loop->base;
@@ -39,28 +52,38 @@ static struct loop *add_loop(uv_loop_t *uv) {
     return loop;
 }
 
+static struct loop *keep_last(struct loop *loop) {
+    if (loop) last_number = loop->number;
+    return last = loop;
+}
+
 /* A loop that is made, maybe where one that was never closed has been. */
 struct loop *new_loop(uv_loop_t *uv) {
-    int open = 0;
-    for (int at = 0; at < loop_count; at++) {
-        if (loops[at]->uv == uv) loops[at]->uv = NULL;
-        /* (a program may make and close as many as it likes) */
-        if (loops[at]->uv) loops[open++] = loops[at];
-    }
-    loop_count = open;
-    return last = add_loop(uv);
+    for (int at = 0; at < loop_count; at++)
+        if (loops[at]->uv == uv) close_loop(loops[at--]);
+    return keep_last(add_loop(uv));
+}
+
+void close_loop(struct loop *loop) {
+    loop->uv = NULL;
+    int at = 0;
+    while (at < loop_count && loops[at] != loop) at++;
+    if (at == loop_count) return;
+    loops[at] = loops[--loop_count];
+    loop->next = closed;
+    closed = loop;
 }
 
 struct loop *last_loop(void) {
-    return last && last->uv ? last : NULL;
+    return last && last->uv && last->number == last_number ? last : NULL;
 }
 
 struct loop *loop_of(uv_loop_t *uv) {
-    if (last && last->uv == uv) return last;
+    if (last && last->uv == uv) return keep_last(last);
     for (int at = loop_count - 1; at >= 0; at--)
-        if (loops[at]->uv == uv) return last = loops[at];
+        if (loops[at]->uv == uv) return keep_last(loops[at]);
     /* (one that was there before the recorder is taken over as it polls) */
-    return attaches ? NULL : (last = add_loop(uv));
+    return attaches ? NULL : keep_last(add_loop(uv));
 }
 
 uint64_t first_base(void) {
@@ -169,6 +192,7 @@ struct object *put(struct loop *loop, void *address) {
     it->next = *to;
     *to = it;
     object_count++;
+    loop->objects++;
     return it;
 }
 
@@ -183,6 +207,7 @@ void drop(struct object *object) {
             *it = object->next_unsettled;
             break;
         }
+    object->loop->objects--;
     object->next = unused;
     unused = object;
     object_count--;
@@ -231,21 +256,33 @@ static bool grow_places(void) {
     return true;
 }
 
+const char *name_of_program(void) {
+    static char file[PATH_MAX];
+    ssize_t length = *file ? 0 : readlink("/proc/self/exe", file, sizeof file - 1);
+    if (length < 0) strcpy(file, "-");
+    return file;
+}
+
+/* The file that lies at this address, into `room` where it has to be looked for. (The program itself has no name there, and another file may have
+ * a relative one) */
+static const char *file_of(const struct link_map *map, const char *name, char room[PATH_MAX]) {
+    if (!*map->l_name) return name_of_program();
+    return filtered || !realpath(map->l_name, room) ? name : room;
+}
+
 /* (the file's own symbols count from where it was loaded) */
 int address_number(const void *address) {
-    if (2 * (size_t)place_count >= place_room && !grow_places()) return -1;
+    /* (a send may come from a signal's handler, which mustn't want memory) */
+    if (sends_here ? 4 * (size_t)place_count >= 3 * place_room : 2 * (size_t)place_count >= place_room && !grow_places()) return -1;
     struct place *place = place_at(places, place_room, address);
     if (place->address) return place->number;
     Dl_info info;
     struct link_map *map;
     if (!dladdr1(address, &info, (void **)&map, RTLD_DL_LINKMAP) || !info.dli_fname || !map) return -1;
-    /* (the program itself has no name there, and another file may have a relative one) */
-    char file[PATH_MAX];
-    ssize_t length = *map->l_name ? -1 : readlink("/proc/self/exe", file, sizeof file - 1);
-    if (length >= 0) file[length] = 0;
-    else if (!realpath(*map->l_name ? map->l_name : info.dli_fname, file)) snprintf(file, sizeof file, "%s", info.dli_fname);
+    char room[PATH_MAX];
     const char *symbol = info.dli_saddr == address && info.dli_sname ? info.dli_sname : "-";
-    write_line(NULL, 'A', "%d %x %s %s", place_count, (uint64_t)((uintptr_t)address - map->l_addr), symbol, file);
+    write_line(NULL, 'A', "%d %x %s %s", place_count, (uint64_t)((uintptr_t)address - map->l_addr), symbol,
+               file_of(map, info.dli_fname, room));
     *place = (struct place){address, place_count};
     return place_count++;
 }

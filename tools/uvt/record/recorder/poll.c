@@ -149,15 +149,16 @@ static void note_late_poll(struct loop *loop, int got) {
     uint64_t clock = poll->wait > 0 && !forces() ? clock_ms() : 0, end = poll->clock + (uint64_t)poll->wait;
     if (clock > end && minds_late()) note_late(clock, clock - end);
     if (clock < end + LATE || poll->waited == UNKNOWN) return;
+    uint64_t waited = waited_by(clock, true);
+    if (waited == UNKNOWN) return;
     lock();
-    uint64_t waited = waited_by(clock, true) - poll->waited;
-    write_line(loop, 'H', "%u %u %d", clock - end, (waited + 500000) / 1000000, fault == EINTR);
+    write_line(loop, 'H', "%u %u %d", clock - end, (waited - poll->waited + 500000) / 1000000, fault == EINTR);
     unlock();
-    if (fault) errno = fault;
 }
 
 static int note_events(struct loop *loop, const struct epoll_event *events, int got) {
     if (!loop) return got;
+    int kept = errno;
     /* (another loop may write down what this one has, while it waits) */
     if (keeps()) lock();
     loop->waiting = false;
@@ -167,6 +168,7 @@ static int note_events(struct loop *loop, const struct epoll_event *events, int 
     for (int at = 0; at < got && in_vain; at++) in_vain = !is_for_somebody(loop->uv, &events[at]);
     loop->poll.got = got;
     loop->poll.in_vain = in_vain;
+    errno = kept;
     return got;
 }
 

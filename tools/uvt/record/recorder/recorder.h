@@ -31,7 +31,9 @@ enum { TIMES = 64 };
 
 struct loop {
     uv_loop_t *uv; /* NULL once it is closed */
+    struct loop *next; /* of those that are closed */
     int number;
+    int objects; /* so many are its own */
     uint64_t base; /* the loop's time as it was first seen: times in the log count from there */
     int behind; /* how much later than that of the first loop, in ms */
     pthread_t thread; /* that of the last uv_run, or of its init */
@@ -104,6 +106,7 @@ struct loop *loop_of(uv_loop_t *uv);
 uint64_t first_base(void);
 void each_loop(void (*tell)(struct loop *));
 struct loop *new_loop(uv_loop_t *uv);
+void close_loop(struct loop *loop);
 /* The last one that was made or asked for in this thread, NULL if there is none. */
 struct loop *last_loop(void);
 /* The last one that was put at this address, NULL if there is none; and the one before it. */
@@ -119,8 +122,12 @@ struct object *put(struct loop *loop, void *address);
 void drop(struct object *object);
 void each(struct loop *loop, void (*tell)(struct object *));
 int object_total(void);
+/* This thread sends: it may be in a signal's handler. */
+extern __thread bool sends_here;
 /* The number of an address in a program's file: the first time a line says where it is. -1 for memory that is in none. */
 int address_number(const void *address);
+/* The program's own file: the system is asked once. */
+const char *name_of_program(void);
 /* Of the place with this number, from which libuv was called now: the number of the one that called its function; -1 where nobody knows, or that is
  * none of the program's (callers.c). */
 int caller_number(int place, const void *from);
@@ -133,6 +140,8 @@ void name_again(struct object *object);
 /* ---- the log (log.c) */
 
 extern bool off; /* nothing is recorded: no UVT_LOG, no room, or a child after fork */
+extern bool filtered; /* the system is asked for nothing more (filter.c) */
+void before_filter(void);
 
 /* Around all that is asked of objects and written. */
 void lock(void);
@@ -180,6 +189,8 @@ struct usage usage_by(uint64_t clock, bool anew);
 void put_off_stacks(void);
 void no_stacks(void);
 void forget_stacks(void);
+/* In no thread any more. */
+void stop_stacks(void);
 void write_stacks(struct loop *loop);
 
 /* ---- a log that is a ring (ring.c) */
@@ -196,6 +207,8 @@ uint64_t ring_bytes(void);
 uint64_t ring_room(void);
 /* So many bytes are to be kept at the least. */
 void ring_needs(uint64_t bytes);
+/* All of its windows are made and mapped: no further one is asked for, and nothing is kept apart. */
+void ring_ahead(void);
 /* Something took so long; are such things to be kept apart; and does so, where one was noted a while ago. */
 void note_late(uint64_t clock, uint64_t took);
 bool minds_late(void);

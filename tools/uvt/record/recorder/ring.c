@@ -27,7 +27,7 @@ enum { WINDOW = 1 << 20, NOTE = 64, FEWEST = 2, MOST = 1 << 16, MOST_LATE = 4, B
 static size_t keep; /* how many windows; 0: no ring */
 static char prefix[3072], process[32]; /* PREFIX.PROCESS.ring */
 static int file = -1, words = -1;
-static char *window;
+static char *window, *whole; /* the window; and all of them, where they are mapped at once */
 static size_t slot, slots, used; /* the window's place in the file, how many the file has, and how much of it is used */
 static size_t number; /* of the window, from 1 */
 static uint64_t before; /* bytes in windows that are full */
@@ -71,6 +71,7 @@ static void name_of(char *name, size_t size, const char *end) {
 /* Where the file can't grow the ring has as many windows as there are. */
 static char *map_next(size_t *next) {
     *next = window ? slot + 1 : 0;
+    if (whole) return whole + (*next = *next % slots) * (size_t)WINDOW;
     if (*next >= keep) *next = 0;
     if (*next >= slots) {
         size_t size = (*next + 1) * (size_t)WINDOW;
@@ -88,12 +89,24 @@ static bool turn(void) {
         if (window) strcpy(window + used, "- ! no room\n");
         return false;
     }
-    if (window) munmap(window, WINDOW), before += used;
+    if (window && !whole) munmap(window, WINDOW);
+    if (window) before += used;
     memset(mapped, 0, WINDOW);
     window = mapped;
     slot = next;
     used = (size_t)snprintf(window, NOTE, "- W %zu\n", ++number);
     return true;
+}
+
+void ring_ahead(void) {
+    size_t size = keep * (size_t)WINDOW;
+    if (slots < keep && may_grow_to(size) && posix_fallocate(file, 0, (off_t)size) == 0) slots = keep;
+    char *all = mmap(NULL, slots * (size_t)WINDOW, PROT_READ | PROT_WRITE, MAP_SHARED, file, 0);
+    late = late_at = 0;
+    if (all == MAP_FAILED) return;
+    munmap(window, WINDOW);
+    whole = all;
+    window = all + slot * (size_t)WINDOW;
 }
 
 bool write_ring(const char *text, size_t length) {

@@ -123,6 +123,7 @@ static void forget(void *word) {
     struct stacks *stacks = word;
     stack_t now;
     here = NULL;
+    if (filtered) return;
     really_lock(&timers_lock);
     for (int at = 0; at < TIMERS; at++)
         if (timers[at].made && timers[at].timer == stacks->timer) timers[at].made = false;
@@ -184,7 +185,11 @@ void put_off_stacks(void) {
 }
 
 void no_stacks(void) {
-    if (here && here->made) timer_settime(here->timer, 0, &(struct itimerspec){0}, NULL);
+    if (here && here->made && !filtered) timer_settime(here->timer, 0, &(struct itimerspec){0}, NULL);
+}
+
+void stop_stacks(void) {
+    if (usable && give_back()) CALL(signal)(SIGNAL, SIG_DFL);
 }
 
 void forget_stacks(void) {
