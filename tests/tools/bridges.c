@@ -14,7 +14,7 @@ bool knows_libuv(void) {
     return false;
 }
 
-bool off;
+bool off, filtered;
 void lock(void) {}
 void unlock(void) {}
 

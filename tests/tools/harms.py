@@ -26,22 +26,35 @@ TOOLS = ROOT / "tools" / "uvt"
 SECONDS = 300
 # How the program ends that filters its calls of the system, by its source.
 FILTERED = 55
+# What harms/kinds.c does.
+KINDS = (
+    *("plain", "segv", "trap", "urgent", "prof", "jump", "abort", "exit", "_exit", "kill", "null", "leave", "daemon", "fork", "vfork", "system"),
+    *("exec", "setuid", "chdir", "closes", "fsize", "files", "memory", "requests", "threads"),
+)
 # More instructions than twice as many for twice as many loops are a cost that grows with those that were closed.
 FEW, MANY, LINEAR = 1000, 2000, 2.2
 
 
+def ran(words: list[str], folder: Path, **more: str) -> subprocess.CompletedProcess[str]:
+    """What it says, errors too; status 124 if it has no end."""
+    try:
+        return subprocess.run(
+            words,
+            cwd=folder,
+            stdout=subprocess.PIPE,
+            stderr=subprocess.STDOUT,
+            text=True,
+            errors="replace",
+            env=dict(os.environ, **more),
+            timeout=SECONDS,
+        )
+    except subprocess.TimeoutExpired:
+        return subprocess.CompletedProcess(words, 124, f"{' '.join(words)}: no end within {SECONDS} s")
+
+
 def tool(word: str, words: list[str], folder: Path, **more: str) -> tuple[int, str]:
-    ran = subprocess.run(
-        [str(TOOLS / f"uvt-{word}"), *words],
-        cwd=folder,
-        stdout=subprocess.PIPE,
-        stderr=subprocess.STDOUT,
-        text=True,
-        errors="replace",
-        env=dict(os.environ, **more),
-        timeout=SECONDS,
-    )
-    return ran.returncode, ran.stdout
+    done = ran([str(TOOLS / f"uvt-{word}"), *words], folder, **more)
+    return done.returncode, done.stdout
 
 
 class Room:
@@ -52,17 +65,16 @@ class Room:
         for it in HERE.glob("*.c"):
             subprocess.run(["cc", "-O1", "-g", "-w", str(it), "-o", str(folder / it.stem), "-luv", "-lpthread"], check=True)
 
+    def plain(self, *words: str) -> subprocess.CompletedProcess[str]:
+        return ran([str(self.folder / words[0]), *words[1:]], self.folder)
+
     def run(self, *words: str, before: list[str] | None = None, **more: str) -> subprocess.CompletedProcess[str]:
-        """A program under the recorder; status 124 if it has no end."""
-        environment = dict(os.environ, UVT_LOG=str(self.folder / "log"), LD_PRELOAD=str(recorder()), **more)
-        called = [*(before or []), str(self.folder / words[0]), *words[1:]]
-        try:
-            return subprocess.run(called, cwd=self.folder, env=environment, capture_output=True, text=True, timeout=SECONDS)
-        except subprocess.TimeoutExpired:
-            return subprocess.CompletedProcess(called, 124, "", "it has no end")
-        finally:
-            for it in self.folder.glob("log.*"):
-                it.unlink()
+        """A program under the recorder."""
+        more |= {"UVT_LOG": str(self.folder / "log"), "LD_PRELOAD": str(recorder())}
+        done = ran([*(before or []), str(self.folder / words[0]), *words[1:]], self.folder, **more)
+        for it in self.folder.glob("log.*"):
+            it.unlink()
+        return done
 
 
 # ---- programs under the recorder
@@ -71,20 +83,27 @@ class Room:
 def try_handler(check: Check, room: Room) -> None:
     """The handler comes where the program is within the recorder, and may not wait for it."""
     for _ in range(3):
-        ran = room.run("handler", "10000")
-        check("harms: a signal's handler that sends", ran.returncode == 0, ran)
+        done = room.run("handler", "10000")
+        check("harms: a signal's handler that sends", done.returncode == 0, done)
+
+
+def try_kinds(check: Check, room: Room) -> None:
+    for kind in KINDS:
+        plain, recorded = room.plain("kinds", kind), room.run("kinds", kind)
+        alike = (plain.returncode, plain.stdout) == (recorded.returncode, recorded.stdout)
+        check(f"harms: {kind}: its status and output", alike and plain.returncode != 124, (plain, recorded))
 
 
 def instructions(room: Room, loops: int) -> int:
-    ran = room.run("loops", str(loops), before=["valgrind", "--tool=callgrind", "--callgrind-out-file=/dev/null"])
-    found = re.search(r"Collected : (\d+)", ran.stderr)
+    done = room.run("loops", str(loops), before=["valgrind", "--tool=callgrind", "--callgrind-out-file=/dev/null"])
+    found = re.search(r"Collected : (\d+)", done.stdout)
     return int(found[1]) if found else 0
 
 
 def try_loops(tries: Tries, room: Room) -> None:
-    ran = room.run("loops", "4000")
-    grown = re.match(r"(\d+) kB more", ran.stdout)
-    tries.check("harms: loops that are closed keep no memory", ran.returncode == 0 and grown and int(grown[1]) < 1000, ran)
+    done = room.run("loops", "4000")
+    grown = re.match(r"(\d+) kB more", done.stdout)
+    tries.check("harms: loops that are closed keep no memory", done.returncode == 0 and grown and int(grown[1]) < 1000, done)
     if not shutil.which("valgrind"):
         tries.leave_out("what loops that are closed cost", "there is no valgrind")
         return
@@ -93,15 +112,15 @@ def try_loops(tries: Tries, room: Room) -> None:
 
 
 def try_filters(tries: Tries, room: Room) -> None:
-    plain = subprocess.run([str(room.folder / "filter"), "some"]).returncode
+    plain = room.plain("filter", "some").returncode
     if plain != FILTERED:
         tries.leave_out("programs that filter their calls of the system", f"this one ends with {plain} by itself here")
         return
     for how in ("one", "some", "first"):
-        ran = room.run("filter", how)
-        tries.check(f"harms: a filter of system calls, {how}", ran.returncode == FILTERED, ran)
-        ran = room.run("filter", how, UVT_KEEP="3", UVT_LATE="10")
-        tries.check(f"harms: a filter of system calls, {how}, in a ring", ran.returncode == FILTERED, ran)
+        done = room.run("filter", how)
+        tries.check(f"harms: a filter of system calls, {how}", done.returncode == FILTERED, done)
+        done = room.run("filter", how, UVT_KEEP="3", UVT_LATE="10")
+        tries.check(f"harms: a filter of system calls, {how}, in a ring", done.returncode == FILTERED, done)
     status, said = tool("record", ["./filter", "first", "20000"], room.folder)
     tries.check("harms: a program that filters is recorded", ": same" in said and "filters its calls" not in said, said)
     status, said = tool("record", ["--last", "0.1", "./filter", "some", "400000"], room.folder)
@@ -149,6 +168,18 @@ def try_killed(check: Check, room: Room) -> None:
     check("harms: the next record takes that away", not (left := list(room.folder.glob(".left.*"))), left)
 
 
+def processes_in(folder: Path, words: bytes) -> list[int]:
+    """Those in this folder that were started by these words."""
+    found = []
+    for it in Path("/proc").glob("[0-9]*"):
+        try:
+            if (it / "cmdline").read_bytes() == words and (it / "cwd").resolve() == folder.resolve():
+                found.append(int(it.name))
+        except OSError:
+            continue
+    return found
+
+
 def try_hunt_killed(check: Check, room: Room) -> None:
     temporary = room.folder / "temporary"
     temporary.mkdir()
@@ -159,8 +190,7 @@ def try_hunt_killed(check: Check, room: Room) -> None:
         end = time.monotonic() + SECONDS
         while not found and time.monotonic() < end:
             time.sleep(0.2)
-            ran = subprocess.run(["pgrep", "-x", "-f", r"\./ended 0"], capture_output=True, text=True)
-            found = [it for it in map(int, ran.stdout.split()) if Path(f"/proc/{it}/cwd").resolve() == room.folder.resolve()]
+            found = processes_in(room.folder, b"./ended\x000\x00")
         check("harms: hunt has started its program", found)
         if found:
             os.kill(parent_of(found[0]), signal.SIGKILL)
@@ -229,7 +259,11 @@ def try_reports(check: Check, folder: Path) -> None:
     for what, text in reports().items():
         path.write_text(text)
         status, said = tool("hunt", ["-o", "joined", "--join", path.name], folder)
-        check(f"hunt --join, {what}", status == 2 and said == "uvt-hunt: part.report: this is no report of a part of a hunt\n", f"{status} {said[-500:]}")
+        check(
+            f"hunt --join, {what}",
+            status == 2 and said == "uvt-hunt: part.report: this is no report of a part of a hunt\n",
+            f"{status} {said[-500:]}",
+        )
     bad = vars(Bad("ended with \x1b[2J\ud800", "order 1", "uvt 1\n", 0, hang=["it waits"]))
     good = {"form": "uvt-hunt 1", "part": [2, 900_000], "program": ["./a"], "ended": "", "counts": vars(Counts()), "bad": bad}
     path.write_text(json.dumps(good))
@@ -249,7 +283,7 @@ def try_harms(tries: Tries) -> None:
         room = Room(Path(name))
         for part in (try_loops, try_filters):
             part(tries, room)
-        for one in (try_handler, try_signals, try_killed, try_hunt_killed):
+        for one in (try_handler, try_kinds, try_signals, try_killed, try_hunt_killed):
             one(tries.check, room)
         if shutil.which("gdb"):
             try_folder(tries.check, room)

@@ -73,6 +73,10 @@ NODES_ALONE = "it lacks node's own"
 LEFT_OUT = "what node's own handles are called for at its end is left out, and nothing of the program's JavaScript"
 
 
+# How `ended` begins of a copy: that isn't the program's end.
+COPIED = "copied"
+
+
 def sum_of(data: bytes) -> str:
     # (where there are no notes, nobody needs it)
     import hashlib
@@ -153,6 +157,10 @@ class Notes:
     requests: list[Request] = field(default_factory=list)
     # the calls that changed nothing: of which name, the function, the step of the callback in which it was (0: of none), and its place
     nothings: list[tuple[str, str, int, int]] = field(default_factory=list)
+    # why the ring of which it is was kept apart, in a sentence
+    kept: str = ""
+    # of a recording that begins in the middle: up to this step it has what was there by then
+    before: int = 0
 
     def place(self, step: int) -> str:
         """Where in the program this step was asked for, `` where nobody knows."""
@@ -200,7 +208,11 @@ class Notes:
     def loud(self) -> list[str]:
         """What each tool says before all else: that it isn't all of it, and what another thread did."""
         lines = [self.part_told()] if self.part else []
-        lines += [f"THE PROGRAM WAS ENDED BY {self.ended}"] if self.ended else []
+        lines += [f"KEPT APART, SINCE {self.kept}"] if self.kept else []
+        if self.ended.startswith(COPIED):
+            lines.append(self.ended.replace(COPIED, "A COPY OF A PROGRAM THAT WENT ON, MADE", 1))
+        elif self.ended:
+            lines.append(f"THE PROGRAM WAS ENDED BY {self.ended}")
         return (
             lines
             + [
@@ -220,6 +232,8 @@ class Notes:
         lines += [f"part {self.part}"] if self.part else []
         lines += [f"polls {self.polls}"] if self.polls else []
         lines += [f"ended {self.ended}"] if self.ended else []
+        lines += [f"kept {self.kept}"] if self.kept else []
+        lines += [f"before {self.before}"] if self.before else []
         lines += [f"loop {self.loop}"] if self.loop else []
         for name, (kind, origin) in self.names.items():
             lines.append(f"name {name} {kind} {origin}")
@@ -351,6 +365,10 @@ def take(notes: Notes, line: str) -> None:
                 notes.again.append(words[1])
             case "written":
                 notes.written[words[1]] = " ".join(words[2:])
+            case "kept":
+                notes.kept = line.removeprefix("kept ")
+            case "before":
+                notes.before = int(words[1])
             case "ended":
                 notes.ended = line.removeprefix("ended ")
             case "came":

@@ -8,6 +8,7 @@ from __future__ import annotations
 from dataclasses import dataclass
 
 from uvt.arrivals import LEFT, behind, came, waited
+from uvt.beginnings import at_least
 from uvt.javascript import LEAST, at, fitted
 from uvt.node_names import IMMEDIATES
 from uvt.places import read_place
@@ -180,7 +181,9 @@ class Overview:
     def requests(self) -> list[str]:
         found = [Late(name, self.away(it), it) for name, it in self.called("work")]
         return [
-            f"{it.took} ms from its queueing to its callback: {self.request(it)}, step {it.wait.ended}: {self.parts(it)}" for it in self.worst(found)
+            f"{at_least(self.walk.notes, it.wait.asked)}{it.took} ms from its queueing to its callback: {self.request(it)}, step {it.wait.ended}:"
+            f" {self.parts(it)}"
+            for it in self.worst(found)
         ]
 
     def request(self, late: Late) -> str:
@@ -199,7 +202,7 @@ class Overview:
             return f"for {known} ms each worker had other work" if known else "when a worker took it and was through nobody knows"
         waited = walk.happened(wait.taken[0]) - walk.happened(wait.asked)
         ran = walk.happened(wait.finished) - walk.happened(wait.taken[0])
-        return f"{waited} ms it waited for a worker, {ran} ms it ran, {late.took - waited - ran} ms it waited for the loop"
+        return f"{at_least(walk.notes, wait.asked)}{waited} ms it waited for a worker, {ran} ms it ran, {late.took - waited - ran} ms it waited for the loop"
 
     # ---- the rest
 

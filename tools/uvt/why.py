@@ -9,6 +9,7 @@ from __future__ import annotations
 from collections.abc import Sequence
 
 from uvt.arrivals import BEHIND, LEFT, Came, behind, called_between, came, left_by, unwoken_between, waited
+from uvt.beginnings import asked_before, at_least, made_before
 from uvt.conversation import State
 from uvt.javascript import at
 from uvt.origins import Origins
@@ -175,7 +176,8 @@ class Why:
         kind = self.history.kind()
         counts = [(what, self.walk.state(self.end).counts[self.name][at]) for at, what in enumerate(CALLS)]
         called = [times(count, CALLS[what]) for what, count in counts if count] or ["never called"]
-        made = f", made at {steps_of([step for step, _, _ in self.history.made])}" if kind else ""
+        steps = [step for step, _, _ in self.history.made]
+        made = (made_before(self.notes, steps) or f", made at {steps_of(steps)}") if kind else ""
         return f"{self.name}: {KINDS[kind] if kind else 'it stands for nothing'}, {', '.join(called)}{made}"
 
     def functions(self) -> str:
@@ -277,6 +279,8 @@ class Why:
         if self.walk.line(wait.asked).startswith("call "):
             how = "it repeats, and was started again" if wait.what == "timer" else "it stayed active"
             return f"{how} by the call at step {wait.asked}"
+        if before := asked_before(self.notes, wait.asked, ASKED.get(wait.what, "started")):
+            return before
         at = self.loops_time(wait) if wait.what == "timer" else ""
         return f"{ASKED.get(wait.what, 'started')} at step {wait.asked}{at} {self.walk.by(wait.asked)}"
 
@@ -529,8 +533,9 @@ class Why:
         """Where its time went."""
         queued, called = self.walk.happened(wait.asked), self.walk.clock(wait.ended)
         taken, through = self.walk.happened(wait.taken[0]), self.walk.happened(wait.finished)
+        least = at_least(self.notes, wait.asked)
         return (
-            f"called {called - queued} ms after it was asked for: {taken - queued} ms it waited for a worker, {through - taken} ms it ran,"
+            f"called {least}{called - queued} ms after it was asked for: {least}{taken - queued} ms it waited for a worker, {through - taken} ms it ran,"
             f" {called - through} ms it waited for the loop"
         )
 
@@ -548,7 +553,10 @@ class Why:
         if blocked:
             details.append(f"meanwhile {'; '.join(told(it) for it in blocked[:MANY])}")
         kind = f" ({kind})" if kind and kind != "work" else ""
-        return f"called {away} ms after it was queued; when a worker took it and was through nobody knows{kind}", details
+        return (
+            f"called {at_least(self.notes, wait.asked)}{away} ms after it was queued; when a worker took it and was through nobody knows{kind}",
+            details,
+        )
 
     def worker(self, number: int) -> str:
         """Which worker; in a recording of which the pool has more of them than the program's, since libuv passes by slow work, that isn't known."""
@@ -569,6 +577,8 @@ class Why:
         took = f"{self.worker(worker)} took it at step {step}"
         if step in self.notes.guessed:
             return f"waited for a worker from step {wait.asked} on{behind}; when one took it nobody knows"
+        if least := at_least(self.notes, wait.asked):
+            return f"waited for a worker {least}{away} ms, to step {step}{behind}; {took}"
         return f"waited for a worker from step {wait.asked} to {step}, {away} ms{behind}; {took}"
 
     def ran(self, wait: Wait) -> str:

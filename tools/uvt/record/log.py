@@ -24,6 +24,7 @@ ENDED = re.compile(r"- X (SIG[A-Z0-9]{1,12}|signal \d{1,3})")
 TURNED = re.compile(r"- W ([1-9]\d{0,9})")
 COPIED = re.compile(r"- D (\d{1,19})")
 BASE = re.compile(r"- Z \d{1,19}")
+LATE = re.compile(r"- T (callback|timer|poll) (\d{1,9}) (\d{1,19}) (\d{1,19}) (-1|\d{1,9})")
 UNSEEN = re.compile(r"- U (-|uv_[a-z_0-9]+) (.+)")
 PLACE = re.compile(r"- J place (\d{1,9}) (.*)")
 HOME = re.compile(r"- J home (.*)")
@@ -142,6 +143,22 @@ class Address:
 
 
 @dataclass
+class Late:
+    """Why a ring was kept apart."""
+
+    # a callback took so long; a timer, that with this number, was called so late; or a poll ended so late
+    what: str
+    loop: int
+    # up to when, by the clock of this loop, and how long, in ms
+    clock: int
+    took: int
+    id: int
+
+    def begin(self) -> int:
+        return self.clock - self.took
+
+
+@dataclass
 class Log:
     # of the log's own form, and of libuv
     form: int
@@ -167,6 +184,8 @@ class Log:
     turned: bool = False
     # of a copy of the ring of a living program: when it was made, in ms of the first loop's time
     copied: int | None = None
+    # why the ring was kept apart, where it was
+    late: Late | None = None
     # why nothing of the program's libuv can be seen, in a sentence
     blind: str = ""
 
@@ -285,6 +304,8 @@ def read_log(data: bytes) -> Log:
             log.copied = int(copied[1])
         elif BASE.fullmatch(text):
             continue
+        elif late := LATE.fullmatch(text):
+            log.late = Late(late[1], *map(int, late.groups()[1:]))
         elif ended := ENDED.fullmatch(text):
             log.ended = ended[1]
         elif unseen := UNSEEN.fullmatch(text):

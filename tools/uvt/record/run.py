@@ -16,7 +16,7 @@ import subprocess
 import sys
 import tempfile
 import time
-from dataclasses import dataclass, replace
+from dataclasses import dataclass
 from pathlib import Path
 
 from uvt.conversation import INSTALLED, OUT, Fault, built_program
@@ -26,13 +26,13 @@ from uvt.record import ring
 from uvt.record.differences import PAGE, heading_of, says
 from uvt.record.follow import CALLS, MANY_WORKERS, Follower, NeedsWake, Outcome
 from uvt.record.lift import CantLift, NothingToLift, lift
-from uvt.record.log import NO_CLOCK, Event, Log, read_log
+from uvt.record.log import NO_CLOCK, Late, Log, read_log
 from uvt.record.names import name_addresses, named_log
+from uvt.record.parts import MOST, Part, chosen
 from uvt.record.polls import Polls, compare
 from uvt.record.script import Call, Done, End, Program, program_of
 from uvt.record.steps import Steps
-from uvt.record.window import NoPart, begin_of, starts_of, window
-from uvt.record.worst import around
+from uvt.record.window import NoPart
 from uvt.spent import Spent
 
 RECORDER = Path(__file__).resolve().parent / "recorder"
@@ -40,8 +40,6 @@ HOOKS = Path(__file__).resolve().parent
 BUILT = OUT / "recorder" / "recorder.so"
 # What every libuv has in it, as a name of the environment.
 WITHIN = b"UV_THREADPOOL_SIZE"
-# So many callbacks of a log are followed, where no other number is asked for: some ten seconds, and as much memory as 100,000 callbacks take.
-MOST = 100_000
 
 
 def write(path: Path, data: bytes) -> None:
@@ -88,18 +86,6 @@ def agrees(program: Program, outcome: Outcome) -> bool:
     return names == wanted[: outcome.callbacks]
 
 
-@dataclass
-class Part:
-    """Which part of a log is asked for."""
-
-    # in ms of the loop's time: from there on, or the last ones
-    begin: int | None = None
-    last: int | None = None
-    # how many callbacks at the most; and whether, of more than these, the ones around the longest are taken
-    most: int = MOST
-    worst: bool = False
-
-
 def followed(program: Program, workers: int) -> Outcome:
     """The recording that goes farthest. Where the loop waits and nobody woke it a handle `wake` stands for who did; where a request
     was passed by later ones there are more workers, as libuv does slow work apart."""
@@ -121,50 +107,14 @@ def followed(program: Program, workers: int) -> Outcome:
         workers = MANY_WORKERS
 
 
-def is_all_of(events: list[Event]) -> bool:
-    """Is the first line of this loop in what was kept of a ring? (That stands with the words, too.)"""
-    return [it.type for it in events[:2]] == ["L", "L"]
-
-
-def behind_the_first(events: list[Event], part: Part) -> tuple[list[Event], Part]:
-    """Nothing before the first place at which all of it was written down can be followed."""
-    known = [at for at in starts_of(events) if begin_of(events, at) >= 0]
-    if not known:
-        raise NoPart("no recording can begin in what was kept of it: there is no place where all that the loop had was written down")
-    if part.worst and sum(it.type == "B" for it in events) > part.most:
-        return events[begin_of(events, known[0]) :], part
-    return events, replace(part, begin=events[known[0] - 1].now)
-
-
-def chosen(log: Log, events: list[Event], part: Part) -> tuple[list[Event], str, str]:
-    """The part of a loop's events that is asked for; where it begins and where it is cut, in a sentence each."""
-    began = cut = ""
-    if log.turned and part.begin is None and part.last is None and not is_all_of(events):
-        events, part = behind_the_first(events, part)
-    if part.worst and sum(it.type == "B" for it in events) > part.most:
-        return around(log, events, part.most)
-    time = part.begin if part.last is None else max(0, events[-1].now - part.last)
-    if time is not None:
-        events, now = window(events, time, log.form)
-        began = f"it begins at {now} ms of the loop's time, with what there was then, and its times count from there"
-    calls = [at for at, it in enumerate(events) if it.type == "B"]
-    if len(calls) > part.most:
-        cut = (
-            f"the log has {len(calls)} callbacks, and the first {part.most} were taken: --most N takes another number,"
-            " --last SECONDS or --from MS another part"
-        )
-        events = events[: calls[part.most]]
-    return events, began, cut
-
-
 def make(log: Log, loop: int, part: Part = Part()) -> Made | None:
     """The recording of a loop. None if it has no callback."""
     if not any(it.type == "B" for it in log.loops[loop]):
         return None
-    events, began, cut = chosen(log, log.loops[loop], part)
-    program = program_of(log, events, loop)
-    program.began = began
-    program.stopped = program.stopped or cut
+    found = chosen(log, loop, part)
+    program = program_of(log, found.events, loop)
+    program.began, program.begin, program.again_line = found.began(), found.begin or 0, found.again_line()
+    program.stopped = program.stopped or found.cut
     if not program.callbacks():
         return None
     outcome = followed(program, log.workers)
@@ -253,6 +203,30 @@ def where_it_ended(made: Made, log: Log, loop: int) -> str:
     return f"{by}: this loop was {where} of {call.name}{f', {function}' if function else ''}{long}{in_javascript(made.program, last)}"
 
 
+def late_call(made: Made, log: Log, late: Late) -> Call | None:
+    """The callback that took long by this clock, or that of the timer that was late."""
+    kind, words = ("E", "") if late.what == "callback" else ("B", f"on {late.id} ")
+    line = next((it.line for it in log.loops[late.loop] if it.type == kind and it.clock >= late.clock and it.words.startswith(words)), 0)
+    found = next((it for it in made.program.items if isinstance(it, (Call, Done)) and it.line == line), None)
+    return found.call if isinstance(found, Done) else found
+
+
+def why_kept(made: Made, log: Log, loop: int) -> str:
+    """Why its ring was kept apart, in a sentence; `` of any other log. Times are those of the recording."""
+    late = log.late
+    if not late:
+        return ""
+    if late.loop != loop:
+        return f"something took {late.took} ms in loop {late.loop}"
+    at = late.clock - made.program.begin
+    if late.what == "poll":
+        return f"a poll ended {late.took} ms late, at {at} ms"
+    call = late_call(made, log, late)
+    function = Notes(functions=made.program.functions).function(call.callback, call.name, call.number) if call else ""
+    who = f"{call.name}{f', {function},' if function else ''}" if call else f"a {late.what}"
+    return f"{who} took {late.took} ms, up to {at} ms" if late.what == "callback" else f"{who} was called {late.took} ms late, at {at} ms"
+
+
 def in_javascript(program: Program, last: Call | Done) -> str:
     """What JavaScript was at, as far as that was seen; `` where nothing was."""
     begin, seen = last.clock, program.javascript.seen()
@@ -275,7 +249,7 @@ def spent_of(program: Program) -> dict[tuple[str, str, int], Spent]:
     return found
 
 
-def notes_of(made: Made, note: str, where: str = "") -> Notes:
+def notes_of(made: Made, note: str, where: str = "", kept: str = "") -> Notes:
     """What is known of a recording beside its steps."""
     steps = made.outcome.recording[made.outcome.recording.index("begin") + 1 : made.outcome.recording.index("calls")]
     outside = {at for at, it in enumerate(steps, 1) if it.split(" ")[0] in ("send", "take", "finish")}
@@ -304,6 +278,8 @@ def notes_of(made: Made, note: str, where: str = "") -> Notes:
         asked_at={step: number[it] for step, it in stand.asked_at.items() if it in number},
         requests=stand.requests(number),
         nothings=stand.nothings(number),
+        kept=kept,
+        before=stand.before,
     )
 
 
@@ -403,7 +379,7 @@ def put(path: Path, loop: int, made: Made, log: Log) -> None:
     """Writes the recording of a loop, and its notes."""
     recording = ("\n".join(made.outcome.recording) + "\n").encode()
     write(path, recording)
-    notes = notes_of(made, log.note, where_it_ended(made, log, loop))
+    notes = notes_of(made, log.note, where_it_ended(made, log, loop), why_kept(made, log, loop))
     notes.loop = loop
     write(path.with_suffix(".notes"), notes.text(recording).encode())
 
@@ -456,7 +432,8 @@ def from_data(data: bytes, log: Log, name: str, part: Part = Part(), lifts: bool
     for loop, it in made:
         path = Path(f"{name}.rec" if len(made) == 1 or loop == first else f"{name}.{loop}.rec")
         put(path, loop, it, log)
-        where = where_it_ended(it, log, loop) if log.copied is not None else ""
+        kept = why_kept(it, log, loop)
+        where = where_it_ended(it, log, loop) if log.copied is not None else f"it was kept apart, since {kept}" if kept else ""
         rows.append((loop, told(it, loop, path, log.note, whose(it.program, first is not None), where)))
         whole &= it.is_whole()
         if lifts and it.program.javascript.language != "JavaScript":

@@ -265,8 +265,11 @@ class Program:
     # of libuv, and of the log's form
     version: str = ""
     form: int = 2
-    # where the items begin, if that isn't where the log does, in a sentence
+    # where the items begin, if that isn't where the log does: in a sentence, and in ms of the loop's time
     began: str = ""
+    begin: int = 0
+    # the line of the log for which the ops stand that make what there was by then; -1 where none do
+    again_line: int = -1
     # why the items end before the log does, in a sentence
     stopped: str = ""
 

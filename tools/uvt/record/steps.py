@@ -18,11 +18,15 @@ class Steps:
         # of a request's step the clock as it was queued, where the loop's time was an earlier one
         self.queued: dict[int, int] = {}
         self.calls: dict[tuple[str, str, int], int] = {}
+        # up to this step it is what there was as it begins
+        self.before = 0
         found = enumerate(lines, 1)
         for item in program.items:
             match item:
                 case Op():
                     step = next((at for at, line in found if line.startswith(f"{item.text} = ")), 0)
+                    if step and item.line == program.again_line:
+                        self.before = step
                     if step and item.place:
                         self.asked_at[step] = item.place
                     if step and item.queued > item.now:

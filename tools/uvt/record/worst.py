@@ -45,37 +45,37 @@ def function_of(log: Log, events: list[Event], at: int) -> str:
     return ""
 
 
-def around(log: Log, events: list[Event], most: int) -> tuple[list[Event], str, str]:
-    """As many callbacks as are wanted, with the longest one among them, from a place where a recording can begin; and in a sentence each where it
-    begins, and which part that is. Which callback is the longest is said at once."""
+def around(log: Log, events: list[Event], most: int, stall: Stall | None = None) -> tuple[list[Event], int | None, str]:
+    """As many callbacks as are wanted, with the longest one (or this one) among them, from a place where a recording can begin; at which time of the
+    loop it begins, None where that is its own beginning; and which part that is, in a sentence. Which callback is the longest is said at once."""
     calls = [at for at, it in enumerate(events) if it.type == "B"]
-    stall = worst_of(events)
+    longest, stall = stall is None, stall or worst_of(events)
     took = f"{stall.took} ms at {events[stall.at].clock} ms{function_of(log, events, stall.at)}" if stall.took >= 0 else "no time that is known"
-    part, began, before = begun_near(events, stall, [most // 2, most // 10, 1] if stall.number >= most else [], most, log.form)
+    part, begin, before = begun_near(events, stall, [most // 2, most // 10, 1] if stall.number >= most else [], most, log.form)
     begun = [at for at, it in enumerate(part) if it.type == "B"]
     # (where a recording can't begin near to it there are some more)
     count = min(len(begun), max(most, before + most // 4))
     # (said at once: to follow them takes longer)
-    print(f"the longest of {len(calls)} callbacks took {took}; the {count} around it are followed", flush=True)
+    if longest:
+        print(f"the longest of {len(calls)} callbacks took {took}; the {count} around it are followed", flush=True)
     said = (
-        f"the log has {len(calls)} callbacks, and the {count} around the longest one were taken:"
+        f"the log has {len(calls)} callbacks, and the {count} around {'the longest one' if longest else 'what it was kept for'} were taken:"
         " --most N takes the first N, --last SECONDS or --from MS another part"
     )
-    return part[: begun[count]] if len(begun) > count else part, began, said
+    return part[: begun[count]] if len(begun) > count else part, begin, said
 
 
-def begun_near(events: list[Event], stall: Stall, distances: list[int], most: int, form: int) -> tuple[list[Event], str, int]:
+def begun_near(events: list[Event], stall: Stall, distances: list[int], most: int, form: int) -> tuple[list[Event], int | None, int]:
     """The events from a place on that lies so many callbacks before this one, at first, and then nearer; all of them where no recording can begin
-    there. With that a sentence on where it begins, and how many callbacks stand before this one then."""
+    there. With that the time at which it begins, and how many callbacks stand before this one then."""
     calls = [it for it in events if it.type == "B"]
-    part, began, before = events, "", stall.number
+    part, begin, before = events, None, stall.number
     for distance in distances:
         try:
-            part, now = window(events, calls[stall.number - distance].now, form)
+            part, begin = window(events, calls[stall.number - distance].now, form)
         except NoPart:
             continue
-        began = f"it begins at {now} ms of the loop's time, with what there was then, and its times count from there"
         before = sum(it.type == "B" and it.line < events[stall.at].line for it in part)
         if before < most:
             break
-    return part, began, before
+    return part, begin, before

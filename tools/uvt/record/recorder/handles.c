@@ -26,7 +26,7 @@ REAL(uv_handle_get_type)
 
 static void note_late_timer(struct object *timer) {
     uint64_t now = clock_ms();
-    if (timer->due && now > timer->due) note_late(now, now - timer->due);
+    if (timer->due && now > timer->due) note_late(timer->loop, "timer", timer->id, now, now - timer->due);
     /* (one that repeats was started again by libuv) */
     timer->due = ((uv_timer_t *)timer->address)->timeout;
 }

@@ -349,7 +349,7 @@ static bool note_time(struct loop *loop, char type, uint64_t clock, struct usage
         forget_stacks();
     }
     if (type == 'T') here.work_clock = clock, here.work_usage = usage_by(clock, false);
-    if (ends) times->end = clock, note_late(clock, clock - times->begin);
+    if (ends) times->end = clock, note_late(loop, "callback", -1, clock, clock - times->begin);
     if (type == 'B') look_at_late(clock);
     *took = clock - (ends ? times->begin : here.work_clock);
     if (ends) return used_since(clock, times->begin, &times->usage, used);

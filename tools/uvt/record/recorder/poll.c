@@ -147,7 +147,7 @@ static void note_late_poll(struct loop *loop, int got) {
     struct poll *poll = &loop->poll;
     int fault = got < 0 ? errno : 0;
     uint64_t clock = poll->wait > 0 && !forces() ? clock_ms() : 0, end = poll->clock + (uint64_t)poll->wait;
-    if (clock > end && minds_late()) note_late(clock, clock - end);
+    if (clock > end && minds_late()) note_late(loop, "poll", -1, clock, clock - end);
     if (clock < end + LATE || poll->waited == UNKNOWN) return;
     uint64_t waited = waited_by(clock, true);
     if (waited == UNKNOWN) return;

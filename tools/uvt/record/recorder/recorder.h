@@ -209,8 +209,9 @@ uint64_t ring_room(void);
 void ring_needs(uint64_t bytes);
 /* All of its windows are made and mapped: no further one is asked for, and nothing is kept apart. */
 void ring_ahead(void);
-/* Something took so long; are such things to be kept apart; and does so, where one was noted a while ago. */
-void note_late(uint64_t clock, uint64_t took);
+/* Up to this clock something of this loop took so long: `callback`, a `timer` (the handle `id`) that was late by that, or a `poll` that ended so late; are
+ * such things to be kept apart; and does so, where one was noted a while ago. */
+void note_late(const struct loop *loop, const char *what, int id, uint64_t clock, uint64_t took);
 bool minds_late(void);
 void look_at_late(uint64_t clock);
 

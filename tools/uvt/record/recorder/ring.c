@@ -32,9 +32,10 @@ static size_t slot, slots, used; /* the window's place in the file, how many the
 static size_t number; /* of the window, from 1 */
 static uint64_t before; /* bytes in windows that are full */
 
-/* What took long: since when, as what, in which window; and how long what is kept apart took. */
+/* What took long: from which time on that is, up to when, for how long, in which window, and the line that says so; and how long what is kept apart took. */
 static uint64_t late, late_at, late_took, kept[MOST_LATE];
 static size_t late_in;
+static char late_line[128];
 
 /* What couldn't be written into the words yet. */
 static char waits[1 << 16];
@@ -134,13 +135,13 @@ static void keep_late(void) {
     for (int it = 1; it < MOST_LATE; it++)
         if (kept[it] < kept[at]) at = it;
     late_at = 0;
-    if (kept[at] >= late_took) return;
+    if (kept[at] >= late_took || !write_ring(late_line, strlen(late_line))) return;
     kept[at] = late_took;
     snprintf(end, sizeof end, "late-%d.ring", at + 1);
     name_of(name, sizeof name, "ring");
     name_of(other, sizeof other, end);
     int fresh = -1;
-    if (rename(name, other) == 0) fresh = open(name, O_RDWR | O_CREAT | O_TRUNC | O_CLOEXEC, 0644);
+    if (rename(name, other) == 0) fresh = open(name, O_RDWR | O_CREAT | O_TRUNC | O_CLOEXEC | O_NOFOLLOW, 0600);
     if (fresh < 0) return;
     close(file);
     munmap(window, WINDOW);
@@ -151,12 +152,14 @@ static void keep_late(void) {
     if (!turn()) off = true;
 }
 
-void note_late(uint64_t clock, uint64_t took) {
+void note_late(const struct loop *loop, const char *what, int id, uint64_t clock, uint64_t took) {
     if (!late || took < late || (late_at && took <= late_took)) return;
     /* (of a longer one that comes meanwhile as much is to stand behind it) */
     late_at = clock;
     late_in = number;
     late_took = took;
+    snprintf(late_line, sizeof late_line, "- T %s %d %llu %llu %d\n", what, loop->number, (unsigned long long)(clock - loop->base),
+             (unsigned long long)took, id);
 }
 
 bool minds_late(void) {
@@ -243,14 +246,14 @@ bool open_ring(const char *named) {
     snprintf(process, sizeof process, "%d", (int)getpid());
     name_of(name, sizeof name, "words");
     /* (a program that replaced itself by exec has the same process) */
-    for (int more = 2; (words = open(name, O_WRONLY | O_CREAT | O_EXCL | O_APPEND | O_CLOEXEC, 0644)) < 0 && errno == EEXIST; more++) {
+    for (int more = 2; (words = open(name, O_WRONLY | O_CREAT | O_EXCL | O_APPEND | O_CLOEXEC | O_NOFOLLOW, 0600)) < 0 && errno == EEXIST; more++) {
         snprintf(process, sizeof process, "%d-%d", (int)getpid(), more);
         name_of(name, sizeof name, "words");
     }
     if (words < 0) return false;
     flock(words, LOCK_SH | LOCK_NB);
     name_of(name, sizeof name, "ring");
-    file = open(name, O_RDWR | O_CREAT | O_TRUNC | O_CLOEXEC, 0644);
+    file = open(name, O_RDWR | O_CREAT | O_TRUNC | O_CLOEXEC | O_NOFOLLOW, 0600);
     /* (what came before isn't there) */
     if (attaches) number = 1;
     return file >= 0 && turn();
@@ -266,4 +269,5 @@ void ask_for_ring(void) {
     keep = number_in("UVT_KEEP");
     late = number_in("UVT_LATE");
     if (keep && keep < FEWEST) keep = FEWEST;
+    if (!keep) late = 0;
 }
