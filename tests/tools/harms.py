@@ -31,8 +31,8 @@ KINDS = (
     *("plain", "segv", "trap", "urgent", "prof", "jump", "abort", "exit", "_exit", "kill", "null", "leave", "daemon", "fork", "vfork", "system"),
     *("exec", "setuid", "chdir", "closes", "fsize", "files", "memory", "requests", "threads"),
 )
-# More instructions than twice as many for twice as many loops are a cost that grows with those that were closed.
-FEW, MANY, LINEAR = 1000, 2000, 2.2
+# A thousand loops more cost as much behind three thousand as behind one, in instructions: more than this is a cost of those that were closed.
+ROUNDS, LINEAR = (1000, 2000, 3000, 4000), 1.3
 
 
 def ran(words: list[str], folder: Path, **more: str) -> subprocess.CompletedProcess[str]:
@@ -107,8 +107,9 @@ def try_loops(tries: Tries, room: Room) -> None:
     if not shutil.which("valgrind"):
         tries.leave_out("what loops that are closed cost", "there is no valgrind")
         return
-    few, many = instructions(room, FEW), instructions(room, MANY)
-    tries.check("harms: loops that are closed slow down none that comes later", 0 < many < LINEAR * few, (few, many))
+    first, second, third, last = (instructions(room, it) for it in ROUNDS)
+    alike = 0 < first < second and third < last and last - third < LINEAR * (second - first)
+    tries.check("harms: loops that are closed slow down none that comes later", alike, (first, second, third, last))
 
 
 def try_filters(tries: Tries, room: Room) -> None:
