@@ -16,7 +16,7 @@ import tempfile
 import time
 from pathlib import Path
 
-from tests.helper import ROOT, Check, Tries
+from tests.helper import LATE, ROOT, Check, Tries, limited
 from tests.tools.records import has_libuv
 from uvt.hunting import Bad, Counts
 from uvt.record.run import recorder
@@ -36,20 +36,17 @@ ROUNDS, LINEAR = (1000, 2000, 3000, 4000), 1.3
 
 
 def ran(words: list[str], folder: Path, **more: str) -> subprocess.CompletedProcess[str]:
-    """What it says, errors too; status 124 if it has no end."""
-    try:
-        return subprocess.run(
-            words,
-            cwd=folder,
-            stdout=subprocess.PIPE,
-            stderr=subprocess.STDOUT,
-            text=True,
-            errors="replace",
-            env=dict(os.environ, **more),
-            timeout=SECONDS,
-        )
-    except subprocess.TimeoutExpired:
-        return subprocess.CompletedProcess(words, 124, f"{' '.join(words)}: no end within {SECONDS} s")
+    """What it says, errors too."""
+    return limited(
+        words,
+        SECONDS,
+        cwd=folder,
+        stdout=subprocess.PIPE,
+        stderr=subprocess.STDOUT,
+        text=True,
+        errors="replace",
+        env=dict(os.environ, **more),
+    )
 
 
 def tool(word: str, words: list[str], folder: Path, **more: str) -> tuple[int, str]:
@@ -91,7 +88,7 @@ def try_kinds(check: Check, room: Room) -> None:
     for kind in KINDS:
         plain, recorded = room.plain("kinds", kind), room.run("kinds", kind)
         alike = (plain.returncode, plain.stdout) == (recorded.returncode, recorded.stdout)
-        check(f"harms: {kind}: its status and output", alike and plain.returncode != 124, (plain, recorded))
+        check(f"harms: {kind}: its status and output", alike and plain.returncode != LATE, (plain, recorded))
 
 
 def instructions(room: Room, loops: int) -> int:

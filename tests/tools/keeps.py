@@ -17,14 +17,13 @@ import time
 from pathlib import Path
 from typing import Callable
 
-from tests.helper import ROOT, Check, Tries
+from tests.helper import ROOT, SECONDS, Check, Tries, limited
 from tests.tools.records import has_libuv
 from uvt.record import ring
 from uvt.record.run import recorder
 
 UVT = str(ROOT / "uvt")
 HERE = Path(__file__).resolve().parent
-SECONDS = 300
 # So many turns of kept.c are more than two windows.
 MANY = "60000"
 LOOP = re.compile(r"^loop (\d+): (\d+) of (\d+) callbacks, \d+ steps: (.*)$", re.MULTILINE)
@@ -68,13 +67,13 @@ class Room:
         subprocess.run(["cc", "-O1", "-g", str(HERE / "kept.c"), "-o", self.program, "-luv", "-lpthread"], check=True)
 
     def uvt(self, *words: object) -> subprocess.CompletedProcess[str]:
-        return subprocess.run([UVT, *map(str, words)], cwd=self.folder, capture_output=True, text=True, timeout=SECONDS)
+        return limited([UVT, *map(str, words)], cwd=self.folder, capture_output=True, text=True, seconds=SECONDS)
 
     def kept(self, prefix: str, windows: int = 2, late: int = 0) -> dict[str, str]:
         return dict(os.environ, UVT_LOG=str(self.folder / prefix), UVT_KEEP=str(windows), UVT_LATE=str(late), LD_PRELOAD=str(recorder()))
 
     def run(self, prefix: str, *words: str, before: Callable[[], None] | None = None, windows: int = 2) -> int:
-        return subprocess.run([self.program, *words], env=self.kept(prefix, windows), cwd=self.folder, preexec_fn=before, timeout=SECONDS).returncode
+        return limited([self.program, *words], env=self.kept(prefix, windows), cwd=self.folder, preexec_fn=before, seconds=SECONDS).returncode
 
     def rings(self, prefix: str) -> list[Path]:
         return sorted(self.folder.glob(f"{prefix}.*.ring"))
@@ -109,7 +108,7 @@ def try_by_hand(check: Check, room: Room) -> None:
     check("keep: what a program that is started by hand needs", {"UVT_LOG", "UVT_KEEP", "LD_PRELOAD"} <= set(lines), said(ran))
     env = room.folder / "env"
     env.write_text(ran.stdout)
-    subprocess.run(["sh", "-c", f'set -a; . {env}; exec "$0" flood {MANY}', room.program], cwd=room.folder, check=True, timeout=SECONDS)
+    limited(["sh", "-c", f'set -a; . {env}; exec "$0" flood {MANY}', room.program], cwd=room.folder, check=True, seconds=SECONDS)
     rings = room.rings("hand")
     ran = room.uvt("record", "--log", *rings)
     check("keep, record --log X.ring", len(rings) == 1 and is_same(ran), said(ran))

@@ -16,7 +16,7 @@ import tempfile
 from pathlib import Path
 
 ROOT = Path(__file__).resolve().parent.parent.parent
-from tests.helper import Check, Tries
+from tests.helper import SECONDS, Check, Tries, limited
 from tests.tools.ios import try_io
 from uvt.conversation import Fault, built_program
 from uvt.notes import Notes, read_notes
@@ -28,11 +28,10 @@ EXAMPLES = ROOT / "crates" / "examples" / "data"
 TRUTHS = LOGS.parent / "truths"
 RECORD = str(ROOT / "tools" / "uvt" / "uvt-record")
 WHY = str(ROOT / "tools" / "uvt" / "uvt-why")
-SECONDS = 120
 # How often the program's threads send, by its source.
 SENDS = {"accepted": 2, "taken": 24, "learnt": 24, "later": 24, "uncalled": 24, "heldup": 24}
 # (for the program before its proofs, which is half as fast, on a busy machine)
-LONG = 1200
+LONG = 3600
 NESTED, CLOSING = "A run in a callback", "Some handles close later"
 
 # Of each log its loops, and of one that isn't `same` all the way: what the program does there, and the heading that speaks of it.
@@ -91,11 +90,11 @@ POLLS: dict[tuple[str, int], tuple[int, int, int]] = {("watchers", 0): (5, 6, 0)
 
 
 def recorded(words: list[str], folder: str, seconds: int = SECONDS) -> subprocess.CompletedProcess[str]:
-    return subprocess.run([RECORD, *words], cwd=folder, capture_output=True, text=True, timeout=seconds, env=os.environ)
+    return limited([RECORD, *words], cwd=folder, capture_output=True, text=True, seconds=seconds, env=os.environ)
 
 
 def verdict(path: Path, seconds: int = SECONDS) -> str:
-    ran = subprocess.run([os.environ["UVT"], "replay"], input=path.read_bytes(), capture_output=True, timeout=seconds)
+    ran = limited([os.environ["UVT"], "replay"], input=path.read_bytes(), capture_output=True, seconds=seconds)
     return ran.stdout.decode().strip()
 
 
@@ -281,7 +280,7 @@ def try_programs(check: Check, folder: str) -> None:
     for name in (it.name for it in Path(folder).iterdir()):
         check("record, no folder is left", not name.startswith(".late.") and not name.startswith(".killed."), name)
     # (a file may have 1,024 bytes: the log's first window has no room)
-    full = subprocess.run(["sh", "-c", f"ulimit -f 1; exec {RECORD} ./late"], cwd=folder, capture_output=True, text=True, timeout=SECONDS)
+    full = limited(["sh", "-c", f"ulimit -f 1; exec {RECORD} ./late"], cwd=folder, capture_output=True, text=True, seconds=SECONDS)
     check("record, no room for the log", full.returncode == 2 and "no room" in full.stderr and "Traceback" not in full.stderr, full)
     check("record, the program isn't disturbed by that", " is late: " in full.stdout, full)
 
@@ -290,12 +289,12 @@ def try_queued_again(check: Check, folder: str) -> None:
     """A request that is queued while it is under way: libuv forbids it, the program goes on as without the recorder, and it is said."""
     program = f"{folder}/queued-again"
     subprocess.run(["cc", "-O1", "-g", str(LOGS.parent / "queued_again.c"), "-o", program, "-luv", "-lpthread"], check=True)
-    plain = subprocess.run([program], capture_output=True, text=True, timeout=SECONDS)
+    plain = limited([program], capture_output=True, text=True, seconds=SECONDS)
     check("record, queued again, without", plain.returncode == 0 and plain.stdout == "one two \n", plain)
     ran = recorded(["./queued-again"], folder)
     check("record, queued again", ran.returncode == 0 and plain.stdout in ran.stdout and ": same" in ran.stdout, ran)
     check("record, queued again is said", "    QUEUED AGAIN: job, while it was under way (line " in ran.stdout, ran)
-    asked = subprocess.run([str(ROOT / "tools" / "uvt" / "uvt-why"), "queued-again.rec"], capture_output=True, text=True, cwd=folder, timeout=SECONDS)
+    asked = limited([str(ROOT / "tools" / "uvt" / "uvt-why"), "queued-again.rec"], capture_output=True, text=True, cwd=folder, seconds=SECONDS)
     check("why, queued again is said", "QUEUED AGAIN: job was queued while it was under way" in asked.stdout, asked)
 
 
@@ -345,7 +344,7 @@ def try_within(check: Check, folder: str, libuv: str) -> None:
         f"{folder}/bridges",
     ]
     subprocess.run([*words, "-ldl", "-lpthread"], check=True)
-    ran = subprocess.run([f"{folder}/bridges"], capture_output=True, text=True, timeout=SECONDS)
+    ran = limited([f"{folder}/bridges"], capture_output=True, text=True, seconds=SECONDS)
     check("record, the bridges", ran.returncode == 0 and ran.stdout == "ok\n", ran)
 
 
@@ -521,10 +520,10 @@ def try_early(check: Check, folder: Path) -> None:
     program.symlink_to(built_program())
     for uvt, early in ((str(program), True), (built_program(), "unproved" in built_program())):
         words = [sys.executable, "-c", EARLY, str(ROOT / "tools"), "talk.rec"]
-        ran = subprocess.run(words, cwd=folder, capture_output=True, text=True, timeout=LONG, env=dict(os.environ, UVT=uvt))
+        ran = limited(words, cwd=folder, capture_output=True, text=True, seconds=LONG, env=dict(os.environ, UVT=uvt))
         told = re.match(r"before the loop is led through its \d+ steps:\n\d+ callbacks, \d+ ms, by the log alone\n", ran.stdout)
         check("why, a long recording before the build", bool(told) == early and "\nask next: " in ran.stdout, ran.stdout[:2000])
-    ran = subprocess.run([WHY, "talk.log"], cwd=folder, capture_output=True, text=True, timeout=LONG, env=os.environ)
+    ran = limited([WHY, "talk.log"], cwd=folder, capture_output=True, text=True, seconds=LONG, env=os.environ)
     check("why, a log", re.match(r"\d+ callbacks, \d+ ms, by the log alone\n", ran.stdout) and "record --log talk.log" in ran.stdout, ran)
 
 
@@ -543,7 +542,7 @@ def try_worst(check: Check, folder: str) -> None:
     path = Path(folder) / "stall.rec"
     check("record --worst: replay", verdict(path, LONG) == "same")
     check("record --worst: its notes", "around the longest one were taken" in read_notes(path, path.read_bytes()).part)
-    told = subprocess.run([WHY, "stall.rec"], cwd=folder, capture_output=True, text=True, timeout=LONG, env=os.environ).stdout
+    told = limited([WHY, "stall.rec"], cwd=folder, capture_output=True, text=True, seconds=LONG, env=os.environ).stdout
     check("why of the part with the longest", f"\n    {STALL} ms: the callback of timer, from step " in told, told)
     ran = recorded(["-o", "first", "--log", "stall.log", "--most", "2000"], folder, LONG)
     check("record --most takes the first", "and the first 2000 were taken" in ran.stdout, ran)
@@ -554,7 +553,7 @@ def try_long(check: Check, folder: str) -> None:
     ran = recorded(["--log", "long.log"], folder, LONG)
     check("record, 50,000 callbacks", f"loop 0: {CALLS_OF_LONG + 1} of {CALLS_OF_LONG + 1} callbacks" in ran.stdout and ran.returncode == 0, ran)
     check("record, 50,000 callbacks: replay", verdict(Path(folder) / "long.rec", LONG) == "same")
-    told = subprocess.run([WHY, "timer", "long.rec"], cwd=folder, capture_output=True, text=True, timeout=LONG, env=os.environ).stdout
+    told = limited([WHY, "timer", "long.rec"], cwd=folder, capture_output=True, text=True, seconds=LONG, env=os.environ).stdout
     # (each thousandth call makes the loop's time old by 3 ms, so the one behind it is late by that)
     late = [it for it in told.splitlines() if re.match(r"step \d+, call \d+001: late by 3 ms: the callback of timer took 3 ms, ", it)]
     check("why of 50,000 callbacks", len(late) == CALLS_OF_LONG // 1000 - 1 and len(told) < 100_000, (len(late), told[:2000]))
@@ -572,19 +571,19 @@ def try_whys_of_parts(check: Check, folder: str) -> None:
     """A recording that is only a beginning: each tool says so."""
     recorded(["-o", "cut", "--log", str(LOGS / "closing.log")], folder)
     for words in (["uvt-why", "timer", "cut.rec"], ["uvt-why", "cut.rec"], ["uvt-shell", "cut.rec"], ["uvt-view", "cut.rec"]):
-        ran = subprocess.run(
+        ran = limited(
             [str(ROOT / "tools" / "uvt" / words[0]), *words[1:]],
             cwd=folder,
             capture_output=True,
             text=True,
-            timeout=SECONDS,
+            seconds=SECONDS,
             env=os.environ,
             input="",
         )
         check(f"{' '.join(words)} of a beginning", "THE RECORDING IS A PART: it has the first" in ran.stdout, ran.stdout[-500:] + ran.stderr)
     for tool, *words in (("uvt-why", "tick"), ("uvt-shell",), ("uvt-view",)):
-        ran = subprocess.run(
-            [str(ROOT / "tools" / "uvt" / tool), *words, str(LOGS / "zero.log")], capture_output=True, text=True, timeout=SECONDS, env=os.environ
+        ran = limited(
+            [str(ROOT / "tools" / "uvt" / tool), *words, str(LOGS / "zero.log")], capture_output=True, text=True, seconds=SECONDS, env=os.environ
         )
         check(f"{tool} of a log", ran.returncode == 1 and "this is a log of a program" in ran.stderr and "Traceback" not in ran.stderr, ran.stderr)
 
@@ -610,7 +609,7 @@ def try_page(check: Check, page: Path, folder: str, log: str, call: str, other: 
     check(f"{page.name}: it shows calls", bool(calls))
     for block, behind in calls:
         command = block.replace(call, f"./uvt record -o {name} --log {log}.log")
-        ran = subprocess.run(["sh", "-c", command], cwd=folder, capture_output=True, text=True, timeout=SECONDS, env=os.environ)
+        ran = limited(["sh", "-c", command], cwd=folder, capture_output=True, text=True, seconds=SECONDS, env=os.environ)
         # (what the program printed)
         parts = [it for it in behind.splitlines() if not it.startswith("beat ")]
         at, lines = 0, ran.stdout.splitlines()
@@ -637,7 +636,7 @@ def try_sharpness(check: Check) -> None:
     """Changed logs are noticed: a request's callback left out or doubled always, two swapped of which not both are of I/O in nine of ten."""
     logs = [str(LOGS / f"{name}.log") for name in WANTED]
     words = [str(ROOT / "tests" / "recorder" / "sharpness"), "--most", "20", *logs]
-    ran = subprocess.run(words, capture_output=True, text=True, timeout=LONG)
+    ran = limited(words, capture_output=True, text=True, seconds=LONG)
     counts = {it[0]: (int(it[1]), int(it[2])) for it in re.findall(r"^([\w/ ]+): (\d+) of (\d+) noticed$", ran.stdout, re.MULTILINE)}
     (swapped, of), requests = counts.get("swapped", (0, 0)), counts.get("request", (0, 0))
     check("record, requests left out or twice", requests[1] >= 20 and requests[0] == requests[1], ran.stdout + ran.stderr)

@@ -23,12 +23,11 @@ from pathlib import Path
 from typing import Sequence
 
 ROOT = Path(__file__).resolve().parent.parent.parent
-from tests.helper import Check, Tries
+from tests.helper import SECONDS, Check, Tries, limited
 from tests.tools.records import has_libuv
 from uvt.record.run import HOOKS, RECORDER, recorder
 
 PROGRAMS = (ROOT / "tools" / "uvt" / "record" / "programs", Path(__file__).resolve().parent / "truths")
-SECONDS = 300
 # How a program ends that valgrind or a sanitizer reports.
 REPORTED = 97
 # What ends by itself in a way that a sanitizer would take for a fault of its own.
@@ -58,13 +57,9 @@ class Room:
 
     def status(self, words: list[str], more: dict[str, str] | None = None) -> int:
         environment = dict(os.environ, UV_RUN_AS_ROOT="1") | (more or {})
-        try:
-            ran = subprocess.run(words, cwd=self.folder, env=environment, capture_output=True, timeout=SECONDS)
-        except subprocess.TimeoutExpired:
-            return 124
-        finally:
-            for log in self.folder.glob("log.*.log"):
-                log.unlink()
+        ran = limited(words, SECONDS, cwd=self.folder, env=environment, capture_output=True)
+        for log in self.folder.glob("log.*.log"):
+            log.unlink()
         return ran.returncode
 
     def preloaded(self, *libraries: object) -> dict[str, str]:
@@ -141,7 +136,7 @@ def try_node(check: Check, room: Room, starts: int) -> None:
 
     def start(number: int) -> tuple[int, bytes]:
         more = dict(os.environ) | environment | {"UVT_LOG": str(room.folder / f"node{number}")}
-        ran = subprocess.run(["node", server, "100", "10"], env=more, capture_output=True, timeout=SECONDS)
+        ran = limited(["node", server, "100", "10"], env=more, capture_output=True, seconds=SECONDS)
         return ran.returncode, ran.stdout
 
     with concurrent.futures.ThreadPoolExecutor(4) as several:
@@ -178,7 +173,7 @@ FEW, MANY = 2_000, 12_000
 def instructions(room: Room, words: list[str], more: dict[str, str]) -> int:
     """What valgrind counts."""
     counted = ["valgrind", "--tool=callgrind", "--callgrind-out-file=/dev/null", *words]
-    ran = subprocess.run(counted, cwd=room.folder, env=dict(os.environ) | more, capture_output=True, text=True, timeout=SECONDS)
+    ran = limited(counted, cwd=room.folder, env=dict(os.environ) | more, capture_output=True, text=True, seconds=SECONDS)
     return int(re.search(r"Collected : (\d+)", ran.stderr)[1])
 
 
