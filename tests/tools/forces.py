@@ -8,7 +8,6 @@ from __future__ import annotations
 
 import json
 import re
-import shutil
 import signal
 import subprocess
 import tempfile
@@ -21,7 +20,9 @@ from tests.tools.records import ROOT, archive, has_libuv
 
 FOLDER = Path(__file__).resolve().parent / "forces"
 PROGRAMS = ROOT / "tools" / "uvt" / "record" / "programs"
-SECONDS = 180
+SECONDS = 600
+# What is said, once, of a program that isn't proved yet, or is compiled.
+BUILDS = ("uvt: this is the program before its proofs", "uvt: compiling ")
 # How force ends: all went as in the session, it departs, it could not be done, the program ended badly.
 WELL, DEPARTS, FAULT, BADLY, SKIPPED = 0, 1, 2, 3, 77
 REPORT = "heap-use-after-free"
@@ -50,11 +51,15 @@ def has_sanitizer(folder: str) -> bool:
     return subprocess.run(words, input="int main(void) { return 0; }", capture_output=True, text=True).returncode == 0
 
 
-def tool(word: str, words: list[str], folder: str) -> tuple[int, str]:
-    ran = subprocess.run(
-        [str(ROOT / "tools" / "uvt" / f"uvt-{word}"), *words], capture_output=True, text=True, errors="replace", cwd=folder, timeout=SECONDS
-    )
-    return ran.returncode, ran.stdout + ran.stderr
+def tool(word: str, words: list[str], folder: str, seconds: int = SECONDS) -> tuple[int, str]:
+    """Its status, and what it says. (That a program isn't proved yet, or is compiled, is no answer.)"""
+    called = [str(ROOT / "tools" / "uvt" / f"uvt-{word}"), *words]
+    try:
+        ran = subprocess.run(called, capture_output=True, text=True, errors="replace", cwd=folder, timeout=seconds)
+    except subprocess.TimeoutExpired:
+        return 124, f"{' '.join(called)}: it took more than {seconds} s"
+    said = ran.stdout + "".join(it for it in ran.stderr.splitlines(keepends=True) if not it.startswith(BUILDS))
+    return ran.returncode, said
 
 
 def forced(words: list[str], folder: str) -> tuple[int, str]:
@@ -147,7 +152,7 @@ def try_random(check: Check, folder: str) -> None:
 def try_hunts(check: Check, folder: str) -> None:
     program = compiled("lookup", folder, "-fsanitize=address", "-luv")
     status, said = tool("hunt", ["-o", "found", program], folder)
-    good = status == BADLY and REPORT in said and "in 2 of 2 further runs in the same order" in said
+    good = status == BADLY and REPORT in said and "in 10 of 10 further runs in the same order" in said
     check("hunt, an order with a use after free", good, f"{status} {said}")
     check("hunt, where that is", bool(re.search(r"^    in \w+ \(lookup\.c:\d+\)$", said, re.MULTILINE)), said)
     status, said = forced(["-o", "again", "found.uvt", program], folder)
@@ -156,7 +161,7 @@ def try_hunts(check: Check, folder: str) -> None:
     began = time.monotonic()
     status, said = tool("hunt", ["--for", "6s", healthy], folder)
     check("hunt, a healthy program", status == WELL and said.startswith("each run ended well\n    "), f"{status} {said}")
-    check("hunt, the time that is given", 5 < time.monotonic() - began < 30, f"{time.monotonic() - began:.0f} s")
+    check("hunt, the time that is given", 5 < time.monotonic() - began < 120, f"{time.monotonic() - began:.0f} s")
     for words, why in (
         ([f"{folder}/missing"], "could not be started"),
         (["--part", "3/2", healthy], "a part is K/N"),
@@ -168,35 +173,74 @@ def try_hunts(check: Check, folder: str) -> None:
         check(f"hunt, a fault: {why}", status == FAULT and why in said and "Traceback" not in said, f"{status} {said}")
 
 
-# Of each what has to be said of who waits for whom.
+# Of each how often it was the same in further runs, and what has to be said of who waits for whom.
+LOCKED = (
+    r"the loop's thread waits for a lock that thread \d+ has, in on_t \({name}\.c:{loop}\)",
+    r"thread \d+ waits for a lock that the loop's thread has, in other \({name}\.c:{thread}\)",
+)
 HANGS = {
-    "lost": [r"the loop waits in its poll, with no time limit, in main \(lost\.c:31\)", r"workers 0, 1, 2, 3 wait for work"],
-    "joins": [
-        r"the loop's thread waits for the end of thread \d+, in on_end \(joins\.c:10\)",
-        r"thread \d+ waits for a semaphore, in thread \(joins\.c:9\)",
-    ],
-    "crosswise": [
-        r"the loop's thread waits for a lock that thread \d+ has, in on_t \(crosswise\.c:7\)",
-        r"thread \d+ waits for a lock that the loop's thread has, in other \(crosswise\.c:9\)",
-    ],
+    "lost": (10, (r"the loop waits in its poll, with no time limit, in main \(lost\.c:31\)", r"workers 0, 1, 2, 3 wait for work")),
+    "joins": (
+        10,
+        (
+            r"the loop's thread waits for the end of thread \d+, in on_end \(joins\.c:10\)",
+            r"thread \d+ waits for a semaphore, in thread \(joins\.c:9\)",
+        ),
+    ),
+    "crosswise": (10, tuple(it.format(name="crosswise", loop=7, thread=9) for it in LOCKED)),
+    "beside-child": (
+        2,
+        (
+            *(it.format(name="beside-child", loop=13, thread=23) for it in LOCKED),
+            r"process \d+ \(cat\) waits for a file, a pipe or a socket",
+        ),
+    ),
+    "livelock": (2, (r"the loop calls nothing but on_show \(livelock\.c:21\), in [\d,]+ turns", r"workers 0, 1, 2, 3 wait for work")),
 }
+# Nothing of these hangs: threads that wait until a time, a loop that never waits, 3,000 calls of a timer and nothing else, a child of three seconds.
+MOVING = ("timed", "spins", "counts", "sleeping-child")
 
 
 def try_hangs(check: Check, folder: str) -> None:
-    """A run that hangs is ended at once, and it is said who waits for whom; who waits until a time doesn't hang."""
-    for name, lines in HANGS.items():
+    """A run that hangs is ended at once, and it is said who waits for whom; who waits until a time, or for a child, doesn't hang."""
+    for name, (times, lines) in HANGS.items():
         program = compiled(name, folder, "-luv")
-        began = time.monotonic()
-        status, said = tool("hunt", ["--for", "40s", "-o", f"{name}.hung", program], folder)
-        good = status == BADLY and re.search(r"^the program hangs, and in 2 of 2 further runs in the same order$", said, re.M)
-        check(f"hunt, {name}: it hangs", bool(good) and time.monotonic() - began < 30, f"{time.monotonic() - began:.0f} s, {status} {said}")
+        status, said = tool("hunt", ["-o", f"{name}.hung", program], folder)
+        how = "hangs but for its timers" if name == "livelock" else "hangs"
+        hung = re.search(rf"^the program {how}, and in {times} of {times} further runs in the same order$", said, re.M)
+        check(f"hunt, {name}: it hangs", status == BADLY and bool(hung), f"{status} {said}")
         for it in lines:
             check(f"hunt, {name}: who waits for whom", bool(re.search(f"^    {it}$", said, re.M)), said)
     status, said = forced(["--test", "joins.hung.uvt", f"{folder}/joins"], folder)
     check("force --test, a hang", status == BADLY and "FAIL joins.hung.uvt: the program hangs\n    the loop's thread waits for the end" in said, said)
-    program = compiled("timed", folder, "-luv")
-    status, said = forced(["--random", "6", "-o", "timed.random", program], folder)
-    check("force at random, threads that wait until a time", status == WELL and said == "6 runs, and each ended well\n", f"{status} {said}")
+    for name in MOVING:
+        status, said = forced(["--random", "4", "-o", f"{name}.random", compiled(name, folder, "-luv")], folder)
+        check(f"force at random, {name}, which is healthy", status == WELL and said == "4 runs, and each ended well\n", f"{status} {said}")
+
+
+def try_results(check: Check, folder: str) -> None:
+    """A wrong result, and a run that a command of the user's calls bad."""
+    program = compiled("total", folder, "-luv")
+    status, said = tool("hunt", ["--same-output", "-o", "other", program], folder)
+    good = said.startswith("the program said `total 100`, where the first run said `total 80`, and in 10 of 10 further runs")
+    check("hunt, another output", status == BADLY and good, f"{status} {said}")
+    judge = 'read it; test "$UVT_STATUS" = 0 && test "$it" = \'total 80\' || { echo not 80; exit 1; }'
+    status, said = tool("hunt", ["--check", judge, "--report", "check.sarif", "-o", "judged", program], folder)
+    good = said.startswith(f"the program is bad by `{judge}` (status 1: not 80), and in 10 of 10 further runs")
+    check("hunt, what a command calls bad", status == BADLY and good, f"{status} {said}")
+    rule = json.loads(Path(folder, "check.sarif").read_text())["runs"][0]["results"][0]["ruleId"]
+    check("hunt, what a command calls bad, in SARIF", rule == "check", rule)
+    status, said = forced(["--test", "--check", judge, "judged.uvt", program], folder)
+    check("force --test, what a command calls bad", status == BADLY and "\nFAIL judged.uvt: the program is bad by `" in said, f"{status} {said}")
+    status, said = forced(["--test", "judged.uvt", program], folder)
+    check("force --test, where no command judges", status == WELL and "\nPASS judged.uvt: all " in said, f"{status} {said}")
+    status, said = tool("hunt", ["--for", "8s", "--check", "exit 125", program], folder)
+    check("hunt, a command that can't tell", status == WELL and said.startswith("each run ended well\n"), f"{status} {said}")
+    status, said = tool("hunt", ["--check", "false", "-o", "first", program], folder)
+    good = "(status 1), and in " in said and "    in the first run, which nobody forced\n" in said
+    check("hunt, the first run is bad already", status == BADLY and good, f"{status} {said}")
+    status, said = tool("hunt", ["--check", f"{folder}/no-judge", program], folder)
+    check("hunt, a command that isn't there", status == FAULT and "which judges a run, could not be run: " in said and "Traceback" not in said, said)
 
 
 def try_reports(check: Check, folder: str) -> None:
@@ -205,13 +249,15 @@ def try_reports(check: Check, folder: str) -> None:
     words = ["--seed", "7", "--report", "r.sarif", "--report", "r.xml", "--report", "r.json", "-o", "ci", program]
     status, said = tool("hunt", words, folder)
     check("hunt, with reports", status == BADLY and REPORT in said, f"{status} {said}")
+    number = re.search(r"^    in order (\d+) at random$", said, re.M)
+    check("hunt, the first order's number", bool(number) and int(number[1]) >= 7, said)
     result = json.loads(Path(folder, "r.sarif").read_text())["runs"][0]["results"][0]
     line = result["locations"][0]["physicalLocation"]["region"]["startLine"]
-    check("hunt, SARIF", result["ruleId"] == REPORT and line > 1 and result["properties"]["badAgain"] == 2, f"{result}")
+    check("hunt, SARIF", result["ruleId"] == REPORT and line > 1 and result["properties"]["badAgain"] == 10, f"{result}")
     suite = ElementTree.parse(f"{folder}/r.xml").getroot()[0]
     failure = suite.find("testcase/failure")
     check("hunt, JUnit", suite.get("failures") == "1" and failure is not None and failure.get("type") == REPORT, f"{suite.attrib}")
-    check("hunt, JSON", json.loads(Path(folder, "r.json").read_text())["bad"]["bad_again"] == 2, "")
+    check("hunt, JSON", json.loads(Path(folder, "r.json").read_text())["bad"]["bad_again"] == 10, "")
     status, said = forced(["--test", "ci.uvt", program], folder)
     check("force --test, the race is there", status == BADLY and "\nFAIL ci.uvt: the program ended with status 1 (Addr" in said, f"{status} {said}")
     mended = compiled("upload", folder, "-DCOUNTED", "-fsanitize=address", "-luv")
@@ -226,47 +272,39 @@ def try_interrupt(check: Check, folder: str) -> None:
         [str(ROOT / "tools" / "uvt" / "uvt-hunt"), "--for", "10m", f"{folder}/zero"],
         cwd=folder,
         stdout=subprocess.PIPE,
-        stderr=subprocess.STDOUT,
+        stderr=subprocess.PIPE,
         text=True,
     )
     time.sleep(6)
     hunting.send_signal(signal.SIGINT)
-    said = hunting.communicate(timeout=SECONDS)[0]
-    lines = said.splitlines()
-    good = hunting.returncode == 130 and lines[0] == "each run ended well" and lines[-1] == "it was interrupted, and not at its end"
+    try:
+        said, told = hunting.communicate(timeout=SECONDS)
+    except subprocess.TimeoutExpired:
+        hunting.kill()
+        said, told = hunting.communicate()
+    lines = [*said.splitlines(), ""]
+    said += "".join(it for it in told.splitlines(keepends=True) if not it.startswith(BUILDS))
+    good = hunting.returncode == 130 and lines[0] == "each run ended well" and lines[-2] == "it was interrupted, and not at its end"
     check("hunt, an interrupt", good and "Traceback" not in said, f"{hunting.returncode} {said}")
 
 
 def try_parts(check: Check, folder: str) -> None:
-    """Three parts by GNU parallel, and what they found together."""
-    if not shutil.which("parallel"):
-        print("tools: a hunt in parts: not tried, since there is no GNU parallel (Debian: parallel)", flush=True)
-        return
-    program = f"{folder}/lookup"
-    words = [
-        "parallel",
-        "-j",
-        "3",
-        str(ROOT / "tools" / "uvt" / "uvt-hunt"),
-        "--for",
-        "20s",
-        "-o",
-        "parts",
-        "--part",
-        "{}/3",
-        program,
-        ":::",
-        "1",
-        "2",
-        "3",
+    """Three parts beside one another, and what they found together."""
+    words = [str(ROOT / "tools" / "uvt" / "uvt-hunt"), "--for", "20s", "-o", "parts", "--part"]
+    parts = [
+        subprocess.Popen([*words, f"{it}/3", f"{folder}/lookup"], cwd=folder, stdout=subprocess.DEVNULL, stderr=subprocess.DEVNULL)
+        for it in (1, 2, 3)
     ]
-    subprocess.run(words, cwd=folder, capture_output=True, timeout=SECONDS)
+    ends = [part.wait() for part in parts]
     reports = sorted(it.name for it in Path(folder).glob("parts.*.report"))
-    check("hunt, a report of each part", reports == [f"parts.{it}-of-3.report" for it in (1, 2, 3)], f"{reports}")
+    check("hunt, a report of each part", reports == [f"parts.{it}-of-3.report" for it in (1, 2, 3)] and BADLY in ends, f"{reports} {ends}")
     status, said = tool("hunt", ["-o", "joined", "--join", *reports], folder)
     check("hunt, the parts joined", status == BADLY and REPORT in said and said.rstrip().endswith("in 3 parts"), f"{status} {said}")
     status, said = tool("hunt", ["-o", "joined", "--join", *reports[:2]], folder)
     check("hunt, a part is missing", said.startswith("part 3 of 3 is missing\n"), f"{status} {said}")
+    status, said = tool("hunt", ["-o", "hung.part", "--part", "1/1", "--report", "hung.report", f"{folder}/joins"], folder)
+    status, said = tool("hunt", ["-o", "joined", "--join", "hung.report"], folder)
+    check("hunt, a part that hangs, joined", status == BADLY and "    the loop's thread waits for the end of thread " in said, f"{status} {said}")
 
 
 def try_forces(tries: Tries) -> None:
@@ -287,5 +325,5 @@ def try_forces(tries: Tries) -> None:
         if not sanitizer:
             print("tools: orders that are hunted: not tried, since `cc` has no AddressSanitizer", flush=True)
             return
-        for part in (try_sanitizer, try_random, try_hunts, try_hangs, try_reports, try_interrupt, try_parts):
+        for part in (try_sanitizer, try_random, try_hunts, try_hangs, try_results, try_reports, try_interrupt, try_parts):
             part(tries.check, folder)

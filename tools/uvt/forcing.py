@@ -20,7 +20,7 @@ from dataclasses import dataclass, field
 from pathlib import Path
 
 from uvt.conversation import Conversation, Fault, Script
-from uvt.hangs import place_in, read_hang
+from uvt.hangs import read_hang
 from uvt.record.run import Part, from_fresh, from_log, recorder, room_for, sanitizers, taken, why_not, with_hooks
 
 SECTIONS = {"pending", "idle", "prepare", "done", "async", "check", "closing", "timers"}
@@ -35,8 +35,11 @@ SHOWN = 8
 TIMES, LEAST, ENDLESS, GRACE = 10, 30, 10, 2
 # How often it is looked whether it is over.
 LOOK = 0.2
-# What the page says of a run that hangs, where it's sure.
-SURE = 2
+# What the page says of a run that hangs: that nothing moves, that nothing could, or that the loop goes round in its timers.
+STILL, SURE, ROUND = 1, 2, 3
+# How many turns of the loop with nothing but timers are too many: so often those of the first run, and so many at the least. And how long nothing
+# may move where somebody from outside could come, in seconds: so often the time of the first run, and so long at the least.
+TURNS, MOVES = 1000, 10
 
 
 # ---- the session, line by line
@@ -171,6 +174,9 @@ class Order:
     lines: list[str] = field(default_factory=list)
     # the program doesn't end by itself: it is ended behind the last step, or, at random, where the clock has gone so far, in ms
     endless: int = 0
+    # how long nothing may move, in seconds, and so many turns of the loop with nothing but timers are too many
+    still: float = MOVES
+    turns: int = TURNS
 
     def __post_init__(self) -> None:
         if self.script:
@@ -194,15 +200,21 @@ class Ran:
     name: str = ""
     # what is said of its recording
     recorded: str = ""
-    # who waits for whom, where it hangs, and whether nothing could wake it
+    # who waits for whom, where it hangs; how sure that is; and PATH:LINE
     hang: list[str] = field(default_factory=list)
-    hangs: bool = False
+    hangs: int = 0
     hangs_at: str = ""
+    # how it went wrong by what a command of the user's says, None where nobody has asked
+    judged: str | None = None
+
+    def is_told_at_once(self) -> bool:
+        """A run that only took too long, or in which nothing moved for long, may have been the machine's matter, or another process's."""
+        return not self.late or self.hangs == SURE
 
     def ended(self) -> str:
         """How the program ended, `` where that was well."""
-        if self.hang:
-            return "hangs"
+        if self.hangs:
+            return "hangs but for its timers" if self.hangs == ROUND else "hangs"
         if self.late:
             return f"didn't end within {self.seconds:.0f} s"
         report = REPORT.search(self.output)
@@ -227,7 +239,7 @@ def environment_of(words: list[str], folder: Path, order: Order) -> dict[str, st
         "UVT_FORCE_SAID": str(folder / "said"),
         "UVT_FORCE_AT": str(folder / "at"),
         "UVT_FORCE_LOOP": str(order.loop),
-        **({} if order.endless else {"UVT_FORCE_HANGS": "1"}),
+        **({} if order.endless else {"UVT_FORCE_HANGS": str(int(1000 * order.still)), "UVT_FORCE_ROUNDS": str(order.turns)}),
         # (libuv of 1.45 to 1.48 asks the kernel, and no worker, where it can: what the kernel does has no order here)
         "UV_USE_IO_URING": "0",
         "LD_PRELOAD": " ".join(
@@ -281,7 +293,7 @@ def told(path: Path) -> list[str]:
 
 
 def hangs(path: Path) -> int:
-    """Does it hang? 1: nothing moves any more, 2: and nothing could."""
+    """Does it hang? STILL, SURE, ROUND, or 0."""
     try:
         return int(struct.unpack("i", path.read_bytes()[16:20])[0])
     except (OSError, struct.error):
@@ -317,35 +329,36 @@ def wait_for(ran: subprocess.Popen[bytes], seconds: float, grace: Callable[[], f
     return False
 
 
-def run_at(
-    words: list[str], environment: dict[str, str], folder: Path, seconds: float | None, grace: Callable[[], float | None]
-) -> tuple[int, int, Ran]:
-    """Runs it: at the terminal where no time is given, else with its output kept and its time limited. Answers its process too."""
+def run_here(words: list[str], environment: dict[str, str], folder: Path) -> tuple[int, Ran]:
+    """Runs it at the terminal, until it ends or hangs. Answers its process too."""
     began = time.monotonic()
-    if seconds is None:
-        try:
-            ran = subprocess.Popen(words, env=dict(os.environ, **environment))
-        except OSError as fault:
-            raise Fault(why_not(words[0], fault)) from None
-        # (an interrupt at the terminal is for the program; what ends this tool ends the program)
-        before = {signal.SIGINT: signal.signal(signal.SIGINT, lambda *_: None)}
-        before |= {it: signal.signal(it, lambda *_: ran.terminate()) for it in (signal.SIGTERM, signal.SIGHUP)}
-        late = False
-        try:
-            while not late:
-                try:
-                    ran.wait(LOOK)
-                    break
-                except subprocess.TimeoutExpired:
-                    # (who looks on in a debugger wants it alive)
-                    late = Path(words[0]).name != "gdb" and hangs(folder / "at") == SURE
-            if late:
-                ran.kill()
-            status = ran.wait()
-        finally:
-            for number, handler in before.items():
-                signal.signal(number, handler)
-        return ran.pid, status, Ran(status, time.monotonic() - began, late=late)
+    try:
+        ran = subprocess.Popen(words, env=dict(os.environ, **environment))
+    except OSError as fault:
+        raise Fault(why_not(words[0], fault)) from None
+    # (an interrupt at the terminal is for the program; what ends this tool ends the program)
+    before = {signal.SIGINT: signal.signal(signal.SIGINT, lambda *_: None)}
+    before |= {it: signal.signal(it, lambda *_: ran.terminate()) for it in (signal.SIGTERM, signal.SIGHUP)}
+    # (who looks on in a debugger wants it alive)
+    ends = () if Path(words[0]).name == "gdb" else (SURE, ROUND)
+    late = False
+    try:
+        while ran.poll() is None and not late:
+            with contextlib.suppress(subprocess.TimeoutExpired):
+                ran.wait(LOOK)
+            late = ran.poll() is None and hangs(folder / "at") in ends
+        if late:
+            ran.kill()
+        status = ran.wait()
+    finally:
+        for number, handler in before.items():
+            signal.signal(number, handler)
+    return ran.pid, Ran(status, time.monotonic() - began, late=late)
+
+
+def run_for(words: list[str], environment: dict[str, str], folder: Path, seconds: float, grace: Callable[[], float | None]) -> tuple[int, Ran]:
+    """The same with its output kept and its time limited."""
+    began = time.monotonic()
     with (folder / "output").open("wb") as output:
         try:
             ran = subprocess.Popen(
@@ -358,7 +371,7 @@ def run_at(
         finally:
             end_all(ran)
     text = (folder / "output").read_text(errors="replace")
-    return ran.pid, ran.returncode, Ran(ran.returncode, time.monotonic() - began, text, late)
+    return ran.pid, Ran(ran.returncode, time.monotonic() - began, text, late)
 
 
 def run(
@@ -380,18 +393,18 @@ def run(
                 return 0
             return GRACE if order.endless and read_page(folder / "at")[3] else None
 
-        pid, status, ran = run_at(started, environment, folder, seconds, grace)
+        pid, ran = run_here(started, environment, folder) if seconds is None else run_for(started, environment, folder, seconds, grace)
         ran.told = told(folder / "said")
         ran.steps, ran.departures, ran.done, _ = read_page(folder / "at")
         ran.name = name
-        ran.hangs = ran.late and hangs(folder / "at") == SURE
-        if ran.late and hangs(folder / "at"):
-            ran.hang, ran.hangs_at = read_hang(folder / "said"), place_in(folder / "said")
+        if ran.late and (hung := hangs(folder / "at")):
+            ran.hangs = hung
+            ran.hang, ran.hangs_at = read_hang(folder / "said")
         logs = sorted(folder.glob("log.*.log"), key=lambda it: (not it.name.startswith(f"log.{pid}."), it.stat().st_mtime_ns))
         if logs and (records(ran) if callable(records) else records):
             said = io.StringIO()
             with contextlib.redirect_stdout(said):
-                from_fresh(taken(logs[0], Path(f"{name}.log")), name, False, part, signal_of(-status) if status < 0 and not ran.late else "")
+                from_fresh(taken(logs[0], Path(f"{name}.log")), name, False, part, signal_of(-ran.status) if ran.status < 0 and not ran.late else "")
             ran.recorded = said.getvalue()
         return ran
 
@@ -408,6 +421,13 @@ def recording_of(name: str, loop: int) -> Path:
     return own if own.exists() and not Path(f"{name}.rec").exists() else Path(f"{name}.rec")
 
 
+def bound(order: Order, first: Ran, steps: int) -> Order:
+    """What is too long for a run in this order, by the first run, of which the recording has so many steps."""
+    order.endless = int(1000 * first.seconds) if first.late else 0
+    order.still, order.turns = max(MOVES, 5 * first.seconds), max(TURNS, steps)
+    return order
+
+
 def limit(first: Ran) -> float:
     """How long a run may take where the first one took so long."""
     return ENDLESS if first.late else max(LEAST, TIMES * first.seconds)
@@ -420,5 +440,5 @@ def badly(ran: Ran, first: Ran) -> str:
     ended = ran.ended()
     if ended == first.ended() and not REPORT.search(ran.output):
         return ""
-    more = f", and the first run took {first.seconds:.1f} s" if ran.late and not ran.hang else ""
+    more = f", and the first run took {first.seconds:.1f} s" if ran.late and not ran.hangs else ""
     return ended + more if ended else ""

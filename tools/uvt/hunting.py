@@ -13,7 +13,8 @@ from dataclasses import dataclass, field, replace
 from pathlib import Path
 
 from uvt.conversation import Fault, read_bytes, read_input
-from uvt.forcing import Order, Ran, badly, limit, recording_of, remake, run
+from uvt.forcing import Order, Ran, badly, bound, limit, recording_of, remake, run
+from uvt.judging import judged, other_output
 from uvt.record.run import Part
 
 BODY = re.compile(r"(on|after|closed) (\S+) (?:@\d+ )?(\S+)(?: (\S+))?")
@@ -24,6 +25,8 @@ NAMELESS = {"run", "stoploop", "updatetime", "closeloop"}
 # How long the first run and a search may take, in seconds; how long a stall is where no callback of the recording took longer, in ms; and how many
 # orders at random come before the questions, and behind them.
 FIRST, SEARCH, STALL, BEFORE, BEHIND = 10, 15, 15, 10, 100
+# How often an order that was bad is forced again; and one of which nobody knows so soon whether it is bad again.
+AGAIN, AGAIN_LATE = 10, 2
 # So many callbacks of each run are looked at.
 LOOKED = Part(most=2000)
 CODES = ("ESTALE", "EINVAL", "EBUSY")
@@ -158,13 +161,18 @@ def place_of(output: str) -> tuple[str, str]:
     return (f"{found[1]} ({Path(found[2]).name}:{found[3]})", f"{found[2]}:{found[3]}") if found else ("", "")
 
 
-def other_output(output: str, first: str) -> str:
-    """The first line in which the two differ, `` where none does."""
-    for one, two in itertools.zip_longest(output.splitlines(), first.splitlines()):
-        if one != two:
-            said = "has no more output" if one is None else f"said `{one[:60]}`"
-            return f"{said}, where the first run {'said nothing more' if two is None else f'said `{two[:60]}`'}"
-    return ""
+@dataclass
+class Wishes:
+    """What is hunted, and how."""
+
+    words: list[str]
+    # how long, None: until nothing new is learnt
+    seconds: float | None = None
+    part: tuple[int, int] = (1, 1)
+    seed: int = 1
+    # what else is bad: another output than the first run's; what a command of the user's says of a run
+    same_output: bool = False
+    check: str = ""
 
 
 class TimeOver(Exception):
@@ -174,30 +182,21 @@ class TimeOver(Exception):
 class Hunt:
     """Questions of a program's recordings, and orders at random, until one ends badly."""
 
-    def __init__(
-        self,
-        words: list[str],
-        search: str,
-        folder: Path,
-        seconds: float | None,
-        part: tuple[int, int],
-        tell: Callable[[str], None],
-        same_output: bool = False,
-        seed: int = 1,
-    ) -> None:
-        self.seeds = (it for it in itertools.count(seed) if self.is_mine(f"seed {it}"))
+    def __init__(self, wishes: Wishes, search: str, folder: Path, tell: Callable[[str], None]) -> None:
+        self.wishes, self.search, self.folder, self.tell = wishes, search, folder, tell
+        self.seeds = (it for it in itertools.count(wishes.seed) if self.is_mine(f"seed {it}"))
         # how long questions took that orders at random haven't had yet, in seconds
         self.owed = 0.0
-        self.same_output = same_output
-        self.words, self.search, self.folder, self.part, self.tell = words, search, folder, part, tell
         self.began = time.monotonic()
-        self.until = None if seconds is None else self.began + seconds
+        self.until = None if wishes.seconds is None else self.began + wishes.seconds
         self.asked: set[tuple[str, str]] = set()
         self.known: dict[tuple[str, str], list[str]] = {}
         # how long the runs took, and what was made of their logs, in seconds
         self.running = self.recording = 0.0
         self.counts = Counts()
         self.first = Ran(0, 0)
+        # how many steps that run had
+        self.length = 0
         self.loop = 0
         self.runs = 0
         self.fault = ""
@@ -215,18 +214,23 @@ class Hunt:
 
     def badly(self, ran: Ran) -> str:
         """How a run ended, where that is bad: `` where it ended well. Where it is asked so, one that says something else than the first run did
-        is bad, too."""
-        if how := badly(ran, self.first):
+        is bad, too, or one that a command of the user's calls bad."""
+        if (how := badly(ran, self.first)) or ran.late:
             return how
-        return other_output(ran.output, self.first.output) if self.same_output and not ran.late else ""
+        return self.judged(ran) or (other_output(ran.output, self.first.output) if self.wishes.same_output else "")
+
+    def judged(self, ran: Ran) -> str:
+        if ran.judged is None:
+            ran.judged = judged(self.wishes.check, ran) if self.wishes.check and not ran.late else ""
+        return ran.judged
 
     def force(self, order: Order, records: bool | Callable[[Ran], object] = True, limited: bool = True) -> Ran:
         """Forces it. One that isn't LIMITED is neither left out nor cut where no time is left."""
         left, allowed = self.left() if limited else SEARCH, limit(self.first)
         self.runs += 1
-        order.endless = int(1000 * self.first.seconds) if self.first.late else 0
+        bound(order, self.first, self.length)
         cut, before = limited and self.until is not None and left < allowed, time.monotonic()
-        ran = run(self.words, order, str(self.folder / f"run{self.runs}"), left if cut else allowed, records, LOOKED)
+        ran = run(self.wishes.words, order, str(self.folder / f"run{self.runs}"), left if cut else allowed, records, LOOKED)
         self.running += ran.seconds
         self.recording += time.monotonic() - before - ran.seconds
         if cut and ran.late and not ran.hangs:
@@ -245,18 +249,20 @@ class Hunt:
     def begin(self) -> Recorded | Bad:
         """The first run, which nobody forces. Of several loops the one that has the most callbacks is hunted."""
         self.tell("the first run")
-        self.first = run(self.words, Order(), str(self.folder / "first"), FIRST)
+        self.first = run(self.wishes.words, Order(), str(self.folder / "first"), FIRST)
         paths = {it: read(it) for it in sorted(self.folder.glob("first*.rec"))}
         if not paths:
             raise Fault(f"no recording was made of the first run: {self.first.recorded.strip() or 'it called nothing of libuv'}")
         path = max(paths, key=lambda it: len(paths[it].steps))
-        self.loop = read_input(path)[0].notes.loop
-        if not self.first.late and (self.first.status < 0 or "Sanitizer" in self.first.ended()):
-            script, commands = read_input(path)
-            bad = self.bad(self.first, self.first.ended(), "the first run, which nobody forced", path.read_text())
+        self.length = len(paths[path].steps)
+        script, commands = read_input(path)
+        self.loop = script.notes.loop
+        how = self.first.ended() if self.first.status < 0 or "Sanitizer" in self.first.ended() else self.judged(self.first)
+        if not self.first.late and how:
+            bad = self.bad(self.first, how, "the first run, which nobody forced", path.read_text())
             # (what ends a run badly is another end than that of a run that went well)
-            self.first = Ran(0, self.first.seconds)
-            return self.again(bad, Order(script, commands, self.loop))
+            self.first = Ran(0, self.first.seconds, self.first.output)
+            return self.again(bad, Order(script, commands, self.loop), AGAIN)
         return paths[path]
 
     # ---- what is known
@@ -281,7 +287,7 @@ class Hunt:
 
     def is_mine(self, text: str) -> bool:
         """Does this part ask it? Each question and each seed belongs to one of the parts."""
-        mine, of = self.part
+        mine, of = self.wishes.part
         return zlib.crc32(text.encode()) % of == mine - 1
 
     # ---- the hunt
@@ -345,20 +351,27 @@ class Hunt:
         ran = self.force(Order(asked, commands, self.loop))
         self.counts.departed += ran.departures > 0 or not (ran.done or ran.ended())
         if how := self.badly(ran):
-            return self.sure(self.kept(self.bad(ran, how, f"the order of `{text}`", session), ran, Order(asked, commands, self.loop)), ran)
+            return self.kept(self.bad(ran, how, f"the order of `{text}`", session), ran, Order(asked, commands, self.loop))
         return self.recorded(ran)
 
-    def kept(self, bad: Bad, ran: Ran, order: Order) -> Bad:
+    def kept(self, bad: Bad, ran: Ran, order: Order) -> Bad | None:
         """The order that ends badly again. What find has found ends with the step that was asked: what comes behind it came as it liked. The
         recording of the run has all of it, where that is worth more."""
-        bad = self.again(bad, order)
+        times = AGAIN if ran.is_told_at_once() else AGAIN_LATE
+        whole = self.whole_recording(ran)
+        bad = self.again(bad, order, times)
+        if bad.bad_again < bad.again and whole:
+            script, commands = read_input(whole)
+            other = self.again(replace(bad, order=whole.read_text(), again=0, bad_again=0), Order(script, commands, self.loop), times)
+            bad = other if other.bad_again > bad.bad_again else bad
+        return self.sure(bad, ran)
+
+    def whole_recording(self, ran: Ran) -> Path | None:
+        """Of all of the run, and not of the part that is looked at."""
         if Path(f"{ran.name}.log").exists():
             remake(ran.name)
-        whole = recording_of(ran.name, self.loop)
-        if bad.bad_again == bad.again or not whole.exists():
-            return bad
-        other = self.again(replace(bad, order=whole.read_text(), again=0, bad_again=0), Order(*read_input(whole), self.loop))
-        return other if other.bad_again > bad.bad_again else bad
+        path = recording_of(ran.name, self.loop)
+        return path if path.exists() else None
 
     def searched(self, lines: list[str]) -> str:
         """The session that is found, or ``."""
@@ -384,29 +397,28 @@ class Hunt:
         ran = self.force(Order(seed=seed, stall=stall, loop=self.loop), self.teaches)
         if not (how := self.badly(ran)):
             return self.recorded(ran)
-        by, path = f"order {seed} at random", recording_of(ran.name, self.loop)
-        if Path(f"{ran.name}.log").exists():
-            remake(ran.name)
-        if not path.exists():
-            return self.sure(self.bad(ran, how, by, ""), ran)
-        script, commands = read_input(path)
-        return self.sure(self.again(self.bad(ran, how, by, path.read_text()), Order(script, commands, self.loop)), ran)
+        path = self.whole_recording(ran)
+        bad = self.bad(ran, how, f"order {seed} at random", path.read_text() if path else "")
+        if path:
+            script, commands = read_input(path)
+            bad = self.again(bad, Order(script, commands, self.loop), AGAIN if ran.is_told_at_once() else AGAIN_LATE)
+        return self.sure(bad, ran)
 
     def bad(self, ran: Ran, how: str, by: str, order: str) -> Bad:
         place, path = place_of(ran.output)
         return Bad(how, by, order, self.loop, place=place, hang=ran.hang, path=path or ran.hangs_at)
 
-    def again(self, bad: Bad, order: Order) -> Bad:
-        """The same order, twice more, however much time is left: what is said is said with how often it comes."""
-        for _ in range(2):
-            ended = self.badly(self.force(order, False, limited=False))
+    def again(self, bad: Bad, order: Order, times: int) -> Bad:
+        """The same order, so many times more, however much time is left: what is said is said with how often it comes."""
+        for number in range(1, times + 1):
+            self.tell(f"{bad.by}, bad, {number} of {times} times more")
+            bad.bad_again += bool(self.badly(self.force(order, False, limited=False)))
             bad.again += 1
-            bad.bad_again += bool(ended)
         return bad
 
     def sure(self, bad: Bad, ran: Ran) -> Bad | None:
         """A run that only took too long, and didn't again, may have been the machine's matter: that is no finding."""
-        if ran.late and not ran.hangs and not bad.bad_again:
+        if not ran.is_told_at_once() and not bad.bad_again:
             self.counts.once += 1
             return None
         return bad

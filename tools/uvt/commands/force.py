@@ -1,7 +1,7 @@
 """Runs a real program in the order of a session: what comes from outside comes where the session has it.
 
   ./uvt force [-o NAME] [--stop] [--early] [--loop N] SESSION [--] PROGRAM [ARG..]
-  ./uvt force --test [--limit S] [--early] [--loop N] SESSION [--] PROGRAM [ARG..]
+  ./uvt force --test [--limit S] [--check CMD] [--early] [--loop N] SESSION [--] PROGRAM [ARG..]
   ./uvt force [-o NAME] [--stall MS] [--seed S] --random N [--] PROGRAM [ARG..]
 
 SESSION is what find or hunt has found, what shell has saved, or a recording. The program runs unmodified: its clock moves as the session says,
@@ -17,7 +17,8 @@ another status than a run that nobody forces, or never. Its order is NAME.rec, w
 and then the clock jumps by up to MS ms. --seed S: the first order's number.
 
 --test: as a test of CI, without a recording. Status 0: all steps came, and the program ended well. 3: it ended badly, or hangs, or took more than
---limit S seconds (60). 77, which automake, meson and ctest take for skipped: it departs from the order, which says nothing of it any more.
+--limit S seconds (60), or a command of yours calls it bad (--check CMD, as in ./uvt hunt). 77, which automake, meson and ctest take for skipped: it
+departs from the order, which says nothing of it any more.
 
 Status 0: all steps of the session have come, with no departure, and the program ended well (at random: each run did). 1: it departs, and ended
 well. 2: it could not be done. 3: the program ended badly, whether or not it departs: by a signal, or with a status that isn't 0. Under gdb the
@@ -27,13 +28,15 @@ status says nothing of how the program ended.
 from __future__ import annotations
 
 import argparse
+import shlex
 import tempfile
 from pathlib import Path
 
 from launch.tool import run_tool
 from uvt.conversation import INSTALLED, read_input
-from uvt.forcing import Order, Ran, agreement, badly, limit, recording_of, run
+from uvt.forcing import Order, Ran, agreement, badly, bound, limit, recording_of, run
 from uvt.hunting import place_of
+from uvt.judging import judged
 from uvt.notes import harmless
 
 WELL, DEPARTS, FAULT, BADLY = 0, 1, 2, 3
@@ -68,13 +71,12 @@ def in_order(words: list[str], order: Order, name: str, records: bool) -> int:
     return BADLY if bad else WELL if good else DEPARTS
 
 
-def tested(words: list[str], order: Order, session: str, seconds: float) -> int:
+def tested(words: list[str], order: Order, session: str, seconds: float, check: str) -> int:
     """An order that was bad, as a test: it fails where the program ends badly in it again, and says nothing where the program departs from it."""
     ran = run(words, order, f"{Path(words[0]).name}.forced", seconds, False)
-    print(ran.output, end="" if ran.output.endswith("\n") else "\n" if ran.output else "")
-    place = place_of(ran.output)[0]
-    length = len(order.lines)
-    if bad := ran.ended():
+    print(ran.output, end="" if ran.output.endswith("\n") or not ran.output else "\n")
+    place, length = place_of(ran.output)[0], len(order.lines)
+    if bad := ran.ended() or (judged(check, ran) if check else ""):
         lines = [f"FAIL {session}: the program {bad}{f', in {place}' if place else ''}", *(f"    {it}" for it in ran.hang)]
         status = BADLY
     elif ran.done and not ran.departures:
@@ -86,27 +88,28 @@ def tested(words: list[str], order: Order, session: str, seconds: float) -> int:
     return status
 
 
-def busiest(words: list[str], folder: Path) -> tuple[Ran, int]:
-    """A run that nobody forces, and its loop that has the most steps: the first ones of node are its own."""
+def busiest(words: list[str], folder: Path) -> tuple[Ran, int, int]:
+    """A run that nobody forces, its loop that has the most steps, and how many: the first loops of node are its own."""
     first = run(words, Order(), str(folder / "first"), FIRST)
     steps = {it: len(read_input(it)[1]) for it in folder.glob("first*.rec")}
-    return first, read_input(max(steps, key=lambda it: steps[it]))[0].notes.loop if steps else 0
+    most = max(steps, key=lambda it: steps[it], default=None)
+    return (first, read_input(most)[0].notes.loop, steps[most]) if most else (first, 0, 0)
 
 
-def at_random(words: list[str], runs: int, stall: int, seed: int, name: str, loop: int | None) -> int:
-    """Runs it in orders at random until it ends badly."""
+def at_random(words: list[str], runs: int, wanted: Order, name: str) -> int:
+    """Runs it in orders at random until it ends badly. WANTED: the first of them; its loop is negative where nobody has said which."""
     with tempfile.TemporaryDirectory() as folder:
-        first, busy = busiest(words, Path(folder))
-    loop = busy if loop is None else loop
+        first, busy, steps = busiest(words, Path(folder))
+    loop = busy if wanted.loop < 0 else wanted.loop
     if first.ended():
         print(f"a run that nobody forces {first.ended()}", flush=True)
     for number in range(1, runs + 1):
-        endless = int(1000 * first.seconds) if first.late else 0
-        ran = run(words, Order(seed=seed + number - 1, stall=stall, endless=endless, loop=loop), name, limit(first), lambda it: badly(it, first))
+        order = bound(Order(seed=wanted.seed + number - 1, stall=wanted.stall, loop=loop), first, steps)
+        ran = run(words, order, name, limit(first), lambda it: badly(it, first))
         if bad := badly(ran, first):
             print(f"run {number} {bad}")
-            print("\n".join(ran.output.splitlines()[:LINES]))
-            print(f"its order: {FORCE} {recording_of(name, loop)} {' '.join(words)}", flush=True)
+            print("\n".join([*(f"    {it}" for it in ran.hang), *ran.output.splitlines()[:LINES]]))
+            print(f"its order: {FORCE} {recording_of(name, loop)} {shlex.join(words)}", flush=True)
             return BADLY
     print(f"{counted(runs, 'run')}, and each ended {'as that did' if first.ended() else 'well'}")
     return WELL
@@ -120,6 +123,7 @@ def main() -> int:
     reader.add_argument("--quiet", action="store_true", help="no recording")
     reader.add_argument("--test", action="store_true", help="as a test: 0 it passes, 3 it fails, 77 it says nothing any more")
     reader.add_argument("--limit", type=float, default=TEST, metavar="S", help="as a test: how long it may take, in seconds")
+    reader.add_argument("--check", default="", metavar="CMD", help="as a test: it fails, too, where this command calls the run bad")
     reader.add_argument("--random", type=int, metavar="N", help="no session: up to N orders at random")
     reader.add_argument("--loop", type=int, metavar="N", help="which loop of the program (a recording says so itself; else 0, the first)")
     reader.add_argument("--stall", type=int, default=0, metavar="MS", help="at random: jumps of the clock")
@@ -132,14 +136,17 @@ def main() -> int:
         words = [asked.session, *words]
     if not words:
         reader.error("PROGRAM is missing")
+    if asked.test and asked.random is not None:
+        reader.error("--test has a session, and no orders at random")
 
     def force() -> int:
         if asked.random is not None:
-            return at_random(words, asked.random, asked.stall, asked.seed, asked.name or f"{Path(words[0]).name}.random", asked.loop)
+            wanted = Order(seed=asked.seed, stall=asked.stall, loop=-1 if asked.loop is None else asked.loop)
+            return at_random(words, asked.random, wanted, asked.name or f"{Path(words[0]).name}.random")
         script, commands = read_input(Path(asked.session))
         loop = script.notes.loop if asked.loop is None else asked.loop
         if asked.test:
-            return tested(words, Order(script, commands, loop, early=asked.early), asked.session, asked.limit)
+            return tested(words, Order(script, commands, loop, early=asked.early), asked.session, asked.limit, asked.check)
         return in_order(words, Order(script, commands, loop, asked.stop, asked.early), asked.name or f"{Path(words[0]).name}.forced", not asked.quiet)
 
     return run_tool("uvt-force", force, failed=FAULT, what="the run")

@@ -1,17 +1,22 @@
 """Hunts for an order in which a program on libuv ends badly: it records it, asks find, forces what was found, and learns from that.
 
-  ./uvt hunt [-o NAME] [--for TIME] [--part K/N] [--seed S] [--report FILE] [--same-output] [--] PROGRAM [ARG..]
+  ./uvt hunt [-o NAME] [--for TIME] [--part K/N] [--seed S] [--report FILE] [--same-output] [--check CMD] [--] PROGRAM [ARG..]
   ./uvt hunt --join FILE..
 
 A run ends badly by a signal, with a report of AddressSanitizer (build the program with -fsanitize=address), with another status than the first
-run, or never, where the first run ended. First come ten orders at random. Then questions, which are the same of each program: a timer, an async
-handle or a request that is called, called twice or never called, or called before another one; an op on what is gone or closed; a cancel that
-comes in time, or too late; a loop that waits for ever. Each also with a stall, as long as the longest callback. Each order that find has found is
-forced upon the program. What callbacks do that were never called before is known from then on, and the questions are asked again. At the end come
-a hundred more orders at random.
+run, where it hangs, or never, where the first run ended. First come ten orders at random. Then questions, which are the same of each program: a
+timer, an async handle or a request that is called, called twice or never called, or called before another one; an op on what is gone or closed; a
+cancel that comes in time, or too late; a loop that waits for ever. Each also with a stall, as long as the longest callback. Each order that find has
+found is forced upon the program. What callbacks do that were never called before is known from then on, and the questions are asked again. At the
+end come a hundred more orders at random.
 
-Where a run ends badly, its order is NAME.uvt, and the same order is forced twice more. NAME is the program's, with `.hunt`. --for TIME (60s, 10m,
-2h): it ends by then, and until then it goes on with orders at random. Ctrl-C ends it at any time, and it says what it has done.
+Where a run ends badly, its order is NAME.uvt, and the same order is forced ten times more (twice, where each takes long): it is said in how many of
+these it ended badly. NAME is the program's, with `.hunt`. --for TIME (60s, 10m, 2h): it ends by then, and until then it goes on with orders at
+random; a run under way is ended then, those that try a bad order again are not. Ctrl-C ends it at any time, and it says what it has done.
+
+--same-output: a run that says something else than the first one is bad, too. --check CMD: so is one that CMD calls bad. A shell runs it behind each
+run that ended well, with that run's output as its input, and its status in UVT_STATUS. Status 0: it is well. 125: it can't tell. Another one: it is
+bad.
 
 --part K/N: the K-th of N parts, each of which asks other questions, and has other orders at random. Its report is NAME.K-of-N.report. --join: what
 the parts have found, of their reports.
@@ -41,7 +46,7 @@ from typing import Any
 
 from launch.tool import run_tool
 from uvt.conversation import INSTALLED, ROOT, Fault, built_program
-from uvt.hunting import Bad, Counts, Hunt, counted
+from uvt.hunting import Bad, Counts, Hunt, Wishes, counted
 from uvt.notes import harmless
 from uvt.record.run import recorder, room_in, write
 from uvt.reports import junit, sarif
@@ -97,16 +102,15 @@ def how_often(bad: Bad) -> str:
 
 
 def of_bad(bad: Bad, name: str, words: list[str]) -> list[str]:
-    """How it ended badly, where that order is, and the words to see it."""
+    """How it ended badly, where its order is, and the words to see it."""
     lines = [f"the program {bad.how}{how_often(bad)}"]
     lines += [f"    {it}" for it in bad.hang]
     lines += [f"    in {bad.place}"] if bad.place else []
     if not bad.order:
         return [*lines, f"    in {bad.by}, of which nothing was recorded"]
-    write(Path(f"{name}.uvt"), bad.order.encode("ascii", "surrogateescape"))
     program, loop = shlex.join(words), f" --loop {bad.loop}" if bad.loop else ""
     # (where a signal or a sanitizer ends it, a debugger stops there by itself)
-    stop = "" if "was ended by" in bad.how or "Sanitizer" in bad.how else " --stop"
+    stop = "" if bad.how.startswith("was ended by") or "Sanitizer" in bad.how else " --stop"
     return [
         *lines,
         f"    in {bad.by}",
@@ -114,6 +118,11 @@ def of_bad(bad: Bad, name: str, words: list[str]) -> list[str]:
         f"    {FORCE}{loop} {name}.uvt {program}",
         f"    {FORCE}{loop}{stop} {name}.uvt gdb --args {program}",
     ]
+
+
+def keep_order(bad: Bad, name: str) -> None:
+    if bad.order:
+        write(Path(f"{name}.uvt"), bad.order.encode("ascii", "surrogateescape"))
 
 
 def say(counts: Counts, bad: Bad | None, lines: list[str], part: str, fault: str) -> int:
@@ -128,24 +137,37 @@ def say(counts: Counts, bad: Bad | None, lines: list[str], part: str, fault: str
 # ---- reports
 
 
-def write_machine(file: str, hunt: Hunt, bad: Bad | None, lines: list[str], name: str, status: int, ended: str) -> None:
-    """By the file's name: SARIF, JUnit's XML, or what --join reads."""
-    if file.endswith(".sarif"):
-        write(Path(file), sarif(hunt.words, bad, lines, f"{name}.uvt", status).encode())
-    elif file.endswith(".xml"):
-        write(Path(file), junit(hunt.words, bad, lines, hunt.counts.seconds, hunt.counts.text()).encode("utf-8", "replace"))
-    else:
-        write_report(Path(file), hunt, bad, ended)
+@dataclasses.dataclass
+class Report:
+    """What a hunt has found, for machines."""
+
+    wishes: Wishes
+    counts: Counts
+    bad: Bad | None
+    # what is said of it, and the name of its order, without .uvt
+    lines: list[str]
+    name: str
+    status: int
+
+    def write(self, file: str) -> None:
+        """By the file's name: SARIF, JUnit's XML, or what --join reads."""
+        if file.endswith(".sarif"):
+            text = sarif(self.wishes.words, self.bad, self.lines, f"{self.name}.uvt", self.status)
+        elif file.endswith(".xml"):
+            text = junit(self.wishes.words, self.bad, self.lines, self.counts.seconds, self.counts.text())
+        else:
+            text = self.json()
+        write(Path(file), text.encode("utf-8", "replace"))
+
+    def json(self) -> str:
+        found: dict[str, object] = {"form": REPORT, "part": self.wishes.part, "program": self.wishes.words}
+        found["ended"] = "interrupted" if self.status == INTERRUPTED else ""
+        found["counts"] = dataclasses.asdict(self.counts)
+        found["bad"] = dataclasses.asdict(self.bad) if self.bad else None
+        return json.dumps(found, indent=1) + "\n"
 
 
 # ---- parts
-
-
-def write_report(path: Path, hunt: Hunt, bad: Bad | None, ended: str) -> None:
-    """What --join reads."""
-    found: dict[str, object] = {"form": REPORT, "part": hunt.part, "program": hunt.words, "ended": ended, "counts": dataclasses.asdict(hunt.counts)}
-    found["bad"] = dataclasses.asdict(bad) if bad else None
-    write(path, (json.dumps(found, indent=1) + "\n").encode())
 
 
 def read_report(path: str) -> dict[str, Any]:
@@ -173,15 +195,16 @@ def is_text(value: object) -> bool:
     return isinstance(value, str) and "\0" not in value
 
 
+def is_count(value: object) -> bool:
+    return isinstance(value, (int, float)) and 0 <= value < MOST_COUNTED
+
+
 def are_typed(found: Counts | Bad) -> None:
     """Refuses a report whose numbers are none, or whose texts are none."""
     for it in dataclasses.fields(found):
         value, kind = getattr(found, it.name), str(it.type)
-        if kind == "list[str]":
-            good = isinstance(value, list) and all(is_text(one) for one in value)
-        else:
-            good = is_text(value) if kind == "str" else isinstance(value, (int, float)) and 0 <= value < MOST_COUNTED
-        if not good:
+        is_list, fits = kind.startswith("list["), is_text if "str" in kind else is_count
+        if isinstance(value, list) != is_list or not all(map(fits, value if is_list else [value])):
             raise ValueError
 
 
@@ -216,7 +239,9 @@ def join(paths: list[str], name: str | None) -> int:
     lines = [f"part{'s' * (len(missing) > 1)} {ranges(missing)} of {of} {'are' if len(missing) > 1 else 'is'} missing"] if missing else []
     lines += [f"part {it} was interrupted" for it in cut]
     for number, one in bad:
-        lines += [f"part {number} of {of}:", *of_bad(one, name if len(bad) == 1 else f"{name}.{number}", words)]
+        order = name if len(bad) == 1 else f"{name}.{number}"
+        keep_order(one, order)
+        lines += [f"part {number} of {of}:", *of_bad(one, order, words)]
     lines += [] if bad else ["each run ended well"]
     lines.append(f"    {total.text()}, in {counted(len(have), 'part')}")
     print(harmless("\n".join(lines)), flush=True)
@@ -240,33 +265,35 @@ def part_of(text: str) -> tuple[int, int]:
     return int(found[1]), int(found[2])
 
 
-def hunted(words: list[str], name: str, seconds: float | None, part: tuple[int, int], same_output: bool, seed: int, reports: list[str]) -> int:
+def hunted(wishes: Wishes, name: str, reports: list[str]) -> int:
     search, teller = prepare(), Teller()
     folder = room_in(Path(tempfile.gettempdir()), "uvt-hunt.")
-    hunt = Hunt(words, search, folder, seconds, part, teller.tell, same_output, seed)
+    hunt = Hunt(wishes, search, folder, teller.tell)
     teller.counts = hunt.counts
-    bad, ended = None, ""
+    bad, ended = None, False
     for it in (signal.SIGTERM, signal.SIGHUP):
         signal.signal(it, lambda *_: os.kill(os.getpid(), signal.SIGINT))
     try:
         bad = hunt.run()
     except KeyboardInterrupt:
-        ended = "interrupted"
+        ended = True
     finally:
         shutil.rmtree(folder, ignore_errors=True)
         teller.done()
     hunt.counts.seconds = time.monotonic() - hunt.began
-    of_parts = f", part {part[0]} of {part[1]}" if part[1] > 1 else ""
-    if part[1] > 1:
-        write_report(Path(f"{name}.{part[0]}-of-{part[1]}.report"), hunt, bad, ended)
-        name = f"{name}.{part[0]}-of-{part[1]}"
-    lines = of_bad(bad, name, words) if bad else ["each run ended well"]
+    mine, of = wishes.part
+    of_parts = f", part {mine} of {of}" if of > 1 else ""
+    name = f"{name}.{mine}-of-{of}" if of > 1 else name
+    lines = of_bad(bad, name, wishes.words) if bad else ["each run ended well"]
+    if bad:
+        keep_order(bad, name)
     status = say(hunt.counts, bad, lines, of_parts, hunt.fault)
-    for report in reports:
-        write_machine(report, hunt, bad, lines, name, INTERRUPTED if ended else status, ended)
+    report = Report(wishes, hunt.counts, bad, lines, name, INTERRUPTED if ended else status)
+    for file in [*reports, *([f"{name}.report"] if of > 1 else [])]:
+        report.write(file)
     if ended:
         print("it was interrupted, and not at its end", flush=True)
-    return INTERRUPTED if ended else status
+    return report.status
 
 
 def main() -> int:
@@ -275,6 +302,7 @@ def main() -> int:
     reader.add_argument("--for", dest="seconds", type=seconds_of, metavar="TIME", help="how long: 60s, 10m, 2h")
     reader.add_argument("--part", type=part_of, default=(1, 1), metavar="K/N", help="this part of the questions and seeds")
     reader.add_argument("--same-output", action="store_true", help="a run that says something else than the first one ends badly, too")
+    reader.add_argument("--check", default="", metavar="CMD", help="a run that this command calls bad ends badly, too")
     reader.add_argument("--seed", type=int, default=1, metavar="S", help="the first order's number: another night, other orders")
     reader.add_argument("--report", action="append", default=[], metavar="FILE", help="FILE.sarif, FILE.xml (JUnit), or JSON")
     reader.add_argument("--join", action="store_true", help="the reports of the parts")
@@ -289,7 +317,7 @@ def main() -> int:
             if asked.join:
                 return join(words, asked.name)
             name = asked.name or f"{Path(words[0]).name}.hunt"
-            return hunted(words, name, asked.seconds, asked.part, asked.same_output, asked.seed, asked.report)
+            return hunted(Wishes(words, asked.seconds, asked.part, asked.seed, asked.same_output, asked.check), name, asked.report)
         except ValueError as fault:
             raise Fault(str(fault)) from None
 

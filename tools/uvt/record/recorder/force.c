@@ -11,7 +11,6 @@
  * end, libuv's look at the clock, the poll) it does what the session has there: it moves the clock, lets one worker take a request,
  * lets it hand the request in, lets one thread send, and waits until that is done. All others wait at gates. */
 #define _GNU_SOURCE
-#define _GNU_SOURCE
 #include "force.h"
 
 #include <errno.h>
@@ -20,7 +19,6 @@
 #include <stdlib.h>
 #include <string.h>
 #include <sys/mman.h>
-#include <sys/syscall.h>
 #include <unistd.h>
 
 volatile enum state state = NOT_FORCING;
@@ -32,9 +30,6 @@ int name_count;
 struct loop *forced;
 int depth;
 bool early, behind_poll;
-static uint64_t began_real;
-static __thread unsigned reads;
-static __thread uint64_t crept, told;
 
 const char *name_of(int at) {
     return at >= 0 && at < name_count ? names[at].text : "?";
@@ -199,7 +194,7 @@ static bool is_shown(const struct item *item) {
 }
 
 /* Does what comes from outside, up to the next thing that is none of that. With `through`: up to the next thing that the program shows. */
-static void advance(bool through) {
+void advance(bool through) {
     const struct item *it;
     int held = unlock_all();
     leads++;
@@ -225,7 +220,7 @@ static bool is_same_word(const char *word, const char *function) {
 /* In front of what the program asks of libuv. */
 void force_before(const char *function) {
     if (!is_leader()) return;
-    reads = 0;
+    new_reads();
     if (at_random) {
         maybe_choose();
         return;
@@ -301,6 +296,36 @@ static bool passes_by(const struct item *it) {
     return object || is_soft(it);
 }
 
+/* The op of the session that this is, -1: none of the next ones. */
+static int find_op(const struct shown *shown, bool is_own) {
+    int found = -1;
+    for (int at = cursor, seen = 0; at < item_count && seen < 12 && found < 0; at++) {
+        if (is_outside(&items[at]) || items[at].type == SILENT) continue;
+        if (items[at].type != OP) break;
+        seen++;
+        if (fits_op(&items[at], shown)) found = at;
+    }
+    /* (one of V8's that the session has behind something else comes there: the program's is kept back until then) */
+    for (int at = cursor; is_own && found >= 0 && at < found; at++)
+        if (items[at].type == OP && !is_soft(&items[at])) return -1;
+    return found;
+}
+
+/* The program has made a handle or a request: from here on the session's name is its own. */
+static void bind_name(struct name *name, const struct shown *shown) {
+    static const char *const KINDS[] = {"timer", "idle", "prepare", "check", "async", "tcp", "udp", "pipe", "tty", "poll", "signal", "fs_event",
+                                        "fs_poll", "process", "work"};
+    struct object *object = object_by_id(shown->id);
+    const char *kind = "pool";
+    for (size_t at = 0; at < sizeof KINDS / sizeof *KINDS; at++)
+        if (strcmp(KINDS[at], shown->rest) == 0) kind = KINDS[at];
+    pthread_mutex_lock(&gate);
+    name->id = shown->id;
+    name->address = object ? object->address : NULL;
+    name->kind = kind;
+    pthread_mutex_unlock(&gate);
+}
+
 static void did_op(const char *words) {
     struct shown shown = read_shown(words);
     int sent_to = strcmp(shown.word, "send") == 0 ? name_by_id(shown.id) : -1;
@@ -309,28 +334,11 @@ static void did_op(const char *words) {
     char room[400];
     const struct item *it = at_cursor();
     if (!it) return;
-    int found = -1;
-    for (int at = cursor, seen = 0; at < item_count && seen < 12; at++) {
-        if (is_outside(&items[at]) || items[at].type == SILENT) continue;
-        if (items[at].type != OP) break;
-        seen++;
-        if (fits_op(&items[at], &shown)) {
-            found = at;
-            break;
-        }
-    }
-    /* (one of V8's that the session has behind something else comes there: the program's is kept back until then) */
-    for (int at = cursor; is_own && found >= 0 && at < found; at++)
-        if (items[at].type == OP && !is_soft(&items[at])) found = -1;
+    int found = find_op(&shown, is_own);
     has_own_send = found >= 0;
-    if (found < 0 && is_own) {
-        skips = true;
-        return;
-    }
-    if (found < 0) {
-        depart("the program does %s, where the session has `%s`", told_of(&shown, room, sizeof room), it->text);
-        return;
-    }
+    skips = found < 0 && is_own;
+    if (found < 0 && !is_own) depart("the program does %s, where the session has `%s`", told_of(&shown, room, sizeof room), it->text);
+    if (found < 0) return;
     while (cursor < found && state == FORCING) {
         it = at_cursor();
         if (it->type == OP && !passes_by(it))
@@ -338,23 +346,12 @@ static void did_op(const char *words) {
         if (is_outside(it)) advance(false);
         else step_done();
     }
-    it = at_cursor();
-    if (is_made(it->word)) {
-        struct object *object = object_by_id(shown.id);
-        names[it->name].id = shown.id;
-        names[it->name].address = object ? object->address : NULL;
-        names[it->name].kind = NULL;
-        const char *kinds[] = {"timer", "idle", "prepare", "check", "async", "tcp", "udp", "pipe", "tty", "poll", "signal", "fs_event", "fs_poll",
-                               "process", "work"};
-        for (size_t at = 0; at < sizeof kinds / sizeof *kinds; at++)
-            if (strcmp(kinds[at], shown.rest) == 0) names[it->name].kind = kinds[at];
-        if (!names[it->name].kind) names[it->name].kind = "pool";
-    } else {
-        if (strcmp(it->word, "start") == 0 && strcmp(it->rest, shown.rest) != 0)
-            depart("the program does %s, where the session has `%s`", told_of(&shown, room, sizeof room), it->text);
-        if (it->answer && strcmp(it->answer, shown.answer) != 0)
-            depart("`%s %s` answers %s in the program, and %s in the session", it->word, name_of(it->name), shown.answer, it->answer);
-    }
+    if (state != FORCING || !(it = at_cursor())) return;
+    if (is_made(it->word)) bind_name(&names[it->name], &shown);
+    else if (strcmp(it->word, "start") == 0 && strcmp(it->rest, shown.rest) != 0)
+        depart("the program does %s, where the session has `%s`", told_of(&shown, room, sizeof room), it->text);
+    if (!is_made(it->word) && it->answer && strcmp(it->answer, shown.answer) != 0)
+        depart("`%s %s` answers %s in the program, and %s in the session", it->word, name_of(it->name), shown.answer, it->answer);
     if (cursor == last_shown) {
         say("AT %d %s", it->step, it->text);
         stop_here();
@@ -374,7 +371,7 @@ static void pass_ops(void) {
     }
 }
 
-static void depart_for_good(const char *what, const struct item *it) {
+void depart_for_good(const char *what, const struct item *it) {
     depart("the program has %s there, where the session has `%s`: from here on it runs freely", what, it ? it->text : "its end");
     set_free(NULL);
 }
@@ -409,11 +406,41 @@ static void began_callback(const char *words) {
     depart_for_good(what, it);
 }
 
+static void began_poll(long timeout) {
+    pass_ops();
+    advance(true);
+    const struct item *it = at_cursor();
+    if (state != FORCING || !it) return;
+    if (it->type != POLL) {
+        depart_for_good("a poll", it);
+        return;
+    }
+    if (it->number != timeout) say("at step %d the poll may wait %ld ms in the program, and %ld in the session", it->step, timeout, it->number);
+    step_done();
+}
+
+static void began_run(void) {
+    pass_ops();
+    const struct item *it = at_cursor();
+    if (state == FORCING && it && it->type == RUN) step_done();
+    else if (state == FORCING && it) depart_for_good("uv_run", it);
+}
+
+static void ended_run(void) {
+    behind_poll = false;
+    pass_ops();
+    advance(true);
+    const struct item *it = at_cursor();
+    if (state == FORCING && it && it->type == END) step_done();
+    else if (state == FORCING && it) depart_for_good("the end of its run", it);
+    advance(false);
+}
+
 /* A line of the log, at which something is shown. */
 void force_event(struct loop *loop, char type, const char *words) {
-    if (state != FORCING) return;
-    if (loop != forced || !is_leader()) return;
-    reads = 0;
+    if (state != FORCING || loop != forced || !is_leader()) return;
+    new_reads();
+    look_for_rounds(type, words);
     if (at_random) {
         random_event(type, words);
         return;
@@ -421,7 +448,6 @@ void force_event(struct loop *loop, char type, const char *words) {
     /* (a run in the callback of the last step) */
     if (cursor == item_count && strchr("RPr", type)) set_free(NULL);
     int held = unlock_all();
-    const struct item *it;
     switch (type) {
     case 'O': did_op(words); break;
     case 'B':
@@ -432,34 +458,9 @@ void force_event(struct loop *loop, char type, const char *words) {
         if (--depth == 0) advance(false);
         if (depth == 0 && cursor == item_count) set_free(NULL);
         break;
-    case 'R':
-        pass_ops();
-        it = at_cursor();
-        if (state == FORCING && it && it->type == RUN) step_done();
-        else if (state == FORCING && it) depart_for_good("uv_run", it);
-        break;
-    case 'P':
-        pass_ops();
-        advance(true);
-        it = at_cursor();
-        if (state != FORCING || !it) break;
-        if (it->type != POLL) {
-            depart_for_good("a poll", it);
-            break;
-        }
-        if (it->number != atol(words))
-            say("at step %d the poll may wait %s ms in the program, and %ld in the session", it->step, words, it->number);
-        step_done();
-        break;
-    case 'r':
-        behind_poll = false;
-        pass_ops();
-        advance(true);
-        it = at_cursor();
-        if (state == FORCING && it && it->type == END) step_done();
-        else if (state == FORCING && it) depart_for_good("the end of its run", it);
-        advance(false);
-        break;
+    case 'R': began_run(); break;
+    case 'P': began_poll(atol(words)); break;
+    case 'r': ended_run(); break;
     default: break;
     }
     lock_again(held);
@@ -467,7 +468,7 @@ void force_event(struct loop *loop, char type, const char *words) {
 
 /* ---- libuv's look at the clock */
 
-static void look_at_clock(void) {
+void look_at_clock(void) {
     /* (libuv looks once behind each call of the system: what the session has there is done by then) */
     if (behind_poll) {
         behind_poll = false;
@@ -493,165 +494,6 @@ static void look_at_clock(void) {
     for (int at = cursor; at < item_count; at++)
         if (!is_outside(&items[at])) return;
     advance(false);
-}
-
-int clock_gettime(clockid_t id, struct timespec *time) {
-    bool steady = id == CLOCK_MONOTONIC || id == CLOCK_MONOTONIC_COARSE || id == CLOCK_MONOTONIC_RAW || id == CLOCK_BOOTTIME;
-    bool civil = id == CLOCK_REALTIME || id == CLOCK_REALTIME_COARSE;
-    if (state == NOT_FORCING || (!steady && !civil)) {
-        static void *kept;
-        return ((int (*)(clockid_t, struct timespec *))real("clock_gettime", &kept))(id, time);
-    }
-    uint64_t now;
-    /* (libuv's own look, and not that of whoever is asked for memory there, as a sanitizer) */
-    bool is_libuv = leads == 0 && is_text_of_libuv(__builtin_return_address(0));
-    if (state == FORCING && steady && is_libuv && depth == 0 && forced && forced->running > 0 && is_leader()) {
-        look_at_clock();
-        now = virtual_ns();
-    } else if (state == FORCING && inside == 0 && !is_locked_here()) {
-        /* the program's own: one that waits in a loop until time has gone by comes to its end */
-        now = virtual_ns();
-        if (++reads == 1) crept = 0;
-        if (reads > 50) crept += 20000;
-        now += crept;
-        if (now < told) now = told;
-        told = now;
-    } else {
-        now = virtual_ns();
-    }
-    if (civil) now = now - began + began_real;
-    time->tv_sec = (time_t)(now / 1000000000);
-    time->tv_nsec = (long)(now % 1000000000);
-    return 0;
-}
-
-uint64_t force_clock(uint64_t real_ms) {
-    return state == NOT_FORCING ? real_ms : virtual_ns() / 1000000;
-}
-
-/* ---- who sleeps: nobody */
-
-void force_slept(uint64_t ns) {
-    crept += ns;
-}
-
-static bool sleeps(uint64_t ns) {
-    if (state != FORCING) return false;
-    bool is = is_leader();
-    crept += ns;
-    leads += is;
-    take_nap();
-    leads -= is;
-    return true;
-}
-
-int nanosleep(const struct timespec *asked, struct timespec *left) {
-    if (sleeps((uint64_t)asked->tv_sec * 1000000000 + (uint64_t)asked->tv_nsec)) return 0;
-    return (int)syscall(SYS_nanosleep, asked, left);
-}
-
-int clock_nanosleep(clockid_t id, int flags, const struct timespec *asked, struct timespec *left) {
-    if (!flags && sleeps((uint64_t)asked->tv_sec * 1000000000 + (uint64_t)asked->tv_nsec)) return 0;
-    return syscall(SYS_clock_nanosleep, id, flags, asked, left) ? errno : 0;
-}
-
-int usleep(useconds_t asked) {
-    if (sleeps((uint64_t)asked * 1000)) return 0;
-    struct timespec time = {asked / 1000000, (long)(asked % 1000000) * 1000};
-    return (int)syscall(SYS_nanosleep, &time, NULL);
-}
-
-unsigned sleep(unsigned asked) {
-    if (sleeps((uint64_t)asked * 1000000000)) return 0;
-    struct timespec time = {asked, 0};
-    return syscall(SYS_nanosleep, &time, NULL) ? 1 : 0;
-}
-
-/* ---- the poll */
-
-static int file_of(const struct name *name) {
-    uv_loop_t *uv = forced->uv;
-    if (!name->kind || !name->address) return -1;
-    if (strcmp(name->kind, "poll") == 0) return ((uv_poll_t *)name->address)->io_watcher.fd;
-    if (strcmp(name->kind, "udp") == 0) return ((uv_udp_t *)name->address)->io_watcher.fd;
-    if (strcmp(name->kind, "signal") == 0 || strcmp(name->kind, "process") == 0) return uv->signal_io_watcher.fd;
-    if (strcmp(name->kind, "fs_event") == 0) return uv->inotify_fd;
-    return ((uv_stream_t *)name->address)->io_watcher.fd;
-}
-
-enum { WANTED = 1024 };
-
-static bool poll_in_order(int descriptor, struct epoll_event *events, int room, int timeout, int *got) {
-    const struct item *it;
-    int held = unlock_all();
-    advance(false);
-    lock_again(held);
-    if (state != FORCING) return false;
-    behind_poll = true;
-    come_to_rest();
-    /* what has to be handed out, in this order: I/O, the wake (of which after callbacks and those of async handles come), I/O */
-    int wanted[WANTED], often[WANTED], count = 0, wake = -1, wake_file = forced->uv->async_io_watcher.fd;
-    for (int at = cursor; at < item_count && count < WANTED - 1; at++) {
-        const struct item *item = &items[at];
-        if (item->type == SECTION && strcmp(item->word, "done") == 0 && wake < 0) {
-            wake = count;
-            often[count] = 1;
-            wanted[count++] = wake_file;
-        } else if ((item->type == SECTION && strcmp(item->word, "async") != 0) || item->type == POLL || item->type == END || item->type == RUN) {
-            break;
-        } else if (item->is_io) {
-            int file = file_of(&names[item->name]);
-            int before = 0;
-            while (before < count && wanted[before] != file) before++;
-            if (before < count) often[before]++;
-            if (file >= 0 && before == count) often[count] = 1, wanted[count++] = file;
-        }
-    }
-    if (wake < 0 && cursor >= item_count) return false;
-    struct epoll_event ready[WANTED];
-    int found = 0;
-    sigset_t none;
-    sigemptyset(&none);
-    for (int tries = 0; tries < 200; tries++) {
-        found = (int)syscall(SYS_epoll_pwait, descriptor, ready, WANTED, tries ? 10 : 0, NULL, 8);
-        bool all = true;
-        for (int at = 0; at < count; at++) {
-            bool is_ready = wanted[at] == wake_file;
-            for (int of = 0; of < found; of++) is_ready |= ready[of].data.fd == wanted[at];
-            all &= is_ready;
-        }
-        if (all) break;
-    }
-    int handed = 0;
-    for (int at = 0; at < count && handed < room; at++) {
-        bool is_there = false;
-        for (int of = 0; of < found; of++)
-            if (ready[of].data.fd == wanted[at]) {
-                events[handed] = ready[of];
-                /* (one callback: the end of a stream comes with a poll of its own) */
-                if (often[at] == 1 && (events[handed].events & EPOLLIN)) events[handed].events &= ~(unsigned)(EPOLLHUP | EPOLLRDHUP);
-                handed++;
-                is_there = true;
-            }
-        if (!is_there && wanted[at] != wake_file)
-            depart("nothing comes for the handle of I/O whose callback the session has there (other processes run in real time, and are not forced)");
-    }
-    uint64_t deadline = forced->uv->time + (uint64_t)(timeout < 0 ? 0 : timeout);
-    if (handed == 0 && timeout != 0 && (timeout < 0 || virtual_ns() / 1000000 < deadline)) {
-        it = at_cursor();
-        depart_for_good("nothing that ends its poll", it);
-        return false;
-    }
-    *got = handed;
-    return true;
-}
-
-bool force_poll(struct loop *loop, int descriptor, struct epoll_event *events, int room, int timeout, int *got) {
-    if (state != FORCING || loop != forced || !is_leader()) return false;
-    leads++;
-    bool is = at_random ? poll_at_random(descriptor, events, room, timeout, got) : poll_in_order(descriptor, events, room, timeout, got);
-    leads--;
-    return is;
 }
 
 /* ---- timers of JavaScript */
@@ -755,7 +597,7 @@ static void begin_forcing(struct loop *loop) {
     if (file) said = open(file, O_WRONLY | O_CREAT | O_APPEND | O_CLOEXEC, 0644);
     open_page(getenv("UVT_FORCE_AT"));
     began = loop->base * 1000000;
-    began_real = real_ns(CLOCK_REALTIME) / 1000000 * 1000000;
+    begin_clock();
     forced = loop;
     leader_id = own_id();
     atexit(at_end);

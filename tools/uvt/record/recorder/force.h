@@ -50,6 +50,10 @@ extern bool early, behind_poll;
 
 const char *name_of(int at);
 const struct item *at_cursor(void);
+/* Does what comes from outside, up to the next thing that is none of that. With `through`: up to the next thing that the program shows. */
+void advance(bool through);
+void look_at_clock(void);
+void depart_for_good(const char *what, const struct item *it);
 struct shown read_shown(const char *words);
 /* A line that says that a worker took it. (The worker itself writes none: its work may begin later.) */
 void write_taken(int id);
@@ -59,7 +63,7 @@ void write_taken(int id);
 /* How far it has come, for who looks from outside. */
 struct page {
     int steps, departures, done, free; /* of the session; of these; all of it has come; nothing is forced any more */
-    int hangs; /* 1: nothing moves any more; 2: and nothing could */
+    int hangs; /* 1: nothing moves any more; 2: and nothing could; 3: nothing but timers */
 };
 extern struct page *page;
 extern int said; /* the file */
@@ -71,11 +75,19 @@ void depart(const char *format, ...);
 uint64_t real_ns(clockid_t id);
 uint64_t virtual_ns(void);
 void take_nap(void);
-/* So much time has gone by for this thread alone. (force.c) */
-void force_slept(uint64_t ns);
 void stop_here(void);
 /* Nothing is forced from here on. */
 void set_free(const char *why);
+
+/* ---- the clock, and who waits until a time (force_waits.c) */
+
+void begin_clock(void);
+/* This thread has done something else than to look at the clock. */
+void new_reads(void);
+/* So much time has gone by for this thread alone. */
+void force_slept(uint64_t ns);
+extern volatile int leader_late; /* how many of the leader's waits until a time have run out */
+extern volatile int napping; /* how many threads are in a sleep that takes no time */
 
 /* ---- gates (force_gates.c) */
 
@@ -86,12 +98,12 @@ extern pthread_cond_t changed;
 extern long progress; /* grows with each step: a gate that waits long without it opens */
 extern int patience;
 extern int leader_id;
-extern volatile int leader_late; /* how many of its waits until a time have run out (force_waits.c) */
 extern int leads; /* the leader does what the session has: else it is in the program's code, or in libuv's */
 
 int own_id(void);
 bool is_leader(void);
 void wait_a_little(void);
+char state_in(int process, int thread);
 char state_of(int thread);
 bool is_awake(int thread);
 bool somebody_runs(void);
@@ -162,7 +174,7 @@ struct worker *worker_at(enum place place);
 struct worker *worker_of(long number);
 struct sender *sender_of(int name);
 
-/* ---- an order at random (force_random.c) */
+/* ---- the poll (force_poll.c is that of a session) and an order at random (force_random.c) */
 
 extern bool at_random;
 void begin_random(uint64_t number, int jumps, uint64_t until);
@@ -177,6 +189,9 @@ bool poll_at_random(int descriptor, struct epoll_event *events, int room, int ti
 extern int watch_id; /* the thread that looks on */
 extern volatile bool idle_poll; /* the loop waits with no time limit, and nothing that is known could come */
 void begin_watch(void);
+/* A line of the forced loop's; and has it been called by nothing but its timers for so long that each poll takes a nap? */
+void look_for_rounds(char type, const char *words);
+bool goes_round(void);
 /* Does it sleep until somebody wakes it, with no time limit? Or is it gone, or the one that asks (it made the loop, and another one ran it)? */
 bool is_no_help(int thread);
 

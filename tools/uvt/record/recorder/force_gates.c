@@ -79,9 +79,9 @@ void wait_a_little(void) {
 }
 
 /* What the system says of a thread: R, S, .. */
-char state_of(int thread) {
+char state_in(int process, int thread) {
     char name[64], text[512];
-    snprintf(name, sizeof name, "/proc/self/task/%d/stat", thread);
+    snprintf(name, sizeof name, "/proc/%d/task/%d/stat", process, thread);
     int descriptor = open(name, O_RDONLY | O_CLOEXEC);
     if (descriptor < 0) return 0;
     ssize_t length = read(descriptor, text, sizeof text - 1);
@@ -89,6 +89,10 @@ char state_of(int thread) {
     text[length < 0 ? 0 : length] = 0;
     const char *behind = strrchr(text, ')');
     return behind && behind[1] == ' ' ? behind[2] : 0;
+}
+
+char state_of(int thread) {
+    return state_in(getpid(), thread);
 }
 
 bool is_awake(int thread) {
@@ -132,24 +136,25 @@ bool somebody_runs(void) {
     return found;
 }
 
-/* Threads of the program come to their gates, or to what they wait for: it isn't the machine's matter how far they are where the loop goes on. One
- * that runs on and on is not waited for again and again. */
+/* Threads of the program come to their gates, or to what they wait for: it isn't the machine's matter how far they are where the loop goes on. Who has
+ * had the processor for long runs on and on: it isn't waited for, and after some such times nobody is. */
 void come_to_rest(void) {
-    enum { NAPS = 20, TOO_OFTEN = 10 };
+    enum { NAP = 500000, ENOUGH = 10000000, MOST = 4000, TOO_OFTEN = 10 };
     static int in_vain;
-    struct timespec time = {0, 500000};
+    struct timespec time = {0, NAP};
+    uint64_t used = real_ns(CLOCK_PROCESS_CPUTIME_ID);
     take_nap();
     for (int naps = 0; in_vain < TOO_OFTEN; naps++) {
         pthread_mutex_lock(&gate);
-        bool runs = somebody_runs();
+        bool runs = napping > 0 || somebody_runs();
         pthread_mutex_unlock(&gate);
-        if (!runs) {
-            in_vain = 0;
-            return;
+        if (!runs) in_vain = 0;
+        else if (naps == MOST || real_ns(CLOCK_PROCESS_CPUTIME_ID) - used > ENOUGH) in_vain++;
+        else {
+            syscall(SYS_nanosleep, &time, NULL);
+            continue;
         }
-        if (naps == NAPS) in_vain++;
-        if (naps == NAPS) return;
-        syscall(SYS_nanosleep, &time, NULL);
+        return;
     }
 }
 
@@ -318,16 +323,17 @@ struct sender *sender_of(int name) {
 bool force_send(void *handle, struct sender **handed) {
     *handed = NULL;
     if (state != FORCING || is_leader()) return false;
+    static __thread struct sender mine; /* (a thread sends one after another) */
+    struct sender *sender = &mine;
+    pthread_mutex_lock(&gate);
     int name = -1;
     for (int at = 0; at < name_count; at++)
         if (names[at].address == handle && names[at].kind && strcmp(names[at].kind, "async") == 0) name = at;
-    if (name < 0) return false;
-    static __thread struct sender mine; /* (a thread sends one after another) */
-    struct sender *sender = &mine;
-    memset(sender, 0, sizeof *sender);
-    sender->name = name;
-    pthread_mutex_lock(&gate);
-    sender->next = senders;
+    if (name < 0) {
+        pthread_mutex_unlock(&gate);
+        return false;
+    }
+    *sender = (struct sender){.name = name, .next = senders};
     senders = sender;
     progress++;
     pthread_cond_broadcast(&changed);

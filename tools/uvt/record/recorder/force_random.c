@@ -177,46 +177,66 @@ void maybe_choose(void) {
     lock_again(held);
 }
 
+/* What is ready is handed out in an order by lot. */
+static int mixed(struct epoll_event *events, int count) {
+    for (int at = count - 1; at > 0; at--) {
+        int other = (int)up_to((unsigned)at + 1);
+        struct epoll_event kept = events[at];
+        events[at] = events[other], events[other] = kept;
+    }
+    return count < 0 ? 0 : count;
+}
+
+/* Something comes, or (true) the clock would go on. */
+static bool is_clocks_turn(int timeout) {
+    int held = unlock_all();
+    pthread_mutex_lock(&gate);
+    struct choice all[CHOICES];
+    int count = all_choices(all);
+    if (timeout > 0 || count == 0) all[count++] = (struct choice){THE_CLOCK, NULL, NULL, &clock_rank};
+    const struct choice *found = one_of(all, count);
+    bool is = found->what == THE_CLOCK;
+    if (!is) come(found);
+    pthread_mutex_unlock(&gate);
+    lock_again(held);
+    return is;
+}
+
+/* Until when a poll may wait, by the order's clock, in ms. */
+static uint64_t end_of_poll(int timeout) {
+    uint64_t more = (uint64_t)(timeout > 0 ? timeout : 0), until = virtual_ns() / 1000000 + more, of_loop = forced->uv->time + more;
+    return of_loop < until ? of_loop : until;
+}
+
 /* The poll: what is ready is handed out, the wake last or first; where nothing is, something comes, or the clock goes on. */
 bool poll_at_random(int descriptor, struct epoll_event *events, int room, int timeout, int *got) {
-    uint64_t until = virtual_ns() / 1000000 + (uint64_t)(timeout > 0 ? timeout : 0);
-    if (forced->uv->time + (uint64_t)(timeout > 0 ? timeout : 0) < until) until = forced->uv->time + (uint64_t)timeout;
+    enum { TURNS = 8, REAL = 5, AT_MOST_REAL = 2000 };
+    uint64_t until = end_of_poll(timeout);
     if (last && moved > last) set_free(NULL);
     if (state != FORCING) return false;
     maybe_choose();
     behind_poll = true;
     come_to_rest();
-    for (int idle = 0;;) {
-        int found = (int)syscall(SYS_epoll_pwait, descriptor, events, room, 0, NULL, 8);
+    /* (a loop that never waits takes time, too: else no timer would ever be due) */
+    if (timeout == 0 && up_to(TURNS) == 0) moved++;
+    for (int idle = 0; idle <= AT_MOST_REAL;) {
+        int found = (int)syscall(SYS_epoll_pwait, descriptor, events, room, goes_round() ? REAL : 0, NULL, 8);
         idle_poll = idle > IDLE && found == 0;
         if (found > 0 || timeout == 0 || (timeout > 0 && virtual_ns() / 1000000 >= until)) {
-            for (int at = found - 1; at > 0; at--) {
-                int other = (int)up_to((unsigned)at + 1);
-                struct epoll_event kept = events[at];
-                events[at] = events[other], events[other] = kept;
-            }
-            *got = found < 0 ? 0 : found;
+            *got = mixed(events, found);
             return true;
         }
-        int held = unlock_all();
-        pthread_mutex_lock(&gate);
-        struct choice all[CHOICES];
-        int count = all_choices(all);
-        if (timeout > 0 || count == 0) all[count++] = (struct choice){THE_CLOCK, NULL, NULL, &clock_rank};
-        const struct choice *found_one = one_of(all, count);
-        bool is_clock = found_one->what == THE_CLOCK;
-        if (!is_clock) come(found_one);
-        pthread_mutex_unlock(&gate);
-        if (is_clock && timeout > 0) {
+        if (!is_clocks_turn(timeout)) continue;
+        if (timeout > 0) {
             moved = until - began / 1000000;
-        } else if (is_clock) {
-            /* (nobody of whom we know brings anything: another thread may wait for the clock, which goes on here as the real one does) */
-            if (syscall(SYS_epoll_pwait, descriptor, events, room, 5, NULL, 8) == 0) moved += 5;
-            idle++;
+            continue;
         }
-        lock_again(held);
-        if (idle > 2000) return set_free(NULL), false;
+        /* (nobody of whom we know brings anything: another thread may wait for the clock, which goes on here as the real one does) */
+        if (syscall(SYS_epoll_pwait, descriptor, events, room, REAL, NULL, 8) == 0) moved += REAL;
+        idle++;
     }
+    set_free(NULL);
+    return false;
 }
 
 void random_event(char type, const char *words) {
@@ -233,9 +253,11 @@ void random_event(char type, const char *words) {
     if (strcmp(shown.word, "cancel") == 0 && strcmp(shown.answer, "ok") == 0) no_more_waiting(shown.id);
     if (strcmp(shown.word, "init") == 0 && strcmp(shown.rest, "async") == 0) {
         struct object *object = object_by_id(shown.id);
+        int held = unlock_all();
+        pthread_mutex_lock(&gate);
         struct name *more = realloc(names, (size_t)(name_count + 1) * sizeof *names);
-        if (!more) return;
-        names = more;
-        names[name_count++] = (struct name){"async", shown.id, object ? object->address : NULL, "async"};
+        if (more) names = more, names[name_count++] = (struct name){"async", shown.id, object ? object->address : NULL, "async"};
+        pthread_mutex_unlock(&gate);
+        lock_again(held);
     }
 }

@@ -1,12 +1,67 @@
-/* Who waits until a time: that is by the clock of the order, which stands, or is far ahead of the real one. So the wait takes what is left until then,
- * and where it runs out, that time has gone by for the thread. */
+/* The clock of a forced order, who looks at it, who sleeps, and who waits until a time.
+ *
+ * It stands, or is far ahead of the real one. So nobody sleeps; and a wait until a time takes what is left until then, and where it runs out, that time
+ * has gone by for the thread. */
 #define _GNU_SOURCE
 #include "force.h"
 
 #include <dlfcn.h>
 #include <errno.h>
 #include <semaphore.h>
+#include <sys/syscall.h>
 #include <sys/time.h>
+#include <unistd.h>
+
+static uint64_t began_real;
+static __thread unsigned reads;
+static __thread uint64_t crept, told;
+volatile int napping;
+
+void begin_clock(void) {
+    began_real = real_ns(CLOCK_REALTIME) / 1000000 * 1000000;
+}
+
+void new_reads(void) {
+    reads = 0;
+}
+
+void force_slept(uint64_t ns) {
+    crept += ns;
+}
+
+int clock_gettime(clockid_t id, struct timespec *time) {
+    bool steady = id == CLOCK_MONOTONIC || id == CLOCK_MONOTONIC_COARSE || id == CLOCK_MONOTONIC_RAW || id == CLOCK_BOOTTIME;
+    bool civil = id == CLOCK_REALTIME || id == CLOCK_REALTIME_COARSE;
+    if (state == NOT_FORCING || (!steady && !civil)) {
+        static void *kept;
+        return ((int (*)(clockid_t, struct timespec *))real("clock_gettime", &kept))(id, time);
+    }
+    uint64_t now;
+    /* (libuv's own look, and not that of whoever is asked for memory there, as a sanitizer) */
+    bool is_libuv = leads == 0 && is_text_of_libuv(__builtin_return_address(0));
+    if (state == FORCING && steady && is_libuv && depth == 0 && forced && forced->running > 0 && is_leader()) {
+        look_at_clock();
+        now = virtual_ns();
+    } else if (state == FORCING && inside == 0 && !is_locked_here()) {
+        /* the program's own: one that waits in a loop until time has gone by comes to its end */
+        now = virtual_ns();
+        if (++reads == 1) crept = 0;
+        if (reads > 50) crept += 20000;
+        now += crept;
+        if (now < told) now = told;
+        told = now;
+    } else {
+        now = virtual_ns();
+    }
+    if (civil) now = now - began + began_real;
+    time->tv_sec = (time_t)(now / 1000000000);
+    time->tv_nsec = (long)(now % 1000000000);
+    return 0;
+}
+
+uint64_t force_clock(uint64_t real_ms) {
+    return state == NOT_FORCING ? real_ms : virtual_ns() / 1000000;
+}
 
 enum { CIVIL = 1000000000 }; /* in seconds: no machine is up for so long */
 
@@ -33,6 +88,51 @@ static clockid_t clock_of(const struct timespec *until) {
 static bool is_own(const struct timespec *until) {
     return until && state != NOT_FORCING && until->tv_sec >= 0 && until->tv_nsec >= 0 && until->tv_nsec < 1000000000;
 }
+
+/* ---- who sleeps: nobody */
+
+static bool sleeps(uint64_t ns) {
+    if (state != FORCING) return false;
+    bool is = is_leader();
+    crept += ns;
+    leads += is;
+    __atomic_add_fetch(&napping, 1, __ATOMIC_SEQ_CST);
+    take_nap();
+    __atomic_sub_fetch(&napping, 1, __ATOMIC_SEQ_CST);
+    leads -= is;
+    return true;
+}
+
+int nanosleep(const struct timespec *asked, struct timespec *left) {
+    if (sleeps(in_ns(asked))) return 0;
+    return (int)syscall(SYS_nanosleep, asked, left);
+}
+
+int clock_nanosleep(clockid_t id, int flags, const struct timespec *asked, struct timespec *left) {
+    struct timespec until = *asked;
+    if ((flags & TIMER_ABSTIME) && is_own(asked)) {
+        uint64_t now = own_now(id), wanted = in_ns(asked);
+        if (sleeps(wanted > now ? wanted - now : 0)) return 0;
+        until = real_until(id, asked);
+    } else if (sleeps(in_ns(asked))) {
+        return 0;
+    }
+    return syscall(SYS_clock_nanosleep, id, flags, &until, left) ? errno : 0;
+}
+
+int usleep(useconds_t asked) {
+    if (sleeps((uint64_t)asked * 1000)) return 0;
+    struct timespec time = {asked / 1000000, (long)(asked % 1000000) * 1000};
+    return (int)syscall(SYS_nanosleep, &time, NULL);
+}
+
+unsigned sleep(unsigned asked) {
+    if (sleeps((uint64_t)asked * 1000000000)) return 0;
+    struct timespec time = {asked, 0};
+    return syscall(SYS_nanosleep, &time, NULL) ? 1 : 0;
+}
+
+/* ---- who waits until a time */
 
 /* (the loop's thread waits again and again for what a thread at a gate has, as Python's does for its lock) */
 volatile int leader_late;
