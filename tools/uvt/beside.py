@@ -15,7 +15,8 @@ from dataclasses import dataclass
 
 from uvt.waits import History, Wait, follow
 from uvt.walk import WORDS, Took, Walk
-from uvt.why import CALLS, Why, few, times
+from uvt.causes import few, times
+from uvt.why import CALLS, Why
 
 # A difference of so many ms is one; and so many lines each part has at the most.
 LEAST, LINES, BEHIND, NEXT = 3, 5, 4, 3

@@ -14,7 +14,8 @@ from uvt.node_names import IMMEDIATES
 from uvt.places import read_place
 from uvt.waits import Wait, follow
 from uvt.walk import Took, Walk
-from uvt.why import FIFTH, KINDS, MANY, Why, few, in_javascript, named, sentence, times
+from uvt.causes import FIFTH, MANY, few, in_javascript, named, sentence, times
+from uvt.why import KINDS, Why
 from uvt.why_javascript import WhyJavaScript
 from uvt.why_requests import longest
 

@@ -16,7 +16,8 @@ from uvt.places import MEANT, Place, next_line, read_place
 from uvt.waits import Wait
 from uvt.walk import Took, Walk
 from uvt.overview import Overview
-from uvt.why import FIFTH, Why, named
+from uvt.causes import FIFTH, named
+from uvt.why import Why
 from uvt.why_javascript import WhyJavaScript
 from uvt.why_requests import under_way
 

@@ -11,8 +11,9 @@ from uvt.conversation import Fault
 from uvt.javascript import LEAST, OUTSIDE, JavaScript, Place, Resource, Span, at, fitted
 from uvt.origins import Origins
 from uvt.walk import Walk
-from uvt.why import MANY, Why, few, is_told, times
-from uvt.why import told as without
+from uvt.causes import MANY, few, is_told, times
+from uvt.why import Why
+from uvt.causes import told as without
 
 
 class WhyJavaScript:

@@ -456,7 +456,8 @@ abbrev NotLatest : Part → Type 0
 NotLatest (Latest v) = ⊥
 NotLatest p = Unit {0}
 
-most_found : (names fields : List (List ℕ)) (p : Part) → IsPart names fields p → NotLatest p → Found (most_parts_of names fields) (AreDistinct names) p
+most_found : (names fields : List (List ℕ)) (p : Part) → IsPart names fields p → NotLatest p →
+    Found (most_parts_of names fields) (AreDistinct names) p
 unfolding part_by times_of during_of send_during waits differ_of recorded_by takes_by bound_of calls_of
 most_found names fields p (is.may what argument o times n e h k) other_part =
     found_is (ap (most_parts_of names) e)

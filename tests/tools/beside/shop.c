@@ -3,10 +3,10 @@
 // more: order 6 asks a second query `audit`; cpu: order 8 burns 70 ms of the processor in price_all.
 #include "../truths/truth.h"
 #include <pthread.h>
-static uv_timer_t shop, beat; static uv_work_t query[20], audit; static uv_async_t out; static int n, beats, answered; static const char *mode = "base";
-static pthread_mutex_t stock = PTHREAD_MUTEX_INITIALIZER;
+static uv_timer_t shop, beat; static uv_work_t query[20], audit; static uv_async_t out; static int n, beats, answered;
+static pthread_mutex_t stock = PTHREAD_MUTEX_INITIALIZER; static const char *mode = "base";
 static int is(const char *m) { return strcmp(mode, m) == 0; }
-static void *stocktaking(void *a) { usleep(45000); pthread_mutex_lock(&stock); if (is("lock")) usleep(70000); pthread_mutex_unlock(&stock); return 0; }
+static void *take_stock(void *a) { usleep(45000); pthread_mutex_lock(&stock); if (is("lock")) usleep(70000); return pthread_mutex_unlock(&stock), a; }
 static double cpu(void) { return (double)processor_ns() / 1e6; }
 static volatile unsigned x;
 __attribute__((noinline)) static void price_all(void) { double e = cpu() + 70; while (cpu() < e) for (int i = 0; i < 10000; i++) x = x * 31 + i; }
@@ -26,7 +26,7 @@ static void on_order(uv_timer_t *t) {
 static void on_beat(uv_timer_t *t) { if (++beats == 14) { uv_close((void *)t, 0); uv_close((void *)&out, 0); } }
 int main(int c, char **v) {
     if (c > 1) mode = v[1];
-    uv_loop_t *l = uv_default_loop(); pthread_t p; pthread_create(&p, 0, stocktaking, 0);
-    uv_async_init(l, &out, on_out); uv_timer_init(l, &shop); uv_timer_start(&shop, on_order, 10, 10); uv_timer_init(l, &beat); uv_timer_start(&beat, on_beat, 20, 20);
-    uv_run(l, 0); pthread_join(p, 0); return 0;
+    uv_loop_t *l = uv_default_loop(); pthread_t p; pthread_create(&p, 0, take_stock, 0);
+    uv_async_init(l, &out, on_out); uv_timer_init(l, &shop); uv_timer_start(&shop, on_order, 10, 10); uv_timer_init(l, &beat);
+    uv_timer_start(&beat, on_beat, 20, 20); uv_run(l, 0); pthread_join(p, 0); return 0;
 }

@@ -4,7 +4,7 @@
 static uv_mutex_t a, b;
 static uv_async_t say;
 static uv_timer_t t;
-static void on_t(uv_timer_t *t) { uv_mutex_lock(&a); uv_sleep(1); uv_mutex_lock(&b); uv_mutex_unlock(&b); uv_mutex_unlock(&a); uv_close((uv_handle_t *)t, NULL); }
+static void on_t(uv_timer_t *t) { uv_mutex_lock(&a); uv_sleep(1); uv_mutex_lock(&b); uv_mutex_unlock(&b); uv_mutex_unlock(&a); }
 static void on_say(uv_async_t *h) { uv_close((uv_handle_t *)h, NULL); }
 static void other(void *n) { uv_sleep(20); uv_mutex_lock(&b); uv_async_send(&say); uv_mutex_lock(&a); uv_mutex_unlock(&a); uv_mutex_unlock(&b); }
 int main(void) {

@@ -1,5 +1,5 @@
-/* A callback takes 80 ms, and starts a timer of 50 at its end. libuv reckons from the loop's time, which is as old as the callback: so the timer is due
- * before it was started. The poll goes by that time, too, and waits the 50 ms: the timer is called when its program expects it. */
+/* A callback takes 80 ms, and starts a timer of 50 at its end. libuv reckons from the loop's time, which is as old as the callback: so the timer is
+ * due before it was started. The poll goes by that time, too, and waits the 50 ms: the timer is called when its program expects it. */
 #include "truth.h"
 static uv_timer_t input, debounce;
 static void on_debounce(uv_timer_t *timer) {}

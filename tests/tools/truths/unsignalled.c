@@ -1,5 +1,5 @@
-/* Callbacks that are long on the processor and then wait: no wait may end early, and a handler of the program's own for SIGURG may be called by its own
- * raise alone. Status 1 where that isn't so. */
+/* Callbacks that are long on the processor and then wait: no wait may end early, and a handler of the program's own for SIGURG may be called by its
+ * own raise alone. Status 1 where that isn't so. */
 #include <errno.h>
 #include <poll.h>
 #include <pthread.h>

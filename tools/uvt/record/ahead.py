@@ -7,7 +7,7 @@ import bisect
 import collections
 import heapq
 
-from uvt.record.script import Call, End, Finish, Item, Op, Poll, Run, Send
+from uvt.record.items import Call, End, Finish, Item, Op, Poll, Run, Send
 
 # So many items ahead are near.
 FAR = 40

@@ -7,7 +7,7 @@ import re
 from uvt.notes import THINGS, sentence
 from uvt.record.follow import Outcome
 from uvt.record.log import WATCHERS
-from uvt.record.script import Call, End, Item, Op, Program, Run, is_pool
+from uvt.record.items import Call, End, Item, Op, Program, Run, is_pool
 
 PAGE = "docs/LIBUV.md"
 IO = "Callbacks of I/O come in the order of the system"

@@ -14,7 +14,7 @@ from dataclasses import dataclass
 from typing import TYPE_CHECKING
 
 from uvt.conversation import BAD
-from uvt.record.script import Call, Done, End, Item, Op, Poll, Run, Send
+from uvt.record.items import Call, Done, End, Item, Op, Poll, Run, Send
 
 if TYPE_CHECKING:
     from uvt.record.follow import Follower

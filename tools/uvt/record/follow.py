@@ -25,7 +25,7 @@ from uvt.conversation import Conversation, Script
 from uvt.record.ahead import FAR, Ahead
 from uvt.record.fast import CLOCK, END, NOW, Ways
 from uvt.record.log import NO_CLOCK
-from uvt.record.script import Call, Done, End, Finish, Item, Op, Poll, Program, Run, Send, Take
+from uvt.record.items import Call, Done, End, Finish, Item, Op, Poll, Program, Run, Send, Take
 from uvt.record.where import NOWHERE, PENDING
 
 MANY_WORKERS = 64

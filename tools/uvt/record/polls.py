@@ -9,7 +9,7 @@ from __future__ import annotations
 from dataclasses import dataclass
 
 from uvt.codes import SECTIONS as SECTION_WORDS
-from uvt.record.script import Call, Item, Poll, Program
+from uvt.record.items import Call, Item, Poll, Program
 
 # (of ten lines eight are of these)
 SECTIONS = frozenset(SECTION_WORDS)

@@ -30,7 +30,8 @@ from uvt.record.log import NO_CLOCK, Late, Log, read_log
 from uvt.record.names import name_addresses, named_log
 from uvt.record.parts import MOST, Part, chosen
 from uvt.record.polls import Polls, compare
-from uvt.record.script import Call, Done, End, Program, program_of
+from uvt.record.items import Call, Done, End, Program
+from uvt.record.script import program_of
 from uvt.record.steps import Steps
 from uvt.record.window import NoPart
 from uvt.spent import Spent

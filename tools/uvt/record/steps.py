@@ -3,7 +3,7 @@
 from __future__ import annotations
 
 from uvt.notes import Request
-from uvt.record.script import Call, Op, Program
+from uvt.record.items import Call, Op, Program
 
 LINES = {"on": "call", "after": "after", "closed": "closed"}
 

@@ -4,7 +4,8 @@ use Rattle.uv_find.proofs.finding.find_any.Goals as goal
 pub returns-in-Way-clause-found : goal.returns-in-Way-clause-found
 returns-in-Way-clause-found g c =
     let f = rw c.in-Way.is at c.search.ensures.found in
-    found_way c.args.orders.now.rules c.args.orders.now.spot c.args.limit c.in-Way.reached.way.items c.in-Way.reached.keys c.search.new.maze.spot f.0 f.1 f.2
+    found_way c.args.orders.now.rules c.args.orders.now.spot c.args.limit c.in-Way.reached.way.items c.in-Way.reached.keys
+    c.search.new.maze.spot f.0 f.1 f.2
 
 pub returns-in-OutOfMemory-clause-found : goal.returns-in-OutOfMemory-clause-found
 returns-in-OutOfMemory-clause-found g c =

@@ -26,4 +26,5 @@ returns c =
     let two = more_text (length c.args.steps.now) c.args.states in
     let before : c.push_more_states.new.text.items ≡ c.args.text.now.items ++ (one ++ two) =
     whole_behind c.args.text.now.items one two _ _ c.in_ok-push_more_states.ensures c.in_ok-push_some.ensures in
-    last_behind c.push_session.result c.args.text.now.items (one ++ two) (session_text c.args.script.now c.args.steps.now) _ _ _ c.push_session.ensures before refl
+    last_behind c.push_session.result c.args.text.now.items (one ++ two) (session_text c.args.script.now c.args.steps.now)
+    _ _ _ c.push_session.ensures before refl

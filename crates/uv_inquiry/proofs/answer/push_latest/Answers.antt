@@ -17,8 +17,8 @@ unfolding latest_text
 returns-in_err-push_every c =
     let exit = c.from_residual-in_err-push_every in
     let p = err_from_is_err_and exit.result exit.ensures.1 in
-    rw (p.1) (cut (late_text c.args.inquiry.now.script (asked_in c.args.inquiry.now.asking) c.args.late) c.in_err-push_every.ensures c.in_ok-push_late.ensures
-    (search (begins_itself, begins_more)))
+    rw (p.1) (cut (late_text c.args.inquiry.now.script (asked_in c.args.inquiry.now.asking) c.args.late)
+    c.in_err-push_every.ensures c.in_ok-push_late.ensures (search (begins_itself, begins_more)))
 
 pub returns : goal.returns
 unfolding latest_text
@@ -27,4 +27,5 @@ returns c =
     let two = every_text (length c.args.steps.now) c.args.states in
     let before : c.push_every.new.text.items ≡ c.args.text.now.items ++ (one ++ two) =
     whole_behind c.args.text.now.items one two _ _ c.in_ok-push_every.ensures c.in_ok-push_late.ensures in
-    last_behind c.push_session.result c.args.text.now.items (one ++ two) (session_text c.args.inquiry.now.script c.args.steps.now) _ _ _ c.push_session.ensures before refl
+    last_behind c.push_session.result c.args.text.now.items (one ++ two) (session_text c.args.inquiry.now.script c.args.steps.now)
+    _ _ _ c.push_session.ensures before refl
