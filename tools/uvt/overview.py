@@ -203,7 +203,8 @@ class Overview:
             return f"for {known} ms each worker had other work" if known else "when a worker took it and was through nobody knows"
         waited = walk.happened(wait.taken[0]) - walk.happened(wait.asked)
         ran = walk.happened(wait.finished) - walk.happened(wait.taken[0])
-        return f"{at_least(walk.notes, wait.asked)}{waited} ms it waited for a worker, {ran} ms it ran, {late.took - waited - ran} ms it waited for the loop"
+        least = at_least(walk.notes, wait.asked)
+        return f"{least}{waited} ms it waited for a worker, {ran} ms it ran, {late.took - waited - ran} ms it waited for the loop"
 
     # ---- the rest
 

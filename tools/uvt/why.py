@@ -458,8 +458,8 @@ class Why:
         taken, through = self.walk.happened(wait.taken[0]), self.walk.happened(wait.finished)
         least = at_least(self.notes, wait.asked)
         return (
-            f"called {least}{called - queued} ms after it was asked for: {least}{taken - queued} ms it waited for a worker, {through - taken} ms it ran,"
-            f" {called - through} ms it waited for the loop"
+            f"called {least}{called - queued} ms after it was asked for: {least}{taken - queued} ms it waited for a worker,"
+            f" {through - taken} ms it ran, {called - through} ms it waited for the loop"
         )
 
     def unseen_request(self, wait: Wait) -> tuple[str, list[str]]:
