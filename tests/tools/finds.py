@@ -5,6 +5,7 @@ states there are, and that the answers are right, is tried by tests/find."""
 
 from __future__ import annotations
 
+import json
 import os
 import re
 import signal
@@ -257,6 +258,17 @@ BUDGETS = [
 ]
 
 
+def try_within_all(check: Check) -> None:
+    """What is found near a recording is found over every order of what came in it: so nobody is later near it, and with more moved as late at least."""
+    for name in ("frame", "signals"):
+        words = ["--json", "--no-sessions", "--differ", "1", "--differ", "2", str(EXAMPLES / f"{name}.rec")]
+        ran = limited([WORST, *words], capture_output=True, text=True, env=os.environ)
+        check(f"worst of {name}", ran.returncode == FOUND, ran)
+        for row in json.loads(ran.stdout or "{}").get("callbacks", []):
+            late = [it["ms"] for it in row["worst"]]
+            check(f"worst of {name}: {row['name']} near the recording and over every order", len(late) == 4 and late == sorted(late), row)
+
+
 def try_budgets(check: Check, folder: str) -> None:
     """How late a name may be: the status says whether that is settled, and an order that is later is kept, in which it is."""
     for words, said, status in BUDGETS:
@@ -339,6 +351,7 @@ def try_find(tries: Tries) -> None:
         try_recorded(tries.check)
         try_near(tries.check, folder)
         try_budgets(tries.check, folder)
+        try_within_all(tries.check)
         try_joined(tries.check, folder)
         for name, due in ANSWERS.items():
             try_example(tries.check, name, due, folder)
