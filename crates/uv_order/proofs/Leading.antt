@@ -11,12 +11,12 @@ use Rattle.uv_order.proofs.Documents.{Course, stop, move, quiet, course}
 use Rattle.uv_order.proofs.Waiting.{from}
 
 -- where the lines of a course lead
-record Led (p : Program) (told : Told) (past : List Seen) (at : Position) (was : Lasting) (ls : List Line) (u : State) : Type 0 where
+pub record Led (p : Program) (told : Told) (past : List Seen) (at : Position) (was : Lasting) (ls : List Line) (u : State) : Type 0 where
   pub to : Position
   pub leads : LeadsTo p to at told past was ls
   pub stands : StandsAt p u u.place to
 
-led_by : {p : Program} {told : Told} {past : List Seen} {s u : State} {at : Position} {ls : List Line} (was : Lasting) →
+pub led_by : {p : Program} {told : Told} {past : List Seen} {s u : State} {at : Position} {ls : List Line} (was : Lasting) →
     Course p told past s at ls u → lasting s ≡ was → Led p told past at was ls u
 led_by was (stop k) l = record { to = _; leads = there; stands = k.stands.stands }
 led_by was (move f c) l = let r = led_by _ c refl in record { to = r.to; leads = line l f.goes r.leads; stands = r.stands }

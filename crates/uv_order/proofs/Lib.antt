@@ -2,6 +2,7 @@ pub mod AnswersTold
 mod Asked
 mod Bodies
 mod ClosesOnce
+pub mod Coming
 mod Contents
 mod Counted
 mod Dated

@@ -20,7 +20,7 @@ mod waits;
 pub use answers::answers_told;
 pub use dues::dues_told;
 pub use once::closes_once;
-pub use outside::events_say;
+pub use outside::{events_say, io_comes};
 pub use phase_order::documented_order;
 pub use pool::pool_follows;
 pub use reached::lists_agree;
