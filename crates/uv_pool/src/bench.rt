@@ -2,9 +2,10 @@
 ghost use Rattle.std.specs.Prelude.{◌≡◌, ◌+◌, ◌<◌, IfOk, IfErr, OnOk, IfSome, IfNone, Some, true, cond, is_ok};
 
 use crate::book::PoolBook;
+use crate::gate::Computed;
 use std::sync::ledger::{Ledger, Share};
 use uv_ids::Fault;
-use uv_work::{Job, WorkResult};
+use uv_work::Job;
 
 /// What gives a worker jobs and takes their results (own). Its meaning is the list of events that it answered.
 pub trait Bench<L: Ledger> {
@@ -44,12 +45,12 @@ pub trait Bench<L: Ledger> {
         ensures faults { IfErr result IsTakeFault };
 
     /// Takes the result of the job that the worker runs, and books the finish in the worker's share.
-    fn finish(&mut self, k: u16, work: WorkResult, share: &mut Share<L>) -> Result<(), Fault>
+    fn finish(&mut self, k: u16, done: Computed, share: &mut Share<L>) -> Result<(), Fault>
         requires { 0 < share.old.parts }
-        ensures answer { Ends k work (answered self.old) result (answered self.new) }
-        ensures gave { OnOk result (gave self.old k work.job) }
+        ensures answer { Ends k done.work (answered self.old) result (answered self.new) }
+        ensures gave { OnOk result (gave self.old k done.work.job) }
         ensures faults { IfErr result IsFinishFault }
-        ensures refused { IfErr result (λ f. refuses self.old k work f self.new) }
+        ensures refused { IfErr result (λ f. refuses self.old k done.work f self.new) }
         ensures parts { share.new.parts ≡ share.old.parts }
         ensures amount { share.new.amount ≡ share.old.amount + cond (is_ok result) 1 0 };
 
@@ -95,19 +96,19 @@ impl<L: Ledger> Bench<L> for PoolBook<L> {
         PoolBook::take(self, k)
     }
 
-    fn finish(&mut self, k: u16, work: WorkResult, share: &mut Share<L>) -> Result<(), Fault>
+    fn finish(&mut self, k: u16, done: Computed, share: &mut Share<L>) -> Result<(), Fault>
         requires { 0 < share.old.parts }
-        ensures call { Finishes self.old.hold k work result self.new.hold }
-        ensures results { OnOk result (SetsResult self.old.hold.contents work.job.req (Some work) self.new.hold.contents) }
+        ensures call { Finishes self.old.hold k done.work result self.new.hold }
+        ensures results { OnOk result (SetsResult self.old.hold.contents done.work.job.req (Some done.work) self.new.hold.contents) }
         ensures rest { self.new.rest ≡ self.old.rest }
-        ensures answer { Ends k work self.old.hold.contents.log result self.new.hold.contents.log }
-        ensures gave { OnOk result (run_at self.old.hold k ≡ Some (Some work.job)) }
+        ensures answer { Ends k done.work self.old.hold.contents.log result self.new.hold.contents.log }
+        ensures gave { OnOk result (run_at self.old.hold k ≡ Some (Some done.work.job)) }
         ensures faults { IfErr result IsFinishFault }
-        ensures refused { IfErr result (λ f. RefusesFinish self.old.hold k work) }
+        ensures refused { IfErr result (λ f. RefusesFinish self.old.hold k done.work) }
         ensures parts { share.new.parts ≡ share.old.parts }
         ensures amount { share.new.amount ≡ share.old.amount + cond (is_ok result) 1 0 }
     {
-        self.finish_for(k, work, share)
+        self.finish_for(k, done.work(), share)
     }
 
     fn close(&mut self)

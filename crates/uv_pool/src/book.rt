@@ -2,6 +2,7 @@
 ghost use Rattle.std.specs.Prelude.{◌≡◌, ◌+◌, ◌<◌, ◌≤◌, true, false, [], Some, MatchBool, is_ok, is_some, cond, IfOk, IfErr, OnOk, length};
 ghost use Rattle.uv_ids.specs.Limits.{MOST_WORKERS};
 
+use crate::bell::Waited;
 use crate::held::Held;
 use crate::places::Collected;
 use crate::sleepers::{Call, ForJob, Sleepers};
@@ -134,11 +135,11 @@ impl<L: Ledger> PoolBook<L> {
         self.sleepers.fall_asleep()
     }
 
-    /// A worker that slept comes back.
-    pub(crate) fn come_back(&mut self, asleep: ForJob)
+    /// A worker that slept comes back, once it has waited.
+    pub(crate) fn come_back(&mut self, waited: Waited<ForJob>)
         ensures { self.new ≡ with_sleepers self.old (returned self.old.rest.sleepers) }
     {
-        self.sleepers.come_back(asleep);
+        self.sleepers.come_back(waited);
     }
 
     /// A worker that sleeps is to be woken, where a job waits and none is on its way.

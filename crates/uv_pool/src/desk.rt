@@ -2,6 +2,7 @@
 ghost use Rattle.std.specs.Prelude.{◌≡◌, None, false, []};
 
 use crate::bench::Bench;
+use crate::gate::Computed;
 use crate::locked::LockedBook;
 use crate::sightings::{NotTaken, WasClosed, WasOver};
 use std::alloc::Global;
@@ -9,7 +10,7 @@ use std::marker::Model;
 use std::sync::Wait;
 use std::sync::ledger::{Ledger, Share};
 use uv_ids::{Fault, Why};
-use uv_work::{Job, PoolEvent, WorkResult};
+use uv_work::{Job, PoolEvent};
 
 /// A worker's end of a lent book, with the list of events that it answered. `take` waits while nothing waits and the book
 /// is open; it answers none where nothing waits and the book is closed.
@@ -95,7 +96,8 @@ impl<'a, R: Wait, L: Ledger> Bench<L> for Desk<'a, R, L> {
         }
     }
 
-    fn finish(&mut self, k: u16, work: WorkResult, share: &mut Share<L>) -> Result<(), Fault> {
+    fn finish(&mut self, k: u16, done: Computed, share: &mut Share<L>) -> Result<(), Fault> {
+        let work = done.work();
         let job = work.job();
         match self.job {
             None => return Err(Fault::Refused(Why::NoWork)),

@@ -6,6 +6,7 @@ ghost use Rattle.uv_pool.specs.Book.{EndsWith};
 use crate::bench::Bench;
 use std::sync::ledger::Ledger;
 use uv_ids::Id;
+use uv_work::{Job, WorkResult};
 
 /// Who is told of the threads' progress, outside the lock (own). It may hold a thread up. Each thread tells a copy of its own.
 pub trait Gate: Copy {
@@ -34,6 +35,38 @@ pub trait Gate: Copy {
         ensures { sends self.old s self.new };
 }
 
+/// A worker has told its gate that it took this job, and does it now. It is made where that was told alone.
+pub(crate) struct Begun {
+    job: Job,
+}
+
+impl Begun {
+    /// Does the job.
+    pub(crate) fn computed(self) -> Computed
+        ensures { result.work.job ≡ self.job }
+    {
+        let Begun { job } = self;
+        Computed {
+            work: WorkResult::compute(job),
+        }
+    }
+}
+
+/// The result of a job that was done behind its worker's word to the gate.
+#[derive(Clone, Copy)]
+pub struct Computed {
+    work: WorkResult,
+}
+
+impl Computed {
+    /// The result.
+    pub fn work(&self) -> WorkResult
+        ensures { result ≡ self.now.work }
+    {
+        self.work
+    }
+}
+
 /// A worker's end of its gate: who has no other end of it tells just of what a bench answered last.
 #[derive(Drop)]
 pub(crate) struct Teller<G: Gate> {
@@ -56,14 +89,16 @@ impl<G: Gate> Teller<G> {
         self.gate
     }
 
-    /// Tells that the worker took the request, which is what its bench answered last.
-    pub(crate) fn begun<L: Ledger, B: Bench<L>>(&mut self, bench: &B, id: Id)
-        requires { EndsWith (Take self.old.worker id) (B.answered bench.now) }
+    /// Tells that the worker took the job's request, which is what its bench answered last.
+    pub(crate) fn begun<L: Ledger, B: Bench<L>>(&mut self, bench: &B, job: Job) -> Begun
+        requires { EndsWith (Take self.old.worker job.req) (B.answered bench.now) }
         ensures worker { self.new.worker ≡ self.old.worker }
-        ensures told { G.begins self.old.gate self.old.worker id self.new.gate }
+        ensures told { G.begins self.old.gate self.old.worker job.req self.new.gate }
+        ensures job { result.job ≡ job }
     {
         let _ = bench;
-        self.gate.begun(self.worker, id);
+        self.gate.begun(self.worker, job.req);
+        Begun { job }
     }
 
     /// Tells that the worker finished the request, which is what its bench answered last.

@@ -7,17 +7,18 @@ ghost use Rattle.std.specs.Prelude.{◌⊎◌, ◌≤◌, [], true, false, lengt
 ghost use Rattle.uv_pool.specs.Calls.{run_at};
 ghost use Rattle.std.specs.Sync.Mutex.{mutex_guard_value};
 
-use crate::bell::{Bell, ForEntry, ForFinish, Rung, RungOnce};
+use crate::bell::{Bell, ForEntry, ForFinish, Rung, Unrung};
 use crate::book::PoolBook;
-use crate::sightings::{HasFinished, NotTaken, WasClosed, WasOver, WasTended};
+use crate::guard::{BookGuard, Guarded, LetGo};
+use crate::sightings::{HasFinished, NotTaken, WasClosed, WasOver};
 use crate::sleepers::ForJob;
+use std::sync::Wait;
 use std::sync::ledger::{Ledger, Share};
-use std::sync::{Mutex, MutexGuard, Wait};
 use uv_ids::Fault;
 use uv_work::{Job, PoolEvent, WorkResult};
 
 /// A book that threads share. Whoever holds its lock may call the book, and lets the lock go by `let_go`, which wakes a worker where a job
-/// waits for one. Whoever has added to the log where somebody is in `wait_past`, or has closed the book, calls `wake` then.
+/// waits for one. Who closes the book wakes all that wait, and who hands a result in those in `wait_past` and `wait_finished`, each behind it.
 ///
 /// One worker is on its way at a time: once it has taken its job it calls the next one, if a job still waits (own). So a few short jobs are
 /// done by one worker, and many by all.
@@ -25,23 +26,13 @@ use uv_work::{Job, PoolEvent, WorkResult};
 /// A hold is short: it hashes nothing, and it waits for nothing but the room that a call makes.
 #[derive(Drop)]
 pub struct LockedBook<L: Ledger> {
-    book: Mutex<PoolBook<L>>,
+    /// The book under its lock, with the workers who wait for a job.
+    book: Guarded<L>,
     /// Those who wait for the log to grow.
     grown: Bell<ForEntry>,
     /// Those who wait for a job to be finished.
     finished: Bell<ForFinish>,
-    /// Workers who wait for a job.
-    queued: Bell<ForJob>,
 }
-
-/// The lock of a book. It can't be dropped: `LockedBook::let_go` lets it go.
-pub struct BookGuard<'a, L: Ledger> {
-    pub book: MutexGuard<'a, PoolBook<L>>,
-    owed: Owed,
-}
-
-/// That the lock is let go of by `let_go`.
-struct Owed;
 
 /// All that wait at a book were woken: workers, and those in `wait_past` and `wait_finished`.
 #[derive(Drop)]
@@ -51,65 +42,37 @@ pub struct Woken {
     _finished: Rung<ForFinish>,
 }
 
-/// One worker that slept was woken.
-#[derive(Drop)]
-pub struct WokenWorker {
-    _queued: RungOnce<ForJob>,
-}
-
-/// Who has the jobs that wait, as a book is let go of.
-#[derive(Drop)]
-pub enum LetGo<L: Ledger> {
-    /// There are none, or nobody sleeps, or a worker is on its way.
-    Tended(WasTended<L>),
-    /// A worker that slept.
-    Woken(WokenWorker),
-}
-
 impl<L: Ledger> LockedBook<L> {
     /// Takes a book into a lock.
     pub fn new(book: PoolBook<L>) -> LockedBook<L> {
         LockedBook {
-            book: Mutex::new(book),
+            book: Guarded::new(book),
             grown: Bell::new(),
             finished: Bell::new(),
-            queued: Bell::new(),
         }
     }
 
     /// Waits for the lock.
     pub fn lock<R: Wait>(&self, rt: &R) -> BookGuard<'_, L> {
-        BookGuard {
-            book: self.book.lock(rt),
-            owed: Owed,
-        }
+        self.book.lock(rt)
     }
 
     /// Lets the lock go. Where a job waits, somebody sleeps and nobody is on its way, one worker is woken.
     pub fn let_go(&self, guard: BookGuard<'_, L>) -> LetGo<L> {
-        let BookGuard { mut book, owed } = guard;
-        let Owed = owed;
-        match book.call_next() {
-            None => LetGo::Tended(WasTended::seen(&book)),
-            Some(call) => {
-                drop(book);
-                LetGo::Woken(WokenWorker {
-                    _queued: self.queued.ring_once(call),
-                })
-            }
-        }
+        self.book.let_go(guard)
     }
 
     /// Waits until the log is longer than n, or the book closed, and gives the lock.
     pub fn wait_past<R: Wait>(&self, rt: &R, n: usize) -> BookGuard<'_, L>
         ensures { (n < length (mutex_guard_value result.book).hold.contents.log) ⊎ ((mutex_guard_value result.book).rest.closed ≡ true) }
     {
-        let mut book = self.book.lock(rt);
+        let mut guard = self.book.lock(rt);
         for _ in rt.forever() {
-            if book.log().len() > n || book.closed() {
-                return BookGuard { book, owed: Owed };
+            if guard.book.log().len() > n || guard.book.closed() {
+                return guard;
             }
-            book = self.grown.wait(rt, book, &ForEntry);
+            let (again, _) = self.book.wait_at(rt, guard, &self.grown, ForEntry);
+            guard = again;
         }
         unreachable!()
     }
@@ -120,18 +83,20 @@ impl<L: Ledger> LockedBook<L> {
     {
         let mut guard = self.book.lock(rt);
         for _ in rt.forever() {
-            if let Some(seen) = HasFinished::look(&guard, n) {
+            if let Some(seen) = HasFinished::look(&guard.book, n) {
+                self.book.let_go(guard);
                 return seen;
             }
-            guard = self.finished.wait(rt, guard, &ForFinish);
+            let (again, _) = self.book.wait_at(rt, guard, &self.finished, ForFinish);
+            guard = again;
         }
         unreachable!()
     }
 
-    /// Wakes all that wait: workers, and those in `wait_past` and `wait_finished`.
-    pub fn wake(&self) -> Woken {
+    /// Wakes all that wait: workers, and those in `wait_past` and `wait_finished`. The book was closed before.
+    fn wake(&self, _closed: &WasClosed<L>) -> Woken {
         Woken {
-            _queued: self.queued.ring(),
+            _queued: self.book.ring(),
             _grown: self.grown.ring(),
             _finished: self.finished.ring(),
         }
@@ -139,14 +104,17 @@ impl<L: Ledger> LockedBook<L> {
 
     /// The book, where nobody shares it any more.
     pub fn into_book(self) -> PoolBook<L> {
-        self.book.into_inner()
+        self.book.into_book()
     }
 
     pub(crate) fn enrol<R: Wait>(&self, rt: &R, k: u16) -> Result<Share<L>, Fault>
         ensures faults { IfErr result IsEnrolFault }
         ensures share { IfOk result (λ share. (share.parts ≡ 1) × (share.amount ≡ 0)) }
     {
-        self.book.lock(rt).enrol_worker(k)
+        let mut guard = self.book.lock(rt);
+        let answer = guard.book.enrol_worker(k);
+        self.book.let_go(guard);
+        answer
     }
 
     /// Gives a worker a job; waits while nothing waits and the book is open. It gives the lock, too.
@@ -158,36 +126,20 @@ impl<L: Ledger> LockedBook<L> {
         ensures faults { IfErr result.0 IsTakeFault }
         ensures runs { IfOk result.0 (λ given. IfOk given (λ job. run_at (mutex_guard_value result.1.book).hold k ≡ Some (Some job))) }
     {
-        let mut book = self.book.lock(rt);
+        let mut guard = self.book.lock(rt);
         for _ in rt.forever() {
-            match book.take(k) {
-                Ok(Some(job)) => return (Ok(Ok(job)), BookGuard { book, owed: Owed }),
+            match guard.book.take(k) {
+                Ok(Some(job)) => return (Ok(Ok(job)), guard),
                 Ok(None) => {}
-                Err(fault) => return (Err(fault), BookGuard { book, owed: Owed }),
+                Err(fault) => return (Err(fault), guard),
             }
-            if book.closed() {
-                let over = WasOver::seen(&book);
-                return (Ok(Err(over)), BookGuard { book, owed: Owed });
+            if guard.book.closed() {
+                let over = WasOver::seen(&guard.book);
+                return (Ok(Err(over)), guard);
             }
-            book = self.sleep(rt, book);
+            guard = self.book.sleep(rt, guard);
         }
         unreachable!()
-    }
-
-    /// A worker sleeps until it is woken, or for no reason, and takes the lock again.
-    fn sleep<'a, R: Wait>(
-        &self,
-        rt: &R,
-        book: MutexGuard<'a, PoolBook<L>>,
-    ) -> MutexGuard<'a, PoolBook<L>>
-        requires nothing { (mutex_guard_value book).hold.contents.waiting ≡ [] }
-        requires open { (mutex_guard_value book).rest.closed ≡ false }
-    {
-        let mut book = book;
-        let asleep = book.fall_asleep();
-        let mut book = self.queued.wait(rt, book, &asleep);
-        book.come_back(asleep);
-        book
     }
 
     /// Gives a worker a job, or says that the book was closed and nothing waited. The worker has room for both of its events.
@@ -202,7 +154,7 @@ impl<L: Ledger> LockedBook<L> {
     {
         let _ = events;
         let (answer, guard) = self.taken(rt, k);
-        self.let_go(guard);
+        self.book.let_go(guard);
         self.grown.ring();
         answer
     }
@@ -221,10 +173,10 @@ impl<L: Ledger> LockedBook<L> {
         ensures parts { share.new.parts ≡ share.old.parts }
         ensures amount { share.new.amount ≡ share.old.amount + cond (is_ok result) 1 0 }
     {
-        let (answer, guard) = self.handed_in(rt, k, work, share);
-        drop(guard);
+        let (answer, done, guard) = self.handed_in(rt, k, work, share);
+        self.book.let_go(guard);
         self.grown.ring();
-        self.finished.ring();
+        self.finished.ring_for(done);
         answer
     }
 
@@ -235,25 +187,26 @@ impl<L: Ledger> LockedBook<L> {
         k: u16,
         work: WorkResult,
         share: &mut Share<L>,
-    ) -> (Result<(), NotTaken<L>>, MutexGuard<'_, PoolBook<L>>)
+    ) -> (Result<(), NotTaken<L>>, Unrung<ForFinish>, BookGuard<'_, L>)
         requires { 0 < share.old.parts }
         ensures faults { IfErr result.0 (λ n. IsFinishFault n.refusal.fault) }
         ensures refused { IfErr result.0 (λ n. (n.refusal.worker ≡ k) × (n.refusal.work ≡ work)) }
-        ensures finished { OnOk result.0 (EndsWith (Finish k work.job.req) (mutex_guard_value result.1).hold.contents.log) }
+        ensures finished { OnOk result.0 (EndsWith (Finish k work.job.req) (mutex_guard_value result.2.book).hold.contents.log) }
         ensures parts { share.new.parts ≡ share.old.parts }
         ensures amount { share.new.amount ≡ share.old.amount + cond (is_ok result.0) 1 0 }
     {
         let mut guard = self.book.lock(rt);
-        let answer = NotTaken::hand_in(&mut guard, k, work, share);
-        (answer, guard)
+        let (answer, done) = NotTaken::hand_in(&mut guard.book, k, work, share);
+        (answer, done, guard)
     }
 
     /// Closes the book, and wakes all that wait.
     pub fn close<R: Wait>(&self, rt: &R) -> (WasClosed<L>, Woken) {
         let mut guard = self.book.lock(rt);
-        guard.close();
-        let closed = WasClosed::seen(&guard);
-        drop(guard);
-        (closed, self.wake())
+        guard.book.close();
+        let closed = WasClosed::seen(&guard.book);
+        self.book.let_go(guard);
+        let woken = self.wake(&closed);
+        (closed, woken)
     }
 }

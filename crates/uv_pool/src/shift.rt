@@ -10,7 +10,7 @@ use std::alloc::Global;
 use std::sync::Wait;
 use std::sync::ledger::{Ledger, Share};
 use uv_ids::Fault;
-use uv_work::{PoolEvent, WorkResult};
+use uv_work::PoolEvent;
 
 /// What a worker did: its events, and its share of the ledger, which counts its finishes.
 #[derive(Drop)]
@@ -115,9 +115,9 @@ fn serve<L: Ledger, B: Bench<L>, G: Gate>(
     };
     let id = job.req;
     events.push_reserved(PoolEvent::Take(k, id));
-    teller.begun::<L, B>(bench, id);
-    let work = WorkResult::compute(job);
-    bench.finish(k, work, share)?;
+    let begun = teller.begun::<L, B>(bench, job);
+    let done = begun.computed();
+    bench.finish(k, done, share)?;
     events.push_reserved(PoolEvent::Finish(k, id));
     teller.ended::<L, B>(bench, id);
     Ok(true)

@@ -4,6 +4,7 @@ ghost use Rattle.std.specs.Prelude.{◌≡◌, ◌<◌, ◌+◌, ◌⊎◌, true
 ghost use Rattle.uv_pool.specs.Book.{IsFinishedPast, IsTended};
 ghost use Rattle.uv_pool.specs.Calls.{Finishes};
 
+use crate::bell::{ForFinish, Unrung};
 use crate::book::PoolBook;
 use std::marker::PhantomData;
 use std::sync::ledger::{Ledger, Share};
@@ -91,22 +92,22 @@ pub(crate) struct NotTaken<L: Ledger> {
 }
 
 impl<L: Ledger> NotTaken<L> {
-    /// Hands a worker's result in, or says why the book didn't take it.
+    /// Hands a worker's result in, or says why the book didn't take it. Who waits for a finish is to be woken behind it.
     pub(crate) fn hand_in(
         book: &mut PoolBook<L>,
         k: u16,
         work: WorkResult,
         share: &mut Share<L>,
-    ) -> Result<(), NotTaken<L>>
+    ) -> (Result<(), NotTaken<L>>, Unrung<ForFinish>)
         requires { 0 < share.old.parts }
-        ensures ok { IfOk result (λ done. Finishes book.old.hold k work (Ok done) book.new.hold) }
-        ensures err { IfErr result (λ n. Finishes book.old.hold k work (Err n.refusal.fault) book.new.hold) }
-        ensures refused { IfErr result (λ n. (n.refusal.worker ≡ k) × (n.refusal.work ≡ work)) }
+        ensures ok { IfOk result.0 (λ done. Finishes book.old.hold k work (Ok done) book.new.hold) }
+        ensures err { IfErr result.0 (λ n. Finishes book.old.hold k work (Err n.refusal.fault) book.new.hold) }
+        ensures refused { IfErr result.0 (λ n. (n.refusal.worker ≡ k) × (n.refusal.work ≡ work)) }
         ensures rest { book.new.rest ≡ book.old.rest }
         ensures parts { share.new.parts ≡ share.old.parts }
-        ensures amount { share.new.amount ≡ share.old.amount + cond (is_ok result) 1 0 }
+        ensures amount { share.new.amount ≡ share.old.amount + cond (is_ok result.0) 1 0 }
     {
-        match book.finish_for(k, work, share) {
+        let answer = match book.finish_for(k, work, share) {
             Ok(()) => Ok(()),
             Err(fault) => Err(NotTaken {
                 refusal: Refusal {
@@ -116,7 +117,8 @@ impl<L: Ledger> NotTaken<L> {
                 },
                 of: PhantomData,
             }),
-        }
+        };
+        (answer, Unrung::new())
     }
 }
 

@@ -3,6 +3,8 @@
 ghost use Rattle.std.specs.Prelude.{◌≡◌, MatchOption};
 ghost use Rattle.uv_pool.specs.Sleepers.{none_asleep, dozed, returned, summoned, IsCallable};
 
+use crate::bell::Waited;
+
 /// How many workers sleep, and whether one of them was called and none has come back since (libuv's `idle_threads`; own: who was called).
 #[derive(Clone, Copy)]
 pub struct Sleepers {
@@ -10,7 +12,7 @@ pub struct Sleepers {
     called: bool,
 }
 
-/// A worker waits for a job, and is counted as asleep. It can't be dropped: who has it counts the worker as back.
+/// A worker waits for a job, and is counted as asleep. It can't be dropped: who has it waits at the bell, and then counts the worker as back.
 pub(crate) struct ForJob {
     counted: (),
 }
@@ -40,10 +42,10 @@ impl Sleepers {
     }
 
     /// One comes back, called or not. Then nobody counts as on its way: at worst a worker too many is called.
-    pub(crate) fn come_back(&mut self, asleep: ForJob)
+    pub(crate) fn come_back(&mut self, waited: Waited<ForJob>)
         ensures { self.new ≡ returned self.old }
     {
-        let ForJob { counted: _ } = asleep;
+        let ForJob { counted: _ } = waited.over();
         self.asleep = self.asleep.saturating_sub(1);
         self.called = false;
     }

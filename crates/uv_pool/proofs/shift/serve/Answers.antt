@@ -8,4 +8,4 @@ returns-in_err-finish-clause-breaks g c =
     let is = err_from_is_err_and c.from_residual-in_err-finish.result c.from_residual-in_err-finish.ensures.1 in
     rw (is.1, is.2)
     (inr
-    (c.take.new.self, c.finish.new.self, c.compute-work.result, search rules, c.in_err-finish.ensures.refused, c.in_err-finish.ensures.answer))
+    (c.take.new.self, c.finish.new.self, c.computed-done.result.work, search rules, c.in_err-finish.ensures.refused, c.in_err-finish.ensures.answer))
