@@ -9,7 +9,7 @@ lines `..` parts of it. What is not run as it stands:
   the tests   aren't run: `./uvt test` and `.ci/run` are what runs this
   apt-get     isn't run: where no compiler with libuv's header is there, the commands behind it that need one are left out, and that is said;
               so it is with gdb and GNU parallel
-  real runs   of ./late and ./upload, and what is said of their recordings: the figures differ from run to run, so numbers count as equal. How much of
+  real runs   of ./late, ./upload and ./stalls, and what is said of their recordings: the figures differ from run to run, so numbers count as equal. How much of
               a time was on the processor is passed over: it is said where others had it meanwhile. Where the page goes on in another
               way by its own figures (a `tick`), the recording is that of its own run, whose log is kept (tests/tools/logs)
   --beside    of the reader's own recordings: they are made of two logs of one program (tests/tools/beside)
@@ -52,6 +52,9 @@ COMMANDS = (
     "rt ",
     "parallel ",
     "./upload",
+    "sh ",
+    "until ",
+    "kill ",
 )
 # What doesn't end with status 0: on the real libuv the example goes another way, and the page shows which.
 # And a search that answers `never` ends with status 1.
@@ -207,7 +210,7 @@ class Walker:
             return "it changes the machine"
         if command in ("./uvt test", ".ci/run"):
             return "it is what runs this"
-        if not self.libuv and re.search(r"^cc |record |late\.rec|hangup\.rec|uvt libuv |upload", command):
+        if not self.libuv and re.search(r"^cc |record |late\.rec|hangup\.rec|uvt libuv |upload|stalls\.", command):
             return "there is no C compiler `cc` with libuv's header"
         for word, package in (("gdb", "gdb"), ("parallel", "parallel")):
             if re.search(r"(^| )%s " % word, command) and not shutil.which(word):
@@ -280,7 +283,7 @@ class Walker:
         output = self.type(block)
         if block.shown is None or len(self.left_out) > before:
             return
-        real = any(it in command for it in ("./late", "late.rec", "./upload", "upload.hunt") for command in block.commands)
+        real = any(it in command for it in ("./late", "late.rec", "./upload", "upload.hunt", "stalls.") for command in block.commands)
         holds = is_like(block.shown, output) if real else is_shown(block.shown, output)
         for _ in range(2):
             # (on a machine that does much else a run may go another way: it is recorded once more)

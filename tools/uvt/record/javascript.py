@@ -118,6 +118,11 @@ class Reader:
         id = int(words[1])
         resource = self.found.resources.get(id)
         match words[0]:
+            # (it was asked for before the recording begins, or that is said once more)
+            case "was" if not resource:
+                at, *_ = (place_of(self.log, int(it)) for it in words[4].split("<"))
+                when = event.clock - int(words[6])
+                self.found.resources[id] = Resource(id, words[2], place_of(self.log, int(words[3])), at, when, int(words[5]))
             case "new":
                 at, *callers = (place_of(self.log, int(it)) for it in words[4].split("<"))
                 self.found.resources[id] = Resource(id, words[2], place_of(self.log, int(words[3])), at, event.clock, int(words[5]))

@@ -77,6 +77,7 @@ WORDS = {
     "K": re.compile(rf"all|end|{NUMBER} [a-z_]+ [01] [01] [01] {NUMBER} {NUMBER} {NUMBER}"),
     "J": re.compile(
         rf"new {NUMBER} (?:timer|interval|immediate|soon|task|callback) (?:-1|{NUMBER}) (?:-1|{NUMBER}(?:<{NUMBER})*) {NUMBER}"
+        rf"|was {NUMBER} (?:timer|interval|immediate|soon|task|callback) (?:-1|{NUMBER}) (?:-1|{NUMBER}(?:<{NUMBER})*) {NUMBER} {NUMBER}"
         rf"|run {NUMBER}(?: {NUMBER} {NUMBER}(?: [123])?)?|ran {NUMBER}"
         rf"|gone {NUMBER} (?:-1|{NUMBER})|ref {NUMBER} [01] (?:-1|{NUMBER})|by {NUMBER} {NUMBER}(?:<{NUMBER})*"
         rf"|busy {NUMBER} {NUMBER} {NUMBER}|thread {NUMBER}"

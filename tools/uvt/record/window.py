@@ -25,8 +25,8 @@ def begin_of(events: list[Event], at: int) -> int:
     something, which would stand there twice."""
     end, all_at = at, next(it for it in range(at - 1, -1, -1) if events[it].type == "K" and events[it].words == "all")
     at = all_at
-    # (in a ring the places and callbacks stand in front of it)
-    while at and events[at - 1].type in "CV":
+    # (in a ring the places, the callbacks and what an interpreter is to call stand in front of it)
+    while at and (events[at - 1].type in "CV" or was(events[at - 1])):
         at -= 1
     while at and (events[at - 1].type == "E" or events[at - 1].type == "B" and events[at - 1].words.endswith((" idle", " prepare"))):
         begun = next((it for it in range(at - 1, -1, -1) if events[it].type == "B"), 0)
@@ -36,9 +36,14 @@ def begin_of(events: list[Event], at: int) -> int:
             return -1
         at = begun
     # (the first events of a ring: of the iteration there may have been more)
-    if not any(it.type not in "CVL" for it in events[:at]) and any(is_called_first(it) for it in events[all_at:end]):
+    if not any(it.type not in "CVL" and not was(it) for it in events[:at]) and any(is_called_first(it) for it in events[all_at:end]):
         return -1
     return at
+
+
+def was(event: Event) -> bool:
+    """Does it tell again what an interpreter had asked for?"""
+    return event.type == "J" and event.words.startswith("was ")
 
 
 def is_called_first(event: Event) -> bool:
@@ -93,6 +98,7 @@ def window(events: list[Event], time: int, form: int) -> tuple[list[Event], int]
     places = [it for it in events[:at] if it.type in "CV"]
     kept = [it for it in events[begin:] if it.type != "K" and (it.type not in "CV" or it.line > events[at - 1].line)]
     # (all of a loop that waits is written down behind its poll, and the poll once more)
-    kept = [replace(it, type="P") if number == 0 and it.type == "p" else it for number, it in enumerate(kept)]
+    first = next((number for number, it in enumerate(kept) if not was(it)), 0)
+    kept = [replace(it, type="P") if number == first and it.type == "p" else it for number, it in enumerate(kept)]
     run = Event("R", 0, NO_CLOCK, mode, events[at - 1].line)
     return [*places, *made_again(events, at, form), run, *(moved(it, now) for it in kept)], now

@@ -69,10 +69,12 @@ CALLED(meant, 1) {
 CALLED(born, 3) {
     int64_t kind = number(env, words[0]), delay = number(env, words[2]);
     if (!loop || kind < 0 || kind > 2) return -1;
-    char places[CHAIN_TEXT];
+    char places[CHAIN_TEXT], text[CHAIN_TEXT + 64];
     int function = place_of(env, words[1]);
     places_now(env, places);
-    write_line(loop, 'J', "new %u %s %d %s %u", (uint64_t)++ids, KINDS[kind], function, places, (uint64_t)(delay < 0 ? 0 : delay));
+    snprintf(text, sizeof text, "%s %d %s %lld", KINDS[kind], function, places, (long long)(delay < 0 ? 0 : delay));
+    write_line(loop, 'J', "new %u %s", (uint64_t)++ids, text);
+    alive_new(loop, (uint64_t)ids, text);
     return ids;
 }
 
@@ -83,6 +85,7 @@ CALLED(begin, 4) {
     uint64_t id = (uint64_t)number(env, words[0]);
     static const char *const FLAGS[] = {"", " 1", " 2", " 3"};
     const char *flags = FLAGS[number(env, words[3]) & 3];
+    alive_run(id, number(env, words[3]) & 1);
     if (loop && start >= 0) write_line(loop, 'J', "run %u %u %u%s", id, (uint64_t)start, (uint64_t)(delay < 0 ? 0 : delay), flags);
     else if (loop) write_line(loop, 'J', "run %u", id);
     return 0;
@@ -90,12 +93,14 @@ CALLED(begin, 4) {
 
 CALLED(end, 1) {
     if (loop) write_line(loop, 'J', "ran %u", (uint64_t)number(env, words[0]));
+    alive_end((uint64_t)number(env, words[0]), false);
     return 0;
 }
 
 /* gone(ID): it is cleared, and where. */
 CALLED(gone, 1) {
     if (loop) write_line(loop, 'J', "gone %u %d", (uint64_t)number(env, words[0]), place_now(env));
+    alive_end((uint64_t)number(env, words[0]), true);
     return 0;
 }
 

@@ -65,6 +65,7 @@ struct loop *new_loop(uv_loop_t *uv) {
 }
 
 void close_loop(struct loop *loop) {
+    alive_closed(loop);
     loop->uv = NULL;
     int at = 0;
     while (at < loop_count && loops[at] != loop) at++;

@@ -16,6 +16,7 @@ REAL(uv_has_ref)
 
 enum { OFTEN = 4000, MANY = 8 };
 
+REAL(uv_now)
 REAL(uv_timer_get_due_in)
 REAL(uv_timer_get_repeat)
 
@@ -44,23 +45,27 @@ static void tell(struct loop *loop) {
 
 /* In a ring once in each window, but not more than a quarter of it, so that a recording may begin in any part of it; with the places and the callbacks,
  * since lines that said these may be gone. A ring has room for four times of all, and more. (At the second poll in a window all of that iteration
- * is in it.) */
-enum { SHARE = 4 };
+ * is in it.) And each second, where that is little beside the rest: what was late is to have its beginning not long before. */
+enum { SHARE = 4, LITTLE = 16, EACH = 1000 };
 
 static bool is_to_be_told(const struct loop *loop) {
     uint64_t since = ring_bytes() - loop->told_at;
-    return !loop->told_in || (loop->told_in != ring_window() && since >= SHARE * loop->told_size);
+    if (!loop->told_in) return true;
+    if (loop->told_in != ring_window()) return since >= SHARE * loop->told_size;
+    return since >= LITTLE * loop->told_size && CALL(uv_now)(loop->uv) >= loop->told_when + EACH;
 }
 
 static void tell_again(struct loop *loop) {
     static uint64_t sizes;
     uint64_t begin = ring_bytes();
     each(loop, name_again);
+    tell_alive(loop);
     tell(loop);
     sizes += ring_bytes() - begin - loop->told_size;
     loop->told_size = ring_bytes() - begin;
     loop->told_at = begin;
     loop->told_in = ring_window();
+    loop->told_when = CALL(uv_now)(loop->uv);
     ring_needs(2 * SHARE * sizes);
 }
 

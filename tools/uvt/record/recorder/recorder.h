@@ -45,7 +45,7 @@ struct loop {
     uint64_t looked_at; /* the loop's time as that was done last */
     int looks; /* how often, up to FEW */
     size_t told_in; /* the window of the ring in which all of it was written down last, */
-    uint64_t told_at, told_size; /* behind how many bytes, and in how many */
+    uint64_t told_at, told_size, told_when; /* behind how many bytes, in how many, and at which time of the loop's */
     long lines, counted; /* of it in the log; and how many there were as all of it was last written down */
     uv_run_mode mode; /* of the uv_run that is under way */
     long begun, away; /* how many callbacks and runs have begun, and how many of them in no poll */
@@ -353,6 +353,15 @@ void note_made_over(const uv_loop_t *uv, const void *address);
 /* ---- interpreters (node.c, places.c, looks.c, script.c) */
 
 int new_place_number(void);
+
+/* What an interpreter has asked for, and is to come (alive.c): asked for (KIND FUNCTION PLACE MS); it is called, and that ends, or it is gone; all of this
+ * by a line's words; and what there is of a loop is told again. */
+void alive_new(const struct loop *loop, uint64_t id, const char *text);
+void alive_run(uint64_t id, bool repeats);
+void alive_end(uint64_t id, bool gone);
+void alive_note(const struct loop *loop, const char *words);
+void alive_closed(const struct loop *loop);
+void tell_alive(struct loop *loop);
 
 /* A line that says where JavaScript asked for this object of the loop, if it is under way in this thread. */
 bool is_behind(const struct loop *loop);

@@ -39,7 +39,7 @@ void uvt_note(struct loop *loop, const char *text) {
     lock();
     if (!loop) loop = running_here();
     if (!loop) loop = last_loop();
-    if (loop && text) write_line(loop, 'J', "%s", text);
+    if (loop && text) write_line(loop, 'J', "%s", text), alive_note(loop, text);
     unlock();
 }
 
