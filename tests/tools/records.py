@@ -605,6 +605,8 @@ def try_page(check: Check, page: Path, folder: str, log: str, call: str, other: 
     name = "server" if " -o " in call else log
     blocks = re.findall(r"```text\n(.*?)```", page.read_text(), re.DOTALL)
     shown = [(block, behind) for block, behind in zip(blocks, blocks[1:]) if other in block or call in block]
+    # (what writes into a file prints nothing)
+    shown = [it for it in shown if not all(" > " in line for line in it[0].splitlines())]
     calls = [(block, behind) for block, behind in shown if all(re.match(r"(\./uvt |printf |sed |grep )", it) for it in block.splitlines())]
     check(f"{page.name}: it shows calls", bool(calls))
     for block, behind in calls:

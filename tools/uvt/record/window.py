@@ -98,7 +98,7 @@ def window(events: list[Event], time: int, form: int) -> tuple[list[Event], int]
     places = [it for it in events[:at] if it.type in "CV"]
     kept = [it for it in events[begin:] if it.type != "K" and (it.type not in "CV" or it.line > events[at - 1].line)]
     # (all of a loop that waits is written down behind its poll, and the poll once more)
-    first = next((number for number, it in enumerate(kept) if not was(it)), 0)
-    kept = [replace(it, type="P") if number == first and it.type == "p" else it for number, it in enumerate(kept)]
+    front = next((number for number, it in enumerate(kept) if not was(it)), 0)
+    kept = [replace(it, type="P") if number == front and it.type == "p" else it for number, it in enumerate(kept)]
     run = Event("R", 0, NO_CLOCK, mode, events[at - 1].line)
     return [*places, *made_again(events, at, form), run, *(moved(it, now) for it in kept)], now
