@@ -68,8 +68,9 @@ def behind_the_first(events: list[Event], part: Part) -> tuple[list[Event], Part
     first = events[known[0] - 1].now
     if part.begin is not None:
         return events, replace(part, begin=max(part.begin, first))
-    if part.worst and len(calls_of(events)) > part.most:
-        return events[begin_of(events, known[0]) :], part
+    rest = events[begin_of(events, known[0]) :]
+    if part.worst and len(calls_of(rest)) > part.most:
+        return rest, part
     return events, replace(part, begin=first)
 
 
@@ -98,12 +99,13 @@ def chosen(log: Log, loop: int, part: Part) -> Chosen:
     events, kept = log.loops[loop], log.late if part.is_all() and part.worst else None
     if kept:
         part = of_late(log, loop, events, part)
-    if log.turned and part.last is None and (part.begin is None or kept) and not is_all_of(events):
+    is_cut = log.turned and part.last is None and (part.begin is None or kept is not None) and not is_all_of(events)
+    if is_cut:
         events, part = behind_the_first(events, part)
     if kept and kept.loop == loop and part.begin is not None and count_from(events, part.begin) > part.most:
-        return Chosen(*around(log, events, part.most, stall_of(events, kept)))
+        return Chosen(*around(log, events, part.most, is_cut, stall_of(events, kept)))
     if part.begin is None and part.worst and len(calls_of(events)) > part.most:
-        return Chosen(*around(log, events, part.most))
+        return Chosen(*around(log, events, part.most, is_cut))
     time, found = part.begin if part.last is None else max(0, events[-1].now - part.last), Chosen(events)
     if time is not None and not (kept and time == 0):
         found = Chosen(*window(events, time, log.form))

@@ -20,25 +20,63 @@ def starts_of(events: list[Event]) -> list[int]:
     return [at + 1 for at, it in enumerate(events) if it.type == "K" and it.words == "end"]
 
 
-def begin_of(events: list[Event], at: int) -> int:
-    """The first event of the iteration whose poll comes next: the callbacks of idle and prepare handles before it. -1 where these ask
-    something, which would stand there twice."""
-    end, all_at = at, next(it for it in range(at - 1, -1, -1) if events[it].type == "K" and events[it].words == "all")
-    at = all_at
+FIRST = (" idle", " prepare")
+
+
+def front_of(events: list[Event], at: int) -> tuple[int, int]:
+    """Of all that was written down with its end in front of this place: its own line, and the first one that belongs to it."""
+    all_at = next(it for it in range(at - 1, -1, -1) if events[it].type == "K" and events[it].words == "all")
+    front = all_at
     # (in a ring the places, the callbacks and what an interpreter is to call stand in front of it)
-    while at and (events[at - 1].type in "CV" or was(events[at - 1])):
-        at -= 1
-    while at and (events[at - 1].type == "E" or events[at - 1].type == "B" and events[at - 1].words.endswith((" idle", " prepare"))):
+    while front and (events[front - 1].type in "CV" or was(events[front - 1])):
+        front -= 1
+    return all_at, front
+
+
+def called_before(events: list[Event], front: int, end: int) -> tuple[int, bool]:
+    """The first event of the callbacks of idle and prepare handles in front of what was written down between these places; and whether they can't be
+    taken as they are: they ask something, which stands in that too, or it is of a loop that waited, and they stand in front of its poll."""
+    at, asks = front, next((events[it].type == "p" for it in range(end, len(events)) if events[it].type in "Pp"), False)
+    if asks:
+        return at, asks
+    while at and (events[at - 1].type == "E" or events[at - 1].type == "B" and events[at - 1].words.endswith(FIRST)):
         begun = next((it for it in range(at - 1, -1, -1) if events[it].type == "B"), 0)
-        if not events[begun].words.endswith((" idle", " prepare")):
+        if not events[begun].words.endswith(FIRST):
             break
-        if any(it.type == "O" for it in events[begun:at]):
-            return -1
+        asks |= any(it.type == "O" for it in events[begun:at])
         at = begun
-    # (the first events of a ring: of the iteration there may have been more)
-    if not any(it.type not in "CVL" and not was(it) for it in events[:at]) and any(is_called_first(it) for it in events[all_at:end]):
+    return at, asks
+
+
+def begin_of(events: list[Event], at: int) -> int:
+    """The first event of the iteration whose poll comes next: the callbacks of idle and prepare handles before it, where these ask nothing. -1 where
+    none can begin there."""
+    all_at, front = front_of(events, at)
+    begin, asks = called_before(events, front, at)
+    # (a timer that is due already, since one of these has started it: it would be called in front of them)
+    if any(is_due(it) for it in events[all_at:at]):
         return -1
-    return at
+    # (the first events of a ring: of the iteration there may have been more)
+    if not any(it.type not in "CVL" and not was(it) for it in events[:begin]) and any(is_called_first(it) for it in events[all_at:at]):
+        return -1
+    return front if asks else begin
+
+
+def is_due(event: Event) -> bool:
+    words = event.words.split(" ")
+    return event.type == "K" and len(words) > 5 and words[1:3] == ["timer", "1"] and words[5] == "0"
+
+
+def called_again(events: list[Event], at: int) -> list[Event]:
+    """Where the callbacks of idle and prepare handles in front of the poll can't be taken as they are: those of the handles that are active behind them,
+    without what they ask. The last one that was started comes first."""
+    all_at, front = front_of(events, at)
+    if not called_before(events, front, at)[1]:
+        return []
+    rows = [it.words.split(" ") for it in events[all_at + 1 : at - 1] if is_called_first(it)]
+    rows.sort(key=lambda it: (it[1], -int(it[7])))
+    line = events[all_at].line
+    return [Event(type, 0, 0, words, line) for id, kind, *_ in rows for type, words in (("B", f"on {id} {kind}"), ("E", id))]
 
 
 def was(event: Event) -> bool:
@@ -101,4 +139,4 @@ def window(events: list[Event], time: int, form: int) -> tuple[list[Event], int]
     front = next((number for number, it in enumerate(kept) if not was(it)), 0)
     kept = [replace(it, type="P") if number == front and it.type == "p" else it for number, it in enumerate(kept)]
     run = Event("R", 0, NO_CLOCK, mode, events[at - 1].line)
-    return [*places, *made_again(events, at, form), run, *(moved(it, now) for it in kept)], now
+    return [*places, *made_again(events, at, form), run, *called_again(events, at), *(moved(it, now) for it in kept)], now

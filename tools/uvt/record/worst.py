@@ -5,7 +5,7 @@ from __future__ import annotations
 from dataclasses import dataclass
 
 from uvt.record.log import NO_CLOCK, Event, Log
-from uvt.record.window import NoPart, window
+from uvt.record.window import NoPart, starts_of, window
 
 
 @dataclass
@@ -45,13 +45,17 @@ def function_of(log: Log, events: list[Event], at: int) -> str:
     return ""
 
 
-def around(log: Log, events: list[Event], most: int, stall: Stall | None = None) -> tuple[list[Event], int | None, str]:
+def around(log: Log, events: list[Event], most: int, is_cut: bool, stall: Stall | None = None) -> tuple[list[Event], int | None, str]:
     """As many callbacks as are wanted, with the longest one (or this one) among them, from a place where a recording can begin; at which time of the
-    loop it begins, None where that is its own beginning; and which part that is, in a sentence. Which callback is the longest is said at once."""
+    loop it begins, None where that is its own beginning; and which part that is, in a sentence. Which callback is the longest is said at once. With
+    `is_cut` these events aren't the loop's first ones: the recording begins where all that there was is written down, then."""
     calls = [at for at, it in enumerate(events) if it.type == "B"]
     longest, stall = stall is None, stall or worst_of(events)
     took = f"{stall.took} ms at {events[stall.at].clock} ms{function_of(log, events, stall.at)}" if stall.took >= 0 else "no time that is known"
     part, begin, before = begun_near(events, stall, [most // 2, most // 10, 1] if stall.number >= most else [], most, log.form)
+    if begin is None and is_cut:
+        part, begin = window(events, events[starts_of(events)[0] - 1].now, log.form)
+        before = callbacks_before(part, events[stall.at].line)
     begun = [at for at, it in enumerate(part) if it.type == "B"]
     # (where a recording can't begin near to it there are some more)
     count = min(len(begun), max(most, before + most // 4))
@@ -65,6 +69,10 @@ def around(log: Log, events: list[Event], most: int, stall: Stall | None = None)
     return part[: begun[count]] if len(begun) > count else part, begin, said
 
 
+def callbacks_before(events: list[Event], line: int) -> int:
+    return sum(it.type == "B" and it.line < line for it in events)
+
+
 def begun_near(events: list[Event], stall: Stall, distances: list[int], most: int, form: int) -> tuple[list[Event], int | None, int]:
     """The events from a place on that lies so many callbacks before this one, at first, and then nearer; all of them where no recording can begin
     there. With that the time at which it begins, and how many callbacks stand before this one then."""
@@ -75,7 +83,7 @@ def begun_near(events: list[Event], stall: Stall, distances: list[int], most: in
             part, begin = window(events, calls[stall.number - distance].now, form)
         except NoPart:
             continue
-        before = sum(it.type == "B" and it.line < events[stall.at].line for it in part)
+        before = callbacks_before(part, events[stall.at].line)
         if before < most:
             break
     return part, begin, before

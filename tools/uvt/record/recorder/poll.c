@@ -46,7 +46,7 @@ static void tell(struct loop *loop) {
 /* In a ring once in each window, but not more than a quarter of it, so that a recording may begin in any part of it; with the places and the callbacks,
  * since lines that said these may be gone. A ring has room for four times of all, and more. (At the second poll in a window all of that iteration
  * is in it.) And each second, where that is little beside the rest: what was late is to have its beginning not long before. */
-enum { SHARE = 4, LITTLE = 16, EACH = 1000 };
+enum { SHARE = 4, LITTLE = 16, EACH = 1000, OVERDUE = 2 << 20 };
 
 static bool is_to_be_told(const struct loop *loop) {
     uint64_t since = ring_bytes() - loop->told_at;
@@ -66,7 +66,7 @@ static void tell_again(struct loop *loop) {
     loop->told_at = begin;
     loop->told_in = ring_window();
     loop->told_when = CALL(uv_now)(loop->uv);
-    ring_needs(2 * SHARE * sizes);
+    ring_needs(3 * SHARE * sizes);
 }
 
 /* A loop that waits writes nothing, and the ring goes on: the lines are written for it, as they were at its poll, with that poll once more. */
@@ -82,7 +82,9 @@ static void tell_all(struct loop *loop) {
         if (loop->lines - loop->counted >= OFTEN + MANY * object_total()) tell(loop);
         return;
     }
-    if (is_to_be_told(loop) && (loop->poll.in == ring_window() || !loop->told_in)) tell_again(loop);
+    /* (of one that fills a window in each of its iterations there is none that is in it whole) */
+    bool overdue = ring_bytes() - loop->told_at >= SHARE * loop->told_size + OVERDUE;
+    if (is_to_be_told(loop) && (loop->poll.in == ring_window() || !loop->told_in || overdue)) tell_again(loop);
     if (told_in == ring_window()) return;
     told_in = ring_window();
     each_loop(tell_of_one_that_waits);
