@@ -65,10 +65,10 @@ class Room:
     def plain(self, *words: str) -> subprocess.CompletedProcess[str]:
         return ran([str(self.folder / words[0]), *words[1:]], self.folder)
 
-    def run(self, *words: str, before: list[str] | None = None, **more: str) -> subprocess.CompletedProcess[str]:
+    def run(self, *words: str, before: tuple[str, ...] = (), **more: str) -> subprocess.CompletedProcess[str]:
         """A program under the recorder."""
-        more |= {"UVT_LOG": str(self.folder / "log"), "LD_PRELOAD": str(recorder())}
-        done = ran([*(before or []), str(self.folder / words[0]), *words[1:]], self.folder, **more)
+        more = more | {"UVT_LOG": str(self.folder / "log"), "LD_PRELOAD": str(recorder())}
+        done = ran([*before, str(self.folder / words[0]), *words[1:]], self.folder, **more)
         for it in self.folder.glob("log.*"):
             it.unlink()
         return done
@@ -86,13 +86,16 @@ def try_handler(check: Check, room: Room) -> None:
 
 def try_kinds(check: Check, room: Room) -> None:
     for kind in KINDS:
-        plain, recorded = room.plain("kinds", kind), room.run("kinds", kind)
-        alike = (plain.returncode, plain.stdout) == (recorded.returncode, recorded.stdout)
-        check(f"harms: {kind}: its status and output", alike and plain.returncode != LATE, (plain, recorded))
+        plain = room.plain("kinds", kind)
+        rings: list[dict[str, str]] = [{}, {"UVT_KEEP": "2", "UVT_LATE": "20"}]
+        for more in rings:
+            recorded = room.run("kinds", kind, before=(), **more)
+            alike = (plain.returncode, plain.stdout) == (recorded.returncode, recorded.stdout)
+            check(f"harms: {kind}{', in a ring' if more else ''}: its status and output", alike and plain.returncode != LATE, (plain, recorded))
 
 
 def instructions(room: Room, loops: int) -> int:
-    done = room.run("loops", str(loops), before=["valgrind", "--tool=callgrind", "--callgrind-out-file=/dev/null"])
+    done = room.run("loops", str(loops), before=("valgrind", "--tool=callgrind", "--callgrind-out-file=/dev/null"))
     found = re.search(r"Collected : (\d+)", done.stdout)
     return int(found[1]) if found else 0
 

@@ -17,7 +17,7 @@ import time
 from pathlib import Path
 from typing import Callable
 
-from tests.helper import ROOT, SECONDS, Check, Tries, limited
+from tests.helper import ROOT, SECONDS, Check, Tries, limited, waited
 from tests.tools.records import has_libuv
 from uvt.record import ring
 from uvt.record.run import recorder
@@ -98,6 +98,13 @@ def try_record(check: Check, room: Room) -> None:
     check("keep: what was kept is in the logs alone", not list(room.folder.glob("kept.*.ring")) + list(room.folder.glob("kept.*.words")))
     why = room.uvt("why", "kept.late-1.rec")
     check("keep, --late: it is named", re.search(r"1\d\d ms.*on_turn \(kept\.c:\d+\)", why.stdout), said(why))
+    kept = re.search(r"^KEPT APART, SINCE turn, on_turn \(kept\.c:\d+\), took (\d+) ms, up to (\d+) ms$", why.stdout, re.MULTILINE)
+    check("keep, --late: why it was kept", kept and int(kept[1]) >= 120, said(why))
+    # (a second before that, and up to another one: more on a machine that does much else)
+    check("keep, --late: it begins not long before", kept and int(kept[2]) - int(kept[1]) < 5000, said(why))
+    why = room.uvt("why", "beat", "kept.late-1.rec")
+    unknown = "before the recording begins, so by whom and when isn't known"
+    check("keep: who made what was there before isn't guessed", f"made {unknown}" in why.stdout and f"started {unknown}" in why.stdout, said(why))
     two = room.uvt("record", "--keep", 2, "-o", "two", room.program, "wait", MANY)
     check("keep: a loop that waits all the time is recorded beside one that doesn't", is_same(two, 2), said(two))
 
@@ -125,6 +132,8 @@ def try_ended(check: Check, room: Room) -> None:
         check("dump: of a loop that stands still", is_same(ran), said(ran))
         found = re.search(r"in the callback of never, on_never \(kept\.c:\d+\), for (\d+) ms", ran.stdout)
         check("dump: in which callback, and since when", found and int(found[1]) >= 500, said(ran))
+        ran = room.uvt("why", "hung.rec")
+        check("dump: a copy is no end", "A COPY OF A PROGRAM THAT WENT ON, MADE at " in ran.stdout and "ENDED BY" not in ran.stdout, said(ran))
     finally:
         program.kill()
         program.wait()
@@ -151,6 +160,38 @@ def try_bounds(check: Check, room: Room) -> None:
     check("keep: of processes that ended the last ones stay", len(left) == 4 and len(list(room.folder.glob("often.*.words"))) == 4, left)
     room.run("again", "again", "3000")
     check("keep: a program that replaces itself has two", len(room.rings("again")) == 2, room.rings("again"))
+
+
+def try_files(check: Check, room: Room) -> None:
+    """Whose they are, where somebody has put a link, and of two processes at a time."""
+    victim = room.folder / "victim"
+    victim.write_text("kept")
+    script = f"ln -s {victim} {room.folder}/link.$$.ring; exec {room.program} flood 3000"
+    ran = limited(["sh", "-c", script], env=room.kept("link"), cwd=room.folder)
+    check("keep: where a link lies nothing is written", ran.returncode == 0 and victim.read_text() == "kept", (ran, victim.read_text()[:100]))
+    both = [subprocess.Popen([room.program, "flood", MANY], env=room.kept("both"), cwd=room.folder) for _ in range(2)]
+    for it in both:
+        check("keep: two processes in one folder", waited(it) == 0)
+    rings = room.rings("both")
+    modes = {it.stat().st_mode & 0o777 for it in room.folder.glob("both.*")}
+    check("keep: its files are for their user alone", modes == {0o600}, modes)
+    for number, ring_of_one in enumerate(rings):
+        ran = room.uvt("record", "-o", f"both-{number}", "--log", ring_of_one)
+        check("keep: each of two processes has its ring", len(rings) == 2 and is_same(ran), said(ran))
+
+
+def try_node(check: Check, room: Room) -> None:
+    """A timer that JavaScript has started before the ring begins."""
+    server = HERE.parent / "recorder" / "servers" / "server.js"
+    for seconds in (4, 16, 64):
+        ran = room.uvt("record", "--keep", 2, "-o", "js", "node", server, seconds)
+        log = (room.folder / "js.log").read_bytes() if (room.folder / "js.log").is_file() else b""
+        if re.search(rb"^- W ([2-9]|\d\d+)$", log, re.MULTILINE):
+            break
+    check("keep, node: a ring that has turned", ran.returncode == 0 and "it begins at" in ran.stdout, said(ran))
+    ran = room.uvt("why", "heartbeat", "js.rec")
+    wanted = r"heartbeat \(\S*server\.js:\d+\): an? interval of 100 ms, started at \S*server\.js:\d+"
+    check("keep, node: a timer that was started before has its name", re.search(wanted, ran.stdout), said(ran))
 
 
 def try_attach(check: Check, room: Room) -> None:
@@ -184,8 +225,12 @@ def try_keeps(tries: Tries) -> None:
             tries.leave_out("programs that keep their last windows", "there is no C compiler `cc` with libuv's header")
             return
         room = Room(Path(name))
-        for part in (try_record, try_by_hand, try_ended, try_bounds):
+        for part in (try_record, try_by_hand, try_ended, try_bounds, try_files):
             part(tries.check, room)
+        if shutil.which("node"):
+            try_node(tries.check, room)
+        else:
+            tries.leave_out("a ring of a program in node", "there is no node")
         if shutil.which("gdb"):
             try_attach(tries.check, room)
         else:
