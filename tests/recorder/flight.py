@@ -6,10 +6,10 @@
   node     node, over HTTP with 20 clients of its own (servers/server.js), with the hook
   python   Python on uvloop, with 20 clients of its own (servers/server.py), with the hook; UVT_PYTHON names the Python
 
---dumps: so many copies of the ring of each while it runs, at random moments once the ring has turned. Each recording has to be `same` to its end, of
-each loop. --stalls: so many runs of http, node and python in which a function takes 150 ms at a random moment: what was kept apart has to name it, with
-its line. A run takes --seconds. It prints how many were, and of how many callbacks; status 1 if one wasn't. For the hand: --dumps 20 takes a quarter of
-an hour.
+--dumps: so many copies of the ring of each while it runs, at random moments once the ring has turned. Each recording has to be `same` to its
+end, of each loop. --stalls: so many runs of http, node and python in which a function takes 150 ms at a random moment: what was kept apart has
+to name it, with its line. A run takes --seconds. It prints how many were, and of how many callbacks; status 1 if one wasn't. For the hand:
+--dumps 20 takes a quarter of an hour.
 """
 
 from __future__ import annotations

@@ -1,4 +1,5 @@
-/* So many timers, each started anew in its callback, and 50 check handles, a third of them unreferenced, for tests/recorder/flight: many SECONDS TIMERS */
+/* So many timers, each started anew in its callback, and 50 check handles, a third of them unreferenced, for tests/recorder/flight: many SECONDS
+ * TIMERS */
 #include <stdlib.h>
 #include <uv.h>
 

@@ -1,4 +1,5 @@
-/* A signal's handler sends each 500 us, as libuv allows, while an idle handle stops and starts 64 timers: handler [ROUNDS]. Status 3 if no send came. */
+/* A signal's handler sends each 500 us, as libuv allows, while an idle handle stops and starts 64 timers: handler [ROUNDS]. Status 3 if no send
+ * came. */
 #include <errno.h>
 #include <signal.h>
 #include <stdlib.h>

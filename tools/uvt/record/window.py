@@ -68,8 +68,8 @@ def is_due(event: Event) -> bool:
 
 
 def called_again(events: list[Event], at: int) -> list[Event]:
-    """Where the callbacks of idle and prepare handles in front of the poll can't be taken as they are: those of the handles that are active behind them,
-    without what they ask. The last one that was started comes first."""
+    """Where the callbacks of idle and prepare handles in front of the poll can't be taken as they are: those of the handles that are active behind
+    them, without what they ask. The last one that was started comes first."""
     all_at, front = front_of(events, at)
     if not called_before(events, front, at)[1]:
         return []

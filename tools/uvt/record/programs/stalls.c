@@ -1,5 +1,5 @@
-/* A server that stalls once: a client of its own asks each 5 ms, and the 400th request takes 400 ms in rebuild_index. It runs until it is killed, or for
- * so many seconds: stalls [SECONDS] */
+/* A server that stalls once: a client of its own asks each 5 ms, and the 400th request takes 400 ms in rebuild_index. It runs until it is killed,
+ * or for so many seconds: stalls [SECONDS] */
 #include <netinet/in.h>
 #include <stdlib.h>
 #include <uv.h>

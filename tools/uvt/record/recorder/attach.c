@@ -1,9 +1,9 @@
 /* A program that runs already (./uvt attach): gdb has it load the recorder (UVT_ATTACH), and calls the two functions below.
  *
- * Its libuv, also where that is a library of its own, gets jumps as one within a program does (hooks.c). Its loops, and the handles that there are,
- * were made before: as a loop polls it is found by the descriptor for which it asks, its handles are those that uv_walk tells, and the callbacks that
- * they hold become the recorder's. Requests under way are known to libuv alone: so a loop is taken over at the first poll at which it has none. The log
- * begins there with all that it has, as a ring does whose first windows are gone. */
+ * Its libuv, also where that is a library of its own, gets jumps as one within a program does (hooks.c). Its loops, and the handles that there
+ * are, were made before: as a loop polls it is found by the descriptor for which it asks, its handles are those that uv_walk tells, and the
+ * callbacks that they hold become the recorder's. Requests under way are known to libuv alone: so a loop is taken over at the first poll at which
+ * it has none. The log begins there with all that it has, as a ring does whose first windows are gone. */
 #define _GNU_SOURCE
 #include "recorder.h"
 
@@ -156,7 +156,8 @@ static void adopt_one(uv_handle_t *handle, void *word) {
     if (!object) return;
     object->kind = kind;
     object->handle = true;
-    object->watcher = handle->type != UV_TIMER && handle->type != UV_IDLE && handle->type != UV_PREPARE && handle->type != UV_CHECK && handle->type != UV_ASYNC;
+    object->watcher = handle->type != UV_TIMER && handle->type != UV_IDLE && handle->type != UV_PREPARE && handle->type != UV_CHECK
+                      && handle->type != UV_ASYNC;
     object->type = handle->type;
     object->size = (int)CALL(uv_handle_size)(handle->type);
     object->active = CALL(uv_is_active)(handle);

@@ -103,8 +103,8 @@ CALLBACK(on_receive, uv_udp_recv_cb, callback, "receive", datagram_known(length,
          (uv_udp_t * handle, ssize_t length, const uv_buf_t *bytes, const struct sockaddr *from, unsigned flags),
          (handle, length, bytes, from, flags))
 
-/* Where bytes go the program says in front of their callback: what that takes counts as the callback's. (Its own place is that of the function: a byte
- * behind, as of a call.) */
+/* Where bytes go the program says in front of their callback: what that takes counts as the callback's. (Its own place is that of the function: a
+ * byte behind, as of a call.) */
 static void on_alloc(uv_handle_t *handle, size_t size, uv_buf_t *bytes) {
     lock();
     struct object *object = find(handle);

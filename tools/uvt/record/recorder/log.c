@@ -546,7 +546,8 @@ static void in_child(void) {
     mutex = (pthread_mutex_t)PTHREAD_RECURSIVE_MUTEX_INITIALIZER_NP;
 }
 
-/* Who is killed can't end the program that it has started: the system does. (UVT_ENDS_WITH=PROCESS: only of its own child, and of none of that one's) */
+/* Who is killed can't end the program that it has started: the system does. (UVT_ENDS_WITH=PROCESS: only of its own child, and of none of that
+ * one's) */
 static void end_with(const char *who) {
     pid_t parent = who ? (pid_t)atoi(who) : 0;
     if (parent <= 1 || getppid() != parent) return;

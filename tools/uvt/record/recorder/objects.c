@@ -22,8 +22,8 @@ REAL(uv_now)
 
 /* ---- loops */
 
-/* Closed ones that have no object any more: the next loop takes one of them. (They aren't freed, since a thread may have asked for them last, and looks
- * whether that is still so.) */
+/* Closed ones that have no object any more: the next loop takes one of them. (They aren't freed, since a thread may have asked for them last, and
+ * looks whether that is still so.) */
 static struct loop *closed;
 
 static struct loop *take_closed(void) {

@@ -43,9 +43,9 @@ static void tell(struct loop *loop) {
     loop->counted = loop->lines;
 }
 
-/* In a ring once in each window, but not more than a quarter of it, so that a recording may begin in any part of it; with the places and the callbacks,
- * since lines that said these may be gone. A ring has room for four times of all, and more. (At the second poll in a window all of that iteration
- * is in it.) And each second, where that is little beside the rest: what was late is to have its beginning not long before. */
+/* In a ring once in each window, but not more than a quarter of it, so that a recording may begin in any part of it; with the places and the
+ * callbacks, since lines that said these may be gone. A ring has room for four times of all, and more. (At the second poll in a window all of that
+ * iteration is in it.) And each second, where that is little beside the rest: what was late is to have its beginning not long before. */
 enum { SHARE = 4, LITTLE = 16, EACH = 1000, OVERDUE = 2 << 20 };
 
 static bool is_to_be_told(const struct loop *loop) {
@@ -146,8 +146,8 @@ static bool is_for_somebody(const uv_loop_t *uv, const struct epoll_event *event
     return watcher && (event->events & (watcher->pevents | POLLERR | POLLHUP));
 }
 
-/* The system ended a wait later than it was asked to: how much, how long of that this thread waited for a processor, and whether a signal ended it (as
- * one does that lets a stopped process go on). */
+/* The system ended a wait later than it was asked to: how much, how long of that this thread waited for a processor, and whether a signal ended it
+ * (as one does that lets a stopped process go on). */
 enum { LATE = 2 };
 
 static void note_late_poll(struct loop *loop, int got) {

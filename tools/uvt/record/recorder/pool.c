@@ -219,7 +219,8 @@ int uv_queue_work(uv_loop_t *uv, uv_work_t *request, uv_work_cb work, uv_after_w
     bool waits = in_callback && begin_wait(&wait);
     lock();
     struct object *object = queue(uv, request, (void *)callback, (void *)work);
-    int answer = queued(object, "work", sizeof *request, REALLY(CALL(uv_queue_work)(uv, request, object ? do_work : work, object ? after_work : callback)));
+    int done = REALLY(CALL(uv_queue_work)(uv, request, object ? do_work : work, object ? after_work : callback));
+    int answer = queued(object, "work", sizeof *request, done);
     if (waits) end_wait(&wait, __func__, __builtin_return_address(0));
     return answer;
 }

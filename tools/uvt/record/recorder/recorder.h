@@ -209,8 +209,8 @@ uint64_t ring_room(void);
 void ring_needs(uint64_t bytes);
 /* All of its windows are made and mapped: no further one is asked for, and nothing is kept apart. */
 void ring_ahead(void);
-/* Up to this clock something of this loop took so long: `callback`, a `timer` (the handle `id`) that was late by that, or a `poll` that ended so late; are
- * such things to be kept apart; and does so, where one was noted a while ago. */
+/* Up to this clock something of this loop took so long: `callback`, a `timer` (the handle `id`) that was late by that, or a `poll` that ended so
+ * late; are such things to be kept apart; and does so, where one was noted a while ago. */
 void note_late(const struct loop *loop, const char *what, int id, uint64_t clock, uint64_t took);
 bool minds_late(void);
 void look_at_late(uint64_t clock);
@@ -354,8 +354,8 @@ void note_made_over(const uv_loop_t *uv, const void *address);
 
 int new_place_number(void);
 
-/* What an interpreter has asked for, and is to come (alive.c): asked for (KIND FUNCTION PLACE MS); it is called, and that ends, or it is gone; all of this
- * by a line's words; and what there is of a loop is told again. */
+/* What an interpreter has asked for, and is to come (alive.c): asked for (KIND FUNCTION PLACE MS); it is called, and that ends, or it is gone; all
+ * of this by a line's words; and what there is of a loop is told again. */
 void alive_new(const struct loop *loop, uint64_t id, const char *text);
 void alive_run(uint64_t id, bool repeats);
 void alive_end(uint64_t id, bool gone);

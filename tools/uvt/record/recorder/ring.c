@@ -32,7 +32,8 @@ static size_t slot, slots, used; /* the window's place in the file, how many the
 static size_t number; /* of the window, from 1 */
 static uint64_t before; /* bytes in windows that are full */
 
-/* What took long: from which time on that is, up to when, for how long, in which window, and the line that says so; and how long what is kept apart took. */
+/* What took long: from which time on that is, up to when, for how long, in which window, and the line that says so; and how long what is kept
+ * apart took. */
 static uint64_t late, late_at, late_took, kept[MOST_LATE];
 static size_t late_in;
 static char late_line[128];

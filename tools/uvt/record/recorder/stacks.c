@@ -1,8 +1,9 @@
 /* Where a long callback of a program in C or C++ is at: its stack, now and then, once it has been on the processor for a while.
  *
- * A timer of the loop's thread counts its time on the processor (CLOCK_THREAD_CPUTIME_ID), and is put off as callbacks begin: so of short ones no signal
- * ever comes, and none comes while the thread waits in the system. The signal is SIGURG, which is ignored where nobody wants it. Where the program wants it
- * (its handler isn't the default one), no stack is taken. The handler writes into a buffer of its thread; the lines come as the callback ends. */
+ * A timer of the loop's thread counts its time on the processor (CLOCK_THREAD_CPUTIME_ID), and is put off as callbacks begin: so of short ones no
+ * signal ever comes, and none comes while the thread waits in the system. The signal is SIGURG, which is ignored where nobody wants it. Where the
+ * program wants it (its handler isn't the default one), no stack is taken. The handler writes into a buffer of its thread; the lines come as the
+ * callback ends. */
 #define _GNU_SOURCE
 #include "javascript.h"
 
