@@ -15,12 +15,11 @@ import time
 from pathlib import Path
 from xml.etree import ElementTree
 
-from tests.helper import Check, Tries
+from tests.helper import SECONDS, Check, Tries, limited, talked
 from tests.tools.records import ROOT, archive, has_libuv
 
 FOLDER = Path(__file__).resolve().parent / "forces"
 PROGRAMS = ROOT / "tools" / "uvt" / "record" / "programs"
-SECONDS = 600
 # What is said, once, of a program that isn't proved yet, or is compiled.
 BUILDS = ("uvt: this is the program before its proofs", "uvt: compiling ")
 # How force ends: all went as in the session, it departs, it could not be done, the program ended badly.
@@ -51,13 +50,10 @@ def has_sanitizer(folder: str) -> bool:
     return subprocess.run(words, input="int main(void) { return 0; }", capture_output=True, text=True).returncode == 0
 
 
-def tool(word: str, words: list[str], folder: str, seconds: int = SECONDS) -> tuple[int, str]:
+def tool(word: str, words: list[str], folder: str, seconds: float = SECONDS) -> tuple[int, str]:
     """Its status, and what it says. (That a program isn't proved yet, or is compiled, is no answer.)"""
     called = [str(ROOT / "tools" / "uvt" / f"uvt-{word}"), *words]
-    try:
-        ran = subprocess.run(called, capture_output=True, text=True, errors="replace", cwd=folder, timeout=seconds)
-    except subprocess.TimeoutExpired:
-        return 124, f"{' '.join(called)}: it took more than {seconds} s"
+    ran = limited(called, seconds, capture_output=True, text=True, errors="replace", cwd=folder)
     said = ran.stdout + "".join(it for it in ran.stderr.splitlines(keepends=True) if not it.startswith(BUILDS))
     return ran.returncode, said
 
@@ -277,11 +273,7 @@ def try_interrupt(check: Check, folder: str) -> None:
     )
     time.sleep(6)
     hunting.send_signal(signal.SIGINT)
-    try:
-        said, told = hunting.communicate(timeout=SECONDS)
-    except subprocess.TimeoutExpired:
-        hunting.kill()
-        said, told = hunting.communicate()
+    said, told = talked(hunting)
     lines = [*said.splitlines(), ""]
     said += "".join(it for it in told.splitlines(keepends=True) if not it.startswith(BUILDS))
     good = hunting.returncode == 130 and lines[0] == "each run ended well" and lines[-2] == "it was interrupted, and not at its end"

@@ -15,7 +15,7 @@ from pathlib import Path
 from typing import Any
 
 ROOT = Path(__file__).resolve().parent.parent.parent
-from tests.helper import Tries
+from tests.helper import Tries, limited
 from uvt.conversation import read_input
 from uvt.javascript import fitted
 from uvt.notes import read_notes
@@ -29,7 +29,6 @@ from uvt.why_javascript import WhyJavaScript
 
 FOLDER = Path(__file__).resolve().parent / "javascript"
 NODES = ("node18", "node20")
-SECONDS = 600
 # (the clock of a log has whole milliseconds, and a timer says what its work took, without what comes before and behind it)
 ALLOWED = 3
 COLUMNS = 120
@@ -216,7 +215,7 @@ def try_lifted(tries: Tries, node: str, name: str) -> None:
     functions = [it[1] if it else "-" for it in said]
     agrees = len(wanted) == len(functions) and all(have in one or have == "-" for have, one in zip(functions, wanted))
     tries.check(f"{what}: its calls are the program's", agrees, (functions, wanted))
-    verdict = subprocess.run([os.environ["UVT"], "replay"], input=path.read_bytes(), capture_output=True, timeout=SECONDS).stdout.decode().strip()
+    verdict = limited([os.environ["UVT"], "replay"], input=path.read_bytes(), capture_output=True).stdout.decode().strip()
     tries.check(f"{what}: replay", verdict == "same", verdict)
     path.unlink()
 
@@ -228,13 +227,11 @@ def try_find(tries: Tries) -> None:
     from_data(data, read_log(data), "app", lifts=True)
     for late, wanted in ((100, r"found in \d+ steps"), (101, r"never within clock 3000: \d+ states, every order")):
         words = ["app.lift.rec", "may tick 100 1", "may wait", "most clock 3000", f"find late app.js:19 {late}"]
-        ran = subprocess.run([str(ROOT / "tools" / "uvt" / "uvt-find"), *words], capture_output=True, text=True, timeout=SECONDS)
+        ran = limited([str(ROOT / "tools" / "uvt" / "uvt-find"), *words], capture_output=True, text=True)
         tries.check(f"javascript, find late app.js:19 {late}", re.match(wanted, ran.stdout) is not None, ran)
         whom = "app.js:19 is `remind`: remind (app.js:19), a timer of JavaScript, started at app.js:19\n"
         tries.check("javascript, find: whom it is about", whom in ran.stderr, ran.stderr)
-    ran = subprocess.run(
-        [str(ROOT / "tools" / "uvt" / "uvt-find"), "app.lift.rec", "find call app.js:3"], capture_output=True, text=True, timeout=SECONDS
-    )
+    ran = subprocess.run([str(ROOT / "tools" / "uvt" / "uvt-find"), "app.lift.rec", "find call app.js:3"], capture_output=True, text=True)
     tries.check(
         "javascript, find: a line of nobody's", ran.returncode == 70 and "no timer and no immediate was started at app.js:3" in ran.stderr, ran
     )
@@ -302,9 +299,7 @@ def try_names(tries: Tries) -> None:
         (["late", "json.js"], "late"),
     ):
         tries.check(f"javascript, the name of {words}", name_for(words) == wanted, name_for(words))
-    ran = subprocess.run(
-        [str(ROOT / "tools" / "uvt" / "uvt-record"), "--bare", "--lift", "node", "json.js"], capture_output=True, text=True, timeout=SECONDS
-    )
+    ran = limited([str(ROOT / "tools" / "uvt" / "uvt-record"), "--bare", "--lift", "node", "json.js"], capture_output=True, text=True)
     tries.check("javascript, --bare and --lift", ran.returncode == 2 and "--lift takes what --bare leaves out" in ran.stderr, ran)
 
 
@@ -338,9 +333,7 @@ def try_shell(tries: Tries) -> None:
         (["why load"], [r"load \(json\.js:6\): a timer of 33 ms, started at json\.js:18, 1 call"]),
         (["why laod"], ["no name `laod`, and no function or line of JavaScript that was seen: did you mean `load`\\?"]),
     ):
-        ran = subprocess.run(
-            [str(ROOT / "tools" / "uvt" / "uvt-shell"), "json.rec"], input="\n".join(lines) + "\n", capture_output=True, text=True, timeout=SECONDS
-        )
+        ran = limited([str(ROOT / "tools" / "uvt" / "uvt-shell"), "json.rec"], input="\n".join(lines) + "\n", capture_output=True, text=True)
         found = all(re.search(f"^{it}$", ran.stdout, re.MULTILINE) for it in wanted)
         tries.check(f"javascript, shell, {lines}", found and "Traceback" not in ran.stderr, ran)
 

@@ -17,6 +17,7 @@
     (records.py); and from logs that are drawn, of threads that are held up within a send (held.py)
   - programs of which the last windows are kept, copies of them while they run, and programs that run already (keeps.py, kept.c)
   - orders that are forced upon real programs (tools/uvt/uvt-force), with a C compiler and libuv (forces.py, forces/)
+  - races in node and in Python, hunted (races.py, javascript/races/, python/races/)
   - what `why` says of programs whose true causes are known, and that it says nothing that they don't confirm (truths.py, truths/)
   - two recordings of one program beside each other (besides.py, beside/)
   - what it says of programs in node, of whose JavaScript the hook told (javascripts.py, javascript/)
@@ -64,6 +65,7 @@ from tests.tools.javascripts import try_javascript
 from tests.tools.keeps import try_keeps
 from tests.tools.libuvs import try_libuv
 from tests.tools.panes import try_panes
+from tests.tools.races import try_races
 from tests.tools.records import try_records
 from tests.tools.shorts import try_shorter
 from tests.tools.starts import try_starts
@@ -318,6 +320,7 @@ PARTS: dict[str, Callable[[Tries], None]] = {
     "held": try_held,
     "harms": try_harms,
     "forces": try_forces,
+    "races": try_races,
     "javascript": try_javascript,
     "interpreters": try_interpreters,
     "shorter": try_shorter,
@@ -328,7 +331,7 @@ PARTS: dict[str, Callable[[Tries], None]] = {
     "form": try_form,
 }
 # Those that take longest, the longest one first.
-LONGEST = ("forces", "records", "unharmed", "keeps", "adapter", "javascript", "fuzz", "truths", "find")
+LONGEST = ("races", "forces", "records", "unharmed", "keeps", "adapter", "javascript", "fuzz", "truths", "find")
 
 
 def tried_alone(program: list[str], name: str) -> tuple[int, int]:

@@ -1,0 +1,69 @@
+"""Races in node and in Python on uvloop, hunted with no hint: javascript/races and python/races have the programs. Each ends well by itself, and with
+status 1 in some order of what comes to its loop; what is assumed of that order stands at its head. Healthy programs are accused of nothing.
+"""
+
+from __future__ import annotations
+
+import re
+import shutil
+import tempfile
+from pathlib import Path
+
+from tests.helper import Tries, limited
+from tests.tools.forces import BADLY, WELL, tool
+
+HERE = Path(__file__).resolve().parent
+# Debian's, which has Debian's uvloop.
+PYTHON = "/usr/bin/python3"
+NODE = (
+    "folder-first",
+    "closed-file",
+    "timer-first",
+    "called-twice",
+    "check-then-act",
+    "ended-socket",
+    "shared-variable",
+    "quick-one-first",
+    "late-message",
+)
+HEALTHY_NODE = ("app", "chain", "pool", "promise", "immediate", "crypto", "nested", "json")
+UVLOOP = ("lost_update", "lookups_in_order", "timer_first", "answered_twice", "closed_session")
+# How long a healthy one is hunted.
+HUNTED = "12s"
+
+
+def has(*words: str) -> bool:
+    return bool(shutil.which(words[0])) and limited([*words], capture_output=True).returncode == 0
+
+
+def try_race(tries: Tries, words: list[str], folder: str) -> None:
+    name = Path(words[-1]).name
+    alone = limited(words, capture_output=True, text=True, cwd=folder)
+    tries.check(f"{name}, by itself", alone.returncode == 0, alone)
+    status, said = tool("hunt", ["-o", f"{name}.found", *words], folder)
+    found = re.match(r"the program ended with status 1, and in (\d+) of 10 further runs in the same order\n", said)
+    tries.check(f"hunt, {name}", status == BADLY and found, f"{status} {said}")
+    tries.check(f"hunt, {name}: its order is bad each time", found and found[1] == "10", said)
+
+
+def try_healthy(tries: Tries, words: list[str], folder: str) -> None:
+    status, said = tool("hunt", ["--for", HUNTED, *words], folder)
+    tries.check(f"hunt, {Path(words[-1]).name}, which is healthy", status == WELL and said.startswith("each run ended well\n"), f"{status} {said}")
+
+
+def try_races(tries: Tries) -> None:
+    with tempfile.TemporaryDirectory() as folder:
+        # (in which libuv is seen, and its threads' sends are kept back)
+        if has("node", "-e", "process.exit(+process.versions.node.split('.')[0] >= 20 ? 0 : 1)"):
+            for name in NODE:
+                try_race(tries, ["node", str(HERE / "javascript" / "races" / f"{name}.js")], folder)
+            for name in HEALTHY_NODE:
+                try_healthy(tries, ["node", str(HERE / "javascript" / f"{name}.js")], folder)
+        else:
+            tries.leave_out("races in node", "there is no node 20")
+        if has(PYTHON, "-c", "import uvloop"):
+            for name in UVLOOP:
+                try_race(tries, [PYTHON, str(HERE / "python" / "races" / f"{name}.py")], folder)
+            try_healthy(tries, [PYTHON, str(HERE / "python" / "races" / "healthy.py")], folder)
+        else:
+            tries.leave_out("races in Python", f"there is no uvloop for {PYTHON}")
