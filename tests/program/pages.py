@@ -9,9 +9,9 @@ lines `..` parts of it. What is not run as it stands:
   the tests   aren't run: `./uvt test` and `.ci/run` are what runs this
   apt-get     isn't run: where no compiler with libuv's header is there, the commands behind it that need one are left out, and that is said;
               so it is with gdb and GNU parallel
-  real runs   of ./late, ./upload and ./stalls, and what is said of their recordings: the figures differ from run to run, so numbers count as equal. How much of
-              a time was on the processor is passed over: it is said where others had it meanwhile. Where the page goes on in another
-              way by its own figures (a `tick`), the recording is that of its own run, whose log is kept (tests/tools/logs)
+  real runs   of ./late, ./stalls, ./upload and of what it becomes, and what is said of their recordings: the figures differ from run to run, so numbers
+              count as equal. How much of a time was on the processor is passed over: it is said where others had it meanwhile. Where the page goes on
+              in another way by its own figures (a `tick`), the recording is that of its own run, whose log is kept (tests/tools/logs)
   --beside    of the reader's own recordings: they are made of two logs of one program (tests/tools/beside)
   ./hangup    is a program of the tests, which an installed page hasn't beside it: in place of its run its log is taken (tests/tools/truths)
   packages    `tools/package/pack` and what is done with its files, where the program isn't a proved one: it refuses to pack that
@@ -71,6 +71,9 @@ ENDS = {
     # (what is hunted ends badly)
     "hunt ./upload": 3,
     "force upload.hunt.uvt ./upload 2>&1": 3,
+    "hunt --for 10m --seed 7 --report race.sarif --report race.xml -o race ./upload": 3,
+    "force --test race.uvt ./upload": 3,
+    "force --test race.uvt ./other": 77,
     "find examples/frame.rec 'find late vsync 52'": 1,
     "worst --within 'vsync 50' examples/frame.rec": 1,
 }
@@ -114,6 +117,8 @@ BESIDES = Path(__file__).resolve().parent.parent / "tools" / "beside"
 HUNG = Path(__file__).resolve().parent.parent / "tools" / "truths" / "hangup.log"
 # What is said of a time of a real run where others had the processor meanwhile.
 BUSY = re.compile(r", (\d+|none) of them on the processor")
+# What stands in a command that runs a program, or asks of a run.
+REAL = ("./late", "late.rec", "./upload", "upload.hunt", "race.uvt", "stalls.")
 # Of README.md.
 MOST_LINES = 200
 
@@ -283,7 +288,7 @@ class Walker:
         output = self.type(block)
         if block.shown is None or len(self.left_out) > before:
             return
-        real = any(it in command for it in ("./late", "late.rec", "./upload", "upload.hunt", "stalls.") for command in block.commands)
+        real = any(it in command for it in REAL for command in block.commands)
         holds = is_like(block.shown, output) if real else is_shown(block.shown, output)
         for _ in range(2):
             # (on a machine that does much else a run may go another way: it is recorded once more)

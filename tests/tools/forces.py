@@ -8,6 +8,7 @@ from __future__ import annotations
 
 import json
 import re
+import shutil
 import signal
 import subprocess
 import tempfile
@@ -207,6 +208,11 @@ def try_hangs(check: Check, folder: str) -> None:
         check(f"hunt, {name}: it hangs", status == BADLY and bool(hung), f"{status} {said}")
         for it in lines:
             check(f"hunt, {name}: who waits for whom", bool(re.search(f"^    {it}$", said, re.M)), said)
+    status, said = tool("hunt", ["--report", "hung.sarif", "-o", "joins.hung", f"{folder}/joins"], folder)
+    found = json.loads(Path(folder, "hung.sarif").read_text())["runs"][0]["results"][0]
+    place = found["locations"][0]["physicalLocation"]
+    good = found["ruleId"] == "hangs" and place["artifactLocation"]["uri"].endswith("/joins.c") and place["region"]["startLine"] == 10
+    check("hunt, a hang in SARIF", good, f"{found}")
     status, said = forced(["--test", "joins.hung.uvt", f"{folder}/joins"], folder)
     check("force --test, a hang", status == BADLY and "FAIL joins.hung.uvt: the program hangs\n    the loop's thread waits for the end" in said, said)
     for name in MOVING:
@@ -239,6 +245,22 @@ def try_results(check: Check, folder: str) -> None:
     check("hunt, a command that isn't there", status == FAULT and "which judges a run, could not be run: " in said and "Traceback" not in said, said)
 
 
+def try_sarif(check: Check, path: Path, rule: str) -> None:
+    """By SARIF 2.1.0: what has to be there, and what refers to what. (Its places are in upload.c: the order is bad where a file is used again.)"""
+    text = json.loads(path.read_text())
+    run = text["runs"][0]
+    result = run["results"][0]
+    place = result["locations"][0]["physicalLocation"]
+    check("hunt, SARIF: its version", text["version"] == "2.1.0" and text["$schema"].endswith("sarif-2.1.0.json"), text)
+    check("hunt, SARIF: its tool and rule", run["tool"]["driver"]["name"] and [it["id"] for it in run["tool"]["driver"]["rules"]] == [rule], run)
+    check("hunt, SARIF: its result", result["ruleId"] == rule and result["level"] == "error" and result["message"]["text"], result)
+    uri, line = place["artifactLocation"]["uri"], place["region"]["startLine"]
+    check("hunt, SARIF: its place", uri.endswith("/upload.c") and 1 < line <= len((PROGRAMS / "upload.c").read_text().splitlines()), place)
+    check("hunt, SARIF: its order", (path.parent / result["attachments"][0]["artifactLocation"]["uri"]).exists(), result)
+    check("hunt, SARIF: how often", result["properties"]["badAgain"] == result["properties"]["again"] == 10, result)
+    check("hunt, SARIF: how it ended", run["invocations"][0]["executionSuccessful"] and run["invocations"][0]["exitCode"] == BADLY, run)
+
+
 def try_reports(check: Check, folder: str) -> None:
     """What machines read of a hunt, and an order as a test."""
     program = compiled("upload", folder, "-fsanitize=address", "-luv")
@@ -247,13 +269,18 @@ def try_reports(check: Check, folder: str) -> None:
     check("hunt, with reports", status == BADLY and REPORT in said, f"{status} {said}")
     number = re.search(r"^    in order (\d+) at random$", said, re.M)
     check("hunt, the first order's number", bool(number) and int(number[1]) >= 7, said)
-    result = json.loads(Path(folder, "r.sarif").read_text())["runs"][0]["results"][0]
-    line = result["locations"][0]["physicalLocation"]["region"]["startLine"]
-    check("hunt, SARIF", result["ruleId"] == REPORT and line > 1 and result["properties"]["badAgain"] == 10, f"{result}")
+    try_sarif(check, Path(folder, "r.sarif"), REPORT)
     suite = ElementTree.parse(f"{folder}/r.xml").getroot()[0]
     failure = suite.find("testcase/failure")
-    check("hunt, JUnit", suite.get("failures") == "1" and failure is not None and failure.get("type") == REPORT, f"{suite.attrib}")
+    good = (suite.get("tests"), suite.get("failures"), suite.get("errors")) == ("1", "1", "0") and float(suite.get("time")) > 0
+    check("hunt, JUnit", good and failure is not None and failure.get("type") == REPORT and REPORT in failure.text, f"{suite.attrib}")
     check("hunt, JSON", json.loads(Path(folder, "r.json").read_text())["bad"]["bad_again"] == 10, "")
+    words = ["--for", "3s", "--report", "well.sarif", "--report", "well.xml", compiled("zero", folder, "-luv")]
+    status, said = tool("hunt", words, folder)
+    run = json.loads(Path(folder, "well.sarif").read_text())["runs"][0]
+    check("hunt, SARIF of a healthy program", status == WELL and run["results"] == [] and run["tool"]["driver"]["rules"] == [], f"{run}")
+    suite = ElementTree.parse(f"{folder}/well.xml").getroot()[0]
+    check("hunt, JUnit of a healthy program", suite.get("failures") == "0" and suite.find("testcase/failure") is None, f"{suite.attrib}")
     status, said = forced(["--test", "ci.uvt", program], folder)
     check("force --test, the race is there", status == BADLY and "\nFAIL ci.uvt: the program ended with status 1 (Addr" in said, f"{status} {said}")
     mended = compiled("upload", folder, "-DCOUNTED", "-fsanitize=address", "-luv")
@@ -261,6 +288,34 @@ def try_reports(check: Check, folder: str) -> None:
     check("force --test, it is mended", status == WELL and "\nPASS ci.uvt: all " in said, f"{status} {said}")
     status, said = forced(["--test", "ci.uvt", compiled("zero", folder, "-luv")], folder)
     check("force --test, another program", status == SKIPPED and "SKIP ci.uvt: " in said and "    departs at step " in said, f"{status} {said}")
+    try_ctest(check, folder)
+
+
+CMAKE = """cmake_minimum_required(VERSION 3.10)
+project(race NONE)
+enable_testing()
+"""
+TEST = """add_test(NAME {name} COMMAND {force} --test {folder}/ci.uvt {program})
+set_tests_properties({name} PROPERTIES SKIP_RETURN_CODE 77)
+"""
+
+
+def try_ctest(check: Check, folder: str) -> None:
+    """The same three as tests of CMake's: the race is there, it is mended, another program."""
+    if not shutil.which("cmake"):
+        print("tools: an order as a test of ctest: not tried, since there is no cmake", flush=True)
+        return
+    room = Path(folder, "ctest")
+    room.mkdir()
+    racing = compiled("upload", str(room), "-fsanitize=address", "-luv")
+    programs = {"racing": racing, "mended": f"{folder}/upload", "other": f"{folder}/zero"}
+    force = ROOT / "tools" / "uvt" / "uvt-force"
+    tests = [TEST.format(name=name, force=force, folder=folder, program=program) for name, program in programs.items()]
+    (room / "CMakeLists.txt").write_text(CMAKE + "".join(tests))
+    limited(["cmake", "-S", str(room), "-B", str(room / "built")], capture_output=True)
+    ran = limited(["ctest"], capture_output=True, text=True, cwd=room / "built")
+    for name, end in (("racing", r"\*\*\*Failed"), ("mended", "Passed"), ("other", r"\*\*\*Skipped")):
+        check(f"force --test in ctest, {name}", bool(re.search(rf"{name} \.+ *{end}", ran.stdout)), ran.stdout + ran.stderr)
 
 
 def try_interrupt(check: Check, folder: str) -> None:

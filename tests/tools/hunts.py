@@ -1,7 +1,8 @@
 """Orders forced upon real programs, and hunted, where that takes minutes: tests/tools/hunts [PART..] [--libuv FOLDER] [--keep FOLDER]
 
   nine      `./uvt hunt` of nine programs with a use after free in some order (forces/): each is found, with no hint
-  healthy   `./uvt hunt --for 15s` of twenty-four programs without a fault: each run ends well
+  healthy   `./uvt hunt --for 15s` of programs without a fault, in C, and where they are installed in Python on uvloop, Lua on luv and node: each run
+            ends well
   own       programs in the order of their own recordings: all steps, no departure, the same callbacks
   again     the sessions of send, lookup and order, ten times each: the sanitizer sees the fault each time
   random    `./uvt force --random 200 --stall 20` of the nine: a run ends badly, and its recording, forced, does so again
@@ -18,6 +19,7 @@ from __future__ import annotations
 import argparse
 import os
 import re
+import shutil
 import signal
 import subprocess
 import tempfile
@@ -48,6 +50,8 @@ TRUTHS = (
     "rearmed",
     "starve",
 )
+# (of forces/: threads that wait until a time, a loop that never waits, 3,000 calls of a timer, a child of three seconds)
+MOVING = ("timed", "spins", "counts", "sleeping-child")
 # What isn't forced each time: a storm goes by its own clock and its threads' common seed; an op by a wrong thread; two loops, of which the second
 # one isn't forced (its program has a race, too, and may wait for ever); and how much of a long write the system takes at once is its own matter.
 NOT_FORCED = {"storm", "wrongthread", "watched", "goodbye"}
@@ -112,11 +116,30 @@ def nine(tries: Tries, folder: Path) -> None:
         print(f"{name}: {counts}; {time.monotonic() - began:.0f} s in all", flush=True)
 
 
+def interpreted() -> list[list[str]]:
+    """Healthy programs in Python, Lua and node."""
+    others = {"said", "forever", "drift", "unref"}  # (a helper, and those that never end, or take long)
+    found: list[list[str]] = []
+    for words, pattern in (
+        ("/usr/bin/python3", "python/*.py"),
+        ("/usr/bin/python3", "python/races/healthy.py"),
+        ("luajit", "lua/*.lua"),
+        ("node", "javascript/*.js"),
+    ):
+        if shutil.which(words):
+            found += [[words, str(it)] for it in sorted(HERE.glob(pattern)) if it.stem not in others]
+    return found
+
+
 def healthy(tries: Tries, folder: Path) -> None:
-    for name in (*RECORDED, *TRUTHS):
-        status, said = tool("hunt", "--for", "15s", compiled(name, folder, True), folder=folder)
-        tries.check(f"hunt, {name}, which is healthy", status == 0 and "each run ended well" in said, said)
-    print(f"healthy: {len(RECORDED) + len(TRUTHS)} programs", flush=True)
+    # (where the programs in Lua have what they say of themselves by)
+    os.environ["LUA_PATH"] = f"{HERE / 'lua'}/?.lua;;"
+    programs = [[compiled(name, folder, True)] for name in (*RECORDED, *TRUTHS, *MOVING)] + interpreted()
+    for words in programs:
+        status, said = tool("hunt", "--for", "15s", *words, folder=folder)
+        tries.check(f"hunt, {Path(words[-1]).name}, which is healthy", status == 0 and "each run ended well" in said, said)
+        print(f"{Path(words[-1]).name}: {said.strip().splitlines()[-1].strip()}", flush=True)
+    print(f"healthy: {len(programs)} programs", flush=True)
 
 
 def recordings(name: str, folder: Path) -> list[Path]:
