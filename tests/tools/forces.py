@@ -203,7 +203,7 @@ def try_hangs(check: Check, folder: str) -> None:
     for name, (times, lines) in HANGS.items():
         program = compiled(name, folder, "-luv")
         status, said = tool("hunt", ["-o", f"{name}.hung", program], folder)
-        how = "hangs but for its timers" if name == "livelock" else "hangs"
+        how = "hangs, its timers excepted" if name == "livelock" else "hangs"
         hung = re.search(rf"^the program {how}, and in {times} of {times} further runs in the same order$", said, re.M)
         check(f"hunt, {name}: it hangs", status == BADLY and bool(hung), f"{status} {said}")
         for it in lines:

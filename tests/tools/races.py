@@ -4,6 +4,7 @@ status 1 in some order of what comes to its loop; what is assumed of that order 
 
 from __future__ import annotations
 
+import os
 import re
 import shutil
 import tempfile
@@ -28,6 +29,7 @@ NODE = (
 )
 HEALTHY_NODE = ("app", "chain", "pool", "promise", "immediate", "crypto", "nested", "json")
 UVLOOP = ("lost_update", "lookups_in_order", "timer_first", "answered_twice", "closed_session")
+HEALTHY_LUA = ("async", "idle", "server")
 # How long a healthy one is hunted.
 HUNTED = "12s"
 
@@ -67,3 +69,10 @@ def try_races(tries: Tries) -> None:
             try_healthy(tries, [PYTHON, str(HERE / "python" / "races" / "healthy.py")], folder)
         else:
             tries.leave_out("races in Python", f"there is no uvloop for {PYTHON}")
+        # (LuaJIT's compiled code has no frames that anybody could follow)
+        os.environ["LUA_PATH"] = f"{HERE / 'lua'}/?.lua;;"
+        if has("luajit", "-e", "require('luv')"):
+            for name in HEALTHY_LUA:
+                try_healthy(tries, ["luajit", str(HERE / "lua" / f"{name}.lua")], folder)
+        else:
+            tries.leave_out("healthy programs in Lua", "there is no luajit with luv")

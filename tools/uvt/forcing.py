@@ -214,7 +214,7 @@ class Ran:
     def ended(self) -> str:
         """How the program ended, `` where that was well."""
         if self.hangs:
-            return "hangs but for its timers" if self.hangs == ROUND else "hangs"
+            return "hangs, its timers excepted" if self.hangs == ROUND else "hangs"
         if self.late:
             return f"didn't end within {self.seconds:.0f} s"
         report = REPORT.search(self.output)

@@ -139,7 +139,9 @@ static void prepare(void) {
     struct sigaction now, ours = {.sa_sigaction = on_signal, .sa_flags = SA_SIGINFO | SA_RESTART | SA_ONSTACK};
     const char *asked = getenv("UVT_STACKS");
     struct look none = {.from = 1};
-    if ((asked && strcmp(asked, "0") == 0) || forces() || pthread_key_create(&key, forget) != 0) return;
+    /* (LuaJIT's code has frames of its own, at which the unwinder ends the program) */
+    bool is_compiled = dlsym(RTLD_DEFAULT, "luaJIT_setmode") != NULL;
+    if ((asked && strcmp(asked, "0") == 0) || is_compiled || forces() || pthread_key_create(&key, forget) != 0) return;
     if (CALL(sigaction)(SIGNAL, NULL, &now) != 0 || (now.sa_flags & SA_SIGINFO) || now.sa_handler != SIG_DFL) return;
     /* (what the unwinder loads it loads now) */
     _Unwind_Backtrace(see, &none);
