@@ -197,6 +197,8 @@ class Ran:
     departures: int = 0
     # all steps of the session have come
     done: bool = False
+    # work began where it was taken
+    early: bool = False
     name: str = ""
     # what is said of its recording
     recorded: str = ""
@@ -265,13 +267,24 @@ def hooks(given: dict[str, str]) -> dict[str, str]:
     return more | {"UVT_RECORDER": str(recorder(True))}
 
 
-def read_page(path: Path) -> tuple[int, int, bool, bool]:
-    """How many steps of the session have come, how many departures there were, whether all has come, and whether nothing is forced any more."""
+@dataclass
+class At:
+    """How far a forced run has come (struct page of tools/uvt/record/recorder/force.h)."""
+
+    # of the session; of these; all of it has come; nothing is forced any more; STILL, SURE or ROUND; work began where it was taken
+    steps: int = 0
+    departures: int = 0
+    done: int = 0
+    free: int = 0
+    hangs: int = 0
+    early: int = 0
+
+
+def read_page(path: Path) -> At:
     try:
-        steps, departures, done, free = struct.unpack("iiii", path.read_bytes()[:16])
+        return At(*struct.unpack("iiiiii", path.read_bytes()[:24]))
     except (OSError, struct.error):
-        return 0, 0, False, False
-    return steps, departures, bool(done), bool(free)
+        return At()
 
 
 def told(path: Path) -> list[str]:
@@ -290,14 +303,6 @@ def told(path: Path) -> list[str]:
             lines.append(line)
     more = [f"and {len(departs) - SHOWN} more departures"] if len(departs) > SHOWN else []
     return departs[:SHOWN] + more + lines
-
-
-def hangs(path: Path) -> int:
-    """Does it hang? STILL, SURE, ROUND, or 0."""
-    try:
-        return int(struct.unpack("i", path.read_bytes()[16:20])[0])
-    except (OSError, struct.error):
-        return 0
 
 
 @contextlib.contextmanager
@@ -346,7 +351,7 @@ def run_here(words: list[str], environment: dict[str, str], folder: Path) -> tup
         while ran.poll() is None and not late:
             with contextlib.suppress(subprocess.TimeoutExpired):
                 ran.wait(LOOK)
-            late = ran.poll() is None and hangs(folder / "at") in ends
+            late = ran.poll() is None and read_page(folder / "at").hangs in ends
         if late:
             ran.kill()
         status = ran.wait()
@@ -389,16 +394,15 @@ def run(
             started, environment = [words[0], "-ex", f"set exec-wrapper env {wrapper}", *words[1:]], {}
 
         def grace() -> float | None:
-            if hangs(folder / "at"):
-                return 0
-            return GRACE if order.endless and read_page(folder / "at")[3] else None
+            at = read_page(folder / "at")
+            return 0 if at.hangs else GRACE if order.endless and at.free else None
 
         pid, ran = run_here(started, environment, folder) if seconds is None else run_for(started, environment, folder, seconds, grace)
         ran.told = told(folder / "said")
-        ran.steps, ran.departures, ran.done, _ = read_page(folder / "at")
-        ran.name = name
-        if ran.late and (hung := hangs(folder / "at")):
-            ran.hangs = hung
+        at = read_page(folder / "at")
+        ran.steps, ran.departures, ran.done, ran.early, ran.name = at.steps, at.departures, bool(at.done), bool(at.early), name
+        if ran.late and at.hangs:
+            ran.hangs = at.hangs
             ran.hang, ran.hangs_at = read_hang(folder / "said")
         logs = sorted(folder.glob("log.*.log"), key=lambda it: (not it.name.startswith(f"log.{pid}."), it.stat().st_mtime_ns))
         if logs and (records(ran) if callable(records) else records):

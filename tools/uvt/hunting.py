@@ -123,6 +123,8 @@ class Bad:
     hang: list[str] = field(default_factory=list)
     # the same place for a machine: PATH:LINE
     path: str = ""
+    # work begins where it is taken: 1
+    early: int = 0
 
 
 @dataclass
@@ -401,12 +403,12 @@ class Hunt:
         bad = self.bad(ran, how, f"order {seed} at random", path.read_text() if path else "")
         if path:
             script, commands = read_input(path)
-            bad = self.again(bad, Order(script, commands, self.loop), AGAIN if ran.is_told_at_once() else AGAIN_LATE)
+            bad = self.again(bad, Order(script, commands, self.loop, early=ran.early), AGAIN if ran.is_told_at_once() else AGAIN_LATE)
         return self.sure(bad, ran)
 
     def bad(self, ran: Ran, how: str, by: str, order: str) -> Bad:
         place, path = place_of(ran.output)
-        return Bad(how, by, order, self.loop, place=place, hang=ran.hang, path=path or ran.hangs_at)
+        return Bad(how, by, order, self.loop, place=place, hang=ran.hang, path=path or ran.hangs_at, early=int(ran.early))
 
     def again(self, bad: Bad, order: Order, times: int) -> Bad:
         """The same order, so many times more, however much time is left: what is said is said with how often it comes."""

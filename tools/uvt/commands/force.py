@@ -109,7 +109,7 @@ def at_random(words: list[str], runs: int, wanted: Order, name: str) -> int:
         if bad := badly(ran, first):
             print(f"run {number} {bad}")
             print("\n".join([*(f"    {it}" for it in ran.hang), *ran.output.splitlines()[:LINES]]))
-            print(f"its order: {FORCE} {recording_of(name, loop)} {shlex.join(words)}", flush=True)
+            print(f"its order: {FORCE}{' --early' if ran.early else ''} {recording_of(name, loop)} {shlex.join(words)}", flush=True)
             return BADLY
     print(f"{counted(runs, 'run')}, and each ended {'as that did' if first.ended() else 'well'}")
     return WELL

@@ -108,7 +108,7 @@ def of_bad(bad: Bad, name: str, words: list[str]) -> list[str]:
     lines += [f"    in {bad.place}"] if bad.place else []
     if not bad.order:
         return [*lines, f"    in {bad.by}, of which nothing was recorded"]
-    program, loop = shlex.join(words), f" --loop {bad.loop}" if bad.loop else ""
+    program, loop = shlex.join(words), (f" --loop {bad.loop}" if bad.loop else "") + (" --early" if bad.early else "")
     # (where a signal or a sanitizer ends it, a debugger stops there by itself)
     stop = "" if bad.how.startswith("was ended by") or "Sanitizer" in bad.how else " --stop"
     return [

@@ -596,6 +596,7 @@ static void begin_forcing(struct loop *loop) {
     const char *file = getenv("UVT_FORCE_SAID");
     if (file) said = open(file, O_WRONLY | O_CREAT | O_APPEND | O_CLOEXEC, 0644);
     open_page(getenv("UVT_FORCE_AT"));
+    page->early = early;
     began = loop->base * 1000000;
     begin_clock();
     forced = loop;

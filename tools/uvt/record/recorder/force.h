@@ -64,6 +64,7 @@ void write_taken(int id);
 struct page {
     int steps, departures, done, free; /* of the session; of these; all of it has come; nothing is forced any more */
     int hangs; /* 1: nothing moves any more; 2: and nothing could; 3: nothing but timers */
+    int early; /* work begins where it is taken */
 };
 extern struct page *page;
 extern int said; /* the file */
@@ -126,32 +127,36 @@ void leave_gate(void);
 
 /* (with the gate's mutex) another thread waits, as long as the leader may come to it: where the program's own code has it wait for
  * something (a semaphore, a lock, the end of a thread), nothing that is held at a gate would ever come. False then, the sooner where it waits with
- * no time limit. */
+ * no time limit. It may wait for a thread that runs: as long as any does, that isn't counted, or not before AT_MOST. */
 #define WAIT_FOR_LEADER(CONDITION)                                          \
     ({                                                                      \
         long seen = progress;                                               \
-        int waited = 0, late = leader_late;                                 \
+        int waited = 0, naps = 0, late = leader_late;                       \
         come_to_gate();                                                     \
-        while (state == FORCING && !(CONDITION) && waited < BLOCKED) {      \
+        while (state == FORCING && !(CONDITION) && waited < BLOCKED && naps < AT_MOST) { \
             wait_a_little();                                                \
-            if (seen != progress || leads) seen = progress, waited = 0, late = leader_late; \
-            else if (leader_late - late >= IN_VAIN) waited = BLOCKED;       \
-            else if (is_awake(leader_id)) waited = 0;                       \
-            else waited += is_no_help(leader_id) ? QUICKLY : 1;             \
+            bool moves = seen != progress || leads || is_awake(leader_id);  \
+            if (moves) waited = naps = 0;                                   \
+            if (seen != progress || leads) seen = progress, late = leader_late; \
+            if (leader_late - late >= IN_VAIN) waited = BLOCKED;            \
+            else if (!moves && somebody_runs()) naps++;                     \
+            else if (!moves) waited += is_no_help(leader_id) ? QUICKLY : 1; \
         }                                                                   \
         leave_gate();                                                       \
-        waited < BLOCKED;                                                   \
+        waited < BLOCKED && naps < AT_MOST;                                 \
     })
 
 /* ---- workers, and threads that send (force_gates.c) */
 
-enum place { STARTING, AT_TAKE, TAKING, TAKEN, RUNNING, AT_FINISH, FINISHING, ASLEEP };
+/* AT_LOCK: its work has a lock, and is about to take another one. */
+enum place { STARTING, AT_TAKE, TAKING, TAKEN, RUNNING, AT_LOCK, AT_FINISH, FINISHING, ASLEEP };
 
 struct worker {
     enum place place;
     long number; /* that of the session, while it has a request */
     int name, thread;
     bool may_take, may_run, may_finish;
+    int locks; /* how many its work has */
 };
 
 struct sender {

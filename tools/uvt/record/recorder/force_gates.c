@@ -244,31 +244,49 @@ static void at_gate(struct worker *worker, enum place place) {
     pthread_cond_broadcast(&changed);
 }
 
+/* (with the gate's mutex) Where work begins as it is taken, and has a lock, it waits before it takes another one: until its finish, or until the loop's
+ * thread waits in the program's own code. So a callback may come between the two, which takes them the other way round. */
+static void at_lock(struct worker *worker) {
+    at_gate(worker, AT_LOCK);
+    WAIT_FOR_LEADER(worker->may_finish);
+    worker->place = RUNNING;
+}
+
+/* (with the gate's mutex) the pool's own lock: it takes a request; the loop's: it hands one in; and those of its work */
+static void come_to_lock(struct worker *worker, const uv_mutex_t *mutex) {
+    if (mutex == pool_mutex) {
+        worker->may_run = worker->may_finish = false;
+        worker->number = -1;
+        worker->locks = 0;
+        at_gate(worker, AT_TAKE);
+        if (!WAIT_FOR_LEADER(worker->may_take)) let_through("a worker takes a request");
+        worker->may_take = false;
+        worker->place = TAKING;
+    } else if (worker->place == RUNNING && forced && mutex == &forced->uv->wq_mutex) {
+        at_gate(worker, AT_FINISH);
+        if (!WAIT_FOR_LEADER(worker->may_finish)) let_through("a worker hands in a request");
+        worker->place = FINISHING;
+    } else if (worker->place == RUNNING && early && worker->locks > 0 && !worker->may_finish) {
+        at_lock(worker);
+    }
+}
+
 void uv_mutex_lock(uv_mutex_t *mutex) {
     struct worker *worker = me;
     if (worker && state == FORCING) {
         if (!pool_mutex) pool_mutex = mutex;
         pthread_mutex_lock(&gate);
-        if (mutex == pool_mutex) {
-            worker->may_run = worker->may_finish = false;
-            worker->number = -1;
-            at_gate(worker, AT_TAKE);
-            if (!WAIT_FOR_LEADER(worker->may_take)) let_through("a worker takes a request");
-            worker->may_take = false;
-            worker->place = TAKING;
-        } else if (worker->place == RUNNING && forced && mutex == &forced->uv->wq_mutex) {
-            at_gate(worker, AT_FINISH);
-            if (!WAIT_FOR_LEADER(worker->may_finish)) let_through("a worker hands in a request");
-            worker->place = FINISHING;
-        }
+        come_to_lock(worker, mutex);
         pthread_mutex_unlock(&gate);
     }
     CALL(uv_mutex_lock)(mutex);
+    if (worker && worker->place == RUNNING) worker->locks++;
 }
 
 /* (pool.c stands before uv_mutex_unlock, and calls this behind it) */
 void force_unlocked(uv_mutex_t *mutex) {
     struct worker *worker = me;
+    if (worker && worker->place == RUNNING) worker->locks--;
     if (!worker || worker->place != TAKING || mutex != pool_mutex) return;
     pthread_mutex_lock(&gate);
     at_gate(worker, TAKEN);

@@ -69,6 +69,7 @@ void begin_random(uint64_t number, int jumps, uint64_t until) {
     changes = CHANGES[up_to(3)];
     rarely = PLACES[up_to(4)];
     clock_rank = new_rank();
+    early = up_to(4) == 0;
     at_random = true;
 }
 
