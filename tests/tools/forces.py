@@ -146,6 +146,15 @@ def try_random(check: Check, folder: str) -> None:
     check("force at random, a healthy program", status == WELL and said == "30 runs, and each ended well\n", f"{status} {said}")
 
 
+def try_kept(check: Check, folder: str) -> None:
+    """What comes behind the step that is asked for, or in threads that sleep meanwhile, belongs to an order as well: it is bad each time."""
+    for name in ("closed-early", "three-parties"):
+        program = compiled(name, folder, "-fsanitize=address", "-luv")
+        status, said = tool("hunt", ["-o", name, program], folder)
+        good = "(AddressSanitizer: " in said and ", and in 10 of 10 further runs in the same order\n" in said
+        check(f"hunt, {name}: its order is bad each time", status == BADLY and good, f"{status} {said}")
+
+
 def try_hunts(check: Check, folder: str) -> None:
     program = compiled("lookup", folder, "-fsanitize=address", "-luv")
     status, said = tool("hunt", ["-o", "found", program], folder)
@@ -185,6 +194,13 @@ HANGS = {
         ),
     ),
     "crosswise": (10, tuple(it.format(name="crosswise", loop=7, thread=9) for it in LOCKED)),
+    "crosswise-work": (
+        10,
+        (
+            r"the loop's thread waits for a lock that worker 0 has, in on_t \(crosswise-work\.c:9\)",
+            r"worker 0 waits for a lock that the loop's thread has, in works \(crosswise-work\.c:16\)",
+        ),
+    ),
     "beside-child": (
         2,
         (
@@ -194,8 +210,9 @@ HANGS = {
     ),
     "livelock": (2, (r"the loop calls nothing but on_show \(livelock\.c:21\), in [\d,]+ turns", r"workers 0, 1, 2, 3 wait for work")),
 }
-# Nothing of these hangs: threads that wait until a time, a loop that never waits, 3,000 calls of a timer and nothing else, a child of three seconds.
-MOVING = ("timed", "spins", "counts", "sleeping-child")
+# Nothing of these hangs: threads that wait until a time, a loop that never waits, 3,000 calls of a timer and nothing else, a child of three seconds, two
+# locks in the same order.
+MOVING = ("timed", "spins", "counts", "sleeping-child", "same-locks")
 
 
 def try_hangs(check: Check, folder: str) -> None:
@@ -372,5 +389,5 @@ def try_forces(tries: Tries) -> None:
         if not sanitizer:
             print("tools: orders that are hunted: not tried, since `cc` has no AddressSanitizer", flush=True)
             return
-        for part in (try_sanitizer, try_random, try_hunts, try_hangs, try_results, try_reports, try_interrupt, try_parts):
+        for part in (try_sanitizer, try_random, try_hunts, try_kept, try_hangs, try_results, try_reports, try_interrupt, try_parts):
             part(tries.check, folder)

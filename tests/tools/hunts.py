@@ -50,8 +50,9 @@ TRUTHS = (
     "rearmed",
     "starve",
 )
-# (of forces/: threads that wait until a time, a loop that never waits, 3,000 calls of a timer, a child of three seconds)
-MOVING = ("timed", "spins", "counts", "sleeping-child")
+# (of forces/: threads that wait until a time, a loop that never waits, 3,000 calls of a timer, a child of three seconds, two
+# locks in the same order)
+MOVING = ("timed", "spins", "counts", "sleeping-child", "same-locks")
 # What isn't forced each time: a storm goes by its own clock and its threads' common seed; an op by a wrong thread; two loops, of which the second
 # one isn't forced (its program has a race, too, and may wait for ever); and how much of a long write the system takes at once is its own matter.
 NOT_FORCED = {"storm", "wrongthread", "watched", "goodbye"}

@@ -136,8 +136,8 @@ bool somebody_runs(void) {
     return found;
 }
 
-/* Threads of the program come to their gates, or to what they wait for: it isn't the machine's matter how far they are where the loop goes on. Who has
- * had the processor for long runs on and on: it isn't waited for, and after some such times nobody is. */
+/* Threads of the program come to their gates, or to what they wait for: how far they are where the loop goes on isn't the machine's matter. Who
+ * has had the processor for long runs on and on: it isn't waited for, and after some such times nobody is. */
 void come_to_rest(void) {
     enum { NAP = 500000, ENOUGH = 10000000, MOST = 4000, TOO_OFTEN = 10 };
     static int in_vain;
@@ -244,8 +244,8 @@ static void at_gate(struct worker *worker, enum place place) {
     pthread_cond_broadcast(&changed);
 }
 
-/* (with the gate's mutex) Where work begins as it is taken, and has a lock, it waits before it takes another one: until its finish, or until the loop's
- * thread waits in the program's own code. So a callback may come between the two, which takes them the other way round. */
+/* (with the gate's mutex) Where work begins as it is taken, and has a lock, it waits before it takes another one: until its finish, or until the
+ * loop's thread waits in the program's own code. So a callback may come between the two, which takes them the other way round. */
 static void at_lock(struct worker *worker) {
     at_gate(worker, AT_LOCK);
     WAIT_FOR_LEADER(worker->may_finish);

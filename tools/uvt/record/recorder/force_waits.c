@@ -1,7 +1,7 @@
 /* The clock of a forced order, who looks at it, who sleeps, and who waits until a time.
  *
- * It stands, or is far ahead of the real one. So nobody sleeps; and a wait until a time takes what is left until then, and where it runs out, that time
- * has gone by for the thread. */
+ * It stands, or is far ahead of the real one. So nobody sleeps; and a wait until a time takes what is left until then, and where it runs out, that
+ * time has gone by for the thread. */
 #define _GNU_SOURCE
 #include "force.h"
 
