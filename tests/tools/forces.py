@@ -210,8 +210,8 @@ HANGS = {
     ),
     "livelock": (2, (r"the loop calls nothing but on_show \(livelock\.c:21\), in [\d,]+ turns", r"workers 0, 1, 2, 3 wait for work")),
 }
-# Nothing of these hangs: threads that wait until a time, a loop that never waits, 3,000 calls of a timer and nothing else, a child of three seconds, two
-# locks in the same order.
+# Nothing of these hangs: threads that wait until a time, a loop that never waits, 3,000 calls of a timer and nothing else, a child of three seconds,
+# two locks in the same order.
 MOVING = ("timed", "spins", "counts", "sleeping-child", "same-locks")
 
 

@@ -15,8 +15,8 @@ _uvt() {
         record) words='-o --log --most --worst --last --from --bare --lift --keep --late' ;;
         dump) words='-o' ;;
         attach) words='-o --keep --late' ;;
-        force) words='-o --stop --early --random --stall --seed --loop --limit --test --quiet' ;;
-        hunt) words='-o --for --part --join --same-output --seed --report' ;;
+        force) words='-o --stop --early --random --stall --seed --loop --limit --test --check --quiet' ;;
+        hunt) words='-o --for --part --join --same-output --check --seed --report' ;;
         esac
     fi
     COMPREPLY=($(compgen -W "$words" -- "$word"))
