@@ -115,8 +115,11 @@ LOG = Path(__file__).resolve().parent.parent / "tools" / "logs" / "late.log"
 BESIDE = {"good": "base", "bad": "lock"}
 BESIDES = Path(__file__).resolve().parent.parent / "tools" / "beside"
 HUNG = Path(__file__).resolve().parent.parent / "tools" / "truths" / "hangup.log"
-# What is said of a time of a real run where others had the processor meanwhile.
-BUSY = re.compile(r", (\d+|none) of them on the processor")
+# What is said of a time of a real run where others had the processor meanwhile, and where on its stack the callback was found.
+BUSY = re.compile(
+    r"(, (\d+|none) of them on the processor)?(: for \d+ ms others had the processor(, was pushed off it \d+ times?|, gave it away \w+( times)?)*)?"
+    r"([:;] (nearly all|most) of (it|its time on the processor) in [^;\n]*)?"
+)
 # What stands in a command that runs a program, or asks of a run.
 REAL = ("./late", "late.rec", "./upload", "upload.hunt", "race.uvt", "stalls.")
 # Of README.md.
