@@ -259,7 +259,7 @@ BUDGETS = [
 
 
 def try_within_all(check: Check) -> None:
-    """What is found near a recording is found over every order of what came in it: so nobody is later near it, and with more moved as late at least."""
+    """What is found near a recording is found over every order: so nobody is later near it, and with more steps moved as late at least."""
     for name in ("frame", "signals"):
         words = ["--json", "--no-sessions", "--differ", "1", "--differ", "2", str(EXAMPLES / f"{name}.rec")]
         ran = limited([WORST, *words], capture_output=True, text=True, env=os.environ)

@@ -72,7 +72,8 @@ CLAIMS = (
         "Each handle is what the lines tell of it: made under its name, closing where a `close` was accepted, active where it was started and not "
         "stopped since, and a timer due as its last start says; each op answers what the lines before it tell; idle, prepare, check and closing "
         "handles are called in the turn that the lines tell; and the loop's step is refused only where the lines have led to the main program's "
-        "end or to a poll that may wait, and else comes to a line; a step's line is of its very event; and a callback of I/O that may begin is taken.",
+        "end or to a poll that may wait, and else comes to a line; a step's line is of its very event; and a callback of I/O that may begin is "
+        "taken.",
         (
             Clause("uv_order", "told", "handles_told", ""),
             Clause("uv_order", "dues", "dues_told", ""),
