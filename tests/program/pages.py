@@ -10,8 +10,9 @@ lines `..` parts of it. What is not run as it stands:
   apt-get     isn't run: where no compiler with libuv's header is there, the commands behind it that need one are left out, and that is said;
               so it is with gdb and GNU parallel
   real runs   of ./late, ./stalls, ./upload and of what it becomes, and what is said of their recordings: the figures differ from run to
-              run, so numbers count as equal. How much of a time was on the processor, and where on its stack a callback was, is passed over. Where
-              the page goes on in another way by its own figures (a `tick`), the recording is that of its own run, whose log is kept (tests/tools/logs)
+              run, so numbers count as equal. How much of a time was on the processor, and where on its stack a callback was, is passed over.
+              Where the page goes on in another way by its own figures (a `tick`), the recording is that of its own run, whose log is kept
+              (tests/tools/logs)
   --beside    of the reader's own recordings: they are made of two logs of one program (tests/tools/beside)
   ./hangup    is a program of the tests, which an installed page hasn't beside it: in place of its run its log is taken (tests/tools/truths)
   packages    `tools/package/pack` and what is done with its files, where the program isn't a proved one: it refuses to pack that
