@@ -336,20 +336,23 @@ def try_ctest(check: Check, folder: str) -> None:
 
 
 def try_interrupt(check: Check, folder: str) -> None:
-    hunting = subprocess.Popen(
-        [str(ROOT / "tools" / "uvt" / "uvt-hunt"), "--for", "10m", f"{folder}/zero"],
-        cwd=folder,
-        stdout=subprocess.PIPE,
-        stderr=subprocess.PIPE,
-        text=True,
-    )
-    time.sleep(6)
-    hunting.send_signal(signal.SIGINT)
-    said, told = talked(hunting)
-    lines = [*said.splitlines(), ""]
-    said += "".join(it for it in told.splitlines(keepends=True) if not it.startswith(BUILDS))
-    good = hunting.returncode == 130 and lines[0] == "each run ended well" and lines[-2] == "it was interrupted, and not at its end"
-    check("hunt, an interrupt", good and "Traceback" not in said, f"{hunting.returncode} {said}")
+    """By an interrupt, and by the signal that ends a job of the background, where interrupts are passed over."""
+    for number, passed_over in ((signal.SIGINT, signal.SIG_DFL), (signal.SIGTERM, signal.SIG_IGN)):
+        hunting = subprocess.Popen(
+            [str(ROOT / "tools" / "uvt" / "uvt-hunt"), "--for", "10m", f"{folder}/zero"],
+            cwd=folder,
+            stdout=subprocess.PIPE,
+            stderr=subprocess.PIPE,
+            text=True,
+            preexec_fn=lambda: signal.signal(signal.SIGINT, passed_over),
+        )
+        time.sleep(6)
+        hunting.send_signal(number)
+        said, told = talked(hunting)
+        lines = [*said.splitlines(), ""]
+        said += "".join(it for it in told.splitlines(keepends=True) if not it.startswith(BUILDS))
+        good = hunting.returncode == 130 and lines[0] == "each run ended well" and lines[-2] == "it was interrupted, and not at its end"
+        check(f"hunt, {number.name}", good and "Traceback" not in said, f"{hunting.returncode} {said}")
 
 
 def try_parts(check: Check, folder: str) -> None:

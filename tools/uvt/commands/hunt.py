@@ -265,6 +265,10 @@ def part_of(text: str) -> tuple[int, int]:
     return int(found[1]), int(found[2])
 
 
+def interrupted(number: int, frame: object) -> None:
+    raise KeyboardInterrupt
+
+
 def hunted(wishes: Wishes, name: str, reports: list[str]) -> int:
     search, teller = prepare(), Teller()
     folder = room_in(Path(tempfile.gettempdir()), "uvt-hunt.")
@@ -272,7 +276,9 @@ def hunted(wishes: Wishes, name: str, reports: list[str]) -> int:
     teller.counts = hunt.counts
     bad, ended = None, False
     for it in (signal.SIGTERM, signal.SIGHUP):
-        signal.signal(it, lambda *_: os.kill(os.getpid(), signal.SIGINT))
+        # (who started it may have it pass over a signal, as nohup does, or an interrupt, as a shell in the background)
+        if signal.getsignal(it) != signal.SIG_IGN:
+            signal.signal(it, interrupted)
     try:
         bad = hunt.run()
     except KeyboardInterrupt:
