@@ -34,6 +34,8 @@ UVT = str(ROOT / "uvt")
 LOOP = re.compile(r"^loop (\d+): (\d+) of (\d+) callbacks, \d+ steps: (.*)$", re.MULTILINE)
 LONG = "1000000"
 STALL, LATE = 150, 140
+# So many callbacks around it are followed.
+AROUND = 4000
 # The seconds within which a ring has to have turned, and how far apart copies are at the most.
 TURNS, APART = 120, 3.0
 
@@ -77,6 +79,12 @@ class Room:
         lines = self.uvt("record", *asked).stdout.splitlines()
         env = dict(os.environ) | {key: shlex.split(it)[0] for key, _, it in (line.partition("=") for line in lines)}
         return subprocess.Popen([*server.words, *more], cwd=self.folder, env=env, stdout=subprocess.DEVNULL, stderr=subprocess.DEVNULL)
+
+    def why(self, path: Path) -> str:
+        """What is said of a ring that was kept apart, by the callbacks around that."""
+        name = ring.name_of(path)
+        self.uvt("record", "-o", name, "--log", path.name, "--most", AROUND, "--worst")
+        return self.uvt("why", f"{name}.rec").stdout
 
     def rings(self, name: str) -> list[Path]:
         return sorted(it for it in self.folder.glob(f"{name}.*.ring") if ring.is_ring(it))
@@ -127,7 +135,7 @@ def try_stalls(tries: Tries, room: Room, name: str, count: int, seconds: int, ra
             process.wait(20 * seconds + TURNS)
         except subprocess.TimeoutExpired:
             end(process)
-        said = "\n".join(room.uvt("why", it.name).stdout for it in room.rings(prefix) if ".late-" in it.name)
+        said = "\n".join(room.why(it) for it in room.rings(prefix) if ".late-" in it.name)
         good = re.search(server.named, said)
         tries.check(f"{name}, a stall of {STALL} ms at {at} ms", good, said[:3000] or "nothing was kept apart")
         found += bool(good)
