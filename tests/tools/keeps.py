@@ -191,7 +191,7 @@ def try_node(check: Check, room: Room) -> None:
     check("keep, node: a ring that has turned", ran.returncode == 0 and "it begins at" in ran.stdout, said(ran))
     ran = room.uvt("why", "heartbeat", "js.rec")
     wanted = r"heartbeat \(\S*server\.js:\d+\): an? interval of 100 ms, started at \S*server\.js:\d+"
-    check("keep, node: a timer that was started before has its name", re.search(wanted, ran.stdout), said(ran))
+    check("keep, node: a timer that was started before has its name", re.search(wanted, " ".join(ran.stdout.split())), said(ran))
 
 
 def try_attach(check: Check, room: Room) -> None:
