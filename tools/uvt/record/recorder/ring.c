@@ -142,7 +142,7 @@ static void keep_late(void) {
     name_of(name, sizeof name, "ring");
     name_of(other, sizeof other, end);
     int fresh = -1;
-    if (rename(name, other) == 0) fresh = open(name, O_RDWR | O_CREAT | O_TRUNC | O_CLOEXEC | O_NOFOLLOW, 0600);
+    if (rename(name, other) == 0) fresh = open(name, O_RDWR | O_CREAT | O_EXCL | O_CLOEXEC | O_NOFOLLOW, 0600);
     if (fresh < 0) return;
     close(file);
     munmap(window, WINDOW);
@@ -254,7 +254,7 @@ bool open_ring(const char *named) {
     if (words < 0) return false;
     flock(words, LOCK_SH | LOCK_NB);
     name_of(name, sizeof name, "ring");
-    file = open(name, O_RDWR | O_CREAT | O_TRUNC | O_CLOEXEC | O_NOFOLLOW, 0600);
+    file = open(name, O_RDWR | O_CREAT | O_EXCL | O_CLOEXEC | O_NOFOLLOW, 0600);
     /* (what came before isn't there) */
     if (attaches) number = 1;
     return file >= 0 && turn();
