@@ -102,15 +102,19 @@ CLAIMS = (
         "What a conversation writes is settled by what it reads, byte for byte, where the bytes of its reader and its writer are known.",
         (Clause("uv_engine", "conversation", "converse", "text"),),
     ),
-    Claim("The verdict on a recording is that of one definition.", (Clause("uv_engine", "replaying", "replay", "text"),)),
     Claim(
-        "A live run that ends well gives a session of its script, with which a book, shifts and sends of such threads agree.",
+        "The verdict on a recording is that of one definition, where the bytes of its reader and its writer are known.",
+        (Clause("uv_engine", "replaying", "replay", "text"),),
+    ),
+    Claim(
+        "A live run that ends well gives a session of its script that is at its end, for which there are a book, shifts and counts of sends that "
+        "agree with it.",
         (Clause("uv_run", "running", "live", ""),),
         ("uv_session", "Session"),
     ),
     Claim(
         "Where a search of all orders answers `never`, no list of events that may come has a step that answers the question, however long it is, or "
-        "where states are forgotten of fewer than 4,278,190,077 events; and as many states are told apart, or kept, as it says.",
+        "where states are forgotten of fewer than 4,278,190,077 events; and where no move is held back, as many states are told apart as it says.",
         (Clause("uv_find", "finding", "find", "found"),),
     ),
     Claim(
@@ -119,7 +123,7 @@ CLAIMS = (
     ),
     Claim(
         "A search takes two states for one only where they are equal, or, where it may forget, have the same form by names; and such states go on "
-        "alike.",
+        "alike where they are regular (`IsRegular`).",
         (
             Clause("uv_state_key", "laws", "keys_tell", ""),
             Clause("uv_state_key", "laws", "forms_tell", ""),
@@ -141,7 +145,8 @@ CLAIMS = (
     ),
     Claim(
         "States that are the same except for which worker runs which request go on alike, with lines that are the same except for workers' numbers; "
-        "and so do states with the same pooled form, as those with the same normal form do.",
+        "and so do states with the same pooled form, as those with the same normal form do, where their times fit and their slots are young "
+        "(`IsTimed`, `IsYoung`).",
         (
             Clause("uv_workers", "laws", "others_alike", "alike"),
             Clause("uv_workers", "laws", "takes_alike", "alike"),
@@ -151,7 +156,10 @@ CLAIMS = (
             Clause("uv_pooled", "laws", "finishes_alike", ""),
         ),
     ),
-    Claim("What the search's program writes is the answer to what its input asks.", (Clause("uvt_find", "running", "run", "text"),)),
+    Claim(
+        "What the search's program writes is the answer to what its input asks, where the bytes of its reader and its writer are known.",
+        (Clause("uvt_find", "running", "run", "text"),),
+    ),
 )
 
 
