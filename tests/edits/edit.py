@@ -30,12 +30,16 @@ class Body:
 
 @dataclass(frozen=True, eq=False)
 class Edit:
-    """An edit of a crate: the new texts of lines, by file and line, from 1, and the function whose body has all of them."""
+    """An edit of a crate: the new texts of lines, by file and line, from 1, and the function whose body has all of them.
+
+    One that the types of the code refuse, before the prover comes to it, names the compiler's error; no body is told of it.
+    """
 
     crate: str
     path: Path
     lines: dict[tuple[str, int], str]
     body: Body | None
+    types: str = ""
 
     def __str__(self) -> str:
         return f"{self.crate}/{self.path.name}"
@@ -45,9 +49,11 @@ def read(path: Path, crate: Path) -> Edit:
     """The edit of this file, for the crate in that folder. Raises Unfit where it can't be applied."""
     texts: dict[str, str] = {}
     were: dict[str, str] = {}
-    file, old = "", None
+    file, old, types = "", None, ""
     for line in path.read_text().split("\n"):
-        if line.startswith("file: "):
+        if line.startswith("types: "):
+            types = line.removeprefix("types: ").strip()
+        elif line.startswith("file: "):
             file = line.removeprefix("file: ").strip()
             if not (crate / file).is_file():
                 raise Unfit(f"there is no file {file}")
@@ -65,7 +71,7 @@ def read(path: Path, crate: Path) -> Edit:
     lines = {(name, at): text for name, now in texts.items() for at, text in changed(were[name], now)}
     if not lines:
         raise Unfit("it changes nothing")
-    return Edit(crate.name, path, lines, body_of(lines, were, crate.name))
+    return Edit(crate.name, path, lines, None if types else body_of(lines, were, crate.name), types)
 
 
 def changed(was: str, now: str) -> list[tuple[int, str]]:

@@ -22,6 +22,9 @@ the prover finds in its proof is there whatever the other bodies are. An edit of
 anything else than a function's body. Of one that is tried alone the kit's rules for must-fail edits say what became of it
 (`said.py`).
 
+An edit with a line `types: ERROR` is one that the types of the code refuse, before the prover comes to it: what it leaves out, or does too early,
+has a value that can't be dropped, or can't be made otherwise. It is refused where the compiler tells just that error of the files that it changes.
+
 After each check a line says how far the run is. What is refused is kept in out/edits/, for the very sources and the kit that it
 was tried with, so a run that was ended and begun again goes on where nothing has changed. At the end it names the edits that were
 not refused, and those whose refusal says little of a contract: only a name is gone that a proof file cites, or the prover can't
@@ -43,7 +46,7 @@ from pathlib import Path
 
 from tests.edits.copies import Crates, Lane, Room, Unready
 from tests.edits.edit import Edit, Unfit, applied, read
-from tests.edits.said import Said, Verdict, Word, judged, judged_together
+from tests.edits.said import Said, Verdict, Word, judged, judged_by_types, judged_together
 from tests.edits.sharing import Share, Task
 
 HERE = Path(__file__).resolve().parent
@@ -199,7 +202,7 @@ class Trial:
     def verdicts(self, task: Task, said: Said) -> dict[Edit, Verdict]:
         if len(task.edits) == 1:
             edit = task.edits[0]
-            return {edit: judged(said, {file for file, _ in edit.lines})}
+            return {edit: judged_by_types(said, edit) if edit.types else judged(said, {file for file, _ in edit.lines})}
         left = self.share.left[task.crate]
         functions = {it: name for it in task.edits if (name := left.function(it))}
         return judged_together(said, functions)

@@ -98,6 +98,22 @@ def judged(said: Said, files: Iterable[str]) -> Verdict:
     return Verdict(Word.REFUSED, speaking[0][:160] if speaking else "")
 
 
+# A fault that the compiler names.
+NAMED = re.compile(r"(?:\./)?(?P<file>src/[^\s:]+):\d+:\d+: error\[(?P<name>[\w-]+)\]")
+
+
+def judged_by_types(said: Said, edit: Edit) -> Verdict:
+    """What became of an edit that the types are to refuse: the compiler stops at just the fault that it names, in a file that it changes."""
+    if said.status == 0:
+        return Verdict(Word.PROVED, "the crate is still proved with this edit")
+    faults = [it for it in said.lines() if FAULT.match(it)]
+    named = [it for it in map(NAMED.match, faults) if it]
+    files = {file for file, _ in edit.lines}
+    if faults and len(named) == len(faults) and all(it["name"] == edit.types and it["file"] in files for it in named):
+        return Verdict(Word.REFUSED, faults[0][:160])
+    return Verdict(Word.BAD, f"the types don't refuse it by {edit.types}: {(faults or said.lines()[-1:])[0][:200]}")
+
+
 def judged_together(said: Said, functions: Mapping[Edit, str]) -> dict[Edit, Verdict]:
     """Those of these edits, each with the function whose body it changes, that are refused whatever the others do.
 

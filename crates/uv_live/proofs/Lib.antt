@@ -4,6 +4,7 @@ pub mod Legal
 pub mod Meeting
 mod Names
 mod Noted
+mod Numbered
 pub mod Own
 pub mod Places
 pub mod Settled

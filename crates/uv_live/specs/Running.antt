@@ -1,5 +1,5 @@
 -- A live run.
-use Rattle.std.specs.Prelude.{◌≡◌, ◌-◌, ◌<◌, ◌⊎◌, ℕ, List, [], ◌∷◌, Bool, true, Option, Some, None, Result, Ok, Err}
+use Rattle.std.specs.Prelude.{◌≡◌, ◌-◌, ◌<◌, ◌⊎◌, ℕ, List, [], ◌∷◌, Bool, true, Option, Some, None, Result, Ok, Err, slice_get}
 use Rattle.uv_ids.specs.Limits.{MOST_WORKERS}
 use Rattle.uv_ids.specs.declared.event.Event.TheVariants as step
 use Rattle.uv_ids.specs.declared.fault.Fault.{Fault}
@@ -38,3 +38,7 @@ abbrev pub given_in : {X : Type 0} → List (Result X Fault) → List X
 given_in [] = []
 given_in (Ok x ∷ more) = x ∷ given_in more
 given_in (Err f ∷ more) = given_in more
+
+-- these are the numbers from 0 on, in order
+abbrev pub AreNumbered : List ℕ → Type 0
+AreNumbered ns = (k n : ℕ) → slice_get ns k ≡ Some n → n ≡ k

@@ -1,19 +1,29 @@
 //! The workers' threads of a live run.
-ghost use Rattle.std.specs.Prelude.{◌≡◌, ◌+◌, ◌<◌, ◌≤◌, IfOk, IfErr, OnOk, vec_len, vec_capacity};
+ghost use Rattle.std.specs.Prelude.{◌≡◌, ◌+◌, ◌<◌, ◌≤◌, IfOk, IfErr, OnOk, map, vec_len, vec_capacity};
 ghost use Rattle.uv_ids.specs.declared.fault.Fault.TheVariants.{Memory};
 ghost use Rattle.uv_pool.specs.Benches.{IsWorkerFault};
 ghost use Rattle.uv_pool.specs.Telling.{IsTold};
-ghost use Rattle.uv_live.specs.Running.{first_fault, given_in};
+ghost use Rattle.uv_live.specs.Running.{first_fault, given_in, AreNumbered};
 
 use std::alloc::Global;
 use std::sync::Wait;
 use std::sync::ledger::Ledger;
-use std::thread::{JoinHandle, Scope, Threads};
+use std::thread::{Promise, PromisedHandle, Scope, Threads};
 use uv_ids::Fault;
-use uv_pool::{Desk, Gate, LockedBook, Shift, worker};
+use uv_pool::{Desk, Gate, LockedBook, Shift, WasClosed, worker};
 
 /// A worker's thread that isn't joined.
-pub(crate) type Worker<L> = JoinHandle<Result<Shift<L>, Fault>>;
+pub(crate) type Worker<L> = PromisedHandle<Answer<L>, Works>;
+
+/// What a worker's thread promises: the shift that it answers is that worker's.
+#[derive(Clone, Copy)]
+pub(crate) struct Works {
+    worker: u16,
+}
+
+impl<L: Ledger> Promise<Answer<L>> for Works {
+    ghost kept_by = { λ p answer. IfOk answer (λ shift. shift.worker ≡ p.worker) };
+}
 
 /// What the thread of a worker does.
 fn work<L: Ledger, G: Gate, R: Wait>(
@@ -34,21 +44,23 @@ fn work<L: Ledger, G: Gate, R: Wait>(
 /// What a worker's thread answered.
 pub(crate) type Answer<L> = Result<Shift<L>, Fault>;
 
-/// How many workers a run has, their threads that were started and aren't joined, and what those that were joined have answered. For the
-/// answer of each thread that isn't joined there is room.
+/// How many workers a run has, their threads that were started and aren't joined, in the order of their numbers, and what those that were joined
+/// have answered. For the answer of each thread that isn't joined there is room.
 #[derive(Drop)]
 pub(crate) struct Crew<L: Ledger> {
     pub(crate) workers: u16,
     pub(crate) started: Vec<Worker<L>>,
     pub(crate) answers: Vec<Answer<L>>,
     pub ghost roomy: { vec_len answers + vec_len started ≤ vec_capacity answers },
+    pub ghost numbered: { AreNumbered (map (λ h. h.promise.worker) started.items) },
 }
 
 impl<L: Ledger> Crew<L> {
     /// A crew of so many workers, of which none is started.
     pub(crate) fn new(alloc: Global, workers: u16) -> Crew<L>
         ensures workers { result.workers ≡ workers }
-        ensures none { vec_len result.started + vec_len result.answers ≡ 0 }
+        ensures none { vec_len result.started ≡ 0 }
+        ensures unanswered { vec_len result.answers ≡ 0 }
     {
         Crew {
             workers,
@@ -70,8 +82,9 @@ impl<L: Ledger> Crew<L> {
         Ok(self.started.reserve(1)?)
     }
 
-    /// A thread more, which was started.
+    /// A thread more, which was started: that of the next worker.
     fn add(&mut self, worker: Worker<L>)
+        requires next { worker.promise.worker ≡ vec_len self.old.started }
         requires room { vec_len self.old.started < vec_capacity self.old.started }
         requires answer { vec_len self.old.answers + vec_len self.old.started < vec_capacity self.old.answers }
         ensures workers { self.new.workers ≡ self.old.workers }
@@ -82,7 +95,8 @@ impl<L: Ledger> Crew<L> {
     }
 }
 
-/// Starts a thread for each worker, which is in the crew then. Room comes first, so each thread that was started is joined.
+/// Starts a thread for each worker, with that worker's number, which is in the crew then. Room comes first, so each thread that was started is
+/// joined.
 pub(crate) fn start_workers<
     's,
     E,
@@ -97,17 +111,20 @@ pub(crate) fn start_workers<
     gate: &'s G,
     crew: &mut Crew<L>,
 ) -> Result<(), Fault>
+    requires none { vec_len crew.old.started ≡ 0 }
     ensures err { IfErr result (λ fault. fault ≡ Memory) }
-    ensures all { OnOk result (vec_len crew.new.started ≡ vec_len crew.old.started + crew.old.workers) }
+    ensures all { OnOk result (vec_len crew.new.started ≡ crew.old.workers) }
     ensures answers { OnOk result (vec_len crew.new.answers ≡ vec_len crew.old.answers) }
 {
     'workers: for k in 0..crew.workers {
         crew.reserve()?;
-        let worker = move || -> Answer<L> {
+        let working = move || -> Answer<L>
+            ensures { IfOk result (λ shift. shift.worker ≡ k) }
+        {
             let mut gate = *gate;
             work(rt, alloc, book, &mut gate, k)
         };
-        match scope.spawn(worker) {
+        match scope.spawn_with(Works { worker: k }, working) {
             Ok(worker) => crew.add(worker),
             Err(_) => return Err(Fault::Memory),
         }
@@ -115,8 +132,12 @@ pub(crate) fn start_workers<
     Ok(())
 }
 
-/// Joins the workers' threads: what they answer, in the order of their numbers.
-pub(crate) fn join_workers<L: Ledger, R: Threads>(rt: &R, crew: Crew<L>) -> Vec<Answer<L>>
+/// Joins the workers' threads, where the book was closed: what they answer, in the order of their numbers.
+pub(crate) fn join_workers<L: Ledger, R: Threads>(
+    rt: &R,
+    crew: Crew<L>,
+    _closed: &WasClosed<L>,
+) -> Vec<Answer<L>>
     ensures { vec_len result ≡ vec_len crew.answers + vec_len crew.started }
 {
     let Crew {

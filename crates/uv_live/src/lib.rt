@@ -14,6 +14,7 @@ mod follower;
 mod following;
 mod outside;
 mod parts;
+mod polling;
 mod running;
 mod sends;
 mod settling;

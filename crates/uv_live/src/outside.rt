@@ -179,6 +179,7 @@ impl<'a> Outside<'a> {
     pub(crate) fn note_names<S: Follower>(&mut self, session: &S) -> Result<(), Fault>
         requires { names_of self.old.board.now.board ≡ (S.plan session.now).names }
         ensures board { self.new.board.now.board ≡ self.old.board.now.board }
+        ensures seat { self.new.seat ≡ self.old.seat }
         ensures lost { self.new.lost ≡ self.old.lost }
         ensures noted { OnOk result (AreNoted (S.plan session.now).names (S.plan session.now).lines self.new.names.items) }
     {
@@ -193,6 +194,7 @@ impl<'a> Outside<'a> {
         requires names { names_of self.old.board.now.board ≡ (S.plan session.now).names }
         requires name { name.0 < (S.plan session.now).names }
         ensures board { self.new.board.now.board ≡ self.old.board.now.board }
+        ensures seat { self.new.seat ≡ self.old.seat }
         ensures lost { self.new.lost ≡ self.old.lost }
         ensures kept { OnOk result ((v : Var) → Contains self.old.names.items v → Contains self.new.names.items v) }
         ensures noted { OnOk result (0 < count_by (is_line name.0) (S.plan session.now).lines → Contains self.new.names.items name) }
@@ -206,6 +208,7 @@ impl<'a> Outside<'a> {
     fn note_name(&mut self, name: Var) -> Result<(), Fault>
         requires { name.0 < names_of self.old.board.now.board }
         ensures board { self.new.board.now.board ≡ self.old.board.now.board }
+        ensures seat { self.new.seat ≡ self.old.seat }
         ensures lost { self.new.lost ≡ self.old.lost }
         ensures kept { OnOk result ((v : Var) → Contains self.old.names.items v → Contains self.new.names.items v) }
         ensures noted { OnOk result (Contains self.new.names.items name) }

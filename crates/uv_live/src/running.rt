@@ -3,7 +3,7 @@ ghost use Rattle.std.specs.Prelude.{◌≡◌, ◌<◌, ◌+◌, Some, Ok, Err, 
 ghost use Rattle.uv_ids.specs.declared.fault.Why.TheVariants as why;
 ghost use Rattle.uv_wake.specs.Seats.{names_of, AllJoined};
 ghost use Rattle.uv_live.specs.Course.{AreNamed};
-ghost use Rattle.uv_live.specs.Sending.{AreNoted, LinesCarried};
+ghost use Rattle.uv_live.specs.Sending.{AreNoted, threads_below};
 ghost use Rattle.uv_live.specs.Running.{HaltsAt, IsNoWorkerCount, RunSettles, PassesTo};
 ghost use Rattle.uv_live.specs.Turning.{Refuses};
 ghost use Rattle.uv_live.specs.Working.{is_at_work};
@@ -15,6 +15,7 @@ use crate::crew::{Crew, join_workers, lowest_fault, shifts_of, start_workers};
 use crate::follower::{Did, Follower};
 use crate::following::sync;
 use crate::outside::Outside;
+use crate::polling::{Ready, absorb_in_poll};
 use crate::sends::Tally;
 use crate::settling::settle;
 use crate::turning::turn_rest;
@@ -84,28 +85,13 @@ fn unblock<S: Follower, L: Ledger, C: Clock, R: Threads + Wait>(
     Ok(None)
 }
 
-/// Absorbs every word where the loop is at a poll.
-fn absorb_in_poll<S: Follower>(session: &mut S, outside: &mut Outside<'_>) -> Result<(), Fault>
-    requires names { names_of outside.old.board.now.board ≡ (S.plan session.old).names }
-    requires noted { AreNoted (S.plan session.old).names (S.plan session.old).lines outside.old.names.items }
-    ensures board { outside.new.board.now.board ≡ outside.old.board.now.board }
-    ensures lost { outside.new.lost ≡ outside.old.lost }
-    ensures names { outside.new.names.items ≡ outside.old.names.items }
-    ensures plan { S.plan session.new ≡ S.plan session.old }
-    ensures carried { OnOk result (S.polling session.old ≡ true
-        → LinesCarried (S.plan session.new).names (S.plan session.new).lines outside.new.seat.knows) }
-{
-    if !session.is_polling() {
-        return Ok(());
-    }
-    outside.absorb_all(session)
-}
-
-/// A turn under the book's lock: what its step did, and whether the book was open. Where a job waits behind it, a worker is called.
+/// A turn under the book's lock, behind what is absorbed at a poll: what its step did, and whether the book was open. Where a job waits behind it,
+/// a worker is called.
 fn locked_turn<S: Follower, L: Ledger, R: Wait>(
     rt: &R,
     session: &mut S,
     book: &LockedBook<L>,
+    _ready: Ready,
 ) -> (Result<Did, Fault>, Option<WasOpen<L>>)
     ensures plan { S.plan session.new ≡ S.plan session.old }
     ensures refused { Refuses result.0 (S.refusal session.new) }
@@ -133,8 +119,8 @@ fn run<S: Follower, L: Ledger, C: Clock, R: Threads + Wait>(
     ensures end { HaltsAt result (S.refusal session.new) }
 {
     'turns: for _ in rt.forever() {
-        absorb_in_poll(session, outside)?;
-        let (answer, open) = locked_turn(rt, session, book);
+        let ready = absorb_in_poll(session, outside)?;
+        let (answer, open) = locked_turn(rt, session, book, ready);
         match answer {
             Ok(_) => {}
             Err(Fault::Refused(Why::Ended)) => return Ok(true),
@@ -203,10 +189,15 @@ fn start_threads<
 ) -> Result<(), Fault>
     requires board { outside.old.board.now.board ≡ shared.now.board.now.board }
     requires names { names_of shared.now.board.now.board ≡ (S.plan session.now).names }
+    requires lines { shared.now.lines.now ≡ (S.plan session.now).lines }
+    requires crew { crew.old.workers ≡ (S.plan session.now).workers }
+    requires none { vec_len crew.old.started ≡ 0 }
     ensures board { outside.new.board.now.board ≡ outside.old.board.now.board }
     ensures lost { OnOk result (outside.new.lost ≡ outside.old.lost) }
     ensures noted { OnOk result (AreNoted (S.plan session.now).names (S.plan session.now).lines outside.new.names.items) }
-    ensures crew { OnOk result (vec_len crew.new.started ≡ vec_len crew.old.started + crew.old.workers) }
+    ensures crew { OnOk result (vec_len crew.new.started ≡ (S.plan session.now).workers) }
+    ensures threads { OnOk result
+        (outside.new.seat.knows.splits ≡ outside.old.seat.knows.splits + threads_below 64 (S.plan session.now).lines) }
 {
     start_workers(rt, shared.alloc, scope, shared.book, shared.gate, crew)?;
     outside.note_names(session)?;
@@ -233,6 +224,7 @@ fn within<
     requires board { seat.board ≡ shared.board.now.board }
     requires joined { AllJoined seat.knows }
     requires names { names_of shared.board.now.board ≡ (S.plan session).names }
+    requires lines { shared.lines.now ≡ (S.plan session).lines }
     ensures board { IfOk result (λ r. r.seat.board ≡ shared.entry.board.now.board) }
     ensures joined { IfOk result (λ r. AllJoined r.seat.knows) }
     ensures plan { IfOk result (λ r. S.plan r.session ≡ S.plan session) }
@@ -247,9 +239,9 @@ fn within<
         Ok(()) => run(rt, &mut session, book, &mut outside, clock),
         Err(fault) => Err(fault),
     };
-    book.close(rt);
+    let (closed, _) = book.close(rt);
     let seat = outside.into_seat(rt);
-    let answers = join_workers(rt, crew);
+    let answers = join_workers(rt, crew, &closed);
     if let Some(fault) = fault_of(halt, lowest_fault(answers.as_slice())) {
         return Err(fault);
     }
@@ -263,7 +255,8 @@ fn within<
 
 /// The script's `thread` lines, for threads to read while the session goes on.
 fn copied_lines<S: Follower>(alloc: Global, session: &S) -> Result<Vec<ThreadLine>, Fault>
-    ensures { IfOk result (λ lines. AreNamed (S.plan session.now).names lines.items) }
+    ensures lines { IfOk result (λ lines. lines.items ≡ (S.plan session.now).lines) }
+    ensures named { IfOk result (λ lines. AreNamed (S.plan session.now).names lines.items) }
 {
     Ok(Vec::from_slice(alloc, session.thread_lines())?)
 }
@@ -310,6 +303,7 @@ fn scoped<
     requires board { seat.board ≡ shared.board.now.board }
     requires joined { AllJoined seat.knows }
     requires names { names_of shared.board.now.board ≡ (S.plan session).names }
+    requires lines { shared.lines.now ≡ (S.plan session).lines }
     ensures board { IfOk result (λ r. r.seat.board ≡ shared.entry.board.now.board) }
     ensures plan { IfOk result (λ r. S.plan r.session ≡ S.plan session) }
     ensures end { IfOk result (λ r. S.refusal r.session ≡ Some why.Ended) }
@@ -321,6 +315,7 @@ fn scoped<
             requires board { seat.board ≡ shared.board.now.board }
             requires joined { AllJoined seat.knows }
             requires names { names_of shared.board.now.board ≡ (S.plan session).names }
+            requires lines { shared.lines.now ≡ (S.plan session).lines }
             ensures board { IfOk result (λ r. r.seat.board ≡ shared.entry.board.now.board) }
             ensures plan { IfOk result (λ r. S.plan r.session ≡ S.plan session) }
             ensures end { IfOk result (λ r. S.refusal r.session ≡ Some why.Ended) }

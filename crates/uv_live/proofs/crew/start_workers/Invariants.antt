@@ -5,6 +5,6 @@ use Rattle.uv_live.proofs.crew.start_workers.Given as goal
 abbrev pub invariant-workers : goal.invariant-workers
 invariant-workers g l = record {
   workers : l.crew.workers ≡ l.initial.crew.workers;
-  started : vec_len l.crew.started ≡ vec_len l.initial.crew.started + l.k;
+  started : vec_len l.crew.started ≡ l.k;
   answers : vec_len l.crew.answers ≡ vec_len l.initial.crew.answers;
 }

@@ -1,4 +1,4 @@
 use Rattle.uv_live.proofs.running.copied_lines.Goals as goal
 
-pub returns : goal.returns
-returns g c = rw c.in_ok-from_slice.ensures.items c.thread_lines.ensures.names
+pub returns-clause-named : goal.returns-clause-named
+returns-clause-named g c = rw c.in_ok-from_slice.ensures.items c.thread_lines.ensures.names

@@ -8,6 +8,7 @@ names-preserved g c =
     let before = c.names.invariant in
     record {
       board = one.board ∙ before.board;
+      seat = one.seat ∙ before.seat;
       lost = one.lost ∙ before.lost;
       noted = noted_more _ _ _ _ _ refl c.in_ok-note_one.ensures.kept c.in_ok-note_one.ensures.noted before.noted;
     }
