@@ -118,13 +118,15 @@ bool write_ring(const char *text, size_t length) {
     return true;
 }
 
-/* (a disk may be full for a while: what has no room waits) */
+/* (a disk may be full for a while: what has no room waits. A write past the limit of a file's size would end the program) */
 bool write_words(const char *text, size_t length) {
+    static size_t written;
     if (waiting + length > sizeof waits) return false;
     memcpy(waits + waiting, text, length);
     waiting += length;
+    if (!filtered && !may_grow_to(written + waiting)) return true;
     ssize_t done = write(words, waits, waiting);
-    if (done > 0) memmove(waits, waits + done, waiting -= (size_t)done);
+    if (done > 0) written += (size_t)done, memmove(waits, waits + done, waiting -= (size_t)done);
     return true;
 }
 
