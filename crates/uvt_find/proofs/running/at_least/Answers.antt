@@ -6,7 +6,9 @@ use Rattle.uvt_find.proofs.Ending.{tells_at_least}
 use Rattle.uvt_find.proofs.running.at_least.Goals as goal
 
 pub find_any-requires : goal.find_any-requires
-find_any-requires g c = ap (λ (r : Rules). place_answers r c.args.orders.now.spot.place r.question) c.requires.rules
+find_any-requires g c = record {
+  here = ap (λ (r : Rules). place_answers r c.args.orders.now.spot.place r.question) c.requires.rules;
+}
 
 pub returns-in_ok-at_least_text-in-Found-clause-told : goal.returns-in_ok-at_least_text-in-Found-clause-told
 returns-in_ok-at_least_text-in-Found-clause-told g c =

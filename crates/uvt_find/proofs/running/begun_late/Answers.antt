@@ -5,8 +5,9 @@ use Rattle.uv_find.specs.Spots.{first_spot}
 use Rattle.uvt_find.proofs.running.begun_late.Goals as goal
 
 pub ask_late-requires : goal.ask_late-requires
-ask_late-requires g c =
-    ap (λ (r : Rules). asks_late r.question) c.in_ok-orders.ensures.rules ∙ ap asks_late c.requires.question
+ask_late-requires g c = record {
+  late = ap (λ (r : Rules). asks_late r.question) c.in_ok-orders.ensures.rules ∙ ap asks_late c.requires.question;
+}
 
 pub returns-clause-rules : goal.returns-clause-rules
 returns-clause-rules g c =

@@ -8,5 +8,5 @@ pub settled-requires-clause-risen : goal.settled-requires-clause-risen
 settled-requires-clause-risen g c =
     let i = c.args.inquiry.now in
     let r = rules_of i.script (asked_in i.asking) in
-    let up : c.late + 1 ≡ c.args.risen.ms = omega (arith, c.saturating_sub.ensures, c.requires.some) in
+    let up : c.saturating_sub-late.result + 1 ≡ c.args.risen.ms = omega (arith, c.saturating_sub-late.ensures, c.requires.some) in
     subst (λ n. RisesTo r (first_spot r) c.args.name i.asking.states n (Some c.in-Some.kept)) (sym up) (rw c.in-Some.is at c.requires.risen)
