@@ -56,6 +56,8 @@ MOVING = ("timed", "spins", "counts", "sleeping-child", "same-locks")
 # What isn't forced each time: a storm goes by its own clock and its threads' common seed; an op by a wrong thread; two loops, of which the second
 # one isn't forced (its program has a race, too, and may wait for ever); and how much of a long write the system takes at once is its own matter.
 NOT_FORCED = {"storm", "wrongthread", "watched", "goodbye"}
+# A server that ends by itself only where it is told when, in seconds.
+WORDS = {"stalls": ["2"]}
 SECONDS = 900
 REPORT = "heap-use-after-free"
 FLAGS = ["-O1", "-g", "-w"]
@@ -152,12 +154,13 @@ def own(tries: Tries, folder: Path) -> None:
     forced = 0
     for name in names:
         program = compiled(name, folder, False)
-        tool("record", "-o", name, program, folder=folder)
+        words = [program, *WORDS.get(name, [])]
+        tool("record", "-o", name, *words, folder=folder)
         found = recordings(name, folder)
         if not found:
             tries.check(f"own, {name}: a recording", False)
             continue
-        status, said = tool("force", "-o", f"{name}.forced", found[0].name, program, folder=folder, seconds=60)
+        status, said = tool("force", "-o", f"{name}.forced", found[0].name, *words, folder=folder, seconds=60)
         good = bool(re.search(r"^all \d+ steps, 0 departures, same$", said, re.MULTILINE))
         forced += good
         tries.check(f"own, {name}", good or name in NOT_FORCED, said)

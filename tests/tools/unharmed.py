@@ -27,6 +27,8 @@ from tests.helper import SECONDS, Check, Tries, limited
 from tests.tools.records import has_libuv
 from uvt.record.run import HOOKS, RECORDER, recorder
 
+# A server that ends by itself only where it is told when, in seconds.
+WORDS = {"stalls": ["2"]}
 PROGRAMS = (ROOT / "tools" / "uvt" / "record" / "programs", Path(__file__).resolve().parent / "truths")
 # How a program ends that valgrind or a sanitizer reports.
 REPORTED = 97
@@ -85,19 +87,19 @@ def compiled(source: Path, folder: Path) -> str:
     return str(program)
 
 
-def try_sanitized(check: Check, room: Room, programs: dict[str, str], plain: dict[str, int]) -> None:
+def try_sanitized(check: Check, room: Room, programs: dict[str, list[str]], plain: dict[str, int]) -> None:
     libraries = runtimes()
     if not libraries:
         print("tools: the recorder under sanitizers: not tried, since `cc` has none", flush=True)
         return
     libraries.append(str(sanitized(room.folder)))
     for name, program in programs.items():
-        status = room.status([program], room.watched(libraries))
+        status = room.status(program, room.watched(libraries))
         check(f"unharmed, {name}: its status under a recorder with sanitizers", status == plain[name], (status, plain[name]))
         check(f"unharmed, {name}: what they report of the recorder", not (found := room.reports()), found)
 
 
-def try_valgrind(check: Check, room: Room, programs: dict[str, str], plain: dict[str, int]) -> None:
+def try_valgrind(check: Check, room: Room, programs: dict[str, list[str]], plain: dict[str, int]) -> None:
     if not shutil.which("valgrind"):
         print("tools: the recorder under valgrind: not tried, since it isn't installed", flush=True)
         return
@@ -106,7 +108,7 @@ def try_valgrind(check: Check, room: Room, programs: dict[str, str], plain: dict
         # (valgrind has reports of its own on a program that a signal ends)
         if plain[name] < 0:
             continue
-        status = room.status([*words, program], room.preloaded(recorder()))
+        status = room.status([*words, *program], room.preloaded(recorder()))
         check(f"unharmed, {name}: its status under valgrind", status == plain[name], (status, plain[name]))
 
 
@@ -116,10 +118,11 @@ def try_unharmed(tries: Tries) -> None:
         return
     with tempfile.TemporaryDirectory() as name:
         room = Room(Path(name))
-        programs = {it.stem: compiled(it, room.folder) for folder in PROGRAMS for it in sorted(folder.glob("*.c"))}
-        plain = {it: room.status([program]) for it, program in programs.items()}
+        sources = [it for folder in PROGRAMS for it in sorted(folder.glob("*.c"))]
+        programs = {it.stem: [compiled(it, room.folder), *WORDS.get(it.stem, [])] for it in sources}
+        plain = {it: room.status(program) for it, program in programs.items()}
         for it, program in programs.items():
-            status = room.status([program], room.preloaded(recorder()))
+            status = room.status(program, room.preloaded(recorder()))
             tries.check(f"unharmed, {it}: its status", status == plain[it], (status, plain[it]))
         try_sanitized(tries.check, room, programs, plain)
         first = {it.stem: programs[it.stem] for it in PROGRAMS[0].glob("*.c")}
