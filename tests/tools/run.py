@@ -251,20 +251,22 @@ class Terminal:
             os.environ.update(HOME=home, TERM="dumb")
             os.execv(SHELL, [SHELL, str(path)])
         self.child = child
+        self.seen = b""
 
     def type(self, text: bytes) -> None:
         os.write(self.terminal, text)
 
     def until(self, wanted: bytes) -> bytes:
-        """What is printed up to this text, or in so many seconds."""
-        seen, ends = b"", time.monotonic() + SECONDS
-        while wanted not in seen and time.monotonic() < ends:
+        """What is printed up to this text, or in so many seconds. What came behind it is kept for the next one."""
+        ends = time.monotonic() + SECONDS
+        while wanted not in self.seen and time.monotonic() < ends:
             if select.select([self.terminal], [], [], 0.2)[0]:
                 try:
-                    seen += os.read(self.terminal, 65536)
+                    self.seen += os.read(self.terminal, 65536)
                 except OSError:
                     break
-        return seen
+        before, found, self.seen = self.seen.partition(wanted)
+        return before + found
 
     def end(self) -> int:
         self.type(b"\x04")
@@ -290,11 +292,11 @@ def try_terminal(tries: Tries) -> None:
         tries.check("terminal, an unknown word", b"no command `stpe`: did you mean `step`?" in seen, seen[-200:])
         shell.until(b"(uvt) ")
         shell.type(b"print wat\t\n")
-        seen = shell.until(b"idle ref 1")
+        seen = shell.until(b"idle ref 1 active 1")
         tries.check("terminal, a name is completed", b"watcher = 0.0 idle ref 1 active 1" in seen, seen[-200:])
         shell.until(b"(uvt) ")
         shell.type(b"\x1b[A\n")
-        seen = shell.until(b"idle ref 1")
+        seen = shell.until(b"idle ref 1 active 1")
         tries.check("terminal, the last command comes again", b"watcher = 0.0 idle ref 1 active 1" in seen, seen[-200:])
         shell.until(b"(uvt) ")
         tries.check("terminal, the end of the input", shell.end() == 0)
