@@ -137,7 +137,7 @@ def long_session(program, script, commands, length):
 def show_steps(arena):
     print("| Script | Steps | step on | step back | bytes a step |\n|---|---|---|---|---|")
     for name, script, commands in SCRIPTS:
-        before = None
+        before: tuple[int, float] = None
         for length in LENGTHS:
             session = long_session(arena, script, commands, length)
             steps, held = session.steps, session.held()

@@ -8,7 +8,7 @@ DEFAULT_WORKERS = 4
 
 
 class Offer(NamedTuple):
-    """A step from outside: `send`, `cancel` and `io` with a name, `tick` with a number, or `wait`."""
+    """A step from outside: `send`, `cancel` and `io` with a name, `tick` with a number, or `wait`, with one or none."""
 
     word: str
     argument: str
@@ -102,7 +102,7 @@ def read_line(asked: Asked, line: str) -> Asked:
         return asked._replace(differ=int(words[2]))
     if words[0] == "recorded" and len(words) == 5:
         return asked._replace(recorded=asked.recorded + [Recorded(int(words[1]), int(words[2]), " ".join(words[3:]))])
-    if words[0] == "may" and len(words) == 4 and words[1] in ("send", "cancel", "io", "tick"):
+    if words[0] == "may" and len(words) == 4 and words[1] in ("send", "cancel", "io", "tick", "wait"):
         return asked._replace(offers=asked.offers + [Offer(words[1], words[2], int(words[3]))])
     if words[:2] == ["may", "send"] and len(words) == 6 and words[4] == "during":
         return asked._replace(offers=asked.offers + [Offer("send", words[2], int(words[3]), words[5])])

@@ -39,7 +39,9 @@ def may_forget(asked: Asked) -> bool:
     sizes = [line.split() for line in asked.script if line.startswith("slots ")]
     if any(int(words[2]) < LAST_GENERATION for words in sizes if len(words) > 2):
         return False
-    times = [ms for _, op in ops(asked) for ms in times_of(op)] + [int(offer.argument) for offer in asked.offers if offer.word == "tick"]
+    times = [ms for _, op in ops(asked) for ms in times_of(op)] + [
+        int(it.argument) for it in asked.offers if it.word in ("tick", "wait") and it.argument
+    ]
     return all(ms < LONG for ms in times + list(asked.takes.values()))
 
 

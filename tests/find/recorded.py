@@ -15,10 +15,11 @@ from collections import Counter
 from pathlib import Path
 
 ROOT = Path(__file__).resolve().parent.parent.parent
+from tests.helper import logs_in
 from uvt.conversation import Fault, read_input
 from uvt.offered import offered
 
-LOGS = [*sorted((ROOT / "tests/tools/logs").glob("*.log")), *sorted((ROOT / "tests/tools/truths").glob("*.log"))]
+LOGS = [*logs_in(ROOT / "tests/tools/logs"), *logs_in(ROOT / "tests/tools/truths")]
 FOUND, NEVER, UNSETTLED = 0, 1, 3
 SECONDS = 300
 

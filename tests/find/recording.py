@@ -61,7 +61,7 @@ def behind_loop(recorded: List[Recorded], along: Along, line: Optional[str]) -> 
 
 def source(command: str) -> str:
     """Whose step it is: a name's, a worker's, or the clock's."""
-    return "tick" if command.startswith("tick ") else command
+    return "tick" if command.startswith(("tick ", "wait ")) else command
 
 
 def may_come(recorded: List[Recorded], along: Along, number: int, state: State) -> bool:
@@ -85,13 +85,30 @@ def is_accepted(loop: Loop, command: str) -> bool:
     return reply.refused is None
 
 
+def is_blocked(loop: Loop) -> bool:
+    steps, state = loop.steps, loop.state
+    reply = loop.step("loop")
+    loop.go_back(steps, state)
+    return reply.refused == "blocked"
+
+
 def with_stands(along: Along, numbers: List[int], stands: str) -> Along:
     return along._replace(stands=tuple(stands if at in numbers else was for at, was in enumerate(along.stands)))
 
 
 def is_free(command: str, owed: int) -> bool:
     """While a callback's time goes by no other time does, and no callback of I/O begins."""
-    return not (owed and command.split(" ")[0] in ("tick", "io"))
+    return not (owed and command.split(" ")[0] in ("tick", "wait", "io"))
+
+
+def lasts(command: str, state: State, is_blocked: bool) -> bool:
+    """What was a wait goes by only where the loop is blocked in a poll, and no further than to its deadline."""
+    word, argument = command.split(" ")
+    return word != "wait" or is_blocked and (state.deadline is None or state.clock + int(argument) <= state.deadline)
+
+
+def step_of(command: str) -> str:
+    return command.replace("wait ", "tick ")
 
 
 def coming(loop: Loop, recorded: List[Recorded], along: Along, is_blocked: bool, owed: int = 0, wait: Optional[int] = None) -> Iterator[Coming]:
@@ -101,9 +118,12 @@ def coming(loop: Loop, recorded: List[Recorded], along: Along, is_blocked: bool,
     possible = [
         number
         for number in range(len(recorded))
-        if along.stands[number] != COME and may_come(recorded, along, number, state) and is_free(recorded[number].command, owed)
+        if along.stands[number] != COME
+        and may_come(recorded, along, number, state)
+        and is_free(recorded[number].command, owed)
+        and lasts(recorded[number].command, state, is_blocked)
     ]
-    ready = [number for number in possible if along.stands[number] == AHEAD and is_accepted(loop, recorded[number].command)]
+    ready = [number for number in possible if along.stands[number] == AHEAD and is_accepted(loop, step_of(recorded[number].command))]
 
     def past(number: int) -> Optional[Along]:
         held = [it for it in ready if it < number]
@@ -118,7 +138,7 @@ def coming(loop: Loop, recorded: List[Recorded], along: Along, is_blocked: bool,
     elif on is not None:
         yield Coming("loop", on)
     for number in possible:
-        command = recorded[number].command
+        command = step_of(recorded[number].command)
         here = past(number) if along.stands[number] == AHEAD and (number < along.passed or is_blocked and wait is None) else None
         if here is not None:
             here = with_stands(here, [number], COME)
@@ -134,11 +154,13 @@ def recording(loop: Loop, commands: List[str], draw: Random, count: int) -> List
     polls = steps = 0
     for _ in range(count):
         command = draw.choice(["loop"] * (2 * len(commands) + 2) + commands)
+        wait = command.replace("tick ", "wait ")
+        is_wait = wait != command and draw.random() < 0.8 and lasts(wait, loop.state, is_blocked(loop))
         reply: Reply = loop.step(command)
         if reply.refused is not None:
             continue
         if command != "loop":
-            found.append(Recorded(polls, steps, command))
+            found.append(Recorded(polls, steps, wait if is_wait else command))
             polls = steps = 0
         elif (reply.line or "").startswith("poll "):
             polls, steps = polls + 1, 0

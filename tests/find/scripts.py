@@ -88,6 +88,8 @@ def offers_of(draw: Random, kinds: Dict[str, str], question: str) -> List[str]:
             lines.append("may cancel %s 1" % name)
     if draw.random() < (0.8 if question.startswith("late ") else 0.3):
         lines.append("may tick %d %d" % (draw.choice([1, 5, 7]), draw.choice([1, 2])))
+    if draw.random() < 0.3:
+        lines.append("may wait %d %d" % (draw.choice([1, 3, 6]), draw.choice([1, 2])))
     return lines + ["may wait"] * (draw.random() < 0.8) + takes_of(draw, kinds, question)
 
 
@@ -142,6 +144,7 @@ def of_pool(draw: Random, kinds: Dict[str, str]) -> List[str]:
     lines = ["may io %s %d" % (name, draw.choice([1, 1, 2])) for name, kind in kinds.items() if kind == "io" and draw.random() < 0.9]
     lines += ["most %s %d" % (name, draw.choice([1, 2, 2])) for name in kinds if draw.random() < 0.15]
     lines += ["may tick %d %d" % (ms, draw.choice([1, 1, 2])) for ms in draw.sample([1, 5, 7], draw.choice([0, 0, 1, 1, 2]))]
+    lines += ["may wait %d %d" % (ms, draw.choice([1, 1, 2])) for ms in draw.sample([1, 3, 6], draw.choice([0, 0, 0, 1, 2]))]
     lines += ["may wait"] * (draw.random() < 0.9) + ["most clock %d" % draw.choice([7, 10, 20])] * (draw.random() < 0.2)
     lines += ["most states %d" % draw.choice([5, 50, 300])] * (draw.random() < 0.1)
     question = question_of(draw, kinds)

@@ -113,7 +113,11 @@ def command_of(asked: Asked, offer: Offer, left: Optional[int], place: Place, is
     ms = None
     if offer.word == "tick":
         ms = int(offer.argument)
-    if offer.word == "wait":
+    if offer.word == "wait" and offer.argument:
+        ms = int(offer.argument)
+        if not is_blocked or state.deadline is not None and state.clock + ms > state.deadline:
+            return None
+    elif offer.word == "wait":
         if not is_blocked or state.deadline is None:
             return None
         ms = state.deadline - state.clock
@@ -173,7 +177,7 @@ def moves_of_recorded(loop: Loop, asked: Asked, place: Place, blocked: List[bool
     blocked.append(reply.refused == "blocked")
     in_poll = blocked[0] and state.section == "poll"
     wait = None
-    if any(offer.word == "wait" for offer in asked.offers) and blocked[0] and state.deadline is not None:
+    if any((offer.word, offer.argument) == ("wait", "") for offer in asked.offers) and blocked[0] and state.deadline is not None:
         wait = state.deadline - state.clock if asked.clock is None or state.deadline <= asked.clock else None
     for number, (command, along) in enumerate(list(recording.coming(loop, asked.recorded, place.along, in_poll, place.owed, wait))):
         ms = int(command.split()[1]) if command.startswith("tick ") else 0

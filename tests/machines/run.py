@@ -55,7 +55,8 @@ def try_session(programs, seed):
 
 
 def try_some(programs, seeds):
-    wrong, all_seen = {}, Counter()
+    wrong: dict[int, str] = {}
+    all_seen: Counter[str] = Counter()
     for seed in seeds:
         why, shown = try_session(programs, seed)
         if why:
@@ -96,7 +97,8 @@ def tell(all_seen):
 def try_all(tries, programs, first, count):
     """What all sessions showed that aren't wrong."""
     every = [range(at, min(at + 50, first + count)) for at in range(first, first + count, 50)]
-    all_seen, done = Counter(), 0
+    done = 0
+    all_seen: Counter[str] = Counter()
     with ProcessPoolExecutor(SIDE_BY_SIDE) as pool:
         for some, (some_wrong, some_seen) in zip(every, pool.map(try_some, [programs] * len(every), every)):
             all_seen += some_seen

@@ -250,7 +250,9 @@ def kinds_of(lines):
 
 def parts_of(text):
     """The output cut into replies and states: a state is from its line `steps` to its line `done-yet`."""
-    reply, state, parts = [], None, []
+    reply: list[str] = []
+    state: list[str] = None
+    parts = []
     for line in text.split("\n")[:-1]:
         if state is None and re.match("steps [0-9]+ now ", line):
             state = []
@@ -269,7 +271,7 @@ def see_session(asked, output):
     parts = parts_of(output)
     if len(parts) != len(asked) + 1 or parts[0][0]:
         return None
-    seen = Counter()
+    seen: Counter[str] = Counter()
     body, kinds = see_state(seen, parts[0][1]), kinds_of(parts[0][1])
     for command, (reply, state) in zip(asked, parts[1:]):
         see_reply(seen, command, reply, body, {} if command.startswith("loop ") else kinds)

@@ -124,9 +124,11 @@ keep() {
         fail "cannot write to $kept"
 }
 
-# Compiles the program before its proofs, if need be, while no other call does. $kept is its folder then.
+# Compiles the program before its proofs, if need be, while no other call does. $kept is its folder then. Behind it $fresh says whether that
+# had to be done.
 compile_alone() {
     is_built && return
+    fresh=1
     for it in rt:"the kit's command" python3:"a command that the kit needs too"; do
         command -v "${it%%:*}" >/dev/null || {
             say "there is no program yet, and it can't be compiled: ${it#*:}, ${it%%:*}, isn't on the PATH. README.md says what to do without the kit"

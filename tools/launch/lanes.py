@@ -40,13 +40,15 @@ class Command:
         self.process = subprocess.Popen(
             ["rt"] + words, cwd=folder, stdin=subprocess.PIPE, stdout=subprocess.PIPE, stderr=subprocess.STDOUT, start_new_session=True
         )
+        assert self.process.stdin and self.process.stdout
+        self.output = self.process.stdout
         with contextlib.suppress(BrokenPipeError):
             self.process.stdin.write(given)
             self.process.stdin.close()
         threading.Thread(target=self.read, args=(said,), daemon=True).start()
 
     def read(self, said: "Said") -> None:
-        for line in self.process.stdout:
+        for line in self.output:
             said.put((self, line.decode(errors="replace").rstrip("\n")))
         self.process.wait()
         said.put((self, None))

@@ -319,8 +319,15 @@ def of_recording(lines: List[bytes], number: int) -> None:
 
 # What stands behind `may`, `recorded`, `takes`, `most`, `full` and `find`, and the word behind them; of two forms the longer one last.
 ASKED = {
-    "may": {"send": ["NAME N", "NAME N during NAME"], "cancel": ["NAME N"], "io": ["NAME N"], "tick": ["MS N"], "wait": [""], "differ": ["K"]},
-    "recorded": {"P": ["S send NAME", "S cancel NAME", "S io NAME", "S tick MS", "S take W", "S finish W"]},
+    "may": {
+        "send": ["NAME N", "NAME N during NAME"],
+        "cancel": ["NAME N"],
+        "io": ["NAME N"],
+        "tick": ["MS N"],
+        "wait": ["", "MS N"],
+        "differ": ["K"],
+    },
+    "recorded": {"P": ["S send NAME", "S cancel NAME", "S io NAME", "S tick MS", "S wait MS", "S take W", "S finish W"]},
     "takes": {"NAME": ["MS", "@K MS"]},
     "most": {"clock": ["MS"], "states": ["N"], "NAME": ["CALLS"]},
     "full": {"": [""]},
@@ -397,7 +404,7 @@ def said(words: List[bytes]) -> bytes:
     """What a line that asks says once at most: its first fields, up to a number that may differ."""
     if words[0] == b"takes":
         return b" ".join(words[:-1])
-    return b" ".join(words[:2] if words[0] in (b"most", b"full") or words[1] in (b"wait", b"differ") else words[:3] + words[4:])
+    return b" ".join(words[:2] if words[0] in (b"most", b"full") or words[1] == b"differ" else words[:3] + words[4:])
 
 
 def of_inquiry(lines: List[bytes], number: int) -> None:

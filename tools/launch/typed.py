@@ -131,7 +131,7 @@ class Typed:
         # (a last line without its end is a line too)
         if not self.lines[-1]:
             self.lines.pop()
-        self.process: Optional[subprocess.Popen[bytes]] = None
+        self.running: Optional[subprocess.Popen[bytes]] = None
 
     def names(self) -> List[str]:
         words = [it.decode("ascii", "replace").split(" ") for it in self.lines]
@@ -150,7 +150,7 @@ class Typed:
 
     def start(self) -> None:
         """Starts the program on all that is there, and shows what it answers."""
-        self.process = subprocess.Popen([self.program, "debug"], stdin=subprocess.PIPE, stdout=subprocess.PIPE)
+        self.running = subprocess.Popen([self.program, "debug"], stdin=subprocess.PIPE, stdout=subprocess.PIPE)
         self.give(b"".join(it + b"\n" for it in self.lines))
 
     def give(self, text: bytes) -> bool:
@@ -165,15 +165,17 @@ class Typed:
         return shown == BAD
 
     def write(self, text: bytes) -> None:
+        assert self.running and self.running.stdin
         # (a program that has ended takes no more)
         with contextlib.suppress(BrokenPipeError):
-            self.process.stdin.write(text)
-            self.process.stdin.flush()
+            self.running.stdin.write(text)
+            self.running.stdin.flush()
 
     def answer(self) -> Iterator[bytes]:
         """The lines of an answer, each as soon as it isn't its end."""
+        assert self.running and self.running.stdout
         last: Optional[bytes] = None
-        for line in self.process.stdout:
+        for line in self.running.stdout:
             if line == BAD and last is not None and AT.fullmatch(last):
                 return
             if last is not None:
@@ -181,10 +183,10 @@ class Typed:
             last = line
         if last is not None:
             yield last
-        self.process.wait()
+        self.running.wait()
 
     def has_ended(self) -> bool:
-        return self.process is not None and self.process.returncode is not None
+        return self.running is not None and self.running.returncode is not None
 
     def take_script_line(self, line: bytes) -> None:
         if line == b"help" or line == b"?":
@@ -208,14 +210,15 @@ class Typed:
 
     def end(self) -> int:
         """The input has ended: the status is the program's."""
-        if self.process is None:
-            self.process = subprocess.Popen([self.program, "debug"], stdin=subprocess.PIPE)
+        if self.running is None:
+            self.running = subprocess.Popen([self.program, "debug"], stdin=subprocess.PIPE)
             self.write(b"".join(it + b"\n" for it in self.lines))
         if not self.has_ended():
+            assert self.running.stdin
             with contextlib.suppress(BrokenPipeError):
-                self.process.stdin.close()
-            self.process.wait()
-        return self.process.returncode
+                self.running.stdin.close()
+            self.running.wait()
+        return self.running.returncode
 
 
 def typed_lines() -> Iterator[bytes]:
@@ -259,7 +262,7 @@ def converse() -> int:
         typed.start()
     given = typed_lines()
     while not typed.has_ended() and (line := next(given, None)) is not None:
-        if typed.process is None:
+        if typed.running is None:
             typed.take_script_line(line)
         else:
             typed.take_command(line)

@@ -99,12 +99,13 @@ CLAIMS = (
         ("uv_session", "Session"),
     ),
     Claim(
-        "What a conversation writes is settled by what it reads, byte for byte, where the bytes of its reader and its writer are known.",
-        (Clause("uv_engine", "conversation", "converse", "text"),),
+        "What a conversation writes is settled by what it reads, byte for byte, where the bytes of its reader and its writer are known, as those "
+        "over memory are.",
+        (Clause("uv_engine", "conversation", "converse", "text"), Clause("uv_engine", "devices", "memory_tells", "")),
     ),
     Claim(
-        "The verdict on a recording is that of one definition, where the bytes of its reader and its writer are known.",
-        (Clause("uv_engine", "replaying", "replay", "text"),),
+        "The verdict on a recording is that of one definition, where the bytes of its reader and its writer are known, as those over memory are.",
+        (Clause("uv_engine", "replaying", "replay", "text"), Clause("uv_engine", "devices", "memory_tells", "")),
     ),
     Claim(
         "A live run that ends well gives a session of its script that is at its end, for which there are a book, shifts and counts of sends that "
@@ -114,7 +115,8 @@ CLAIMS = (
     ),
     Claim(
         "Where a search of all orders answers `never`, no list of events that may come has a step that answers the question, however long it is, or "
-        "where states are forgotten of fewer than 4,278,190,077 events; and where no move is held back, as many states are told apart as it says.",
+        "where states are forgotten of fewer than 4,278,190,077 events; and as many states were kept as it says: all that were tried, and where no "
+        "move is held back all that there are.",
         (Clause("uv_find", "finding", "find", "found"),),
     ),
     Claim(
@@ -122,14 +124,21 @@ CLAIMS = (
         (Clause("uv_find", "finding", "each_finishes", ""),),
     ),
     Claim(
+        "Each move of an order near a recording is an offer of every order of what came in it, where the loop stands in the same state, what "
+        "came may still come, and each state is kept whole; except for a send that libuv sees otherwise than the loop does, and a take of a "
+        "worker that isn't the idle one of the least number.",
+        (Clause("uv_find", "finding", "near_is_within", ""),),
+    ),
+    Claim(
         "A search takes two states for one only where they are equal, or, where it may forget, have the same form by names; and such states go on "
-        "alike where they are regular (`IsRegular`).",
+        "alike where they are regular (`IsRegular`), as each is that so few steps lead to.",
         (
             Clause("uv_state_key", "laws", "keys_tell", ""),
             Clause("uv_state_key", "laws", "forms_tell", ""),
             Clause("uv_by_name", "laws", "others_alike", ""),
             Clause("uv_by_name", "laws", "takes_alike", ""),
             Clause("uv_by_name", "laws", "finishes_alike", ""),
+            Clause("uv_find", "finding", "states_are_regular", ""),
         ),
     ),
     Claim(
@@ -157,8 +166,9 @@ CLAIMS = (
         ),
     ),
     Claim(
-        "What the search's program writes is the answer to what its input asks, where the bytes of its reader and its writer are known.",
-        (Clause("uvt_find", "running", "run", "text"),),
+        "What the search's program writes is the answer to what its input asks, where the bytes of its reader and its writer are known, as those "
+        "over memory are.",
+        (Clause("uvt_find", "running", "run", "text"), Clause("uv_engine", "devices", "memory_tells", "")),
     ),
 )
 

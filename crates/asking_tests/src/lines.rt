@@ -12,6 +12,8 @@ enum Says {
     SendsDuring(u32, u32, u32),
     Differ(u32),
     Recorded(u32, u32, Event),
+    RecordedWait(u32, u32, u64),
+    Waits(u64, u32),
     Takes(u32, Option<u32>, u64),
     Asks(Question),
     Clock(u64),
@@ -25,7 +27,7 @@ enum Says {
 const NAMES: &[u8] =
     b"var call\nvar before\nvar clock\nvar states\nvar of\nvar stuck\nvar x\nvar full\n";
 
-const LINES: [(&[u8], Says); 50] = [
+const LINES: [(&[u8], Says); 53] = [
     (
         b"find call x",
         Says::Asks(Question::Call(Which::Any, Var(6), None)),
@@ -74,6 +76,8 @@ const LINES: [(&[u8], Says); 50] = [
     (b"full full", Says::Bad),
     (b"most full 2", Says::Calls(7, 2)),
     (b"may wait 1", Says::Bad),
+    (b"may wait 40 2", Says::Waits(40, 2)),
+    (b"may wait 0 1", Says::Bad),
     (b"may io x 2", Says::Offers(Event::Io(Var(6)), 2)),
     (b"may io x", Says::Bad),
     (b"may io y 1", Says::Bad),
@@ -92,6 +96,7 @@ const LINES: [(&[u8], Says); 50] = [
         b"recorded 0 0 finish 1",
         Says::Recorded(0, 0, Event::Finish(1)),
     ),
+    (b"recorded 1 0 wait 40", Says::RecordedWait(1, 0, 40)),
     (b"recorded 0 0 take 65536", Says::Bad),
     (b"recorded 0 0 loop", Says::Bad),
     (b"recorded 0 send x", Says::Bad),
@@ -134,9 +139,22 @@ fn is_said(names: &Names, line: &[u8], says: Says) -> bool {
             found
                 == Recorded {
                     event,
+                    waits: false,
                     polls,
                     steps,
                 }
+        }
+        (Said::One(Part::Recorded(found)), Says::RecordedWait(polls, steps, ms)) => {
+            found
+                == Recorded {
+                    event: Event::Tick(ms),
+                    waits: true,
+                    polls,
+                    steps,
+                }
+        }
+        (Said::One(Part::Offers(found)), Says::Waits(ms, times)) => {
+            found.offer == Offer::WaitFor(ms) && found.times == Some(times)
         }
         (Said::One(Part::Takes(found)), Says::Takes(name, call, ms)) => {
             found

@@ -20,7 +20,7 @@ use Rattle.uv_script.proofs.AfterLines.{line_begins}
 use Rattle.uv_script.proofs.Checks.{is_line_decides, is_skipped_decides}
 use Rattle.uv_script.proofs.KindWords.{choice_other}
 use Rattle.uv_asking.specs.declared.asking.Offer.{Offer}
-use Rattle.uv_asking.specs.declared.asking.Offer.TheVariants.{Step, SendDuring, Take, Wait}
+use Rattle.uv_asking.specs.declared.asking.Offer.TheVariants.{Step, SendDuring, Take, Wait, WaitFor}
 use Rattle.uv_asking.specs.declared.asking.Which.{Which}
 use Rattle.uv_asking.specs.declared.asking.Question.{Question}
 use Rattle.uv_asking.specs.declared.asking.Question.TheVariants as question
@@ -62,7 +62,10 @@ offer_right names what argument =
     (λ v h. is.io v (same _ _ a) h))
     (λ _. cond_both (bytes_eq what (codes "tick")) _ _ P
     (λ a. mapped (IsWithin 1 MOST_MS argument) (IsOffer names what argument) _ (number_in 1 MOST_MS argument) (number_right 1 MOST_MS argument)
-    (λ ms h. is.tick ms (same _ _ a) h)) (λ _. tt))))
+    (λ ms h. is.tick ms (same _ _ a) h))
+    (λ _. cond_both (bytes_eq what (codes "wait")) _ _ P
+    (λ a. mapped (IsWithin 1 MOST_MS argument) (IsOffer names what argument) _ (number_in 1 MOST_MS argument) (number_right 1 MOST_MS argument)
+    (λ ms h. is.wait ms (same _ _ a) h)) (λ _. tt)))))
 
 times_right : (names : List (List ℕ)) (word what argument times : List ℕ) → word ≡ codes "may" →
     Has (IsPart names (word ∷ what ∷ argument ∷ times ∷ [])) (times_of names what argument times)
@@ -124,7 +127,7 @@ may_right names word (what ∷ argument ∷ times ∷ more ∷ job ∷ last ∷ 
 came_right : (names : List (List ℕ)) (what argument : List ℕ) → Has (IsCame names what argument) (came_of names what argument)
 unfolding came_of
 came_right names what argument =
-    let P : Option Event → Type 0 = Has (IsCame names what argument) in
+    let P : Option (Event × Bool) → Type 0 = Has (IsCame names what argument) in
     cond_both (bytes_eq what (codes "take")) _ _ P
     (λ a. mapped (IsWithin 0 MOST_WORKER argument) (IsCame names what argument) _ (number_in 0 MOST_WORKER argument)
     (number_right 0 MOST_WORKER argument) (λ n h. is.take n (same _ _ a) h))
@@ -139,6 +142,7 @@ came_right names what argument =
     by (Some (SendDuring v w)) h = tt
     by (Some Take) h = tt
     by (Some Wait) h = tt
+    by (Some (WaitFor ms)) h = is.waited ms h
 
 recorded_by_right : (names : List (List ℕ)) (word polls steps what argument : List ℕ) → word ≡ codes "recorded" →
     Has (IsPart names (word ∷ polls ∷ steps ∷ what ∷ argument ∷ [])) (recorded_by names polls steps what argument)
@@ -148,7 +152,7 @@ recorded_by_right names word polls steps what argument w =
     bound (IsCame names what argument) P _ (came_of names what argument) (came_right names what argument)
     (λ e h. bound (IsWithin 0 MOST_COUNT polls) P _ (number_in 0 MOST_COUNT polls) (number_right 0 MOST_COUNT polls)
     (λ m k. mapped (IsWithin 0 MOST_COUNT steps) P _ (number_in 0 MOST_COUNT steps) (number_right 0 MOST_COUNT steps)
-    (λ n l. is.recorded polls m steps n what argument e (front _ w) k l h)))
+    (λ n l. is.recorded polls m steps n what argument e.0 e.1 (front _ w) k l h)))
 
 recorded_right : (names : List (List ℕ)) (word : List ℕ) (rest : List (List ℕ)) → word ≡ codes "recorded" →
     Has (IsPart names (word ∷ rest)) (recorded_of names rest)
@@ -379,33 +383,42 @@ offer_found names what argument o (is.io v w h) =
     found_is (ap (λ (x : List ℕ). offer_of names x argument) w) (found_map (λ (u : Var). Step (event.Io u)) (place_found names argument v h))
 offer_found names what argument o (is.tick ms w h) =
     found_is (ap (λ (x : List ℕ). offer_of names x argument) w) (found_map (λ (n : ℕ). Step (event.Tick n)) (number_found 1 MOST_MS argument ms h))
+offer_found names what argument o (is.wait ms w h) =
+    found_is (ap (λ (x : List ℕ). offer_of names x argument) w) (found_map (λ (n : ℕ). WaitFor n) (number_found 1 MOST_MS argument ms h))
 
 -- a step that is offered is an event
-stepped : {A : Type 0} (f : A → Event) (o : Option A) → came_by (option_map (λ (x : A). Step (f x)) o) ≡ option_map f o
+stepped : {A : Type 0} (f : A → Event) (o : Option A) → came_by (option_map (λ (x : A). Step (f x)) o) ≡ option_map (λ (x : A). (f x, false)) o
 stepped f None = refl
 stepped f (Some x) = refl
 
-came_found : (names : List (List ℕ)) (what argument : List ℕ) (e : Event) → IsCame names what argument e →
+waited_for : (o : Option ℕ) → came_by (option_map (λ (n : ℕ). WaitFor n) o) ≡ option_map (λ (n : ℕ). (event.Tick n, true)) o
+waited_for None = refl
+waited_for (Some n) = refl
+
+came_found : (names : List (List ℕ)) (what argument : List ℕ) (e : Event × Bool) → IsCame names what argument e →
     Found (came_of names what argument) (AreDistinct names) e
 unfolding came_of offer_of
 came_found names what argument e (is.take n w h) =
     found_is (ap (λ (x : List ℕ). came_of names x argument) w)
-    (found_map (λ (m : ℕ). event.Take m) (number_found 0 MOST_WORKER argument n h))
+    (found_map (λ (m : ℕ). (event.Take m, false)) (number_found 0 MOST_WORKER argument n h))
 came_found names what argument e (is.finish n w h) =
     found_is (ap (λ (x : List ℕ). came_of names x argument) w)
-    (found_map (λ (m : ℕ). event.Finish m) (number_found 0 MOST_WORKER argument n h))
+    (found_map (λ (m : ℕ). (event.Finish m, false)) (number_found 0 MOST_WORKER argument n h))
 came_found names what argument e (is.outside _ (is.send v w h)) =
     found_is (ap (λ (x : List ℕ). came_of names x argument) w ∙ stepped event.Send (place_of names argument))
-    (found_map event.Send (place_found names argument v h))
+    (found_map (λ (u : Var). (event.Send u, false)) (place_found names argument v h))
 came_found names what argument e (is.outside _ (is.cancel v w h)) =
     found_is (ap (λ (x : List ℕ). came_of names x argument) w ∙ stepped event.Cancel (place_of names argument))
-    (found_map event.Cancel (place_found names argument v h))
+    (found_map (λ (u : Var). (event.Cancel u, false)) (place_found names argument v h))
 came_found names what argument e (is.outside _ (is.io v w h)) =
     found_is (ap (λ (x : List ℕ). came_of names x argument) w ∙ stepped event.Io (place_of names argument))
-    (found_map event.Io (place_found names argument v h))
+    (found_map (λ (u : Var). (event.Io u, false)) (place_found names argument v h))
 came_found names what argument e (is.outside _ (is.tick ms w h)) =
     found_is (ap (λ (x : List ℕ). came_of names x argument) w ∙ stepped event.Tick (number_in 1 MOST_MS argument))
-    (found_map event.Tick (number_found 1 MOST_MS argument ms h))
+    (found_map (λ (n : ℕ). (event.Tick n, false)) (number_found 1 MOST_MS argument ms h))
+came_found names what argument e (is.waited ms (is.wait _ w h)) =
+    found_is (ap (λ (x : List ℕ). came_of names x argument) w ∙ waited_for (number_in 1 MOST_MS argument))
+    (found_map (λ (n : ℕ). (event.Tick n, true)) (number_found 1 MOST_MS argument ms h))
 
 section_found : (x : Phase) → section_of (phase_word x) ≡ Some (question.Section x)
 unfolding section_of phase_named
@@ -470,9 +483,10 @@ most_found names fields p (is.may_during name v times n job w e other h k l) oth
 most_found names fields p (is.may_wait e) other_part = sure (ap (most_parts_of names) e)
 most_found names fields p (is.may_differ number k e h) other_part =
     found_is (ap (most_parts_of names) e) (found_map Differ (number_found 0 MOST_COUNT number k h))
-most_found names fields p (is.recorded polls m steps n what argument e is_fields h k l) other_part =
+most_found names fields p (is.recorded polls m steps n what argument e waits is_fields h k l) other_part =
     found_is (ap (most_parts_of names) is_fields)
-    (found_three (λ (d : Event) (i j : ℕ). Recorded (record { event = d; polls = i; steps = j })) (came_found names what argument e l)
+    (found_three (λ (d : Event × Bool) (i j : ℕ). Recorded (record { event = d.0; waits = d.1; polls = i; steps = j }))
+    (came_found names what argument (e, waits) l)
     (number_found 0 MOST_COUNT polls m h) (number_found 0 MOST_COUNT steps n k))
 most_found names fields p (is.takes name v ms n e h k) other_part =
     found_is (ap (most_parts_of names) e)
@@ -534,7 +548,7 @@ says_something names line p (is.may what argument o times n e h k) = line_begins
 says_something names line p (is.may_during name v times n job w e other h k l) = line_begins line _ _ _ e
 says_something names line p (is.may_wait e) = line_begins line _ _ _ e
 says_something names line p (is.may_differ number k e h) = line_begins line _ _ _ e
-says_something names line p (is.recorded polls m steps n what argument e is_fields h k l) = line_begins line _ _ _ is_fields
+says_something names line p (is.recorded polls m steps n what argument e waits is_fields h k l) = line_begins line _ _ _ is_fields
 says_something names line p (is.takes name v ms n e h k) = line_begins line _ _ _ e
 says_something names line p (is.takes_once name v call k ms n e h c l) = line_begins line _ _ _ e
 says_something names line p (is.most_clock number ms e h) = line_begins line _ _ _ e

@@ -1,5 +1,5 @@
 -- The lines behind `begin`: what may come from outside, how far the search goes, and what it looks for.
-use Rattle.std.specs.Prelude.{◌≡◌, ◌≢◌, ℕ, ◌≤◌, List, [], ◌∷◌, Some, None, codes}
+use Rattle.std.specs.Prelude.{◌≡◌, ◌≢◌, ℕ, ◌≤◌, Bool, true, false, List, [], ◌∷◌, Some, None, codes}
 use Rattle.uv_ids.specs.declared.id.Var.{Var}
 use Rattle.uv_ids.specs.declared.code.Code as ids
 use Rattle.uv_ids.specs.declared.event.Event.{Event}
@@ -9,7 +9,7 @@ use Rattle.uv_ids.specs.Words.{code_word, phase_word}
 use Rattle.uv_script.specs.Lines.{fields_of, IsLine, IsSkipped}
 use Rattle.uv_script.specs.Words.{IsNumber, IsDeclared}
 use Rattle.uv_asking.specs.declared.asking.Offer.{Offer}
-use Rattle.uv_asking.specs.declared.asking.Offer.TheVariants.{Step, SendDuring, Wait}
+use Rattle.uv_asking.specs.declared.asking.Offer.TheVariants.{Step, SendDuring, Wait, WaitFor}
 use Rattle.uv_asking.specs.declared.asking.Which.{Which}
 use Rattle.uv_asking.specs.declared.asking.Which.TheVariants as which
 use Rattle.uv_asking.specs.declared.asking.Question.{Question}
@@ -32,12 +32,14 @@ pub data IsOffer (names : List (List ℕ)) (what argument : List ℕ) : Offer �
   cancel : (v : Var) → what ≡ codes "cancel" → IsDeclared names argument v → IsOffer names what argument (Step (event.Cancel v))
   io : (v : Var) → what ≡ codes "io" → IsDeclared names argument v → IsOffer names what argument (Step (event.Io v))
   tick : (ms : ℕ) → what ≡ codes "tick" → IsWithin 1 MOST_MS argument ms → IsOffer names what argument (Step (event.Tick ms))
+  wait : (ms : ℕ) → what ≡ codes "wait" → IsWithin 1 MOST_MS argument ms → IsOffer names what argument (WaitFor ms)
 
--- the two fields of an event that came in a recording
-pub data IsCame (names : List (List ℕ)) (what argument : List ℕ) : Event → Type 0 where
-  take : (n : ℕ) → what ≡ codes "take" → IsWithin 0 MOST_WORKER argument n → IsCame names what argument (event.Take n)
-  finish : (n : ℕ) → what ≡ codes "finish" → IsWithin 0 MOST_WORKER argument n → IsCame names what argument (event.Finish n)
-  outside : (e : Event) → IsOffer names what argument (Step e) → IsCame names what argument e
+-- the two fields of an event that came in a recording, and whether it is a wait
+pub data IsCame (names : List (List ℕ)) (what argument : List ℕ) : Event × Bool → Type 0 where
+  take : (n : ℕ) → what ≡ codes "take" → IsWithin 0 MOST_WORKER argument n → IsCame names what argument (event.Take n, false)
+  finish : (n : ℕ) → what ≡ codes "finish" → IsWithin 0 MOST_WORKER argument n → IsCame names what argument (event.Finish n, false)
+  outside : (e : Event) → IsOffer names what argument (Step e) → IsCame names what argument (e, false)
+  waited : (ms : ℕ) → IsOffer names what argument (WaitFor ms) → IsCame names what argument (event.Tick ms, true)
 
 -- the word for these callbacks of a name
 abbrev pub which_word : Which → List ℕ
@@ -82,9 +84,9 @@ pub data IsPart (names fields : List (List ℕ)) : Part → Type 0 where
   may_wait : fields ≡ codes "may" ∷ codes "wait" ∷ [] → IsPart names fields (Offers (record { offer = Wait; times = None }))
   may_differ : (number : List ℕ) (k : ℕ) → fields ≡ codes "may" ∷ codes "differ" ∷ number ∷ [] → IsWithin 0 MOST_COUNT number k →
       IsPart names fields (Differ k)
-  recorded : (polls : List ℕ) (m : ℕ) (steps : List ℕ) (n : ℕ) (what argument : List ℕ) (e : Event) →
+  recorded : (polls : List ℕ) (m : ℕ) (steps : List ℕ) (n : ℕ) (what argument : List ℕ) (e : Event) (waits : Bool) →
       fields ≡ codes "recorded" ∷ polls ∷ steps ∷ what ∷ argument ∷ [] → IsWithin 0 MOST_COUNT polls m → IsWithin 0 MOST_COUNT steps n →
-      IsCame names what argument e → IsPart names fields (Recorded (record { event = e; polls = m; steps = n }))
+      IsCame names what argument (e, waits) → IsPart names fields (Recorded (record { event = e; waits = waits; polls = m; steps = n }))
   takes : (name : List ℕ) (v : Var) (ms : List ℕ) (n : ℕ) → fields ≡ codes "takes" ∷ name ∷ ms ∷ [] → IsDeclared names name v →
       IsWithin 0 MOST_MS ms n → IsPart names fields (Takes (record { name = v; call = None; ms = n }))
   takes_once : (name : List ℕ) (v : Var) (call : List ℕ) (k : ℕ) (ms : List ℕ) (n : ℕ) →

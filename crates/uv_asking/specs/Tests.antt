@@ -1,5 +1,5 @@
 -- How a line behind `begin` is read, as tests that the code computes; beside each clause that cites one stands the rule itself.
-use Rattle.std.specs.Prelude.{ℕ, ◌==◌, List, [], ◌∷◌, ◌&&◌, nat_le, Option, Some, None, option_map, option_and_then, if◌then◌else◌, codes}
+use Rattle.std.specs.Prelude.{ℕ, Bool, true, false, ◌==◌, List, [], ◌∷◌, ◌&&◌, nat_le, Option, Some, None, option_map, option_and_then, if◌then◌else◌, codes}
 use Rattle.std.specs.Str.{bytes_eq}
 use Rattle.uv_ids.specs.declared.id.Var.{Var}
 use Rattle.uv_ids.specs.declared.code.Code as ids
@@ -10,7 +10,7 @@ use Rattle.uv_script.specs.Lines.{fields_of}
 use Rattle.uv_script.specs.Checks.{is_line, is_skipped, number_of}
 use Rattle.uv_script.specs.Reading.{place_of}
 use Rattle.uv_asking.specs.declared.asking.Offer.{Offer}
-use Rattle.uv_asking.specs.declared.asking.Offer.TheVariants.{Step, SendDuring, Wait}
+use Rattle.uv_asking.specs.declared.asking.Offer.TheVariants.{Step, SendDuring, Wait, WaitFor}
 use Rattle.uv_asking.specs.declared.asking.Which.{Which}
 use Rattle.uv_asking.specs.declared.asking.Which.TheVariants as which
 use Rattle.uv_asking.specs.declared.asking.Question.{Question}
@@ -40,6 +40,7 @@ offer_of names what argument =
     else if bytes_eq what (codes "cancel") then option_map (λ (v : Var). Step (event.Cancel v)) (place_of names argument)
     else if bytes_eq what (codes "io") then option_map (λ (v : Var). Step (event.Io v)) (place_of names argument)
     else if bytes_eq what (codes "tick") then option_map (λ (ms : ℕ). Step (event.Tick ms)) (number_in 1 MOST_MS argument)
+    else if bytes_eq what (codes "wait") then option_map (λ (ms : ℕ). WaitFor ms) (number_in 1 MOST_MS argument)
     else None
 
 -- an offer with how often it may be taken
@@ -79,23 +80,24 @@ may_of names (what ∷ argument ∷ times ∷ word ∷ []) = None
 may_of names (what ∷ argument ∷ times ∷ word ∷ job ∷ []) = during_of names what argument times word job
 may_of names (what ∷ argument ∷ times ∷ word ∷ job ∷ more ∷ rest) = None
 
--- the event that came in a recording
-abbrev pub came_by : Option Offer → Option Event
-came_by (Some (Step e)) = Some e
+-- the event that came in a recording, and whether it is a wait
+abbrev pub came_by : Option Offer → Option (Event × Bool)
+came_by (Some (Step e)) = Some (e, false)
+came_by (Some (WaitFor ms)) = Some (event.Tick ms, true)
 came_by _ = None
 
-unfoldable pub came_of : List (List ℕ) → List ℕ → List ℕ → Option Event
+unfoldable pub came_of : List (List ℕ) → List ℕ → List ℕ → Option (Event × Bool)
 came_of names what argument =
-    if bytes_eq what (codes "take") then option_map (λ (n : ℕ). event.Take n) (number_in 0 MOST_WORKER argument)
-    else if bytes_eq what (codes "finish") then option_map (λ (n : ℕ). event.Finish n) (number_in 0 MOST_WORKER argument)
+    if bytes_eq what (codes "take") then option_map (λ (n : ℕ). (event.Take n, false)) (number_in 0 MOST_WORKER argument)
+    else if bytes_eq what (codes "finish") then option_map (λ (n : ℕ). (event.Finish n, false)) (number_in 0 MOST_WORKER argument)
     else came_by (offer_of names what argument)
 
-abbrev pub recorded_at : Event → ℕ → Option ℕ → Option Part
-recorded_at e polls steps = option_map (λ (n : ℕ). Recorded (record { event = e; polls = polls; steps = n })) steps
+abbrev pub recorded_at : Event × Bool → ℕ → Option ℕ → Option Part
+recorded_at came polls steps = option_map (λ (n : ℕ). Recorded (record { event = came.0; waits = came.1; polls = polls; steps = n })) steps
 
 unfoldable pub recorded_by : List (List ℕ) → List ℕ → List ℕ → List ℕ → List ℕ → Option Part
 recorded_by names polls steps what argument = option_and_then
-    (λ (e : Event). option_and_then (λ (m : ℕ). recorded_at e m (number_in 0 MOST_COUNT steps)) (number_in 0 MOST_COUNT polls))
+    (λ (came : Event × Bool). option_and_then (λ (m : ℕ). recorded_at came m (number_in 0 MOST_COUNT steps)) (number_in 0 MOST_COUNT polls))
     (came_of names what argument)
 
 -- the fields behind `recorded`

@@ -13,6 +13,8 @@ pub enum Offer {
     Take,
     /// The clock goes on to the deadline of the poll in which the loop is blocked.
     Wait,
+    /// The clock goes on by so many ms where the loop is blocked in a poll, and no further than to its deadline.
+    WaitFor(u64),
 }
 
 /// An offer, and how often it may be taken: none is as often as one likes.
@@ -23,10 +25,12 @@ pub struct Offered {
 }
 
 /// An event from outside that came in a recording, and its place there: so many polls began behind the place of the one before it (or behind
-/// the beginning), and behind the last of these the loop took so many steps.
+/// the beginning), and behind the last of these the loop took so many steps. A time that the loop waited until something came goes by only where
+/// it is blocked so long.
 #[derive(Clone, Copy, PartialEq, Eq)]
 pub struct Recorded {
     pub event: Event,
+    pub waits: bool,
     pub polls: u32,
     pub steps: u32,
 }
@@ -88,7 +92,7 @@ pub enum Question {
 /// What is offered beside the steps of the loop and its workers, how far the search goes, and what it looks for.
 #[derive(Drop)]
 pub struct Asking {
-    /// `may send NAME N`, `may send NAME N during JOB`, `may cancel NAME N`, `may io NAME N`, `may tick MS N`, `may wait`.
+    /// `may send NAME N`, `may send NAME N during JOB`, `may cancel NAME N`, `may io NAME N`, `may tick MS N`, `may wait`, `may wait MS N`.
     pub offers: Vec<Offered>,
     /// `may differ K`: what comes is what came in a recording, at most so many of it at another place.
     pub differ: Option<u32>,

@@ -188,37 +188,39 @@ fn recorded_at(
 ) -> Option<Part>
     ensures { result ≡ recorded_by names.now polls.now steps.now what.now argument.now }
 {
-    let event = came(names, what, argument)?;
+    let (event, waits) = came(names, what, argument)?;
     let polls = count_from(0, polls)?;
     let steps = count_from(0, steps)?;
     Some(Part::Recorded(Recorded {
         event,
+        waits,
         polls,
         steps,
     }))
 }
 
-/// The step of an offer that is one.
-fn step_in(offer: Option<Offer>) -> Option<Event>
+/// The event of an offer that came, and whether it is a wait.
+fn step_in(offer: Option<Offer>) -> Option<(Event, bool)>
     ensures { result ≡ came_by offer }
 {
     match offer {
-        Some(Offer::Step(event)) => Some(event),
+        Some(Offer::Step(event)) => Some((event, false)),
+        Some(Offer::WaitFor(ms)) => Some((Event::Tick(ms), true)),
         _ => None,
     }
 }
 
-/// The event that came.
+/// The event that came, and whether it is a wait.
 #[tactic(auto, unfolding(crate::specs::Tests::came_of))]
-fn came(names: &Names, what: &[u8], argument: &[u8]) -> Option<Event>
+fn came(names: &Names, what: &[u8], argument: &[u8]) -> Option<(Event, bool)>
     ensures { result ≡ came_of names.now what.now argument.now }
 {
     if is(what, b"take") {
         let worker = worker(argument)?;
-        Some(Event::Take(worker))
+        Some((Event::Take(worker), false))
     } else if is(what, b"finish") {
         let worker = worker(argument)?;
-        Some(Event::Finish(worker))
+        Some((Event::Finish(worker), false))
     } else {
         step_in(offer(names, what, argument))
     }
@@ -308,6 +310,9 @@ fn offer(names: &Names, what: &[u8], argument: &[u8]) -> Option<Offer>
     } else if is(what, b"tick") {
         let ms = number_in(1, MOST_MS, argument)?;
         Some(Offer::Step(Event::Tick(ms)))
+    } else if is(what, b"wait") {
+        let ms = number_in(1, MOST_MS, argument)?;
+        Some(Offer::WaitFor(ms))
     } else {
         None
     }

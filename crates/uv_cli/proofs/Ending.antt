@@ -56,7 +56,7 @@ no_memory_ends (Some Debug) TooLong reads writes =
 no_memory_ends (Some Replay) TooLong reads writes =
     record { came_to = Err fault.Memory; is = refl; fault = tt; reader = refl; writer = refl }
 no_memory_ends (Some (Live workers)) TooLong reads writes =
-    record { came_to = Err (Failed fault.Memory); is = refl; fault = tt; reader = refl; writer = refl }
+    record { came_to = Err (Failed fault.Memory); is = refl; fault = (0, tt); reader = refl; writer = refl }
 no_memory_ends None TooLong reads writes = (refl, refl)
 
 -- words that ask for something are a command line

@@ -9,6 +9,7 @@ use Rattle.uv_text.specs.Recording.{recording_text}
 use Rattle.uv_engine.specs.Alone.{SaysInFront}
 use Rattle.uv_engine.specs.Devices.{ReaderCounts, WriterCounts}
 use Rattle.uv_script.specs.Writes.{CutShort}
+use Rattle.uv_live.specs.Faults.{IsRunFault}
 use Rattle.uv_live.specs.Running.{RunSettles}
 use Rattle.uv_run.specs.Bound.{plan_of, course_of, refusal_in}
 use Rattle.uv_cli.specs.declared.live.NoRecording.{NoRecording}
@@ -64,8 +65,10 @@ IsUnreadFault fault.Memory = Unit {0}
 IsUnreadFault fault.Read = Unit {0}
 IsUnreadFault _ = ⊥
 
+-- and it fails by a fault that a run of some workers has
 abbrev pub IsLiveFault : NoRecording → Type 0
 IsLiveFault (Unread why) = IsUnreadFault why
+IsLiveFault (Failed why) = (workers : ℕ) × IsRunFault workers why
 IsLiveFault _ = Unit {0}
 
 -- what the reader answered to a live run, and what the writer did

@@ -74,6 +74,7 @@ fn write_whole<W: Sink>(writer: &mut W, text: &[u8]) -> Result<(), Fault>
 }
 
 /// Runs the script of a reader on real threads, over a machine, and writes the recording of what they did. The clock jumps from 0 on.
+#[tactic(auto, using(crate::proofs::Failing::failing))]
 pub fn run_live<M: Machine, H: Threads + Wait + Sync, R: Source, W: Sink>(
     rt: &H,
     alloc: Global,

@@ -113,3 +113,10 @@ impl<W: Write> Sink for Writer<W> {
         }
     }
 }
+
+/// A standard reader over a slice tells its bytes, and so does a standard writer over a vector. So what a clause asks of devices that tell, some
+/// devices meet. It does nothing, and is called for its clauses.
+pub fn memory_tells()
+    ensures reader { ⟦<Reader<&'static [u8]> as Source>⟧.Tells }
+    ensures writer { ⟦<Writer<Vec<u8>> as Sink>⟧.Tells }
+{}

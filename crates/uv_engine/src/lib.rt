@@ -23,7 +23,7 @@ mod version;
 
 pub use alone::read_alone;
 pub use conversation::{Ended, converse, converse_within, one_answer};
-pub use devices::{Reader, Writer};
+pub use devices::{Reader, Writer, memory_tells};
 pub use replaying::{one_verdict, recordings_rerun_same, replay, replay_within};
 pub use sink::{Sink, WriteFailed, write_text};
 pub use source::{LIMIT, ReadFailed, Source};

@@ -18,15 +18,12 @@ use Rattle.uv_model.specs.After.{after}
 use Rattle.uv_model.specs.Limits.{LATEST}
 use Rattle.uv_model.specs.Next.{Next, Moves, Refuses, next}
 use Rattle.uv_model.specs.State.{State, named}
-use Rattle.uv_shift.specs.Shift.{ClockFits}
-use Rattle.uv_shift.specs.Earliest.{IsTimed}
+use Rattle.uv_shift.specs.Shift.{ClockFits, IsShort}
 use Rattle.uv_shift.proofs.Reached.{after_timed}
-use Rattle.uv_generations.specs.Youngest.{IsYoung}
 use Rattle.uv_generations.proofs.Reached.{after_young}
 use Rattle.uv_normal.specs.Normal.{calls_timer}
 use Rattle.uv_workers.specs.Workers.{is_of_worker, line_by, next_by}
-use Rattle.uv_slots.specs.Buried.{CanBury}
-use Rattle.uv_slots.specs.NamedForm.{IsTidy}
+use Rattle.uv_slots.specs.NamedForm.{AreDeclared}
 use Rattle.uv_slots.proofs.Keeping.{after_can}
 use Rattle.uv_slots.proofs.Reached.{after_tidy}
 use Rattle.uv_by_name.specs.ByName.{by_name, IsRegular, NextByName}
@@ -43,7 +40,7 @@ use Rattle.uv_find.specs.declared.left.Left.{Left}
 use Rattle.uv_find.specs.Forgetting.{LONG, LONGEST, is_common, most_end}
 use Rattle.uv_find.specs.Kept.{due_under, due_else, due_in, due_of, kept_due}
 use Rattle.uv_records.specs.Handles.{is_timer}
-use Rattle.uv_find.specs.Orders.{Rules, Place, aim, is_made, is_free, spending, step_of, is_blocked, refused_as_blocked, deadline_at, wait_until, take_by}
+use Rattle.uv_find.specs.Orders.{Rules, Place, aim, is_made, is_free, spending, step_of, is_blocked, refused_as_blocked, deadline_at, wait_until, take_by, may_last, ends_within, is_in_poll, wait_for}
 use Rattle.uv_find.specs.Ranks.{idle_worker, by_rank, ranked}
 use Rattle.uv_find.specs.Kept.{is_in_timers}
 use Rattle.uv_find.specs.Orders.{is_quiet}
@@ -53,7 +50,7 @@ use Rattle.uv_find.proofs.Clocks.{after_clock}
 use Rattle.uv_find.proofs.Led.{length_more, state_behind}
 use Rattle.uv_find.proofs.Lines.{LinesAlike, told_alike, worker_alike}
 use Rattle.uv_find.proofs.Runners.{EventsAlike, OffersAlike, finishes_alike, takes_alike}
-use Rattle.uv_find.proofs.Readings.{is_bound, reads_bound, is_shut, reads_shut, count, reads_count, within_capped, reads_quiet, reads_timers, until, wait_of, reads_wait, Waits, lag_by, lag_of, lag_under, lag, reads_lag}
+use Rattle.uv_find.proofs.Readings.{is_bound, reads_bound, is_shut, reads_shut, count, reads_count, within_capped, reads_quiet, reads_timers, until, wait_of, reads_wait, reads_in_poll, Waits, lag_by, lag_of, lag_under, lag, reads_lag}
 use Rattle.uv_find.proofs.Readings as readings
 
 -- of a timer that is asked about it is the same how late the clock is for what is kept of it
@@ -120,17 +117,21 @@ worker_goes p n s t k (Refuses why) (Moves b other) one two h = absurd h
 
 -- ---- what holds of each spot
 
+pub are_regular : (p : Program) (es : List Event) → AreDeclared p → IsShort LONG p → LONGEST < (arena_size p).last_generation → length es ≤ LONGEST
+    → IsRegular p (after p es)
+are_regular p es declares short lasts few = record {
+  timed = after_timed p LONG es (omega arith) (omega arith) short;
+  young = after_young p es (omega (arith, few, lasts));
+  tidy = after_tidy p es declares (omega (arith, few, lasts));
+  buries = after_can p (arena_size p).slots es (omega arith);
+}
+
 module _ (r : Rules) (n : ℕ) (forget : r.forget ≡ Some n) (can : CanForget r n) where
   few_steps : (s : Spot) → IsSpot r s → length s.steps < LONGEST
   few_steps s is = ltb-true (length s.steps) LONGEST (subst (λ (o : Option ℕ). is_few o (length s.steps) ≡ true) forget is.few)
 
   pub regular_by : (s : State) (es : List Event) → s ≡ after r.program es → length es ≤ LONGEST → IsRegular r.program s
-  regular_by s es is few = record {
-    timed = subst (IsTimed r.program) (sym is) (after_timed r.program LONG es (omega arith) (omega arith) can.short);
-    young = subst (IsYoung r.program) (sym is) (after_young r.program es (omega (arith, few, can.lasts)));
-    tidy = subst IsTidy (sym is) (after_tidy r.program es can.declares (omega (arith, few, can.lasts)));
-    buries = subst (CanBury (arena_size r.program).slots) (sym is) (after_can r.program (arena_size r.program).slots es (omega arith));
-  }
+  regular_by s es is few = subst (IsRegular r.program) (sym is) (are_regular r.program es can.declares can.short can.lasts few)
 
   pub spot_regular : (s : Spot) → IsSpot r s → IsRegular r.program s.place.state
   spot_regular s is =
@@ -340,6 +341,24 @@ module _ (r : Rules) (n : ℕ) (forget : r.forget ≡ Some n) (can : CanForget r
     wait_alike =
         waits_is a (deadline_at a.place) ∙ ap₂ waits blocked_alike (same_read wait_of (reads_wait n)) ∙ sym (waits_is b (deadline_at b.place))
 
+    abbrev within : Option ℕ → ℕ → Bool
+    within None ms = true
+    within (Some left) ms = nat_le ms left
+
+    within_is : (clock : ℕ) (deadline : Option ℕ) (ms : ℕ) → ends_within deadline clock ms ≡ within (until clock deadline) ms
+    within_is clock None ms = refl
+    within_is clock (Some deadline) ms = refl
+
+    lasts_alike : (ms : ℕ) → may_last a ms ≡ may_last b ms
+    lasts_alike ms =
+        ap₂ (λ x y. x && y) (same_read (λ u. is_in_poll u.place) (reads_in_poll n)) (
+        within_is a.clock (deadline_at a.place) ms ∙ ap (λ o. within o ms) (same_read wait_of (reads_wait n))
+        ∙ sym (within_is b.clock (deadline_at b.place) ms)
+        )
+
+    wait_for_alike : (ms : ℕ) → wait_for r.program a ms ≡ wait_for r.program b ms
+    wait_for_alike ms = ap₂ (λ x y. if x then (if y then Some (Tick ms) else None) else None) (lasts_alike ms) blocked_alike
+
     -- ---- ranks
 
     takes_both : OffersAlike r.program n a b (take_by (idle_worker a)) (take_by (idle_worker b))
@@ -410,6 +429,15 @@ module _ (r : Rules) (n : ℕ) (forget : r.forget ≡ Some n) (can : CanForget r
         subst (λ x. OffersAlike r.program n a b (ranked (Some n) a x) (ranked (Some n) b (wait_until r.program b (deadline_at b.place)))) (sym here)
         (subst (λ y. OffersAlike r.program n a b (ranked (Some n) a wait) (ranked (Some n) b y))
         (sym here ∙ wait_alike) (waited (is_blocked r.program a) (until a.clock (deadline_at a.place))))
+    event_alike (offers.WaitFor ms) h =
+        subst (λ y. OffersAlike r.program n a b (ranked (Some n) a (wait_for r.program a ms)) (ranked (Some n) b y)) (wait_for_alike ms)
+        (by (may_last a ms) (is_blocked r.program a))
+      where
+        by : (x y : Bool) → OffersAlike r.program n a b (ranked (Some n) a (if x then (if y then Some (Tick ms) else None) else None))
+            (ranked (Some n) b (if x then (if y then Some (Tick ms) else None) else None))
+        by true true = inl (refl, refl)
+        by true false = tt
+        by false y = tt
 
     -- ---- within the bounds
 

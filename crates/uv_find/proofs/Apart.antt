@@ -31,7 +31,7 @@ use Rattle.uv_records.specs.Names as names
 use Rattle.uv_records.specs.Names.{count_of}
 use Rattle.uv_apart.specs.Apart.{is_apart, is_apart_at, is_apart_main}
 use Rattle.uv_asking.specs.declared.asking.Offer.{Offer}
-use Rattle.uv_asking.specs.declared.asking.Offer.TheVariants.{Step, SendDuring, Take, Wait}
+use Rattle.uv_asking.specs.declared.asking.Offer.TheVariants.{Step, SendDuring, Take, Wait, WaitFor}
 use Rattle.uv_asking.specs.declared.asking.Which.{Which}
 use Rattle.uv_asking.specs.declared.asking.Question.{Question}
 use Rattle.uv_asking.specs.declared.asking.Question.TheVariants as asks
@@ -43,7 +43,7 @@ use Rattle.uv_find.specs.declared.left.Left.TheVariants as left
 use Rattle.uv_asking.specs.declared.asking.Most.{Most}
 use Rattle.uv_find.specs.Holding.{can_meet, asks_late, is_at_will, is_of_io, run_takes_io, may_take_io}
 use Rattle.uv_find.specs.Kept.{kept_after, kept_due, owed_after, owed_by, owed_in, along_after, owes, caller, time_at_end, takes_time, is_over}
-use Rattle.uv_find.specs.Orders.{Rules, Place, is_made, is_free, is_within, take_by, event_of, step_of, wait_until, deadline_at, less, lessened, lessened_by}
+use Rattle.uv_find.specs.Orders.{Rules, Place, is_made, is_free, is_within, take_by, event_of, step_of, wait_until, deadline_at, less, lessened, lessened_by, may_last, wait_for, is_blocked}
 use Rattle.uv_find.proofs.Keys.{runner_same}
 use Rattle.uv_find.specs.Ranks.{keys_run, idle_worker, runner, finish_by, by_rank, ranked}
 use Rattle.uv_find.specs.Questions.{begun, is_call, is_which, line_answers, has_ended, place_answers, is_uncalled}
@@ -161,6 +161,12 @@ module _ (p : Program) (s a : State) (l : Option Seen) (k j : Kept) (goes : next
   waits_none None = refl
   waits_none (Some deadline) = rw goes refl
 
+  waits_for_none : (ms : ℕ) → wait_for p s ms ≡ None
+  waits_for_none ms = by (may_last s ms) where
+    by : (b : Bool) → (if b then (if is_blocked p s then Some (event.Tick ms) else None) else None) ≡ None
+    by true = rw goes refl
+    by false = refl
+
   -- it is from outside, or a callback of I/O; and what is from outside stays
   pub event_stays : (ticks : Bool) (offer : Offer) (e : Event) → can_meet ticks offer ≡ true → event_of p s k offer ≡ Some e
       → (may_come ticks e ≡ true) × (is_outside ticks e ≡ true → event_of p a j offer ≡ Some e)
@@ -169,6 +175,7 @@ module _ (p : Program) (s a : State) (l : Option Seen) (k j : Kept) (goes : next
     λ out. ap (λ (runs : List (Option Id)). take_by (position_from (λ run. is_none run) 0 runs)) running ∙ h,
   )
   event_stays ticks Wait e of h = absurd (none-some e (sym (waits_none (deadline_at s.place)) ∙ h))
+  event_stays ticks (WaitFor ms) e of h = absurd (none-some e (sym (waits_for_none ms) ∙ h))
   event_stays ticks (SendDuring v job) e of h = absurd (let f : false ≡ true = of in cc)
   event_stays ticks (Step (event.Finish worker)) e of h =
       (subst (λ x. may_come ticks x ≡ true) (same_Some (event.Finish worker) e h) refl, λ out. h)

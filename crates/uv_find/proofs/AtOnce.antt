@@ -30,7 +30,7 @@ use Rattle.uv_find.specs.declared.left.Left.{Left}
 use Rattle.uv_find.specs.declared.left.Left.TheVariants as left
 use Rattle.uv_find.specs.Holding.{is_at_will, are_all_at_will, are_at_will, is_clear_of_takes, loop_number}
 use Rattle.uv_find.specs.Kept.{kept_after, owes}
-use Rattle.uv_find.specs.Orders.{Rules, Place, Led, led, closes, is_blocked, is_made, is_quiet, is_seen, refused_as_blocked, deadline_at, wait_until, take_by, event_of, offered_by, timed, brief, is_brief, at_will, may_take, taken, is_within, less, lessened, move_count, move_count_by}
+use Rattle.uv_find.specs.Orders.{Rules, Place, Led, led, closes, is_blocked, is_made, is_quiet, is_seen, refused_as_blocked, deadline_at, wait_until, take_by, event_of, offered_by, timed, brief, is_brief, at_will, may_take, taken, is_within, less, lessened, move_count, move_count_by, may_last, ends_within, is_in_poll}
 use Rattle.uv_find.specs.Ranks.{idle_worker, rank_of, runner, finish_by, ranked}
 use Rattle.uv_find.specs.Questions.{answers, line_answers, place_answers, none_leads, is_uncalled, has_ended}
 use Rattle.uv_find.specs.Spots.{Spot, CanForget, CanTakeAtOnce, next_spot, spot_of, spot_code, apart, is_loop_first, is_take_first, is_few, IsSpot, HasRoom}
@@ -173,11 +173,26 @@ module _ (p : Program) (s a : State) (k j : Kept) (idle : owes k ≡ false) (sti
       by None g = absurd (none-some e g)
       by (Some d) g = at d (is_blocked p s) refl g
 
+  wait_for_again : (ms : ℕ) (e : Event) → event_of p s k (offers.WaitFor ms) ≡ Some e → Again (offers.WaitFor ms) e
+  wait_for_again ms e h = by (may_last s ms) (is_blocked p s) refl refl h where
+    lasts : may_last a ms ≡ may_last s ms
+    lasts = ap₂ (λ x c. is_in_poll x && ends_within (deadline_at x) c ms) place clock
+
+    by : (b c : Bool) → may_last s ms ≡ b → is_blocked p s ≡ c → (if b then (if c then Some (Tick ms) else None) else None) ≡ Some e
+        → Again (offers.WaitFor ms) e
+    by true true long is g = (
+      ap₂ (λ x y. if x then (if y then Some (Tick ms) else None) else None) (lasts ∙ long) (blocked is) ∙ g,
+      inl (ms, sym (same_Some (Tick ms) e g)),
+    )
+    by true false long is g = absurd (none-some e g)
+    by false c long is g = absurd (none-some e g)
+
   comes_again : (offer : Offer) (e : Event) → is_clear_of_takes offer ≡ true → event_of p s k offer ≡ Some e → Again offer e
   comes_again (offers.Step (Tick ms)) e of h = tick_again ms e h
   comes_again (offers.Step (event.Io v)) e of h = io_again v e h
   comes_again (offers.Step (Send v)) e of h = send_again v e h
   comes_again offers.Wait e of h = wait_again e h
+  comes_again (offers.WaitFor ms) e of h = wait_for_again ms e h
   comes_again offers.Take e of h = absurd (let f : false ≡ true = of in cc)
   comes_again (offers.SendDuring v job) e of h = absurd (let f : false ≡ true = of in cc)
   comes_again (offers.Step Loop) e of h = absurd (let f : false ≡ true = of in cc)

@@ -26,8 +26,8 @@ use Rattle.uv_find.specs.declared.left.Left.{Left}
 use Rattle.uv_find.specs.declared.left.Left.TheVariants as left
 use Rattle.uv_find.specs.declared.kept.Kept.{Kept}
 use Rattle.uv_find.specs.Holding.{may_take_at_once}
-use Rattle.uv_find.specs.Courses.{Course, LeadsOn}
-use Rattle.uv_find.specs.Found.{IsFinished, EachFinishes}
+use Rattle.uv_find.specs.Courses.{Course, IsOffered, LeadsOn}
+use Rattle.uv_find.specs.Found.{EachFinishes}
 use Rattle.uv_find.specs.Orders.{Rules, Place, Choice, Led, at_will, finishes, times_left, less, lessened, lessened_by, chosen, offered_by, beginning, first_left, timed, brief, move_count, move_count_by}
 use Rattle.uv_find.specs.Ranks.{key_at, keys_run, rank_of, runner, finish_by, ranked}
 use Rattle.uv_find.specs.Spots.{rules_of}
@@ -157,7 +157,7 @@ module _ (p : Program) (asked : Asked) (q : Place) (differ : asked.differ ≡ No
 
   -- the offer of this number is that worker's finish
   finish_offered : (number : ℕ) → number < worker_count p → slice_get q.left (suc (suc number)) ≡ Some left.AtWill
-      → ranked r.forget q.state (Some (event.Finish number)) ≡ Some (event.Finish worker) → IsFinished r q worker
+      → ranked r.forget q.state (Some (event.Finish number)) ≡ Some (event.Finish worker) → IsOffered r q (event.Finish worker)
   finish_offered number below will of_rank =
       let here : slice_get r.offers (suc (suc number)) ≡ Some (at_will (Step (event.Finish number))) =
       behind_first (may_take_at_once p asked) (finishes (worker_count p)) asked.offers number
@@ -204,7 +204,7 @@ module _ (p : Program) (asked : Asked) (es : List Event) (q : Place) (worker : �
   will : (number : ℕ) → number < worker_count p → slice_get q.left (suc (suc number)) ≡ Some left.AtWill
   will number below = course_left all differ (beginning all) es q (suc (suc number)) course (begins number below)
 
-  finished : (o : Option ℕ) → all.forget ≡ o → IsFinished all q worker
+  finished : (o : Option ℕ) → all.forget ≡ o → IsOffered all q (event.Finish worker)
   finished None whole =
       let below : worker < worker_count p = subst (λ n. worker < n) count (runs_within q.state.running worker id there) in
       finish_offered p asked q differ worker worker below (will worker below) (ap (λ o. ranked o q.state (Some (event.Finish worker))) whole)

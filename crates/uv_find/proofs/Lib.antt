@@ -16,6 +16,7 @@ pub mod Moving
 pub mod Results
 pub mod Refusing
 pub mod Finishing
+pub mod Within
 mod Keys
 mod Scans
 pub mod Declaring

@@ -99,7 +99,7 @@ loop_apart r s is =
 
 -- ---- what is offered
 
-loop_timed : (most : Option ℕ) (clock : ℕ) → timed most clock (Some Loop) ≡ Some Loop
+pub loop_timed : (most : Option ℕ) (clock : ℕ) → timed most clock (Some Loop) ≡ Some Loop
 loop_timed None clock = refl
 loop_timed (Some n) clock = refl
 

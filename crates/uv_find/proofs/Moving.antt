@@ -80,6 +80,11 @@ module _ (r : Rules) where
   goes_on : (s : Spot) (l : Led) → is_few r.forget (length s.steps + 1) ≡ true → spot_of r s (Some l) ≡ Some (after_event s l, answers r s.place l)
   goes_on s l few = ap (λ c. if◌then◌else◌ {A = Option (Spot × Bool)} c (Some (after_event s l, answers r s.place l)) None) few
 
+  pub event_move : (s : Spot) (l : Led) (on : LeadsOn r s.place l) → is_few r.forget (length s.steps + 1) ≡ true
+      → (on.number < move_count r s.place) × (next_spot r s on.number ≡ Some (after_event s l, answers r s.place l))
+  event_move s l on few =
+      (choice_below s.place on.number on.choice on.offered, ap (spot_of r s) (leads_led s.place l on) ∙ goes_on s l few)
+
   -- a course is moves
   pub course_moves : (s : Spot) (es : List Event) (q : Place) → is_few r.forget (length s.steps + length es) ≡ true → Course r s.place es q
       → (is : List ℕ) × LeadsTo s is (record { place = q; steps = s.steps ++ es }) × (length is ≡ length es)

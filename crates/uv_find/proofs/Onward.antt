@@ -25,7 +25,7 @@ use Rattle.uv_find.specs.Orders.{Rules}
 use Rattle.uv_find.specs.Questions.{begun, is_which, is_call, is_uncalled, answered_name, is_of, is_awaited, is_late, answers_line, line_answers}
 use Rattle.uv_find.specs.Spots.{CanForget}
 use Rattle.uv_find.proofs.Alike.{DueAlike, both}
-use Rattle.uv_find.proofs.Lines.{LinesAlike, plain_line, lines_read, plain_caller, plain_begun, plain_answered, plain_code, plain_section, plain_poll, plain_is_poll, is_tick, plain_tick, calls_name, plain_calls}
+use Rattle.uv_find.proofs.Lines.{LinesAlike, plain_line, lines_read, plain_caller, plain_begun, plain_answered, plain_code, plain_section, plain_poll, plain_is_poll, is_tick, plain_tick}
 use Rattle.uv_by_name.proofs.Reading.{Reads}
 use Rattle.uv_find.proofs.Readings.{count, reads_count, meant_capped, none_capped, taken_capped, reads_over}
 

@@ -43,7 +43,7 @@ use Rattle.uv_asking.specs.declared.asking.Takes.{Takes}
 use Rattle.uv_find.specs.Forgetting.{takes_end}
 use Rattle.uv_find.specs.Questions.{has_ended}
 use Rattle.uv_find.specs.Kept.{is_over, is_timers_stage, is_in_timers, said_time, time_taken, or_time}
-use Rattle.uv_find.specs.Orders.{is_quiet, is_behind_poll, is_closing, closes, deadline_in, deadline_at}
+use Rattle.uv_find.specs.Orders.{is_quiet, is_behind_poll, is_closing, closes, deadline_in, deadline_at, is_in_poll, is_poll_stage}
 use Rattle.uv_find.proofs.Ranking.{called}
 
 -- ---- names
@@ -297,6 +297,22 @@ reads_wait n = record {
       ≡ until clock (deadline_at place)
   shifted clock d (Main line) = refl
   shifted clock d (Running run) = stage_until clock d run.stage
+
+-- ---- the poll
+
+pub reads_in_poll : (n : ℕ) → Reads n (λ s. is_in_poll s.place)
+reads_in_poll n = reads_place is_in_poll n capped later_too where
+  capped : (place : Place) → is_in_poll (capped_place n place) ≡ is_in_poll place
+  capped (Main line) = refl
+  capped (Running run) = refl
+
+  stage_later : (d : By) (x : Stage) → is_poll_stage (retimed_stage (later d) x) ≡ is_poll_stage x
+  stage_later d (stage.Poll deadline) = refl
+  stage_later d x = refl
+
+  later_too : (d : By) (place : Place) → is_in_poll (retimed_place (later d) place) ≡ is_in_poll place
+  later_too d (Main line) = refl
+  later_too d (Running run) = stage_later d run.stage
 
 -- ---- when a timer is due
 

@@ -1,18 +1,19 @@
 -- An offer that is spent, or has no event that leads on, leads nowhere.
-use Rattle.std.proofs.Common.{◌≡◌, ℕ, true, false, Bool, List, Option, Some, None, is_none, nat_lt, option_and_then, Err, slice_get, if◌then◌else◌, refl, ap, ◌∙◌}
+use Rattle.std.proofs.Common.{◌≡◌, ℕ, true, false, not, Bool, List, Option, Some, None, is_none, nat_lt, option_and_then, Err, slice_get, if◌then◌else◌, refl, ap, ◌∙◌}
 use Rattle.uv_ids.specs.declared.event.Event.{Event}
 use Rattle.uv_ids.specs.declared.event.Event.TheVariants as event
 use Rattle.uv_ids.specs.declared.fault.Why.{Why}
 use Rattle.uv_ids.specs.declared.fault.Why.TheVariants as why
 use Rattle.uv_ids.specs.declared.id.Id.{Id}
 use Rattle.uv_asking.specs.declared.asking.Offer.{Offer}
-use Rattle.uv_asking.specs.declared.asking.Offer.TheVariants.{Step, Wait}
+use Rattle.uv_asking.specs.declared.asking.Offer.TheVariants.{Step, Wait, WaitFor}
 use Rattle.uv_asking.specs.declared.asking.Offered.{Offered}
 use Rattle.uv_model.specs.Next.{next, finish, work_of}
 use Rattle.uv_model.specs.State.{State}
+use Rattle.uv_script.specs.Program.{Program}
 use Rattle.uv_find.specs.declared.kept.Kept.{Kept}
 use Rattle.uv_find.specs.declared.left.Left.{Left}
-use Rattle.uv_find.specs.Orders.{Rules, Place, Choice, chosen, choice_at, choice_by, deadline_at, event_of, keeps_clock, led, led_by, lessened, may_take, move_count, offered_by, placed, reached, timed, wait_until, is_brief, brief}
+use Rattle.uv_find.specs.Orders.{Rules, Place, Choice, chosen, choice_at, choice_by, deadline_at, event_of, keeps_clock, led, led_by, lessened, may_take, move_count, offered_by, placed, reached, timed, wait_until, is_brief, brief, may_last, wait_for, is_blocked}
 use Rattle.uv_find.specs.Ranks.{runner, finish_by, ranked}
 use Rattle.uv_find.specs.Steps.{runs_none, has_none, is_idle}
 
@@ -39,6 +40,12 @@ none_waits : (r : Rules) (p : Place) (deadline : Option ℕ) → is_none deadlin
 none_waits r p None e = refl
 none_waits r p (Some deadline) e = absurd (let f : ⊥ = cc e in f)
 
+none_lasts : (p : Program) (s : State) (ms : ℕ) → not (may_last s ms) ≡ true → wait_for p s ms ≡ None
+none_lasts p s ms e = by (may_last s ms) e where
+  by : (b : Bool) → not b ≡ true → (if b then (if is_blocked p s then Some (event.Tick ms) else None) else None) ≡ None
+  by true h = absurd (let f : ⊥ = cc h in f)
+  by false h = refl
+
 -- so it is of a rank that no worker has
 finish_none : (r : Rules) (p : Place) (xs : List Left) (forget : Option ℕ) (number : ℕ) → runs_none forget p.state number ≡ true
     → led_by r p (chosen xs p.kept (ranked forget p.state (Some (event.Finish number)))) ≡ None
@@ -58,6 +65,9 @@ has_none_led r p xs (Step (event.Finish number)) e =
     rw (finish_keeps r.clock p.state.clock number) (finish_none r p xs r.forget number e)
 has_none_led r p xs Wait e =
     ap (λ o. led_by r p (chosen xs p.kept (ranked r.forget p.state (timed r.clock p.state.clock o)))) (none_waits r p (deadline_at p.state.place) e)
+    ∙ ap (λ o. led_by r p (chosen xs p.kept o)) (none_ranked r.forget p.state)
+has_none_led r p xs (WaitFor ms) e =
+    ap (λ o. led_by r p (chosen xs p.kept (ranked r.forget p.state (timed r.clock p.state.clock o)))) (none_lasts r.program p.state ms e)
     ∙ ap (λ o. led_by r p (chosen xs p.kept o)) (none_ranked r.forget p.state)
 has_none_led r p xs offer e = absurd (let f : ⊥ = cc e in f)
 

@@ -1,9 +1,10 @@
 -- What a search of spots says of orders.
-use Rattle.std.proofs.Common.{◌≡◌, ℕ, suc, ◌+◌, ◌≤◌, ◌==◌, ◌&&◌, ◌||◌, not, length, length-append, Option, Some, None, ap, true, false, Bool, is_some, if◌then◌else◌, inl, inr, List, [], ◌∷◌, ◌++◌, refl, sym, subst, ◌∙◌, arith, append-nil}
+use Rattle.std.proofs.Common.{◌≡◌, ℕ, suc, ◌+◌, ◌≤◌, ◌==◌, ◌&&◌, ◌||◌, not, length, length-append, ◌⊎◌, Option, Some, None, ap, true, false, Bool, is_some, if◌then◌else◌, inl, inr, List, [], ◌∷◌, ◌++◌, refl, sym, subst, ◌∙◌, arith, append-nil}
 use Rattle.std.specs.List.{IsDistinct}
 use Rattle.uv_ids.specs.declared.event.Event.{Event}
 use Rattle.uv_model.specs.After.{STEPS}
 use Rattle.uv_model.proofs.Runs.{after-nil}
+use Rattle.uv_search.specs.Keys.{Has}
 use Rattle.uv_search.specs.Settled as settled
 use Rattle.uv_find.specs.declared.finding.Answer.TheVariants as answer
 use Rattle.uv_script.specs.Program.{worker_count}
@@ -11,13 +12,13 @@ use Rattle.uv_find.specs.Holding.{are_at_will, loop_number}
 use Rattle.uv_find.specs.Kept.{owes}
 use Rattle.uv_find.specs.Orders.{Rules, Place, Led, move_count}
 use Rattle.uv_find.specs.Courses as courses
-use Rattle.uv_find.specs.Courses.{Course}
-use Rattle.uv_find.specs.Questions.{place_answers}
-use Rattle.uv_find.specs.Spots.{Spot, next_spot, spot_code, first_spot, is_few, is_told, holds_back, apart, apart_by, is_loop_first, is_take_first, IsTold, MayForget, IsSpot, IsDeep}
-use Rattle.uv_find.specs.Found.{AreReached, Finds, KeysTell}
-use Rattle.uv_find.proofs.Led.{leads_spot}
+use Rattle.uv_find.specs.Courses.{Course, KeptCourse, AnswersBy}
+use Rattle.uv_find.specs.Questions.{answers, place_answers}
+use Rattle.uv_find.specs.Spots.{Spot, next_spot, spot_code, place_code, first_spot, is_few, is_told, holds_back, apart, apart_by, is_loop_first, is_take_first, IsTold, MayForget, IsSpot, IsDeep}
+use Rattle.uv_find.specs.Found.{AllLead, OneLeads, AreClosed, AreReached, Finds, KeysTell}
+use Rattle.uv_find.proofs.Led.{led_leads, leads_spot}
 use Rattle.uv_find.proofs.Telling.{places_tell}
-use Rattle.uv_find.proofs.Moving.{fewer, after_event, moves_course, course_moves, moves_answer, course_answers}
+use Rattle.uv_find.proofs.Moving.{LeadsTo, fewer, after_event, move_is, event_move, moves_course, course_moves, moves_answer, course_answers}
 
 neither_one : (b c : Bool) → (b || c) ≡ false → (b ≡ false) × (c ≡ false)
 neither_one true c e = absurd (let f : true ≡ false = e in cc)
@@ -43,15 +44,48 @@ module _ (r : Rules) (s : Spot) where
         );
   }
 
-  pub found_way : (limit : ℕ) (way : List ℕ) (number : ℕ) (t : Spot) → number ≤ limit
-      → settled.IsWay (λ (a : Spot). move_count r a.place) (next_spot r) (spot_code r) IsDeep s way t → (keys : List (List ℕ)) × AreKeys number keys
-      → Finds r s limit (answer.Found number) t
-  found_way limit way number t few (is, i, whole, answers) keys =
+  abbrev IsWay : List ℕ → Spot → Type 0
+  IsWay way t = settled.IsWay (λ (a : Spot). move_count r a.place) (next_spot r) (spot_code r) IsDeep s way t
+
+  abbrev IsPassed : List (List ℕ) → Spot → List ℕ → Type 0
+  IsPassed keys a way = settled.IsPassed (λ (b : Spot). move_count r b.place) (next_spot r) (spot_code r) IsDeep keys a way
+
+  kept_course : (keys : List (List ℕ)) (a : Spot) (is : List ℕ) (i : ℕ) (t : Spot) → LeadsTo r a is t → IsPassed keys a (is ++ i ∷ [])
+      → (es : List Event) × (KeptCourse r keys a.place es t.place × Has keys (place_code r t.place))
+  kept_course keys a [] i t e passed =
+      ([], (ap (λ (x : Spot). x.place) e, subst (λ (x : Spot). Has keys (place_code r x.place)) (sym e) passed.0))
+  kept_course keys a (j ∷ is) i t (m, b, offered, goes, rest) passed =
+      let one = move_is r a m j b goes in
+      let l = one.0 in
+      let place : m.place ≡ l.place = ap (λ (x : Spot). x.place) one.1.1 in
+      let more = kept_course keys m is i t rest (passed.1 m b goes) in (
+        l.event ∷ more.0,
+        ((passed.0, (l, refl, led_leads r a.place j l one.1.0, subst (λ x. KeptCourse r keys x more.0 t.place) place more.1.0)), more.1.1),
+      )
+
+  -- the way that was found first
+  pub answers_by : (keys : List (List ℕ)) (way : List ℕ) (t : Spot) → IsWay way t → IsPassed keys s way → AnswersBy r s.place keys
+  answers_by keys way t (is, i, whole, a) passed =
+      let c = kept_course keys s is i a.place a.way (subst (λ w. IsPassed keys s w) whole passed) in
+      let one = move_is r a.place t i true a.answers in
+      record {
+        events = c.0;
+        place = a.place.place;
+        course = c.1.0;
+        kept = c.1.1;
+        led = one.0;
+        leads = led_leads r a.place.place i one.0 one.1.0;
+        answers = sym one.1.2;
+      }
+
+  pub found_way : (limit : ℕ) (way : List ℕ) (number : ℕ) (t : Spot) → number ≤ limit → IsWay way t → (keys : List (List ℕ)) → AreKeys number keys
+      → AnswersBy r s.place keys → Finds r s limit (answer.Found number) t
+  found_way limit way number t few (is, i, whole, answers) keys are by =
       let a = moves_answer r s is i t answers in
       let l = a.1 in (
         few,
         (a.0 ++ l.event ∷ [], (a.2.2, inl (a.0, l, refl, a.2.0, a.2.1))),
-        (keys.0, reached number keys.0 keys.1),
+        (keys, reached number keys are, inl by),
       )
 
   -- where it stands answers already
@@ -60,7 +94,7 @@ module _ (r : Rules) (s : Spot) where
   found_here limit answers = (
     omega arith,
     ([], (sym (append-nil s.steps), inr (refl, refl, answers))),
-    ([], record { count = refl; distinct = tt; each = λ k has. absurd cc }),
+    ([], record { count = refl; distinct = tt; each = λ k has. absurd cc }, inr answers),
   )
 
   abbrev IsNone : ℕ → Type 0
@@ -90,6 +124,29 @@ module _ (r : Rules) (s : Spot) where
         let w = course_answers r s es l short a in
         n.none w.0 w.1 w.2 (fewer r r.forget (STEPS + (length w.0 + 2)) (length s.steps + length es + 1 + STEPS + 1) (omega (arith, w.4)) few) w.3
 
+  -- the keys that were kept are closed
+  all_or_one : (keys : List (List ℕ)) (q : Spot) → is_few r.forget (length q.steps + 1) ≡ true
+      → settled.AllLead (λ (a : Spot). move_count r a.place) (next_spot r) (spot_code r) IsDeep (apart r) (IsTold r) keys q
+      ⊎ settled.OneLeads (λ (a : Spot). move_count r a.place) (next_spot r) (spot_code r) IsDeep (apart r) (IsTold r) keys q
+      → AllLead r keys q.place ⊎ OneLeads r keys q.place
+  all_or_one keys q few (inl all) = inl (λ l on.
+      let move = event_move r q l on few in
+      (all on.number (after_event q l) (answers r q.place l) move.0 move.1).1)
+  all_or_one keys q few (inr (i, m, offered, first, goes, has)) =
+      let one = move_is r q m i false goes in
+      inr (i, one.0, first, one.1.0, subst (λ (x : Spot). Has keys (place_code r x.place)) one.1.1 has)
+
+  closed_keys : (number : ℕ) (n : IsNone number) → AreClosed r s n.keys
+  closed_keys number n = record {
+    begins = n.closed.begins;
+    each = λ k has. (
+        let w = n.closed.each k has in
+        let way = moves_course r s w.0 w.1 w.2 in
+        let long : length w.1.steps + 1 ≡ length s.steps + length way.0 + 1 = omega (arith, ap length way.1.1, length-append {A = Event}) in
+        (way.0, w.1.place, way.1.0, w.3, λ few. all_or_one n.keys w.1 (ap (is_few r.forget) long ∙ few) w.4)
+        );
+  }
+
   pub found_never : (limit number : ℕ) (t : Spot) → number ≤ limit → place_answers r s.place r.question ≡ false → IsNone number
       → Finds r s limit (answer.Never number) t
   found_never limit number t few here n = (
@@ -98,6 +155,7 @@ module _ (r : Rules) (s : Spot) where
       never = (here, mute number n);
       keys = n.keys;
       are = reached number n.keys n.are;
+      closed = closed_keys number n;
       all = λ none es q few_steps course. (
           let w = course_moves r s es q few_steps course in
           (n.whole (holds_none none)).all w.0 (record { place = q; steps = s.steps ++ es }) w.1

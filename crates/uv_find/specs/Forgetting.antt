@@ -11,7 +11,7 @@ use Rattle.uv_names.specs.Counts.{call_end, script_end}
 use Rattle.uv_asking.specs.Asked.{Asked}
 use Rattle.uv_asking.specs.declared.asking.Most.{Most}
 use Rattle.uv_asking.specs.declared.asking.Offer.{Offer}
-use Rattle.uv_asking.specs.declared.asking.Offer.TheVariants.{Step, SendDuring}
+use Rattle.uv_asking.specs.declared.asking.Offer.TheVariants.{Step, SendDuring, WaitFor}
 use Rattle.uv_asking.specs.declared.asking.Offered.{Offered}
 use Rattle.uv_asking.specs.declared.asking.Takes.{Takes}
 use Rattle.uv_asking.specs.declared.asking.Question.{Question}
@@ -41,6 +41,7 @@ declares p = each_op (λ (o : Op). is_declared (length p.callbacks) (op_name o))
 
 abbrev pub is_small_offer : Offer → Bool
 is_small_offer (Step (event.Tick ms)) = nat_lt ms LONG
+is_small_offer (WaitFor ms) = nat_lt ms LONG
 is_small_offer offer = true
 
 abbrev pub are_small_offers : List Offered → Bool

@@ -16,7 +16,7 @@ use Rattle.uv_model.specs.State.{State}
 use Rattle.uv_apart.specs.Apart.{is_apart, cancels_op, reads_clock}
 use Rattle.uv_asking.specs.Asked.{Asked}
 use Rattle.uv_asking.specs.declared.asking.Offer.{Offer}
-use Rattle.uv_asking.specs.declared.asking.Offer.TheVariants.{Step, Take, Wait}
+use Rattle.uv_asking.specs.declared.asking.Offer.TheVariants.{Step, Take, Wait, WaitFor}
 use Rattle.uv_asking.specs.declared.asking.Offered.{Offered}
 use Rattle.uv_asking.specs.declared.asking.Question.{Question}
 use Rattle.uv_asking.specs.declared.asking.Question.TheVariants as asks
@@ -34,6 +34,7 @@ use Rattle.uv_find.specs.declared.left.Left.TheVariants as left
 abbrev pub can_meet : Bool → Offer → Bool
 can_meet ticks Take = true
 can_meet ticks Wait = true
+can_meet ticks (WaitFor ms) = true
 can_meet ticks (Step (event.Finish worker)) = true
 can_meet ticks (Step (event.Tick ms)) = ticks
 can_meet ticks (Step (event.Io v)) = true
@@ -65,6 +66,7 @@ hold_of asked = if may_hold asked then Some (not (can_all_meet false asked.offer
 -- beside what is offered a worker may take a request at once: it is a time that goes by, a send, or a callback of I/O
 abbrev pub is_clear_of_takes : Offer → Bool
 is_clear_of_takes Wait = true
+is_clear_of_takes (WaitFor ms) = true
 is_clear_of_takes (Step (event.Tick ms)) = true
 is_clear_of_takes (Step (event.Send v)) = true
 is_clear_of_takes (Step (event.Io v)) = true

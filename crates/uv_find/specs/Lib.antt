@@ -10,3 +10,4 @@ pub mod Courses
 pub mod Spots
 pub mod Steps
 pub mod Found
+pub mod Within

@@ -20,7 +20,7 @@ use Rattle.uv_model.specs.State.{State, fresh, named}
 use Rattle.uv_model.specs.Queries.{worker_of}
 use Rattle.uv_model.specs.Next.{Next, Moves, Refuses, next}
 use Rattle.uv_asking.specs.declared.asking.Offer.{Offer}
-use Rattle.uv_asking.specs.declared.asking.Offer.TheVariants.{Step, SendDuring, Take, Wait}
+use Rattle.uv_asking.specs.declared.asking.Offer.TheVariants.{Step, SendDuring, Take, Wait, WaitFor}
 use Rattle.uv_asking.specs.declared.asking.Offered.{Offered}
 use Rattle.uv_asking.specs.declared.asking.Recorded.{Recorded}
 use Rattle.uv_asking.specs.declared.asking.Most.{Most}
@@ -181,10 +181,27 @@ abbrev pub deadline_at : loop.Place → Option ℕ
 deadline_at (Main line) = None
 deadline_at (Running run) = deadline_in run.stage
 
+abbrev pub is_in_poll : loop.Place → Bool
+is_in_poll (Main line) = false
+is_in_poll (Running run) = is_poll_stage run.stage
+
 -- the clock goes on to this deadline, where the loop is blocked
 abbrev pub wait_until : Program → State → Option ℕ → Option Event
 wait_until p s None = None
 wait_until p s (Some deadline) = if is_blocked p s then Some (event.Tick (deadline - s.clock)) else None
+
+-- from this clock, so many ms end no later than a poll with this deadline, or with none
+abbrev pub ends_within : Option ℕ → ℕ → ℕ → Bool
+ends_within None clock ms = true
+ends_within (Some deadline) clock ms = nat_le ms (deadline - clock)
+
+-- the loop is in a poll that may last so long
+abbrev pub may_last : State → ℕ → Bool
+may_last s ms = is_in_poll s.place && ends_within (deadline_at s.place) s.clock ms
+
+-- so many ms go by in a poll, where the loop is blocked so long
+abbrev pub wait_for : Program → State → ℕ → Option Event
+wait_for p s ms = if may_last s ms then (if is_blocked p s then Some (event.Tick ms) else None) else None
 
 -- what a send, a cancel and a callback of I/O are for
 abbrev pub aim : Event → Option Var
@@ -249,6 +266,7 @@ event_of p s k (Step e) = step_of s k e
 event_of p s k (SendDuring v job) = if is_run s (named s job).id then step_of s k (event.Send v) else None
 event_of p s k Take = take_by (idle_worker s)
 event_of p s k Wait = wait_until p s (deadline_at s.place)
+event_of p s k (WaitFor ms) = wait_for p s ms
 
 -- from this clock, the event leaves it within its bound, where it has one
 abbrev pub keeps_clock : Option ℕ → ℕ → Event → Bool
@@ -316,13 +334,21 @@ is_clear k (event.Io v) = not (owes k)
 is_clear k (event.Tick ms) = not (owes k)
 is_clear k e = true
 
-abbrev pub comes_by : State → Kept → Option Recorded → Option Event
-comes_by s k None = None
-comes_by s k (Some r) = if is_made s (aim r.event) && is_clear k r.event then Some r.event else None
+-- what was a wait goes by only where the loop is blocked so long
+abbrev pub waited_for : Program → State → Event → Option Event
+waited_for p s (event.Tick ms) = wait_for p s ms
+waited_for p s e = Some e
+
+abbrev pub came : Program → State → Recorded → Option Event
+came p s r = if r.waits then waited_for p s r.event else Some r.event
+
+abbrev pub comes_by : Program → State → Kept → Option Recorded → Option Event
+comes_by p s k None = None
+comes_by p s k (Some r) = if is_made s (aim r.event) && is_clear k r.event then came p s r else None
 
 -- the recorded event of this number, where what it is for was made
-abbrev pub comes : List Recorded → State → Kept → ℕ → Option Event
-comes recorded s k number = comes_by s k (slice_get recorded number)
+abbrev pub comes : Program → List Recorded → State → Kept → ℕ → Option Event
+comes p recorded s k number = comes_by p s k (slice_get recorded number)
 
 abbrev pub moves : Next → Bool
 moves (Moves t line) = true
@@ -334,7 +360,7 @@ accepts p s (Some e) = moves (next p s e)
 
 -- the next event of a source is ahead, one of the first recorded ones, and the loop accepts it here
 abbrev pub is_ready : Program → List Recorded → State → Kept → ℕ → Left → Bool
-is_ready p recorded s k count (left.Ahead number) = if nat_lt number count then accepts p s (comes recorded s k number) else false
+is_ready p recorded s k count (left.Ahead number) = if nat_lt number count then accepts p s (comes p recorded s k number) else false
 is_ready p recorded s k count x = false
 
 abbrev pub held_if : Bool → Left → Left
@@ -395,10 +421,6 @@ go_on_by _ _ = None
 abbrev pub go_on : Rules → Place → Option Choice
 go_on r p = go_on_by (going r p.state p.kept) (past r p p.kept.along.next)
 
-abbrev pub is_in_poll : loop.Place → Bool
-is_in_poll (Main line) = false
-is_in_poll (Running run) = is_poll_stage run.stage
-
 -- the place of the recorded event of this number was reached, or the loop can't go on to it
 abbrev pub is_due : Rules → Place → ℕ → Bool
 is_due r p number =
@@ -423,7 +445,7 @@ come_by recorded k source number _ _ = None
 
 abbrev pub come_in_place : Rules → Place → ℕ → ℕ → Option Choice
 come_in_place r p source number =
-    come_by r.recorded p.kept source number (past r p number) (timed r.clock p.state.clock (comes r.recorded p.state p.kept number))
+    come_by r.recorded p.kept source number (past r p number) (timed r.clock p.state.clock (comes r.program r.recorded p.state p.kept number))
 
 abbrev pub in_place_of : Rules → Place → ℕ → Option Left → Option Choice
 in_place_of r p source (Some (left.Ahead number)) = if is_due r p number then come_in_place r p source number else None
@@ -444,7 +466,7 @@ elsewhere_by recorded xs k source number (Some e) = Some (record { event = e; le
 abbrev pub elsewhere_with : Rules → State → List Left → ℕ → ℕ → Option Kept → Option Choice
 elsewhere_with r s xs source number None = None
 elsewhere_with r s xs source number (Some k) =
-    elsewhere_by r.recorded xs k source number (timed r.clock s.clock (free_of s k (comes r.recorded s k number)))
+    elsewhere_by r.recorded xs k source number (timed r.clock s.clock (free_of s k (comes r.program r.recorded s k number)))
 
 -- one that is ahead is counted here; one that was held back was counted then
 abbrev pub elsewhere_of : Rules → Place → ℕ → Option Left → Option Choice

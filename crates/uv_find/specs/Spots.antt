@@ -175,8 +175,11 @@ abbrev pub is_take_first : Rules → Place → Bool
 is_take_first r q = r.at_once && (are_at_will (worker_count r.program + 2) q.left && not (owes q.kept))
 
 -- the move of this number is
+abbrev pub is_apart : Rules → Place → ℕ → Bool
+is_apart r p number = if number == loop_number r.at_once then is_loop_first r p else ((number == 0) && is_take_first r p)
+
 abbrev pub apart : Rules → Spot → ℕ → Bool
-apart r s number = if number == loop_number r.at_once then is_loop_first r s.place else ((number == 0) && is_take_first r s.place)
+apart r s number = is_apart r s.place number
 
 -- moves may be held back, behind the loop's step or behind a take
 abbrev pub holds_back : Rules → Bool

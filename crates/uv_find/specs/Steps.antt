@@ -1,5 +1,5 @@
 -- One step of a session, within bounds.
-use Rattle.std.specs.Prelude.{◌≡◌, ℕ, List, [], ◌∷◌, ◌++◌, Bool, true, false, if◌then◌else◌, Option, Some, None, is_none, Result, Ok, Err}
+use Rattle.std.specs.Prelude.{◌≡◌, ℕ, List, [], ◌∷◌, ◌++◌, Bool, true, false, if◌then◌else◌, Option, Some, None, is_none, not, Result, Ok, Err}
 use Rattle.uv_ids.specs.declared.event.Event.{Event}
 use Rattle.uv_ids.specs.declared.event.Event.TheVariants as event
 use Rattle.uv_ids.specs.declared.seen.Seen.{Seen}
@@ -11,7 +11,7 @@ use Rattle.uv_model.specs.State.{State}
 use Rattle.uv_session.specs.Shown.{Shown}
 use Rattle.uv_asking.specs.declared.asking.Most.{Most}
 use Rattle.uv_asking.specs.declared.asking.Offer.{Offer}
-use Rattle.uv_asking.specs.declared.asking.Offer.TheVariants.{Step, Wait}
+use Rattle.uv_asking.specs.declared.asking.Offer.TheVariants.{Step, Wait, WaitFor}
 use Rattle.uv_asking.specs.declared.asking.Offered.{Offered}
 use Rattle.uv_find.specs.declared.kept.Kept.{Kept}
 use Rattle.uv_find.specs.declared.left.Left.{Left}
@@ -20,7 +20,7 @@ use Rattle.uv_find.specs.declared.choices.Moved as moved
 use Rattle.uv_find.specs.declared.choices.Taken as taken
 use Rattle.uv_find.specs.declared.recorded.Passed as recorded
 use Rattle.uv_find.specs.declared.terms.Terms.{Terms}
-use Rattle.uv_find.specs.Orders.{Place, Choice, Led, led, reached, choice_at, lessened, may_take, deadline_at}
+use Rattle.uv_find.specs.Orders.{Place, Choice, Led, led, reached, choice_at, lessened, may_take, deadline_at, may_last}
 use Rattle.uv_find.specs.Ranks.{runner}
 use Rattle.uv_find.specs.Spots.{Searched, rules_by, place_by}
 
@@ -54,10 +54,11 @@ abbrev pub runs_none : Option ℕ → State → ℕ → Bool
 runs_none None s worker = is_none (run_by s worker)
 runs_none (Some n) s rank = is_none (runner s rank)
 
--- no event that is offered leads on: a worker would finish that runs nothing, or there is no deadline to wait for
+-- no event that is offered leads on: a worker would finish that runs nothing, there is no deadline to wait for, or no poll that may last so long
 abbrev pub has_none : Option ℕ → State → Offer → Bool
 has_none forget s (Step (event.Finish number)) = runs_none forget s number
 has_none forget s Wait = is_none (deadline_at s.place)
+has_none forget s (WaitFor ms) = not (may_last s ms)
 has_none forget s offer = false
 
 -- an offer is spent, or has no event that leads on

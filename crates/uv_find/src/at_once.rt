@@ -34,6 +34,7 @@ fn is_clear_of_takes(offer: Offer) -> bool
 {
     match offer {
         Offer::Wait => true,
+        Offer::WaitFor(_) => true,
         Offer::Step(Event::Tick(_)) => true,
         Offer::Step(Event::Send(_)) => true,
         Offer::Step(Event::Io(_)) => true,

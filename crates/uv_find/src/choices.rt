@@ -11,7 +11,7 @@ use crate::kept::Kept;
 use crate::left::Left;
 use crate::ranks::{ranked, runner};
 use crate::recorded::choose_recorded;
-use crate::steps::{deadline_at, may_take, offered_here, step_within};
+use crate::steps::{deadline_at, may_last, may_take, offered_here, step_within};
 use crate::terms::{Terms, move_count};
 use std::alloc::AllocError;
 use uv_asking::{Offer, Offered};
@@ -111,13 +111,15 @@ fn runs_none<M: Machine>(machine: &M, forget: Option<u64>, number: u16) -> bool
     }
 }
 
-/// Whether no event that is offered leads on: a worker would finish that runs nothing, or there is no deadline to wait for.
+/// Whether no event that is offered leads on: a worker would finish that runs nothing, there is no deadline to wait for, or no poll that may
+/// last so long.
 fn has_none<M: Machine>(session: &Session<M>, forget: Option<u64>, offer: Offer) -> bool
     ensures { result ≡ has_none forget (state_in session.now) offer }
 {
     match offer {
         Offer::Step(Event::Finish(number)) => runs_none(session.machine(), forget, number),
         Offer::Wait => deadline_at(session.machine().place()).is_none(),
+        Offer::WaitFor(ms) => !may_last(session.machine(), ms),
         _ => false,
     }
 }

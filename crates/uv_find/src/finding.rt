@@ -1,7 +1,8 @@
 //! A search through all orders.
 ghost use Rattle.std.specs.Prelude.{◌≡◌, false};
-ghost use Rattle.uv_find.specs.Found.{Finds, KeysTell, EachFinishes};
+ghost use Rattle.uv_find.specs.Found.{AreRegular, Finds, KeysTell, EachFinishes};
 ghost use Rattle.uv_find.specs.Questions.{place_answers};
+ghost use Rattle.uv_find.specs.Within.{NearIsWithin};
 
 use crate::orders::Orders;
 use std::alloc::Global;
@@ -14,10 +15,11 @@ const EFFORT: usize = 2_097_152;
 /// What a search of orders finds.
 #[derive(Clone, Copy, PartialEq, Eq)]
 pub enum Answer {
-    /// The last step answers the question, or the place does from which none is taken. So many places were kept until then.
+    /// The last step answers the question, or the place does from which none is taken. So many places were kept until then: those on the way
+    /// to the answer that was found first are among them.
     Found(usize),
-    /// No steps do, however many, and the place doesn't. So many places were kept of those that they lead to, and that are told apart: all,
-    /// where no move was held back. Where a search forgets, the steps are fewer than a slot has generations.
+    /// No steps do, however many, and the place doesn't. So many places were kept of those that they lead to, and that are told apart: all that
+    /// were tried, and where no move was held back, all that there are. Where a search forgets, the steps are fewer than a slot has generations.
     Never(usize),
     /// Steps lead to more places than may be kept.
     Unsettled,
@@ -86,8 +88,20 @@ pub fn place_keys_tell()
     ensures { KeysTell }
 {}
 
+/// The states that steps lead to are regular, where a search may forget: what is said of regular states alone holds of them. It does nothing, and
+/// is called for its clause.
+pub fn states_are_regular()
+    ensures { AreRegular }
+{}
+
 /// Wherever events lead, each worker that runs a request may finish it: also where a search forgets which of them runs which. It does nothing,
 /// and is called for its clause.
 pub fn each_finishes()
     ensures { EachFinishes }
+{}
+
+/// Each move of an order that differs from a recording is an offer of every order of what came in it, but for a send that libuv sees otherwise
+/// than the loop does, and a take of a worker that isn't the idle one of the least number. It does nothing, and is called for its clause.
+pub fn near_is_within()
+    ensures { NearIsWithin }
 {}

@@ -69,6 +69,7 @@ fn is_small_offer(offer: Offer) -> bool
 {
     match offer {
         Offer::Step(Event::Tick(ms)) => ms < LONG,
+        Offer::WaitFor(ms) => ms < LONG,
         _ => true,
     }
 }

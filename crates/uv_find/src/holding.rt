@@ -21,6 +21,7 @@ fn can_meet(ticks: bool, offer: Offer) -> bool
     match offer {
         Offer::Take => true,
         Offer::Wait => true,
+        Offer::WaitFor(_) => true,
         Offer::Step(Event::Finish(_)) => true,
         Offer::Step(Event::Tick(_)) => ticks,
         Offer::Step(Event::Io(_)) => true,

@@ -24,7 +24,9 @@ mod steps;
 mod terms;
 
 pub use choices::{Choice, Moved, Taken};
-pub use finding::{Answer, each_finishes, find, find_any, place_keys_tell};
+pub use finding::{
+    Answer, each_finishes, find, find_any, near_is_within, place_keys_tell, states_are_regular,
+};
 pub use forgetting::may_forget;
 pub use kept::{Along, Kept};
 pub use latest::{Risen, Rung, rise};

@@ -1,8 +1,8 @@
 //! What came in a recording, and may come at another place.
 ghost use Rattle.std.specs.Prelude.{◌≡◌, ◌<◌, IfOk, length, slice_get, slice_set, Some, option_map};
 ghost use Rattle.uv_model.specs.After.{after};
-ghost use Rattle.uv_find.specs.Orders.{is_clear, waiting, waits_or_goes, with_kept, going, comes_by, comes, moves, accepts, is_ready, held_if, held_back, spent, spent_if, spare_behind, past, go_on_by};
-ghost use Rattle.uv_find.specs.Orders.{go_on, is_poll_stage, is_in_poll, is_due, along_at, come, come_by, come_in_place, in_place_of, in_place};
+ghost use Rattle.uv_find.specs.Orders.{is_clear, waiting, waits_or_goes, with_kept, going, waited_for, came, comes_by, comes, moves, accepts, is_ready, held_if, held_back, spent, spent_if, spare_behind, past, go_on_by};
+ghost use Rattle.uv_find.specs.Orders.{go_on, is_due, along_at, come, come_by, come_in_place, in_place_of, in_place};
 ghost use Rattle.uv_find.specs.Kept.{with_spare};
 ghost use Rattle.uv_find.specs.Orders.{free_of, elsewhere_by, elsewhere_with, elsewhere_of, elsewhere, recorded_at};
 ghost use Rattle.uv_find.specs.Spots.{rules_by, place_by};
@@ -12,12 +12,15 @@ use crate::choices::Choice;
 use crate::kept::{Along, Kept, behind, owes, waited, with_spare};
 use crate::left::Left;
 use crate::sources::next_of;
-use crate::steps::{aim, deadline_at, is_blocked, is_free, is_made, take_back, timed, wait_until};
+use crate::steps::{
+    aim, deadline_at, is_blocked, is_free, is_in_poll, is_made, take_back, timed, wait_for,
+    wait_until,
+};
 use crate::terms::Terms;
 use std::alloc::{AllocError, Global};
 use uv_asking::Recorded;
 use uv_ids::{Event, Fault};
-use uv_model::{Machine, Place, Stage};
+use uv_model::Machine;
 use uv_session::Session;
 
 /// While a callback's time is still to go by, no callback of I/O begins, and no other time goes by.
@@ -31,26 +34,74 @@ fn is_clear(kept: Kept, event: Event) -> bool
     }
 }
 
-fn comes_by<M: Machine>(machine: &M, kept: Kept, recorded: Option<Recorded>) -> Option<Event>
-    ensures { result ≡ comes_by (after (M.program machine.now) (M.standing machine.now)) kept recorded }
+/// What was a wait goes by only where the loop is blocked so long. Nothing changes.
+fn waited_for<M: Machine>(
+    session: &mut Session<M>,
+    event: Event,
+) -> Result<Option<Event>, AllocError>
+    requires room { length session.old.standing < session.old.limit }
+    requires back { M.BackWantsMemory → ⊥ }
+    ensures same { Stands session.old session.old.standing session.new }
+    ensures event { IfOk result (λ came. came ≡ waited_for session.old.program (state_in session.old) event) }
+{
+    match event {
+        Event::Tick(ms) => wait_for(session, ms),
+        other => Ok(Some(other)),
+    }
+}
+
+fn came<M: Machine>(
+    session: &mut Session<M>,
+    recorded: Recorded,
+) -> Result<Option<Event>, AllocError>
+    requires room { length session.old.standing < session.old.limit }
+    requires back { M.BackWantsMemory → ⊥ }
+    ensures same { Stands session.old session.old.standing session.new }
+    ensures event { IfOk result (λ event. event ≡ came session.old.program (state_in session.old) recorded) }
+{
+    if recorded.waits {
+        waited_for(session, recorded.event)
+    } else {
+        Ok(Some(recorded.event))
+    }
+}
+
+fn comes_by<M: Machine>(
+    session: &mut Session<M>,
+    kept: Kept,
+    recorded: Option<Recorded>,
+) -> Result<Option<Event>, AllocError>
+    requires room { length session.old.standing < session.old.limit }
+    requires back { M.BackWantsMemory → ⊥ }
+    ensures same { Stands session.old session.old.standing session.new }
+    ensures event { IfOk result (λ event. event ≡ comes_by session.old.program (state_in session.old) kept recorded) }
 {
     match recorded {
-        None => None,
+        None => Ok(None),
         Some(recorded) => {
+            let machine = session.machine();
             if is_made(machine, aim(recorded.event)) && is_clear(kept, recorded.event) {
-                Some(recorded.event)
+                came(session, recorded)
             } else {
-                None
+                Ok(None)
             }
         }
     }
 }
 
-/// The recorded event of this number, where what it is for was made.
-fn comes<M: Machine>(machine: &M, recorded: &[Recorded], kept: Kept, number: usize) -> Option<Event>
-    ensures { result ≡ comes recorded.now (after (M.program machine.now) (M.standing machine.now)) kept number }
+/// The recorded event of this number, where what it is for was made. Nothing changes.
+fn comes<M: Machine>(
+    session: &mut Session<M>,
+    recorded: &[Recorded],
+    kept: Kept,
+    number: usize,
+) -> Result<Option<Event>, AllocError>
+    requires room { length session.old.standing < session.old.limit }
+    requires back { M.BackWantsMemory → ⊥ }
+    ensures same { Stands session.old session.old.standing session.new }
+    ensures event { IfOk result (λ event. event ≡ comes session.old.program recorded.now (state_in session.old) kept number) }
 {
-    comes_by(machine, kept, recorded.get(number).copied())
+    comes_by(session, kept, recorded.get(number).copied())
 }
 
 /// Whether the loop accepts an event. Nothing changes.
@@ -98,7 +149,7 @@ fn is_ready<M: Machine>(
     match source {
         Left::Ahead(number) => {
             if number < count {
-                let event = comes(session.machine(), recorded, kept, number);
+                let event = comes(session, recorded, kept, number)?;
                 accepts(session, event)
             } else {
                 Ok(false)
@@ -313,18 +364,6 @@ fn go_on<M: Machine>(
     Ok(going_on(going, past))
 }
 
-fn is_in_poll(place: Place) -> bool
-    ensures { result ≡ is_in_poll place }
-{
-    match place {
-        Place::Main(_) => false,
-        Place::Running(run) => match run.stage {
-            Stage::Poll(_) => true,
-            _ => false,
-        },
-    }
-}
-
 /// Whether the place of the recorded event of this number was reached, or the loop can't go on to it. Nothing changes.
 fn is_due<M: Machine>(
     session: &mut Session<M>,
@@ -426,7 +465,7 @@ fn come_in_place<M: Machine>(
     }
     let past = past(session, terms, left, kept, number)?;
     let clock = session.machine().numbers().clock;
-    let event = comes(session.machine(), &terms.recorded, kept, number);
+    let event = comes(session, &terms.recorded, kept, number)?;
     Ok(coming(
         &terms.recorded,
         kept,
@@ -500,17 +539,20 @@ fn alone(
     }
 }
 
-/// The event of this number of a source comes at another place, if so many more may.
+/// The event of this number of a source comes at another place, if so many more may. Nothing changes.
 fn elsewhere_with<M: Machine>(
-    session: &Session<M>,
+    session: &mut Session<M>,
     terms: &Terms,
     left: &Vec<Left>,
     kept: Option<Kept>,
     source: usize,
     number: usize,
 ) -> Result<Option<Choice>, AllocError>
-    ensures { IfOk result (λ choice. option_map choice_of choice
-        ≡ elsewhere_with (rules_by session.now.program terms.now) (state_in session.now) left.now.items source number kept) }
+    requires room { length session.old.standing < session.old.limit }
+    requires back { M.BackWantsMemory → ⊥ }
+    ensures same { Stands session.old session.old.standing session.new }
+    ensures choice { IfOk result (λ choice. option_map choice_of choice
+        ≡ elsewhere_with (rules_by session.old.program terms.now) (state_in session.old) left.now.items source number kept) }
 {
     let Some(kept) = kept else {
         return Ok(None);
@@ -518,8 +560,9 @@ fn elsewhere_with<M: Machine>(
     if terms.recorded.len() <= number {
         return Ok(None);
     }
+    let event = comes(session, &terms.recorded, kept, number)?;
     let machine = session.machine();
-    let event = free_of(machine, kept, comes(machine, &terms.recorded, kept, number));
+    let event = free_of(machine, kept, event);
     let event = timed(terms.clock, machine.numbers().clock, event);
     alone(&terms.recorded, left, kept, source, number, event)
 }
@@ -534,16 +577,19 @@ fn with_less(kept: Kept) -> Option<Kept>
     }
 }
 
-/// The next event of a source comes at another place.
+/// The next event of a source comes at another place. Nothing changes.
 fn elsewhere<M: Machine>(
-    session: &Session<M>,
+    session: &mut Session<M>,
     terms: &Terms,
     left: &Vec<Left>,
     kept: Kept,
     source: usize,
 ) -> Result<Option<Choice>, AllocError>
-    ensures { IfOk result (λ choice. option_map choice_of choice
-        ≡ elsewhere (rules_by session.now.program terms.now) (place_by session.now left.now.items kept) source) }
+    requires room { length session.old.standing < session.old.limit }
+    requires back { M.BackWantsMemory → ⊥ }
+    ensures same { Stands session.old session.old.standing session.new }
+    ensures choice { IfOk result (λ choice. option_map choice_of choice
+        ≡ elsewhere (rules_by session.old.program terms.now) (place_by session.old left.now.items kept) source) }
 {
     match left.get(source).copied() {
         Some(Left::Ahead(number)) => elsewhere_with(

@@ -1,6 +1,6 @@
 //! The event that an offer is, and one step of a session.
 ghost use Rattle.std.specs.Prelude.{◌≡◌, ◌<◌, ◌-◌, ◌&&◌, nat_le, take, length, IfOk};
-ghost use Rattle.uv_find.specs.Orders.{take_by, aim, is_made, is_blocked, deadline_at, wait_until, is_behind_poll, is_quiet, is_closing, closes, is_seen, is_free, spending, step_of, is_run, event_of, keeps_clock, timed, may_take, offered_here, is_called_within, is_within};
+ghost use Rattle.uv_find.specs.Orders.{take_by, aim, is_made, is_blocked, deadline_at, is_poll_stage, is_in_poll, wait_until, ends_within, may_last, wait_for, is_behind_poll, is_quiet, is_closing, closes, is_seen, is_free, spending, step_of, is_run, event_of, keeps_clock, timed, may_take, offered_here, is_called_within, is_within};
 ghost use Rattle.uv_find.specs.Steps.{Stands, StepsWithin, state_in};
 ghost use Rattle.uv_ids.specs.declared.event.Event.TheVariants.{Finish};
 ghost use Rattle.uv_model.specs.After.{after};
@@ -90,6 +90,55 @@ pub fn wait_until<M: Machine>(
                 Ok(None)
             }
         }
+    }
+}
+
+/// Whether the loop is in a poll.
+pub fn is_in_poll(place: Place) -> bool
+    ensures { result ≡ is_in_poll place }
+{
+    match place {
+        Place::Main(_) => false,
+        Place::Running(run) => match run.stage {
+            Stage::Poll(_) => true,
+            _ => false,
+        },
+    }
+}
+
+/// Whether so many ms from this clock end no later than a poll with this deadline, or with none.
+fn ends_within(deadline: Option<u64>, clock: u64, ms: u64) -> bool
+    ensures { result ≡ ends_within deadline clock ms }
+{
+    match deadline {
+        None => true,
+        Some(deadline) => ms <= deadline.saturating_sub(clock),
+    }
+}
+
+/// Whether the loop is in a poll that may last so many ms.
+pub fn may_last<M: Machine>(machine: &M, ms: u64) -> bool
+    ensures { result ≡ may_last (after (M.program machine.now) (M.standing machine.now)) ms }
+{
+    is_in_poll(machine.place())
+        && ends_within(deadline_at(machine.place()), machine.numbers().clock, ms)
+}
+
+/// The event in which so many ms go by in a poll, where the loop is blocked so long. Nothing changes.
+pub fn wait_for<M: Machine>(session: &mut Session<M>, ms: u64) -> Result<Option<Event>, AllocError>
+    requires room { length session.old.standing < session.old.limit }
+    requires back { M.BackWantsMemory → ⊥ }
+    ensures same { Stands session.old session.old.standing session.new }
+    ensures event { IfOk result (λ event. event ≡ wait_for session.old.program (state_in session.old) ms) }
+{
+    if may_last(session.machine(), ms) {
+        if is_blocked(session)? {
+            Ok(Some(Event::Tick(ms)))
+        } else {
+            Ok(None)
+        }
+    } else {
+        Ok(None)
     }
 }
 
@@ -232,6 +281,7 @@ fn event_of<M: Machine>(
             let deadline = deadline_at(session.machine().place());
             wait_until(session, deadline)
         }
+        Offer::WaitFor(ms) => wait_for(session, ms),
     }
 }
 

@@ -9,7 +9,7 @@ use Rattle.uv_ids.specs.declared.id.Var.{Var}
 use Rattle.uv_ids.specs.declared.event.Event.{Event}
 use Rattle.uv_ids.specs.declared.event.Event.TheVariants as event
 use Rattle.uv_asking.specs.declared.asking.Offer.{Offer}
-use Rattle.uv_asking.specs.declared.asking.Offer.TheVariants.{Step, SendDuring, Take, Wait}
+use Rattle.uv_asking.specs.declared.asking.Offer.TheVariants.{Step, SendDuring, Take, Wait, WaitFor}
 use Rattle.uv_asking.specs.declared.asking.Offered.{Offered}
 use Rattle.uv_asking.specs.declared.asking.Takes as asking
 use Rattle.uv_asking.specs.declared.asking.Most.{Most}
@@ -54,6 +54,7 @@ offer_is (SendDuring v i) (SendDuring w j) e =
     ap₂ SendDuring (var_is v w parts.0) (var_is i j parts.1)
 offer_is Take Take e = refl
 offer_is Wait Wait e = refl
+offer_is (WaitFor m) (WaitFor n) e = ap WaitFor (eqb-true m n e)
 offer_is _ _ e = absurd cc
 
 offer_self : (a : Offer) → same_offer a a ≡ true
@@ -61,6 +62,7 @@ offer_self (Step a) = step_self a
 offer_self (SendDuring v i) = and_from (v.0 == v.0) (i.0 == i.0) (itself v.0) (itself i.0)
 offer_self Take = refl
 offer_self Wait = refl
+offer_self (WaitFor n) = itself n
 
 pub neither : (a b : Bool) → (a || b) ≡ false → (a ≡ false) × (b ≡ false)
 neither false false e = (refl, refl)

@@ -9,7 +9,7 @@ use Rattle.uv_ids.specs.declared.fault.Fault.{Fault}
 use Rattle.uv_ids.specs.declared.fault.Fault.TheVariants as fault
 use Rattle.uv_script.specs.Lines.{lines_of}
 use Rattle.uv_asking.specs.declared.asking.Offer.{Offer}
-use Rattle.uv_asking.specs.declared.asking.Offer.TheVariants.{Step, SendDuring, Take, Wait}
+use Rattle.uv_asking.specs.declared.asking.Offer.TheVariants.{Step, SendDuring, Take, Wait, WaitFor}
 use Rattle.uv_asking.specs.declared.asking.Offered.{Offered}
 use Rattle.uv_asking.specs.declared.asking.Takes as asking
 use Rattle.uv_asking.specs.declared.asking.Most.{Most}
@@ -41,6 +41,7 @@ same_offer (Step a) (Step b) = same_step a b
 same_offer (SendDuring v i) (SendDuring w j) = (v.0 == w.0) && (i.0 == j.0)
 same_offer Take Take = true
 same_offer Wait Wait = true
+same_offer (WaitFor m) (WaitFor n) = m == n
 same_offer a b = false
 
 abbrev pub has_offer : Offer → List Offered → Bool

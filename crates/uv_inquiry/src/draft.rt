@@ -71,6 +71,7 @@ fn same_offer(one: Offer, other: Offer) -> bool
             && during.0 == while_run.0,
         (Offer::Take, Offer::Take) => true,
         (Offer::Wait, Offer::Wait) => true,
+        (Offer::WaitFor(one), Offer::WaitFor(other)) => one == other,
         _ => false,
     }
 }

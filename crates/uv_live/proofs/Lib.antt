@@ -1,5 +1,6 @@
 pub mod Absorbed
 pub mod Entered
+pub mod Faults
 pub mod Legal
 pub mod Meeting
 mod Names

@@ -79,8 +79,3 @@ Syncs log s (Err _) t = ⊥
 -- a session of so many workers and with these events follows the book
 abbrev pub Follows : ℕ → List PoolEvent → Contents → Type 0
 Follows workers events c = (workers ≡ length c.running) × PartsAt events c.log None
-
--- no refusal of a step
-abbrev pub IsNoRefusal : Fault → Type 0
-IsNoRefusal (fault.Refused w) = ⊥
-IsNoRefusal _ = Unit {0}

@@ -28,13 +28,13 @@ PassesTo before moment s (Ok _) t = (before < moment) × (t ≡ stepped (step.Ti
 PassesTo before moment s (Err f) t = t ≡ s
 
 -- the first fault of some answers
-abbrev pub first_fault : {X : Type 0} → List (Result X Fault) → Option Fault
+abbrev pub first_fault : {X F : Type 0} → List (Result X F) → Option F
 first_fault [] = None
 first_fault (Err f ∷ more) = Some f
 first_fault (Ok x ∷ more) = first_fault more
 
 -- what those of some answers gave that are no fault
-abbrev pub given_in : {X : Type 0} → List (Result X Fault) → List X
+abbrev pub given_in : {X F : Type 0} → List (Result X F) → List X
 given_in [] = []
 given_in (Ok x ∷ more) = x ∷ given_in more
 given_in (Err f ∷ more) = given_in more

@@ -1,7 +1,9 @@
 //! How the loop absorbs the words in which sends stand.
-ghost use Rattle.std.specs.Prelude.{◌≡◌, ◌==◌, ◌<◌, ◌∷◌, [], true, All, OnOk};
+ghost use Rattle.std.specs.Prelude.{◌≡◌, ◌==◌, ◌<◌, ◌∷◌, [], Some, true, All, OnOk, IfErr};
 ghost use Rattle.uv_wake.specs.Seats.{names_of, AllCarried};
+ghost use Rattle.uv_live.specs.Faults.{IsLoopFault};
 ghost use Rattle.uv_live.specs.Sending.{Absorbs, AbsorbsEach, AreCarried};
+ghost use Rattle.uv_live.specs.declared.absorbing.CaughtUp.{CaughtUp};
 
 use crate::follower::Follower;
 use crate::sends::Look;
@@ -17,16 +19,26 @@ pub(crate) struct Absorbed {
     look: Look,
 }
 
+/// All that was noted by the loop's last look is absorbed. It is made in this file alone: where words were absorbed behind that look, and
+/// where no send was noted since they were.
+#[derive(Drop)]
+pub(crate) struct CaughtUp {
+    by: (),
+}
+
 impl Absorbed {
-    /// Whether no send was noted from the look before that to this one.
-    pub(crate) fn is_since(&self, look: &Look) -> bool
-        ensures { result ≡ (self.now.look.sends == look.now.sends) }
+    /// Where no send was noted from the look before that to this one.
+    pub(crate) fn until(&self, look: &Look) -> Option<CaughtUp>
+        ensures { (caught : CaughtUp) → result ≡ Some caught → (self.now.look.sends == look.now.sends) ≡ true }
     {
-        self.look.is(look)
+        if self.look.is(look) {
+            return Some(CaughtUp { by: () });
+        }
+        None
     }
 }
 
-/// Absorbs the word of a name, and records a send if one stood in it.
+/// Absorbs the word of a name, and records a send if one stood in it. `Torn` where the session refuses that.
 fn absorb_one<S: Follower>(
     board: &Board,
     seat: &mut LoopSeat,
@@ -41,6 +53,7 @@ fn absorb_one<S: Follower>(
     ensures absorbs { Absorbs seat.old.knows seat.new.knows }
     ensures carried { OnOk result (AllCarried seat.new.knows name) }
     ensures plan { S.plan session.new ≡ S.plan session.old }
+    ensures err { IfErr result IsLoopFault }
     ensures polling { OnOk result (S.polling session.new ≡ true) }
     ensures records { OnOk result (AbsorbsEach (name ∷ []) seat.old.knows (S.course session.old) seat.new.knows (S.course session.new)) }
 {
@@ -50,7 +63,11 @@ fn absorb_one<S: Follower>(
     if !board.absorb(seat, name) {
         return Ok(());
     }
-    session.send(name)
+    match session.send(name) {
+        Ok(()) => Ok(()),
+        Err(Fault::Refused(_)) => Err(Fault::Torn { at: 0 }),
+        Err(fault) => Err(fault),
+    }
 }
 
 /// Absorbs the words of these names, in their order, and records a send for each in which one stood. Before that it was looked how many
@@ -61,7 +78,7 @@ pub(crate) fn absorb_names<S: Follower>(
     names: &[Var],
     session: &mut S,
     look: Look,
-) -> Result<Absorbed, Fault>
+) -> Result<(Absorbed, CaughtUp), Fault>
     requires seat { seat.old.board ≡ board.now.board }
     requires known { All (λ v. v.0 < names_of board.now.board) names.now }
     requires polling { S.polling session.old ≡ true }
@@ -70,10 +87,11 @@ pub(crate) fn absorb_names<S: Follower>(
     ensures absorbs { Absorbs seat.old.knows seat.new.knows }
     ensures carried { OnOk result (AreCarried seat.new.knows names.now) }
     ensures plan { S.plan session.new ≡ S.plan session.old }
+    ensures err { IfErr result IsLoopFault }
     ensures records { OnOk result (AbsorbsEach names.now seat.old.knows (S.course session.old) seat.new.knows (S.course session.new)) }
 {
     'names: for n in 0..names.len() {
         absorb_one(board, seat, names[n], session)?;
     }
-    Ok(Absorbed { look })
+    Ok((Absorbed { look }, CaughtUp { by: () }))
 }

@@ -1,8 +1,8 @@
 //! The workers' threads of a live run.
-ghost use Rattle.std.specs.Prelude.{◌≡◌, ◌+◌, ◌<◌, ◌≤◌, IfOk, IfErr, OnOk, map, vec_len, vec_capacity};
+ghost use Rattle.std.specs.Prelude.{◌≡◌, ◌+◌, ◌<◌, ◌≤◌, IfOk, IfErr, OnOk, true, map, vec_len, vec_capacity};
 ghost use Rattle.uv_ids.specs.declared.fault.Fault.TheVariants.{Memory};
-ghost use Rattle.uv_pool.specs.Benches.{IsWorkerFault};
 ghost use Rattle.uv_pool.specs.Telling.{IsTold};
+ghost use Rattle.uv_live.specs.Faults.{is_workers};
 ghost use Rattle.uv_live.specs.Running.{first_fault, given_in, AreNumbered};
 
 use std::alloc::Global;
@@ -25,24 +25,34 @@ impl<L: Ledger> Promise<Answer<L>> for Works {
     ghost kept_by = { λ p answer. IfOk answer (λ shift. shift.worker ≡ p.worker) };
 }
 
+/// Why a worker's thread gave no shift.
+#[derive(Clone, Copy)]
+pub(crate) struct NoShift {
+    pub(crate) fault: Fault,
+    pub ghost theirs: { is_workers fault ≡ true },
+}
+
 /// What the thread of a worker does.
+#[tactic(auto, using(crate::proofs::Faults::faults))]
 fn work<L: Ledger, G: Gate, R: Wait>(
     rt: &R,
     alloc: Global,
     book: &LockedBook<L>,
     gate: &mut G,
     k: u16,
-) -> Result<Shift<L>, Fault>
+) -> Answer<L>
     ensures worker { IfOk result (λ shift. shift.worker ≡ k) }
     ensures told { IfOk result (λ shift. IsTold G.begins G.ends gate.old shift.events.items gate.new) }
-    ensures faults { IfErr result IsWorkerFault }
 {
     let mut desk = Desk::new(rt, alloc, book);
-    worker(rt, alloc, &mut desk, gate, k)
+    match worker(rt, alloc, &mut desk, gate, k) {
+        Ok(shift) => Ok(shift),
+        Err(fault) => Err(NoShift { fault }),
+    }
 }
 
 /// What a worker's thread answered.
-pub(crate) type Answer<L> = Result<Shift<L>, Fault>;
+pub(crate) type Answer<L> = Result<Shift<L>, NoShift>;
 
 /// How many workers a run has, their threads that were started and aren't joined, in the order of their numbers, and what those that were joined
 /// have answered. For the answer of each thread that isn't joined there is room.
@@ -151,8 +161,8 @@ pub(crate) fn join_workers<L: Ledger, R: Threads>(
     answers
 }
 
-/// The fault of the lowest worker that has one.
-pub(crate) fn lowest_fault<L: Ledger>(answers: &[Answer<L>]) -> Option<Fault>
+/// Why the lowest worker that gave no shift gave none.
+pub(crate) fn lowest_fault<L: Ledger>(answers: &[Answer<L>]) -> Option<NoShift>
     ensures { result ≡ first_fault answers.now }
 {
     'answers: for k in 0..answers.len() {
@@ -168,7 +178,8 @@ pub(crate) fn shifts_of<L: Ledger>(
     alloc: Global,
     answers: Vec<Answer<L>>,
 ) -> Result<Vec<Shift<L>>, Fault>
-    ensures { IfOk result (λ shifts. shifts.items ≡ given_in answers.items) }
+    ensures shifts { IfOk result (λ shifts. shifts.items ≡ given_in answers.items) }
+    ensures err { IfErr result (λ fault. fault ≡ Memory) }
 {
     let mut shifts = Vec::new(alloc);
     'answers: for answer in answers {

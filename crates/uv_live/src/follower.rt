@@ -21,7 +21,7 @@ pub enum Did {
 /// (`most`), the steps that stand and the pool's events that they are (`course`), why a step of the loop would be refused (`refusal`),
 /// whether the loop is at a poll (`polling`), when that poll times out (`due`), and the loop's clock (`hours`).
 pub trait Follower {
-    ghost use Rattle.std.specs.Prelude.{◌≡◌, ◌<◌, ◌≤◌, ◌+◌, ◌++◌, ◌∷◌, [], ℕ, Bool, true, List, Option, OnOk, OnErr, count_by, length};
+    ghost use Rattle.std.specs.Prelude.{◌≡◌, ◌<◌, ◌≤◌, ◌+◌, ◌++◌, ◌∷◌, [], ℕ, Bool, true, List, Option, IfErr, OnOk, OnErr, count_by, length};
     ghost use Rattle.uv_ids.specs.declared.event.Event.TheVariants as step;
     ghost use Rattle.uv_ids.specs.declared.fault.Why.{Why};
     ghost use Rattle.uv_work.specs.Pool.{IsLegal};
@@ -29,6 +29,7 @@ pub trait Follower {
     ghost use Rattle.uv_work.specs.declared.event.PoolEvent.{PoolEvent};
     ghost use Rattle.uv_work.specs.declared.job.Job.{Job};
     ghost use Rattle.uv_live.specs.Course.{Course, Plan, AreNamed, events_of, job_of};
+    ghost use Rattle.uv_live.specs.Faults.{IsEventFault, IsStepFault};
     ghost use Rattle.uv_live.specs.Following.{Adds, Applies, OnFull, StaysEnded};
     ghost use Rattle.uv_live.specs.Settling.{is_send, is_line};
     ghost use Rattle.uv_live.specs.Turning.{Steps, events_as};
@@ -120,6 +121,7 @@ pub trait Follower {
         ensures plan { plan self.new ≡ plan self.old }
         ensures answer { Steps (refusal self.old) (course self.old) (events_as (events_by (plan self.old).script) result) (course self.new) }
         ensures same { OnErr result (refusal self.new ≡ refusal self.old) }
+        ensures faults { IfErr result IsStepFault }
         ensures full { OnFull result (most (plan self.old).script ≤ length (course self.old).steps) };
 
     /// What a step of the loop that answered this did to the thread pool.
@@ -134,6 +136,7 @@ pub trait Follower {
         ensures plan { plan self.new ≡ plan self.old }
         ensures answer { Adds (step.Send name) (course self.old) result (course self.new) }
         ensures polling { polling self.new ≡ true }
+        ensures faults { IfErr result IsEventFault }
         ensures full { OnFull result (most (plan self.old).script ≤ length (course self.old).steps) };
 
     /// The clock goes on (`Event::Tick`).
@@ -141,6 +144,7 @@ pub trait Follower {
         ensures plan { plan self.new ≡ plan self.old }
         ensures answer { Adds (step.Tick span) (course self.old) result (course self.new) }
         ensures hours { OnOk result (hours self.new ≡ hours self.old + span) }
+        ensures faults { IfErr result IsEventFault }
         ensures full { OnFull result (most (plan self.old).script ≤ length (course self.old).steps) };
 
     /// A worker takes the request that waits longest (`Event::Take`).
@@ -148,6 +152,7 @@ pub trait Follower {
         ensures plan { plan self.new ≡ plan self.old }
         ensures answer { IsLegal (plan self.old).workers ((course self.old).events ++ event.Take k id ∷ [])
             → Applies (event.Take k id) (course self.old) result (course self.new) }
+        ensures faults { IfErr result IsEventFault }
         ensures ended { StaysEnded (refusal self.old) (refusal self.new) }
         ensures full { OnFull result (most (plan self.old).script ≤ length (course self.old).steps) };
 
@@ -157,6 +162,7 @@ pub trait Follower {
         ensures plan { plan self.new ≡ plan self.old }
         ensures answer { IsLegal (plan self.old).workers ((course self.old).events ++ event.Finish k id ∷ [])
             → Applies (event.Finish k id) (course self.old) result (course self.new) }
+        ensures faults { IfErr result IsEventFault }
         ensures ended { StaysEnded (refusal self.old) (refusal self.new) }
         ensures full { OnFull result (most (plan self.old).script ≤ length (course self.old).steps) };
 }

@@ -1,7 +1,8 @@
 //! How a session follows a book.
 ghost use Rattle.std.specs.Prelude.{◌≡◌, ◌≤◌, ◌++◌, ◌∷◌, [], Some, IfErr, length};
 ghost use Rattle.uv_work.specs.Pool.{IsLegal};
-ghost use Rattle.uv_live.specs.Following.{Applies, Decides, Follows, IsNoRefusal, IsWorkers, OnFull, PartsAt, StaysEnded, Syncs};
+ghost use Rattle.uv_live.specs.Faults.{IsEventFault, IsSyncFault};
+ghost use Rattle.uv_live.specs.Following.{Applies, Decides, Follows, IsWorkers, OnFull, PartsAt, StaysEnded, Syncs};
 
 use crate::follower::Follower;
 use std::sync::ledger::Ledger;
@@ -52,6 +53,7 @@ fn apply<F: Follower, L: Ledger>(
     ensures plan { F.plan session.new ≡ F.plan session.old }
     ensures answer { IsLegal (F.plan session.old).workers ((F.course session.old).events ++ event ∷ [])
         → Applies event (F.course session.old) result (F.course session.new) }
+    ensures faults { IfErr result IsEventFault }
     ensures ended { StaysEnded (F.refusal session.old) (F.refusal session.new) }
     ensures full { OnFull result (F.most (F.plan session.old).script ≤ length (F.course session.old).steps) }
 {
@@ -71,7 +73,7 @@ pub(crate) fn sync_rest<F: Follower, L: Ledger>(
     ensures plan { F.plan session.new ≡ F.plan session.old }
     ensures synced { Follows (F.plan session.old).workers (F.course session.old).events book.now.hold.contents
         → Syncs book.now.hold.contents.log (F.course session.old) result (F.course session.new) }
-    ensures faults { IfErr result IsNoRefusal }
+    ensures faults { IfErr result IsSyncFault }
     ensures ended { StaysEnded (F.refusal session.old) (F.refusal session.new) }
     ensures full { Follows (F.plan session.old).workers (F.course session.old).events book.now.hold.contents
         → OnFull result (F.most (F.plan session.old).script ≤ length (F.course session.new).steps) }

@@ -4,11 +4,12 @@ ghost use Rattle.std.specs.List.{Contains, count_by, list_any};
 ghost use Rattle.uv_ids.specs.declared.fault.Fault.TheVariants as fault;
 ghost use Rattle.uv_wake.specs.Seats.{names_of, AllJoined};
 ghost use Rattle.uv_live.specs.Course.{AreNamed};
+ghost use Rattle.uv_live.specs.Faults.{IsLoopFault};
 ghost use Rattle.uv_live.specs.Settling.{is_line};
 ghost use Rattle.uv_live.specs.declared.absorbing.Absorbed.{Absorbed};
 ghost use Rattle.uv_live.specs.Sending.{AreCarried, AreNoted, HasOwn, LinesCarried, is_by, names_by, names_in, threads_below};
 
-use crate::absorbing::{Absorbed, absorb_names};
+use crate::absorbing::{Absorbed, CaughtUp, absorb_names};
 use crate::follower::Follower;
 use crate::sends::{FreshSeat, Tally, ToldSeat};
 use std::alloc::{AllocError, Global};
@@ -182,6 +183,7 @@ impl<'a> Outside<'a> {
         ensures seat { self.new.seat ≡ self.old.seat }
         ensures lost { self.new.lost ≡ self.old.lost }
         ensures noted { OnOk result (AreNoted (S.plan session.now).names (S.plan session.now).lines self.new.names.items) }
+        ensures err { IfErr result (λ f. f ≡ fault.Memory) }
     {
         'names: for v in 0..session.name_count() {
             self.note_one(session, Var(v))?;
@@ -198,6 +200,7 @@ impl<'a> Outside<'a> {
         ensures lost { self.new.lost ≡ self.old.lost }
         ensures kept { OnOk result ((v : Var) → Contains self.old.names.items v → Contains self.new.names.items v) }
         ensures noted { OnOk result (0 < count_by (is_line name.0) (S.plan session.now).lines → Contains self.new.names.items name) }
+        ensures err { IfErr result (λ f. f ≡ fault.Memory) }
     {
         if session.lines_to(name) == 0 {
             return Ok(());
@@ -212,6 +215,7 @@ impl<'a> Outside<'a> {
         ensures lost { self.new.lost ≡ self.old.lost }
         ensures kept { OnOk result ((v : Var) → Contains self.old.names.items v → Contains self.new.names.items v) }
         ensures noted { OnOk result (Contains self.new.names.items name) }
+        ensures err { IfErr result (λ f. f ≡ fault.Memory) }
     {
         self.absorbed = None;
         match self.names.push(name) {
@@ -313,7 +317,7 @@ impl<'a> Outside<'a> {
 
     /// Absorbs every word that a send may stand in, in the order of the names, and records a send for each that one stood in. Where no
     /// send was noted since that was done last none is looked at, so that a poll costs no more for all the names that may be sent to.
-    pub(crate) fn absorb_all<S: Follower>(&mut self, session: &mut S) -> Result<(), Fault>
+    pub(crate) fn absorb_all<S: Follower>(&mut self, session: &mut S) -> Result<CaughtUp, Fault>
         requires polling { S.polling session.old ≡ true }
         requires names { names_of self.old.board.now.board ≡ (S.plan session.old).names }
         requires noted { AreNoted (S.plan session.old).names (S.plan session.old).lines self.old.names.items }
@@ -321,15 +325,16 @@ impl<'a> Outside<'a> {
         ensures lost { self.new.lost ≡ self.old.lost }
         ensures names { self.new.names.items ≡ self.old.names.items }
         ensures carried { OnOk result (LinesCarried (S.plan session.new).names (S.plan session.new).lines self.new.seat.knows) }
+        ensures err { IfErr result IsLoopFault }
         ensures plan { S.plan session.new ≡ S.plan session.old }
     {
         let look = self.tally.look();
         if let Some(absorbed) = &self.absorbed {
-            if absorbed.is_since(&look) {
-                return Ok(());
+            if let Some(caught_up) = absorbed.until(&look) {
+                return Ok(caught_up);
             }
         }
-        let absorbed = absorb_names(
+        let (absorbed, caught_up) = absorb_names(
             self.board,
             &mut self.seat,
             self.names.as_slice(),
@@ -337,7 +342,7 @@ impl<'a> Outside<'a> {
             look,
         )?;
         self.absorbed = Some(absorbed);
-        Ok(())
+        Ok(caught_up)
     }
 
     /// Joins a sender's thread and takes its seat back. False where none is left.

@@ -1,8 +1,10 @@
 //! What comes before each turn of a live run: at a poll every word is absorbed. A value of `Ready` is made in this file alone, behind that.
-ghost use Rattle.std.specs.Prelude.{◌≡◌, true, OnOk};
+ghost use Rattle.std.specs.Prelude.{◌≡◌, true, OnOk, IfErr};
 ghost use Rattle.uv_wake.specs.Seats.{names_of};
+ghost use Rattle.uv_live.specs.Faults.{IsLoopFault};
 ghost use Rattle.uv_live.specs.Sending.{AreNoted, LinesCarried};
 
+use crate::absorbing::CaughtUp;
 use crate::follower::Follower;
 use crate::outside::Outside;
 use uv_ids::Fault;
@@ -10,7 +12,7 @@ use uv_ids::Fault;
 /// The loop's next turn may be taken: if it is at a poll, every word was absorbed there. A turn takes one.
 #[derive(Drop)]
 pub(crate) struct Ready {
-    absorbed: (),
+    caught_up: Option<CaughtUp>,
 }
 
 /// Absorbs every word where the loop is at a poll.
@@ -24,12 +26,15 @@ pub(crate) fn absorb_in_poll<S: Follower>(
     ensures lost { outside.new.lost ≡ outside.old.lost }
     ensures names { outside.new.names.items ≡ outside.old.names.items }
     ensures plan { S.plan session.new ≡ S.plan session.old }
+    ensures err { IfErr result IsLoopFault }
     ensures carried { OnOk result (S.polling session.old ≡ true
         → LinesCarried (S.plan session.new).names (S.plan session.new).lines outside.new.seat.knows) }
 {
     if !session.is_polling() {
-        return Ok(Ready { absorbed: () });
+        return Ok(Ready { caught_up: None });
     }
-    outside.absorb_all(session)?;
-    Ok(Ready { absorbed: () })
+    let caught_up = outside.absorb_all(session)?;
+    Ok(Ready {
+        caught_up: Some(caught_up),
+    })
 }

@@ -1,8 +1,9 @@
 //! A live run.
-ghost use Rattle.std.specs.Prelude.{◌≡◌, ◌<◌, ◌+◌, Some, Ok, Err, true, IfOk, IfNone};
+ghost use Rattle.std.specs.Prelude.{◌≡◌, ◌<◌, ◌+◌, ℕ, Some, Ok, Err, true, IfOk, IfNone};
 ghost use Rattle.uv_ids.specs.declared.fault.Why.TheVariants as why;
 ghost use Rattle.uv_wake.specs.Seats.{names_of, AllJoined};
 ghost use Rattle.uv_live.specs.Course.{AreNamed};
+ghost use Rattle.uv_live.specs.Faults.{IsLoopFault, IsRunFault, IsTurnFault};
 ghost use Rattle.uv_live.specs.Sending.{AreNoted, threads_below};
 ghost use Rattle.uv_live.specs.Running.{HaltsAt, IsNoWorkerCount, RunSettles, PassesTo};
 ghost use Rattle.uv_live.specs.Turning.{Refuses};
@@ -11,7 +12,7 @@ ghost use Rattle.std.specs.Prelude.{IfSome, IfErr, OnOk, MatchOption, is_some, l
 ghost use Rattle.uv_ids.specs.declared.fault.Fault.TheVariants as fault;
 
 use crate::clock::Clock;
-use crate::crew::{Crew, join_workers, lowest_fault, shifts_of, start_workers};
+use crate::crew::{Crew, NoShift, join_workers, lowest_fault, shifts_of, start_workers};
 use crate::follower::{Did, Follower};
 use crate::following::sync;
 use crate::outside::Outside;
@@ -29,11 +30,14 @@ use uv_ids::{Fault, MOST_SENDERS, ThreadLine, Why};
 use uv_pool::{Gate, HasFinished, LockedBook, PoolBook, Shift, WasOpen};
 use uv_wake::{Board, LoopSeat};
 
-/// Lets the clock go on up to the poll's deadline. `Stalled` where there is none, or where the clock doesn't go on.
+/// Lets the clock go on up to the poll's deadline. `Stalled` where there is none, or where the clock doesn't go on; `Limit` where the session's
+/// clock may not come so far.
+#[tactic(auto, using(crate::proofs::Faults::faults))]
 fn pass_time<S: Follower, C: Clock>(session: &mut S, clock: &mut C) -> Result<(), Fault>
     ensures plan { S.plan session.new ≡ S.plan session.old }
     ensures passes { PassesTo (S.hours session.old) (C.hours clock.new) (S.course session.old) result (S.course session.new) }
     ensures asked { MatchOption (S.due session.old) (clock.new ≡ clock.old) (λ due. C.waited clock.old due clock.new) }
+    ensures faults { IfErr result IsLoopFault }
 {
     match session.deadline() {
         None => Err(Fault::Stalled),
@@ -43,13 +47,18 @@ fn pass_time<S: Follower, C: Clock>(session: &mut S, clock: &mut C) -> Result<()
             if moment <= before {
                 return Err(Fault::Stalled);
             }
-            session.tick(moment - before)
+            match session.tick(moment - before) {
+                Ok(()) => Ok(()),
+                Err(Fault::Refused(_)) => Err(Fault::Limit),
+                Err(fault) => Err(fault),
+            }
         }
     }
 }
 
 /// What the loop's thread does where the loop is blocked and the book was open: it waits until a worker has finished a job, or else joins a
 /// sender, or else lets the clock go on. It answers what it saw of the book where it waited for that.
+#[tactic(auto, using(crate::proofs::Faults::faults))]
 fn unblock<S: Follower, L: Ledger, C: Clock, R: Threads + Wait>(
     rt: &R,
     session: &mut S,
@@ -69,6 +78,7 @@ fn unblock<S: Follower, L: Ledger, C: Clock, R: Threads + Wait>(
     ensures unjoined { is_at_work (S.plan session.old).workers (S.course session.old).events ≡ true → outside.new ≡ outside.old }
     ensures waits { is_at_work (S.plan session.old).workers (S.course session.old).events ≡ true → IfOk result (λ seen. is_some seen ≡ true) }
     ensures past { IfOk result (λ seen. IfSome seen (λ book. book.past ≡ length (S.course session.old).events)) }
+    ensures faults { IfErr result IsLoopFault }
 
     // Where a sender's thread is left the clock stands.
     ensures joins { 0 < vec_len outside.old.senders → S.course session.new ≡ S.course session.old }
@@ -95,6 +105,7 @@ fn locked_turn<S: Follower, L: Ledger, R: Wait>(
 ) -> (Result<Did, Fault>, Option<WasOpen<L>>)
     ensures plan { S.plan session.new ≡ S.plan session.old }
     ensures refused { Refuses result.0 (S.refusal session.new) }
+    ensures faults { IfErr result.0 IsTurnFault }
 {
     let mut guard = book.lock(rt);
     let answer = turn_rest(session, &mut guard.book);
@@ -104,6 +115,7 @@ fn locked_turn<S: Follower, L: Ledger, R: Wait>(
 }
 
 /// Takes turns until the loop is at its end. False where the book was closed before.
+#[tactic(auto, using(crate::proofs::Faults::faults))]
 fn run<S: Follower, L: Ledger, C: Clock, R: Threads + Wait>(
     rt: &R,
     session: &mut S,
@@ -117,6 +129,7 @@ fn run<S: Follower, L: Ledger, C: Clock, R: Threads + Wait>(
     ensures lost { outside.new.lost ≡ outside.old.lost }
     ensures plan { S.plan session.new ≡ S.plan session.old }
     ensures end { HaltsAt result (S.refusal session.new) }
+    ensures faults { IfErr result IsLoopFault }
 {
     'turns: for _ in rt.forever() {
         let ready = absorb_in_poll(session, outside)?;
@@ -137,16 +150,18 @@ fn run<S: Follower, L: Ledger, C: Clock, R: Threads + Wait>(
 }
 
 /// The fault of a run: the loop's own, or else the lowest worker's, or else `Stalled` where the book was closed.
-fn fault_of(halt: Result<bool, Fault>, workers: Option<Fault>) -> Option<Fault>
+#[tactic(auto, using(crate::proofs::Faults::faults))]
+fn fault_of(halt: Result<bool, Fault>, workers: Option<NoShift>) -> Option<Fault>
     ensures none { IfNone result (halt ≡ Ok true) }
     ensures own { IfErr halt (λ f. result ≡ Some f) }
-    ensures theirs { OnOk halt (IfSome workers (λ f. result ≡ Some f)) }
+    ensures theirs { OnOk halt (IfSome workers (λ none. result ≡ Some none.fault)) }
     ensures stalled { OnOk halt (IfNone workers (IfSome result (λ f. f ≡ fault.Stalled))) }
+    ensures faults { (count : ℕ) → IfErr halt IsLoopFault → IfSome result (IsRunFault count) }
 {
     match halt {
         Err(own) => Some(own),
         Ok(ended) => match workers {
-            Some(theirs) => Some(theirs),
+            Some(theirs) => Some(theirs.fault),
             None => { if ended { None } else { Some(Fault::Stalled) } }
         },
     }
@@ -172,6 +187,7 @@ pub(crate) struct Shared<'a, L: Ledger, G> {
 }
 
 /// Starts the workers, notes the names that are sent to, and starts the senders.
+#[tactic(auto, using(crate::proofs::Faults::faults))]
 fn start_threads<
     's,
     E,
@@ -196,6 +212,7 @@ fn start_threads<
     ensures lost { OnOk result (outside.new.lost ≡ outside.old.lost) }
     ensures noted { OnOk result (AreNoted (S.plan session.now).names (S.plan session.now).lines outside.new.names.items) }
     ensures crew { OnOk result (vec_len crew.new.started ≡ (S.plan session.now).workers) }
+    ensures faults { IfErr result IsLoopFault }
     ensures threads { OnOk result
         (outside.new.seat.knows.splits ≡ outside.old.seat.knows.splits + threads_below 64 (S.plan session.now).lines) }
 {
@@ -205,6 +222,7 @@ fn start_threads<
 }
 
 /// Starts the threads, takes the turns, and then closes the book and joins all threads.
+#[tactic(auto, using(crate::proofs::Faults::faults))]
 fn within<
     's,
     E,
@@ -229,6 +247,7 @@ fn within<
     ensures joined { IfOk result (λ r. AllJoined r.seat.knows) }
     ensures plan { IfOk result (λ r. S.plan r.session ≡ S.plan session) }
     ensures end { IfOk result (λ r. S.refusal r.session ≡ Some why.Ended) }
+    ensures faults { IfErr result (IsRunFault (S.plan session).workers) }
 {
     let mut session = session;
     let alloc = shared.alloc;
@@ -257,11 +276,13 @@ fn within<
 fn copied_lines<S: Follower>(alloc: Global, session: &S) -> Result<Vec<ThreadLine>, Fault>
     ensures lines { IfOk result (λ lines. lines.items ≡ (S.plan session.now).lines) }
     ensures named { IfOk result (λ lines. AreNamed (S.plan session.now).names lines.items) }
+    ensures err { IfErr result (λ f. f ≡ fault.Memory) }
 {
     Ok(Vec::from_slice(alloc, session.thread_lines())?)
 }
 
 /// Applies what is left of the log, and compares what the session did with what the threads did.
+#[tactic(auto, using(crate::proofs::Faults::faults))]
 fn conclude<S: Follower + Drop, L: Ledger>(
     joined: Joined<S, L>,
     book: &PoolBook<L>,
@@ -271,6 +292,7 @@ fn conclude<S: Follower + Drop, L: Ledger>(
     ensures plan { IfOk result (λ s. S.plan s ≡ S.plan joined.session) }
     ensures end { IfOk result (λ s. S.refusal s ≡ Some why.Ended) }
     ensures settled { IfOk result (λ s. RunSettles (S.plan s) (S.course s)) }
+    ensures faults { (count : ℕ) → IfErr result (IsRunFault count) }
 {
     let Joined {
         mut session,
@@ -307,6 +329,7 @@ fn scoped<
     ensures board { IfOk result (λ r. r.seat.board ≡ shared.entry.board.now.board) }
     ensures plan { IfOk result (λ r. S.plan r.session ≡ S.plan session) }
     ensures end { IfOk result (λ r. S.refusal r.session ≡ Some why.Ended) }
+    ensures faults { IfErr result (IsRunFault (S.plan session).workers) }
 {
     thread::scope(
         thread::scope_env(),
@@ -319,11 +342,13 @@ fn scoped<
             ensures board { IfOk result (λ r. r.seat.board ≡ shared.entry.board.now.board) }
             ensures plan { IfOk result (λ r. S.plan r.session ≡ S.plan session) }
             ensures end { IfOk result (λ r. S.refusal r.session ≡ Some why.Ended) }
+            ensures faults { IfErr result (IsRunFault (S.plan session).workers) }
         { within(rt, scope, shared, session, seat, clock) },
     )
 }
 
 /// A live run over a ledger that is to be opened.
+#[tactic(auto, using(crate::proofs::Faults::faults))]
 fn live_over<
     S: Follower + Drop,
     L: Ledger + Send + Sync,
@@ -338,6 +363,7 @@ fn live_over<
     ensures plan { IfOk result (λ s. S.plan s ≡ S.plan session) }
     ensures end { IfOk result (λ s. S.refusal s ≡ Some why.Ended) }
     ensures settled { IfOk result (λ s. RunSettles (S.plan s) (S.course s)) }
+    ensures err { IfErr result (IsRunFault (S.plan session).workers) }
 {
     let book = PoolBook::<L>::new(alloc, blank, session.worker_count())?;
     let names = session.name_count() as usize;
@@ -363,7 +389,10 @@ fn live_over<
 /// Where the loop is blocked it waits until a worker has finished a job if a request waits or runs, or else joins a sender's thread, or
 /// else lets the clock go on to the poll's deadline, or else is `Stalled`. On every fault the book is closed and all threads are joined
 /// before it is answered. The loop's own fault comes first, then the lowest worker's, then `settle`'s. A thread that can't be
-/// started is `Memory`.
+/// started is `Memory`. `StepsFull` is where the run would take more steps than the session may, `Limit` where a log, a count, a ledger's
+/// shares, the seats or the clock are at their end, and `Torn` where the session is not what the threads did. A worker's own fault may be that
+/// the book refused it; no other refusal comes.
+#[tactic(auto, using(crate::proofs::Faults::faults))]
 pub fn live<S: Follower + Drop, C: Clock, G: Gate + Sync, R: Threads + Wait + Sync>(
     rt: &R,
     alloc: Global,
@@ -375,6 +404,7 @@ pub fn live<S: Follower + Drop, C: Clock, G: Gate + Sync, R: Threads + Wait + Sy
     ensures plan { IfOk result (λ s. S.plan s ≡ S.plan session) }
     ensures end { IfOk result (λ s. S.refusal s ≡ Some why.Ended) }
     ensures settled { IfOk result (λ s. RunSettles (S.plan s) (S.course s)) }
+    ensures err { IfErr result (IsRunFault (S.plan session).workers) }
 {
     let parts = session.worker_count() as u64 + 1;
     live_over::<S, Brand, C, G, R>(rt, alloc, Blank::new(parts), session, clock, gate)

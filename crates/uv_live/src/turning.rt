@@ -1,9 +1,10 @@
 //! One turn of the loop, with its entry in the book.
-ghost use Rattle.std.specs.Prelude.{◌≡◌, ◌<◌, ◌≤◌, ◌++◌, ◌∷◌, [], true, length};
+ghost use Rattle.std.specs.Prelude.{◌≡◌, ◌<◌, ◌≤◌, ◌++◌, ◌∷◌, [], true, IfErr, length};
 ghost use Rattle.uv_ids.specs.Limits.{MOST_STEPS};
 ghost use Rattle.uv_work.specs.Pool.{IsLegal};
 ghost use Rattle.uv_work.specs.declared.event.PoolEvent.TheVariants as event;
 ghost use Rattle.uv_live.specs.Course.{events_of};
+ghost use Rattle.uv_live.specs.Faults.{IsTurnFault};
 ghost use Rattle.uv_live.specs.Following.{Follows, OnFull};
 ghost use Rattle.uv_live.specs.Turning.{Turns, Refuses, events_as};
 
@@ -64,6 +65,7 @@ fn enter<L: Ledger>(book: &mut PoolBook<L>, did: Did)
 }
 
 /// `turn` on a session and a book that were compared before, as `sync_rest` is `sync`. It says what the step did, too.
+#[tactic(auto, using(crate::proofs::Faults::faults))]
 pub(crate) fn turn_rest<F: Follower, L: Ledger>(
     session: &mut F,
     book: &mut PoolBook<L>,
@@ -74,6 +76,7 @@ pub(crate) fn turn_rest<F: Follower, L: Ledger>(
         book.new.hold.contents.log (F.course session.new) }
     ensures rest { book.new.rest ≡ book.old.rest }
     ensures refused { Refuses result (F.refusal session.new) }
+    ensures faults { IfErr result IsTurnFault }
     ensures full { Follows (F.plan session.old).workers (F.course session.old).events book.old.hold.contents
         → OnFull result (F.most (F.plan session.old).script ≤ length (F.course session.new).steps) }
 {

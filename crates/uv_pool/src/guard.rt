@@ -1,11 +1,11 @@
-//! The lock of a book. It is taken and let go of in this file alone, and whoever lets it go calls a worker where a job waits for one. So does
-//! who waits at a bell, and a worker sleeps at one.
+//! The lock of a book, and its bells. It is taken and let go of in this file alone, and whoever lets it go calls a worker where a job waits for
+//! one. So does who waits at a bell, and a worker sleeps at one. A value of `Woken` is made here alone, of what saw the book closed.
 ghost use Rattle.std.specs.Prelude.{◌≡◌, [], false};
 ghost use Rattle.std.specs.Sync.Mutex.{mutex_guard_value};
 
-use crate::bell::{Bell, Rung, RungOnce, Waited};
+use crate::bell::{Bell, ForEntry, ForFinish, Rung, RungOnce, Waited};
 use crate::book::PoolBook;
-use crate::sightings::WasTended;
+use crate::sightings::{WasClosed, WasTended};
 use crate::sleepers::ForJob;
 use std::sync::ledger::Ledger;
 use std::sync::{Mutex, MutexGuard, Wait};
@@ -34,11 +34,24 @@ pub enum LetGo<L: Ledger> {
     Woken(WokenWorker),
 }
 
-/// A book under its lock, and the bell at which workers wait for a job.
+/// All that wait at a book were woken: workers, and those who wait for the log to grow or for a job to be finished.
+#[derive(Drop)]
+pub struct Woken {
+    _queued: Rung<ForJob>,
+    _grown: Rung<ForEntry>,
+    _finished: Rung<ForFinish>,
+}
+
+/// A book under its lock, and its bells.
 #[derive(Drop)]
 pub(crate) struct Guarded<L: Ledger> {
     book: Mutex<PoolBook<L>>,
+    /// Workers who wait for a job.
     queued: Bell<ForJob>,
+    /// Those who wait for the log to grow.
+    pub(crate) grown: Bell<ForEntry>,
+    /// Those who wait for a job to be finished.
+    pub(crate) finished: Bell<ForFinish>,
 }
 
 impl<L: Ledger> Guarded<L> {
@@ -46,6 +59,8 @@ impl<L: Ledger> Guarded<L> {
         Guarded {
             book: Mutex::new(book),
             queued: Bell::new(),
+            grown: Bell::new(),
+            finished: Bell::new(),
         }
     }
 
@@ -100,9 +115,13 @@ impl<L: Ledger> Guarded<L> {
         BookGuard { book, owed }
     }
 
-    /// Wakes all workers that sleep.
-    pub(crate) fn ring(&self) -> Rung<ForJob> {
-        self.queued.ring()
+    /// Wakes all that wait, since the book was closed: behind that, and not before it.
+    pub(crate) fn wake(&self, _closed: &WasClosed<L>) -> Woken {
+        Woken {
+            _queued: self.queued.ring(),
+            _grown: self.grown.ring(),
+            _finished: self.finished.ring(),
+        }
     }
 
     /// The book, where nobody shares it any more.

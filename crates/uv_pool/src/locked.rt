@@ -7,11 +7,10 @@ ghost use Rattle.std.specs.Prelude.{◌⊎◌, ◌≤◌, [], true, false, lengt
 ghost use Rattle.uv_pool.specs.Calls.{run_at};
 ghost use Rattle.std.specs.Sync.Mutex.{mutex_guard_value};
 
-use crate::bell::{Bell, ForEntry, ForFinish, Rung, Unrung};
+use crate::bell::{ForEntry, ForFinish, Unrung};
 use crate::book::PoolBook;
-use crate::guard::{BookGuard, Guarded, LetGo};
+use crate::guard::{BookGuard, Guarded, LetGo, Woken};
 use crate::sightings::{HasFinished, NotTaken, WasClosed, WasOver};
-use crate::sleepers::ForJob;
 use std::sync::Wait;
 use std::sync::ledger::{Ledger, Share};
 use uv_ids::Fault;
@@ -26,20 +25,7 @@ use uv_work::{Job, PoolEvent, WorkResult};
 /// A hold is short: it hashes nothing, and it waits for nothing but the room that a call makes.
 #[derive(Drop)]
 pub struct LockedBook<L: Ledger> {
-    /// The book under its lock, with the workers who wait for a job.
     book: Guarded<L>,
-    /// Those who wait for the log to grow.
-    grown: Bell<ForEntry>,
-    /// Those who wait for a job to be finished.
-    finished: Bell<ForFinish>,
-}
-
-/// All that wait at a book were woken: workers, and those in `wait_past` and `wait_finished`.
-#[derive(Drop)]
-pub struct Woken {
-    _queued: Rung<ForJob>,
-    _grown: Rung<ForEntry>,
-    _finished: Rung<ForFinish>,
 }
 
 impl<L: Ledger> LockedBook<L> {
@@ -47,8 +33,6 @@ impl<L: Ledger> LockedBook<L> {
     pub fn new(book: PoolBook<L>) -> LockedBook<L> {
         LockedBook {
             book: Guarded::new(book),
-            grown: Bell::new(),
-            finished: Bell::new(),
         }
     }
 
@@ -71,7 +55,7 @@ impl<L: Ledger> LockedBook<L> {
             if guard.book.log().len() > n || guard.book.closed() {
                 return guard;
             }
-            let (again, _) = self.book.wait_at(rt, guard, &self.grown, ForEntry);
+            let (again, _) = self.book.wait_at(rt, guard, &self.book.grown, ForEntry);
             guard = again;
         }
         unreachable!()
@@ -87,19 +71,10 @@ impl<L: Ledger> LockedBook<L> {
                 self.book.let_go(guard);
                 return seen;
             }
-            let (again, _) = self.book.wait_at(rt, guard, &self.finished, ForFinish);
+            let (again, _) = self.book.wait_at(rt, guard, &self.book.finished, ForFinish);
             guard = again;
         }
         unreachable!()
-    }
-
-    /// Wakes all that wait: workers, and those in `wait_past` and `wait_finished`. The book was closed before.
-    fn wake(&self, _closed: &WasClosed<L>) -> Woken {
-        Woken {
-            _queued: self.book.ring(),
-            _grown: self.grown.ring(),
-            _finished: self.finished.ring(),
-        }
     }
 
     /// The book, where nobody shares it any more.
@@ -155,7 +130,7 @@ impl<L: Ledger> LockedBook<L> {
         let _ = events;
         let (answer, guard) = self.taken(rt, k);
         self.book.let_go(guard);
-        self.grown.ring();
+        self.book.grown.ring();
         answer
     }
 
@@ -175,8 +150,8 @@ impl<L: Ledger> LockedBook<L> {
     {
         let (answer, done, guard) = self.handed_in(rt, k, work, share);
         self.book.let_go(guard);
-        self.grown.ring();
-        self.finished.ring_for(done);
+        self.book.grown.ring();
+        self.book.finished.ring_for(done);
         answer
     }
 
@@ -206,7 +181,7 @@ impl<L: Ledger> LockedBook<L> {
         guard.book.close();
         let closed = WasClosed::seen(&guard.book);
         self.book.let_go(guard);
-        let woken = self.wake(&closed);
+        let woken = self.book.wake(&closed);
         (closed, woken)
     }
 }

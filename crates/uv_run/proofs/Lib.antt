@@ -1,6 +1,7 @@
 pub mod Answers
 pub mod Binding
 pub mod Counting
+pub mod Faults
 pub mod Loops
 pub mod Named
 mod Names

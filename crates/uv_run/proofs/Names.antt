@@ -21,6 +21,7 @@ pub use Rattle.uv_ids.specs.declared.seen.Seen.{Seen}
 pub use Rattle.uv_ids.specs.declared.thread_line.ThreadLine.{ThreadLine}
 pub use Rattle.uv_live.proofs.Entered.{is_true}
 pub use Rattle.uv_live.specs.Course.{AreNamed, Course, Plan, stepped}
+pub use Rattle.uv_live.specs.Faults.{IsEventFault, IsRunFault, IsStepFault}
 pub use Rattle.uv_live.specs.Following.{Applies, StaysEnded}
 pub use Rattle.uv_live.specs.Running.{RunSettles}
 pub use Rattle.uv_live.specs.Settling.{is_line, is_send}

@@ -1,9 +1,10 @@
 //! The steps of a live run, each as a step of the session, with the list of the pool's events.
-ghost use Rattle.std.specs.Prelude.{◌≡◌, ◌<◌, ◌≤◌, ◌+◌, ◌++◌, OnOk, OnErr, length, vec_len, vec_capacity};
+ghost use Rattle.std.specs.Prelude.{◌≡◌, ◌<◌, ◌≤◌, ◌+◌, ◌++◌, IfErr, OnOk, OnErr, length, vec_len, vec_capacity};
 ghost use Rattle.uv_ids.specs.declared.event.Event.TheVariants as step;
 ghost use Rattle.uv_work.specs.declared.event.PoolEvent.TheVariants as event;
 ghost use Rattle.uv_session.specs.Shown.{TakesEvent};
 ghost use Rattle.uv_order.specs.Taking.{IsTakenAs};
+ghost use Rattle.uv_live.specs.Faults.{IsEventFault, IsStepFault};
 ghost use Rattle.uv_live.specs.Following.{Adds, Applies, OnFull, StaysEnded};
 ghost use Rattle.uv_live.specs.Turning.{Steps, events_as};
 ghost use Rattle.uv_run.specs.Events as spec;
@@ -52,7 +53,7 @@ pub(crate) fn push_line(log: &mut PoolLog, script: &Script, seen: Option<Seen>)
 }
 
 /// The next step of the loop.
-#[tactic(auto, using(crate::proofs::Answers::answers))]
+#[tactic(auto, using(crate::proofs::Answers::answers, crate::proofs::Faults::faults))]
 pub(crate) fn step<M: Machine>(
     session: &mut Session<M>,
     log: &mut PoolLog,
@@ -64,6 +65,7 @@ pub(crate) fn step<M: Machine>(
     ensures answer { Steps (refusal_in session.old) (course_of session.old) (events_as (λ o. events_of_loop session.old.program o.seen) result)
         (course_of session.new) }
     ensures same { OnErr result (refusal_in session.new ≡ refusal_in session.old) }
+    ensures faults { IfErr result IsStepFault }
     ensures full { OnFull result (session.old.limit ≤ length session.old.standing) }
     ensures sends { SameSends session.old session.new }
 {
@@ -74,7 +76,7 @@ pub(crate) fn step<M: Machine>(
 }
 
 /// A send that was absorbed.
-#[tactic(auto, using(crate::proofs::Answers::answers))]
+#[tactic(auto, using(crate::proofs::Answers::answers, crate::proofs::Faults::faults))]
 pub(crate) fn send<M: Machine>(session: &mut Session<M>, name: Var) -> Result<(), Fault>
     ensures program { session.new.program ≡ session.old.program }
     ensures limit { session.new.limit ≡ session.old.limit }
@@ -82,6 +84,7 @@ pub(crate) fn send<M: Machine>(session: &mut Session<M>, name: Var) -> Result<()
     ensures answer { Adds (step.Send name) (course_of session.old) result (course_of session.new) }
     ensures polling { polls_in session.new ≡ polls_in session.old }
     ensures sends { Sends name.0 session.old result session.new }
+    ensures faults { IfErr result IsEventFault }
     ensures full { OnFull result (session.old.limit ≤ length session.old.standing) }
 {
     session.do_event(Event::Send(name))?;
@@ -89,13 +92,14 @@ pub(crate) fn send<M: Machine>(session: &mut Session<M>, name: Var) -> Result<()
 }
 
 /// The clock goes on.
-#[tactic(auto, using(crate::proofs::Answers::answers))]
+#[tactic(auto, using(crate::proofs::Answers::answers, crate::proofs::Faults::faults))]
 pub(crate) fn tick<M: Machine>(session: &mut Session<M>, span: u64) -> Result<(), Fault>
     ensures program { session.new.program ≡ session.old.program }
     ensures limit { session.new.limit ≡ session.old.limit }
     ensures events { (course_of session.new).events ≡ (course_of session.old).events }
     ensures answer { Adds (step.Tick span) (course_of session.old) result (course_of session.new) }
     ensures hours { OnOk result (hours_in session.new ≡ hours_in session.old + span) }
+    ensures faults { IfErr result IsEventFault }
     ensures full { OnFull result (session.old.limit ≤ length session.old.standing) }
     ensures sends { SameSends session.old session.new }
 {
@@ -104,7 +108,7 @@ pub(crate) fn tick<M: Machine>(session: &mut Session<M>, span: u64) -> Result<()
 }
 
 /// A worker's take, which can be the next step.
-#[tactic(auto, using(crate::proofs::Answers::answers))]
+#[tactic(auto, using(crate::proofs::Answers::answers, crate::proofs::Faults::faults))]
 pub(crate) fn take<M: Machine>(
     session: &mut Session<M>,
     log: &mut PoolLog,
@@ -117,6 +121,7 @@ pub(crate) fn take<M: Machine>(
     ensures events { log.new.events.items ≡ (course_of session.new).events }
     ensures answer { IsTakenAs session.old.program session.old.standing (step.Take k) (event.Take k id)
         → Applies (event.Take k id) (course_of session.old) result (course_of session.new) }
+    ensures faults { IfErr result IsEventFault }
     ensures ended { StaysEnded (refusal_in session.old) (refusal_in session.new) }
     ensures full { OnFull result (session.old.limit ≤ length session.old.standing) }
     ensures sends { SameSends session.old session.new }
@@ -129,7 +134,7 @@ pub(crate) fn take<M: Machine>(
 
 /// The finish of a worker's request, with this result where it is of the very job that the worker runs. Only where it is of another one
 /// the session does the job.
-#[tactic(auto, using(crate::proofs::Answers::answers))]
+#[tactic(auto, using(crate::proofs::Answers::answers, crate::proofs::Faults::faults))]
 fn hand_in<M: Machine>(
     session: &mut Session<M>,
     k: u16,
@@ -147,7 +152,7 @@ fn hand_in<M: Machine>(
 }
 
 /// A worker's finish, which can be the next step.
-#[tactic(auto, using(crate::proofs::Answers::answers))]
+#[tactic(auto, using(crate::proofs::Answers::answers, crate::proofs::Faults::faults))]
 pub(crate) fn finish<M: Machine>(
     session: &mut Session<M>,
     log: &mut PoolLog,
@@ -161,6 +166,7 @@ pub(crate) fn finish<M: Machine>(
     ensures events { log.new.events.items ≡ (course_of session.new).events }
     ensures answer { IsTakenAs session.old.program session.old.standing (step.Finish k) (event.Finish k id)
         → Applies (event.Finish k id) (course_of session.old) result (course_of session.new) }
+    ensures faults { IfErr result IsEventFault }
     ensures ended { StaysEnded (refusal_in session.old) (refusal_in session.new) }
     ensures full { OnFull result (session.old.limit ≤ length session.old.standing) }
     ensures sends { SameSends session.old session.new }

@@ -1,10 +1,12 @@
 //! A live run of a script.
-ghost use Rattle.std.specs.Prelude.{◌≡◌, IfOk, Some, min};
+ghost use Rattle.std.specs.Prelude.{◌≡◌, IfErr, IfOk, Some, min};
 ghost use Rattle.uv_ids.specs.declared.fault.Why.TheVariants.{Ended};
 ghost use Rattle.uv_model.specs.After.{STEPS, lines};
 ghost use Rattle.uv_order.specs.Once.{Once};
 ghost use Rattle.uv_session.specs.Shown.{IsDocumented};
+ghost use Rattle.uv_live.specs.Faults.{IsRunFault};
 ghost use Rattle.uv_live.specs.Running.{RunSettles};
+ghost use Rattle.uv_script.specs.Program.{worker_count};
 ghost use Rattle.uv_run.specs.Bound.{plan_of, course_of, refusal_in};
 
 use crate::session::LiveSession;
@@ -36,6 +38,7 @@ pub fn live_within<M: Machine, C: Clock, G: Gate + Sync, R: Threads + Wait + Syn
     ensures documented { IfOk result (λ s. IsDocumented s (lines s.program s.standing)) }
     ensures once { IfOk result (λ s. Once s.program (lines s.program s.standing)) }
     ensures settled { IfOk result (λ s. RunSettles (plan_of script script.threads) (course_of s)) }
+    ensures err { IfErr result (IsRunFault (worker_count script)) }
 {
     let lines = Vec::from_slice(alloc, script.thread_lines())?;
     let machine = M::begin(alloc, script)?;
@@ -58,6 +61,7 @@ pub fn live<M: Machine, C: Clock, G: Gate + Sync, R: Threads + Wait + Sync>(
     ensures documented { IfOk result (λ s. IsDocumented s (lines s.program s.standing)) }
     ensures once { IfOk result (λ s. Once s.program (lines s.program s.standing)) }
     ensures settled { IfOk result (λ s. RunSettles (plan_of script script.threads) (course_of s)) }
+    ensures err { IfErr result (IsRunFault (worker_count script)) }
 {
     live_within(rt, alloc, STEPS, script, clock, gate)
 }

@@ -4,7 +4,7 @@ use Rattle.std.specs.List.{IsDistinct}
 use Rattle.std.specs.Cmp.Lexicographic.{pointwise}
 use Rattle.uv_search.specs.Keys.{Has}
 use Rattle.uv_search.specs.Ways.{LeadTo, Answers, CoversMoves, CoversStep, IsApart}
-use Rattle.uv_search.specs.Settled.{Never, HoldsNone}
+use Rattle.uv_search.specs.Settled.{AllLead, OneLeads, Never, HoldsNone}
 use Rattle.uv_search.proofs.KeyLists.{number_of}
 use Rattle.uv_search.proofs.Held.{Ends, ends_by, same_step, room_for, ends_alike, ends_behind}
 use Rattle.uv_search.proofs.Standing.{Tried, Done, IsDone, Keeps, here_done, none_made, are_keys}
@@ -87,7 +87,7 @@ module _ {P : Type 0} (moves : P → ℕ) (next : P → ℕ → Option (P × Boo
         let here : HasRoom (suc k) w.place = less (suc n) (suc k) w.place (omega (arith, l)) (room_at n w.place w.good few) in
         before w.done.0 w.place (j ∷ js) (omega (arith, l)) w.good w.done.1
         (ends_alike moves next key apart HasRoom fewer follows same meet (j ∷ js) q w.place there here (sym w.is) rest)
-    by n few before (suc h) p is l good (number, m, w, first_apart, offered, goes, alike, fine, d) ends =
+    by n few before (suc h) p is l good (number, m, w, first_apart, offered, goes, alike, fine, d, has) ends =
         let k = length is in
         let from : HasRoom (suc k) p = less (suc n) (suc k) p (omega (arith, l)) (room_at n p good few) in
         let there : HasRoom k m = follows k p number m false from offered goes in
@@ -128,6 +128,7 @@ module _ {P : Type 0} (moves : P → ℕ) (next : P → ℕ → Option (P × Boo
     none = told;
     keys = seen;
     are = are_keys moves next key IsPlace IsDeep apart begin first seen done [] cs ps p here n k distinct;
+    closed = record { begins = k.begun; each = λ x has. (let w = closed x has in (w.way, w.place, w.leads, w.is, looked w.place w.done)) };
     whole = λ holds. record {
       none = λ is i q. none moves next key IsPlace IsDeep apart begin first seen IsReached alike leads (tried holds) begin is i q
           (stands begin standing) k.begun;
@@ -161,6 +162,11 @@ module _ {P : Type 0} (moves : P → ℕ) (next : P → ℕ → Option (P × Boo
             ];
           }
 
+      looked : (w : P) → IsDone moves next key IsPlace IsDeep apart begin first seen w
+          → AllLead moves next key IsDeep apart IsTold seen w ⊎ OneLeads moves next key IsDeep apart IsTold seen w
+      looked w (zero, d) = inl (λ i q b offered goes. d i offered offered q b goes)
+      looked w (suc h, (i, m, v, is, offered, goes, same_key, fine, d, has)) = inr (i, m, offered, is, goes, has)
+
       tried : HoldsNone moves next key IsDeep apart IsTold begin → (x : List ℕ) → Has seen x
           → (w : P) × (key w ≡ x) × IsPlace w × Tried moves next key IsPlace IsDeep apart begin first seen w (moves w)
       tried holds x has =
@@ -169,7 +175,7 @@ module _ {P : Type 0} (moves : P → ℕ) (next : P → ℕ → Option (P × Boo
           by : (w : P) → ((number : ℕ) → apart w number ≡ false) → IsDone moves next key IsPlace IsDeep apart begin first seen w
               → Tried moves next key IsPlace IsDeep apart begin first seen w (moves w)
           by w none (zero, d) = d
-          by w none (suc h, (number, m, v, is, offered, goes, same_key, good, d)) = absurd (let f : true ≡ false = sym is ∙ none number in cc)
+          by w none (suc h, (number, m, v, is, offered, goes, same_key, good, d, has)) = absurd (let f : true ≡ false = sym is ∙ none number in cc)
 
       told : (is : List ℕ) (i : ℕ) (q : P) → IsTold (length is + 2) → Answers moves next begin is i q → ⊥
       told is i q t a =

@@ -14,7 +14,7 @@ _uvt() {
         worst) words='-o --no-sessions --differ --for --states -j --json' ;;
         record) words='-o --log --most --worst --last --from --bare --lift --keep --late' ;;
         dump) words='-o' ;;
-        attach) words='-o --keep --late' ;;
+        attach) words='-o --keep --late --javascript --detach' ;;
         force) words='-o --stop --early --random --stall --seed --loop --limit --test --check --quiet' ;;
         hunt) words='-o --for --part --join --same-output --check --seed --report' ;;
         esac

@@ -1,6 +1,6 @@
 use Rattle.std.proofs.Common.{◌≡◌, ◌∷◌, ◌∙◌, length, drop, subst, arith}
 use Rattle.uv_search.proofs.Retracing.{some_left}
-use Rattle.uv_find.proofs.Results.{found_way, found_never, found_more, found_deep, found_no_memory, same_back}
+use Rattle.uv_find.proofs.Results.{answers_by, found_way, found_never, found_more, found_deep, found_no_memory, same_back}
 use Rattle.uv_find.proofs.finding.find_behind.Goals as goal
 
 pub go_back-requires : goal.go_back-requires
@@ -25,7 +25,8 @@ returns-in-Ok-Some-clause-found g c =
     (drop (length c.in-Way.field-0.way.items) (s.spot ∷ s.before)) back there in
     let rules : u.rules ≡ r = c.go_back.ensures.rules ∙ c.search.ensures.rules in
     let some = rw (c.in-Ok-Some.field-0-is, rules, here) at c.in-Ok-Some.ensures.some in
-    found_way r p c.args.limit c.in-Ok-Some.field-0-0.items c.in-Way.field-0.keys c.shortest.new.maze.spot f.0 some.0 f.2
+    let by = answers_by r p f.2.0 c.in-Way.field-0.way.items s.spot f.1 f.2.2 in
+    found_way r p c.args.limit c.in-Ok-Some.field-0-0.items c.in-Way.field-0.keys c.shortest.new.maze.spot f.0 some.0 f.2.0 f.2.1 by
 
 pub returns-in-Ok-None-clause-found : goal.returns-in-Ok-None-clause-found
 returns-in-Ok-None-clause-found g c =
@@ -49,7 +50,8 @@ returns-in-Ok-None-clause-found g c =
 pub returns-in-Way-clause-found : goal.returns-in-Way-clause-found
 returns-in-Way-clause-found g c =
     let f = rw c.in-Way.is at c.search.ensures.found in
-    found_no_memory c.args.orders.now.rules c.args.orders.now.spot c.args.limit c.in-Way.field-0.keys c.shortest.new.maze.spot f.0 f.2
+    found_no_memory c.args.orders.now.rules c.args.orders.now.spot c.args.limit c.in-Way.field-0.keys c.shortest.new.maze.spot f.0
+    (f.2.0, f.2.1)
 
 -- memory was refused in the search
 pub returns-clause-found : goal.returns-clause-found
