@@ -14,12 +14,12 @@ program. `./uvt uninstall PREFIX`, or `uvt uninstall`, takes away what was insta
 from __future__ import annotations
 
 import argparse
+import email.utils
 import gzip
 import hashlib
 import io
 import os
 import platform
-import py_compile
 import re
 import shutil
 import subprocess
@@ -27,21 +27,10 @@ import sys
 import tarfile
 import tempfile
 from pathlib import Path
-from typing import NamedTuple
 
-from package.uninstall import MANIFEST, Fault, Put, read_manifest, remove_files, write_manifest
+from package.contents import ROOT, Item, Items, built_program, git, items_of, version
+from package.uninstall import MANIFEST, Fault, Put, forget_compiled, read_manifest, remove_files, write_manifest
 
-ROOT = Path(__file__).resolve().parent.parent.parent
-# What is installed of tools/: not what builds the program, and not what is for tests.
-TAKEN = (
-    "start.py",
-    "uvt",
-    *(f"launch/{it}" for it in ("__init__.py", "tool.py", "typed.py", "bad_line.py", "reasons.py", "usage")),
-    "package/__init__.py",
-    "package/uninstall.py",
-)
-OWN = {"programs", "vscode", "__pycache__"}
-PROVED = b"rattle logic="
 # Where the pages of a tar file say that they lie: that is where README.md unpacks it.
 TAR_PREFIX = "~/.local"
 CONTROL = """Package: uvt
@@ -60,197 +49,36 @@ Description: model of the event loop of libuv, and a debugger that goes back
  a line, and goes back exactly. The program in this package is proved; the
  tools around it, in Python, are tested.
 """
-COPYRIGHT = """No licence has been chosen for uvt yet. Until its owner chooses one, this file is the only word on it: nobody but the owner has the
-right to copy it, to change it or to hand it on.
+CHANGELOG = """uvt ({version}) unstable; urgency=medium
+
+  * The program, the search and the tools of this commit.
+
+ -- {name} <{mail}>  {date}
 """
-EVIDENCE = """What was proved, and what you can check:
-
-kit             the kit that has proved and compiled the program, as it names itself. The program says by which logic it was
-                proved, too: readelf -p .comment {prefix}/lib/uvt/program
-sources.sha256  each source that it was proved and compiled from. In a clone of the repository: sha256sum -c sources.sha256
-program.sha256  the program itself, and the search. In {prefix}: sha256sum -c share/doc/uvt/proof/program.sha256
-
-Whoever has the kit and the sources can prove and build it again, by `./uvt build`.
+# What a Debian package does with Python's own files, as dh_python3 has it: they are compiled where it is installed, and go with it.
+SCRIPTS = {
+    "postinst": """#!/bin/sh
+set -e
+if [ "$1" = configure ] && [ -z "${DPKG_ROOT:-}" ] && command -v py3compile >/dev/null 2>&1; then
+    py3compile -p uvt /usr/lib/uvt
+fi
+""",
+    "prerm": """#!/bin/sh
+set -e
+if [ -z "${DPKG_ROOT:-}" ]; then
+    find /usr/lib/uvt -type d -name __pycache__ -exec rm -r {} +
+fi
+""",
+}
+OVERRIDES = """# Their checksums are the evidence of their proof: they are as the kit has compiled them.
+uvt: unstripped-binary-or-object [usr/lib/uvt/program]
+uvt: unstripped-binary-or-object [usr/lib/uvt/program-find]
 """
-
-
-class Item(NamedTuple):
-    """A file, or where `link` isn't empty a link to there."""
-
-    data: bytes
-    mode: int = 0o644
-    link: str = ""
-
-
-Items = dict[str, Item]
-
-
-# ---- pages and texts as they are installed
-
-
-def page_of(text: str, prefix: str) -> str:
-    """A page for a reader who has no clone: without the parts for one, with those for an installed program."""
-    text = re.sub(r"<!-- clone -->\n.*?<!-- /clone -->\n", "", text, flags=re.DOTALL)
-    text = re.sub(r"<!-- installed\n(.*?)/installed -->\n", r"\1", text, flags=re.DOTALL)
-    text = text.replace("SHARE/", f"{prefix}/share/")
-    text = text.replace("/path/to/uvt/tools/", f"{prefix}/lib/uvt/tools/")
-    return re.sub(r"(?<![\w/.])\./uvt(?![\w-])", "uvt", text)
-
-
-def usage_of(text: str, prefix: str, packed: bool) -> str:
-    lines = [it for it in text.splitlines() if not re.match(r"  \./uvt (build|test|install|uninstall) ", it)]
-    if not packed:
-        at = next(at for at, it in enumerate(lines) if it.startswith("  ./uvt help"))
-        lines.insert(at, "  ./uvt uninstall                  takes away all of it, and nothing else")
-    text = "\n".join(lines) + "\n"
-    text = re.sub(r"\b(README\.md|docs/\w+\.md|examples/)", rf"{prefix}/share/doc/uvt/\1", text)
-    return re.sub(r"\./uvt(?![\w-])", "uvt", text)
-
-
-def manual_of(usage: str) -> bytes:
-    text = usage.replace("\\", "\\e")
-    text = re.sub(r"^\.", "\\\\&.", text, flags=re.MULTILINE)
-    head = ".TH UVT 1\n.SH NAME\nuvt \\- a model of the event loop of libuv, and a debugger for it that goes back\n.SH USAGE\n.nf\n"
-    return gzip.compress((head + text + ".fi\n").encode(), 9, mtime=0)
-
-
-# ---- what is installed
-
-
-def walk(path: Path) -> list[Path]:
-    """The file, or the files of a folder, except for those that aren't for users."""
-    if not path.is_dir():
-        return [path]
-    return [found for it in sorted(path.iterdir()) if it.name not in OWN and it.suffix != ".pyc" for found in walk(it)]
-
-
-def file_of(path: Path) -> Item:
-    return Item(path.read_bytes(), 0o755 if os.access(path, os.X_OK) else 0o644)
-
-
-def tools_of(prefix: str, packed: bool) -> Items:
-    items = {}
-    for path in [found for it in TAKEN for found in walk(ROOT / "tools" / it)]:
-        item, name = file_of(path), path.relative_to(ROOT).as_posix()
-        if path.name == "usage":
-            item = item._replace(data=usage_of(item.data.decode(), prefix, packed).encode())
-        elif path.parent.name == "commands":
-            item = item._replace(data=re.sub(rb"\./uvt(?![\w-])", b"uvt", item.data))
-        items[f"lib/uvt/{name}"] = item
-    return {**items, **compiled(items, prefix)}
-
-
-def compiled(items: Items, prefix: str) -> Items:
-    """What Python compiles of these sources, for the Python that packs them: else each call of a tool compiles them anew. (Another Python takes no
-    notice of it; nor does any where a source was changed since.)"""
-    found = {}
-    with tempfile.TemporaryDirectory() as room:
-        source, made = os.path.join(room, "it.py"), os.path.join(room, "it.pyc")
-        for name, item in items.items():
-            folder, _, file = name.rpartition("/")
-            if file.endswith(".py"):
-                Path(source).write_bytes(item.data)
-                py_compile.compile(source, made, f"{prefix}/{name}", doraise=True, invalidation_mode=py_compile.PycInvalidationMode.CHECKED_HASH)
-                found[f"{folder}/__pycache__/{file[:-3]}.{sys.implementation.cache_tag}.pyc"] = Item(Path(made).read_bytes())
-    return found
-
-
-def pages_of(prefix: str) -> Items:
-    doc = "share/doc/uvt"
-    items = {f"{doc}/README.md": Item(page_of((ROOT / "README.md").read_text(encoding="utf-8"), prefix).encode())}
-    for path in sorted((ROOT / "docs").iterdir()):
-        data = path.read_bytes()
-        items[f"{doc}/docs/{path.name}"] = Item(page_of(data.decode(), prefix).encode() if path.suffix == ".md" else data)
-    for path in sorted((ROOT / "examples").resolve().iterdir()):
-        items[f"{doc}/examples/{path.name}"] = Item(path.read_bytes())
-    for path in sorted((ROOT / "tools" / "uvt" / "record" / "programs").glob("*.c")):
-        items[f"{doc}/tools/uvt/record/programs/{path.name}"] = Item(path.read_bytes())
-    for path in sorted((ROOT / "tools" / "uvt" / "vscode").rglob("*")):
-        if path.is_file():
-            items[f"{doc}/{path.relative_to(ROOT).as_posix()}"] = Item(path.read_bytes())
-    # (the manifest of the extension names it)
-    items[f"{doc}/tools/uvt/vscode/uvt-dap"] = Item(b'#!/bin/sh\nexec uvt dap "$@"\n', 0o755)
-    items[f"{doc}/copyright"] = Item(COPYRIGHT.encode())
-    return items
-
-
-def evidence_of(programs: dict[str, Path], prefix: str) -> Items:
-    """The kit's line, and the checksums of the sources and of the programs, by the paths at which these are installed."""
-    kits, sources, sums = set(), set(), []
-    for name, program in programs.items():
-        data = program.read_bytes()
-        if PROVED not in data:
-            raise Fault(f"{program} is no proved program: its section .comment doesn't name the program logic")
-        try:
-            kit, *lines = (program.parent / "sums").read_text(encoding="utf-8").splitlines()
-        except (OSError, ValueError):
-            raise Fault(f"{program.parent / 'sums'} isn't there, which says of what sources the program is: ./uvt build writes it") from None
-        logic = re.search(r"\blogic ([0-9a-f]+)", kit)
-        if logic and not re.search(PROVED + logic[1].encode(), data):
-            raise Fault(f"{program} was proved in another logic than that of `{kit}`")
-        kits.add(kit)
-        sources.update(lines)
-        sums.append(f"{hashlib.sha256(data).hexdigest()}  {name}\n")
-    folder = "share/doc/uvt/proof"
-    return {
-        f"{folder}/README": Item(EVIDENCE.format(prefix=prefix).encode()),
-        f"{folder}/kit": Item("".join(f"{it}\n" for it in sorted(kits)).encode()),
-        f"{folder}/sources.sha256": Item("".join(f"{it}\n" for it in sorted(sources, key=lambda it: it.split(maxsplit=1)[-1])).encode()),
-        f"{folder}/program.sha256": Item("".join(sums).encode()),
-    }
-
-
-def items_of(program: Path, prefix: str, packed: bool) -> Items:
-    """All that is installed, by its path below the prefix. `packed` is what dpkg takes away again, by its own lists."""
-    programs = {"lib/uvt/program": program}
-    search = built_program("uvt_find")
-    if search:
-        programs["lib/uvt/program-find"] = search
-    items = {**tools_of(prefix, packed), **pages_of(prefix), **evidence_of(programs, prefix)}
-    items["lib/uvt/uvt"] = file_of(ROOT / "uvt")
-    items.update({name: Item(it.read_bytes(), 0o755) for name, it in programs.items()})
-    items["lib/uvt/version"] = Item(f"{version()}\n".encode())
-    items["bin/uvt"] = Item(b"", 0o777, "../lib/uvt/uvt")
-    items["share/man/man1/uvt.1.gz"] = Item(manual_of(items["lib/uvt/tools/launch/usage"].data.decode()))
-    items["share/bash-completion/completions/uvt"] = file_of(ROOT / "tools" / "launch" / "completion" / "uvt.bash")
-    # (where Debian's zsh looks for those of packages, and where others do)
-    zsh = "share/zsh/vendor-completions/_uvt" if packed else "share/zsh/site-functions/_uvt"
-    items[zsh] = file_of(ROOT / "tools" / "launch" / "completion" / "_uvt")
-    return dict(sorted(items.items()))
-
-
-def git(*words: str) -> str:
-    if not (ROOT / ".git").exists():
-        return ""
-    ran = subprocess.run(
-        ["git", "-c", f"safe.directory={ROOT}", "-C", str(ROOT), *words],
-        env={**os.environ, "TZ": "UTC"},
-        stdout=subprocess.PIPE,
-        stderr=subprocess.DEVNULL,
-        text=True,
-    )
-    return ran.stdout.strip() if ran.returncode == 0 else ""
-
-
-def version() -> str:
-    """The commit, behind the day and the time of it in UTC, so that a later one is an upgrade; `+changed` where the clone isn't what it has."""
-    found = git("log", "-1", "--date=format-local:%Y%m%d.%H%M%S", "--format=0~%cd.%h")
-    return (found or "0") + ("+changed" if found and git("status", "--porcelain") else "")
 
 
 def architecture() -> str:
     machine = platform.machine()
     return {"x86_64": "amd64", "aarch64": "arm64"}.get(machine, machine)
-
-
-def built_program(crate: str) -> Path | None:
-    """The program of this crate that ./uvt build has built, of the sources as they are now."""
-    kept = ROOT / "out" / crate
-    script = '. "$root/tools/launch/kept.sh"; is_built'
-    ran = subprocess.run(
-        ["sh", "-c", "say() { :; }; fail() { exit 70; }; " + script], env={**os.environ, "root": str(ROOT), "crate": crate, "kept": str(kept)}
-    )
-    return kept / crate if ran.returncode == 0 else None
 
 
 def proved_program() -> Path:
@@ -260,19 +88,14 @@ def proved_program() -> Path:
     return program
 
 
-# ---- install, deb, tar
-
-
 def put(path: Path, item: Item) -> None:
     path.parent.mkdir(parents=True, exist_ok=True)
+    part = path.with_name(path.name + ".part")
+    # (no link that somebody else has put there is followed, and nothing half written stays)
+    part.unlink(missing_ok=True)
     if item.link:
-        part = path.with_name(path.name + ".part")
-        part.unlink(missing_ok=True)
         part.symlink_to(item.link)
     else:
-        part = path.with_name(path.name + ".part")
-        # (no link that somebody else has put there is followed, and nothing half written stays)
-        part.unlink(missing_ok=True)
         try:
             part.write_bytes(item.data)
         except OSError:
@@ -320,9 +143,32 @@ def install(program: Path, prefix: Path) -> None:
     both = Put({name: before.files.get(name, []) + made.files.get(name, []) for name in {**before.files, **made.files}}, made.folders)
     # (what is under way is in the list: whoever is stopped here can uninstall, or install again)
     write_manifest(prefix, both)
+    forget_compiled(prefix)
     put_all(prefix, items)
     remove_files(prefix, {name: sums for name, sums in before.files.items() if name not in items})
     write_manifest(prefix, made)
+
+
+def maintainer() -> dict[str, str]:
+    """Whom DEBFULLNAME and DEBEMAIL name, or who made the commit."""
+    name, _, mail = (git("log", "-1", "--format=%an%n%ae") or "uvt\nuvt@localhost").partition("\n")
+    return {"name": os.environ.get("DEBFULLNAME", name), "mail": os.environ.get("DEBEMAIL", mail)}
+
+
+def made_at() -> int:
+    """The time that all files of a package have: the commit's. Of a copy without its history that of its README, and first of all the time that
+    SOURCE_DATE_EPOCH says."""
+    said = os.environ.get("SOURCE_DATE_EPOCH") or git("log", "-1", "--format=%ct")
+    return int(said) if said.isdigit() else int((ROOT / "README.md").stat().st_mtime)
+
+
+def by_debian(mine: dict[str, str], epoch: int) -> Items:
+    """What only a Debian package has: its changes, and what lintian is told."""
+    text = CHANGELOG.format(version=version(), date=email.utils.formatdate(epoch), **mine)
+    return {
+        "share/doc/uvt/changelog.gz": Item(gzip.compress(text.encode(), 9, mtime=0)),
+        "share/lintian/overrides/uvt": Item(OVERRIDES.encode()),
+    }
 
 
 def deb(folder: Path) -> Path:
@@ -332,23 +178,24 @@ def deb(folder: Path) -> Path:
     # (the newest version of the C library of which the program asks a name)
     versions = re.findall(rb"GLIBC_([0-9.]+)", program.read_bytes())
     library = max(versions, key=lambda it: [int(part) for part in it.split(b".") if part], default=b"2.34").decode()
-    epoch = int(git("log", "-1", "--format=%ct") or 0)
+    epoch = made_at()
+    mine = maintainer()
     target = folder / f"uvt_{version()}_{architecture()}.deb"
     part = target.with_name(target.name + ".part")
     with tempfile.TemporaryDirectory() as name:
         room = Path(name) / "uvt"
         room.mkdir(mode=0o755)
-        items = items_of(program, "/usr", packed=True)
+        items = {**items_of(program, "/usr", packed=True), **by_debian(mine, epoch)}
         put_all(room / "usr", items)
         control = CONTROL.format(
             version=version(),
             architecture=architecture(),
-            name=os.environ.get("DEBFULLNAME", "uvt"),
             library=library,
-            mail=os.environ.get("DEBEMAIL", "uvt@localhost"),
+            **mine,
             size=sum(len(it.data) + 1023 for it in items.values()) // 1024,
         )
         put(room / "DEBIAN" / "control", Item(control.encode()))
+        put_all(room / "DEBIAN", {name: Item(text.encode(), 0o755) for name, text in SCRIPTS.items()})
         sums = "".join(f"{hashlib.md5(it.data).hexdigest()}  usr/{name}\n" for name, it in items.items() if not it.link)
         put(room / "DEBIAN" / "md5sums", Item(sums.encode()))
         for at, folders, _ in os.walk(room):
@@ -372,7 +219,7 @@ def tar(folder: Path) -> Path:
     manifest = Put({name: [digest_of(it)] for name, it in items.items()}, [])
     items[MANIFEST] = Item(manifest.text().encode())
     top = f"uvt-{version()}-{architecture()}"
-    epoch = int(git("log", "-1", "--format=%ct") or 0)
+    epoch = made_at()
     target = folder / f"{top}.tar.gz"
     stream = io.BytesIO()
     with tarfile.open(fileobj=stream, mode="w", format=tarfile.GNU_FORMAT) as archive:

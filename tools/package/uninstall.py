@@ -1,13 +1,16 @@
 """Takes away what `uvt install` put below a prefix, and nothing else: tools/package/uninstall.py PREFIX
 
 The list of it is PREFIX/lib/uvt/installed: the SHA-256 of each file (of a link, of where it leads), and the folders that weren't there
-before. A file that was changed since stays, and that is said; so do folders with something else in them."""
+before. A file that was changed since stays, and that is said; so do folders with something else in them. What the tools have compiled for the user
+who calls it goes too."""
 
 from __future__ import annotations
 
+import contextlib
 import hashlib
 import os
 import re
+import shutil
 import sys
 from dataclasses import dataclass
 from pathlib import Path
@@ -81,6 +84,19 @@ def remove_files(prefix: Path, files: dict[str, list[str]]) -> list[str]:
     return changed
 
 
+def forget_compiled(prefix: Path) -> None:
+    """What the tools below this prefix have compiled for this user: a folder of their version (`out_folder` of uvt.conversation)."""
+    try:
+        version = (prefix / "lib" / "uvt" / "version").read_text(encoding="ascii").strip()
+    except (OSError, ValueError):
+        return
+    cache = Path(os.environ.get("XDG_CACHE_HOME") or os.path.expanduser("~/.cache")) / "uvt"
+    if re.fullmatch(r"\d[\w.~+]*", version):
+        shutil.rmtree(cache / version, ignore_errors=True)
+    with contextlib.suppress(OSError):
+        cache.rmdir()
+
+
 def uninstall(prefix: Path) -> list[str]:
     made = read_manifest(prefix)
     if made is None:
@@ -90,6 +106,7 @@ def uninstall(prefix: Path) -> list[str]:
             if packed
             else f"nothing was installed below {prefix} by `uvt install`"
         )
+    forget_compiled(prefix)
     changed = remove_files(prefix, made.files)
     if changed:
         kept = {name: made.files[name] for name in changed}

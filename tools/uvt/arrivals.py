@@ -9,10 +9,10 @@ from __future__ import annotations
 import bisect
 from dataclasses import dataclass
 
-from uvt.conversation import State
+from uvt.state import State
 from uvt.notes import Notes
 from uvt.waits import Wait
-from uvt.walk import WAKES, LeftByIo, Walk
+from uvt.walk import LeftByIo, WAKES, Walk
 
 LEFT, BEHIND, PENDING = "left", "behind", "pending"
 
@@ -39,11 +39,11 @@ def what_came(notes: Notes, step: str, state: State) -> str:
 
 def came(walk: Walk, wait: Wait) -> Came:
     """What is known of a call."""
-    step = wait.ended
+    step = wait.end()
     if step in walk.leaving:
         return Came(step, LEFT, walk.leaving[step], step)
     poll, pending = walk.last_line(("poll",), step), walk.last_line(("pending",), step)
-    where = BEHIND if poll and poll > pending else PENDING
+    where = BEHIND if poll and poll > (pending or 0) else PENDING
     return Came(step, where, poll, max(walk.left_at(poll) if poll else 0, wait.asked))
 
 

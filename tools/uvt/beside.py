@@ -14,9 +14,10 @@ from collections.abc import Iterator
 from dataclasses import dataclass
 
 from uvt.waits import History, Wait, follow
-from uvt.walk import WORDS, Took, Walk
+from uvt.walk import Took, Walk
 from uvt.causes import few, times
-from uvt.why import CALLS, Why
+from uvt.why import Why
+from uvt.why_asked import CALLS
 
 # A difference of so many ms is one; and so many lines each part has at the most.
 LEAST, LINES, BEHIND, NEXT = 3, 5, 4, 3
@@ -190,10 +191,23 @@ class Beside:
             rows += [f"    behind it: {it}" for it in self.waited_for(bad)]
         if len(told) > LINES:
             rows.append(f"and {len(told) - LINES} more")
-        return rows + [text for _, text in sorted(self.workers(), key=lambda it: -it[0])[:LINES]]
+        return rows + self.longer_requests()
 
-    def workers(self) -> Iterator[tuple[int, str]]:
-        """The requests that waited longer for a worker, or that had one for longer."""
+    def longer_requests(self) -> list[str]:
+        """The requests of one function are one story: the one that differs most, and how many more do."""
+        by: dict[str, list[tuple[int, str]]] = {}
+        for more, function, text in sorted(self.workers(), key=lambda it: -it[0]):
+            by.setdefault(function, []).append((more, text))
+        return [it[0][1] + self.others_of(function, it[1:]) for function, it in list(by.items())[:LINES]]
+
+    def others_of(self, function: str, rows: list[tuple[int, str]]) -> str:
+        if not rows:
+            return ""
+        by = f"{rows[0][0]} ms" if rows[0][0] == rows[-1][0] else f"{rows[-1][0]} to {rows[0][0]} ms"
+        return f"; and {times(len(rows), 'more request')} of {function} by {by} more"
+
+    def workers(self) -> Iterator[tuple[int, str, str]]:
+        """The requests that waited longer for a worker, or that had one for longer: by how much, and of which function."""
         runs: dict[str, list[tuple[int, int]]] = collections.defaultdict(list)
         for it in self.good.calls:
             if known := self.good.worker(it):
@@ -206,7 +220,8 @@ class Beside:
                 if one and two and two[at] - one[at] >= max(LEAST, 2 * noise):
                     parts.append((two[at] - one[at], f"{what} {two[at]} ms, in {self.good.file} {one[at]} ms{self.worker_did(bad) if at else ''}"))
             if parts:
-                yield max(it[0] for it in parts), f"{bad.name}, request {bad.number}: {'; '.join(text for _, text in parts)}"
+                function = self.bad.walk.notes.function("work", bad.name, bad.number).split(" (")[0] or numbered(bad.name)
+                yield max(it[0] for it in parts), function, f"{bad.name}, request {bad.number}: {'; '.join(text for _, text in parts)}"
 
     def worker_did(self, call: Called) -> str:
         notes, ran = self.bad.walk.notes, self.bad.worker(call)
@@ -320,6 +335,12 @@ class Beside:
 
     # ---- only in one
 
+    def is_other(self, good: int, bad: int) -> bool:
+        """Are these counts of calls others than what the runs' lengths make of them? (A timer that repeats is called oftener in a longer run.)"""
+        lengths = [run.walk.clock(run.walk.length) for run in (self.good, self.bad)]
+        by_length = good * lengths[1] / max(1, lengths[0])
+        return good != bad and ((bad > good) != (lengths[1] > lengths[0]) or abs(bad - by_length) > 1)
+
     def alone(self) -> list[str]:
         rows = []
         for one, other in ((self.good, self.bad), (self.bad, self.good)):
@@ -336,7 +357,9 @@ class Beside:
             rows += [f"only {one.file} asks: {few([f'`{it}`' for it in more])}"] if more else []
         counts = [collections.Counter((it.kind, it.name) for it in run.calls) for run in (self.good, self.bad)]
         differ = [
-            key for key in counts[1] if key in counts[0] and counts[0][key] != counts[1][key] and max(counts[0][key], counts[1][key]) < MANY_CALLS
+            key
+            for key in counts[1]
+            if key in counts[0] and self.is_other(counts[0][key], counts[1][key]) and max(counts[0][key], counts[1][key]) < MANY_CALLS
         ]
         rows += [f"{name}: {times(counts[1][kind, name], ONE[kind])}, in {self.good.file} {counts[0][kind, name]}" for kind, name in differ[:LINES]]
         return rows

@@ -3,9 +3,12 @@
 from __future__ import annotations
 
 from collections.abc import Sequence
+from dataclasses import replace
 
+from uvt.spent import UNKNOWN
 from uvt.walk import Took, Walk
 
+MAIN = "the main program"
 # How many names or steps a sentence has at the most.
 MANY = 8
 
@@ -45,6 +48,17 @@ def in_javascript(walk: Walk, took: Took, begin: int, end: int) -> str:
     first, last = took.pieces[0][0], took.pieces[-1][1]
     found = walk.notes.javascript.told(first, last, (max(begin, first), min(end, last))) if begin < end else []
     return f": {'; '.join(found)}" if found else ""
+
+
+def one_main(causes: list[Took]) -> list[Took]:
+    """These, and those of the main program that follow one another as one: each op of the loop's ends one of them."""
+    found: list[Took] = []
+    for it in causes:
+        if found and it.what == found[-1].what == MAIN:
+            found[-1] = replace(found[-1], last=it.last, pieces=found[-1].pieces + it.pieces, processor=UNKNOWN, spent=None)
+        else:
+            found.append(it)
+    return found
 
 
 # Of a stretch of time so many causes are told one by one.

@@ -19,6 +19,7 @@ from pathlib import Path
 from typing import Any, BinaryIO, Callable, Iterator
 
 from uvt.notes import Notes, harmless, path_of, read_notes
+from uvt.state import State
 
 ROOT = Path(__file__).resolve().parent.parent.parent
 # Whether these are the tools of tools/package/pack, without a repository.
@@ -132,6 +133,10 @@ def read_recording(text: str) -> Recording:
     return Recording(Script(lines[1:begin], 2), lines[begin + 1 : calls], lines[calls + 1 : -1])
 
 
+# In front of a session that find has found of a recording in node, Python or Lua.
+HOOKED = "# recorded with what ./uvt record has node, Python and Lua load"
+
+
 def read_text(text: str) -> tuple[Script, list[str]]:
     """A script, or a recording, with the steps or commands behind it."""
     lines = read_lines(text)
@@ -174,86 +179,6 @@ def read_descriptor(file: BinaryIO) -> tuple[Script, list[str]]:
     except OSError as fault:
         raise Fault(f"the input can't be read: {fault.strerror}") from None
     return read_bytes(data, path_of(file.fileno()))
-
-
-@dataclass
-class Slot:
-    """A slot that was ever used: a handle's, a request's, or neither."""
-
-    id: str
-    kind: str
-    name: str = ""
-    values: dict[str, str] = field(default_factory=dict)
-    # of a request: `waiting`, `running K`, `done`, `cancelled`
-    outcome: str = ""
-
-
-SLOT_VALUES = {"ref", "active", "closing", "begun", "due", "start", "repeat", "pending"}
-
-
-def read_slot(words: list[str]) -> Slot:
-    id, kind = words[1], words[2]
-    if kind in ("empty", "retired"):
-        return Slot(id, kind)
-    if kind == "work":
-        outcome = " ".join(words[4:6]) if words[4] == "running" else words[4]
-        return Slot(id, kind, words[3], {}, outcome)
-    rest = words[4:]
-    return Slot(id, kind, words[3], {a: b for a, b in zip(rest[::2], rest[1::2]) if a in SLOT_VALUES})
-
-
-class State:
-    """What `state` prints, by its words. (It may have many thousand lines: what of it somebody asks for is cut into values then.)"""
-
-    def __init__(self, lines: list[str]) -> None:
-        self.lines = lines
-
-    @functools.cached_property
-    def numbers(self) -> dict[str, int]:
-        words = self.lines[0].split(" ")
-        found = {a: int(b) for a, b in zip(words[::2], words[1::2])}
-        return found | {"unused": int(it.split(" ")[1]) for it in self.lines if it.startswith("unused ")}
-
-    @property
-    def place(self) -> str:
-        return self.lines[1].removeprefix("place ")
-
-    @functools.cached_property
-    def names(self) -> list[list[str]]:
-        return [it.split(" ") for it in self.lines if it.startswith("name ")]
-
-    @functools.cached_property
-    def bound(self) -> dict[str, str | None]:
-        """Which id each name has."""
-        return {it[1]: None if it[2] == "none" else it[2] for it in self.names}
-
-    @functools.cached_property
-    def counts(self) -> dict[str, tuple[int, int, int]]:
-        """How many callbacks, after callbacks and close callbacks each name had."""
-        return {it[1]: (int(it[3]), int(it[4]), int(it[5])) for it in self.names}
-
-    @functools.cached_property
-    def rows(self) -> dict[str, str]:
-        """The line of each slot, by its id."""
-        return {it.split(" ", 2)[1]: it for it in self.lines if it.startswith("slot ")}
-
-    @functools.cached_property
-    def slots(self) -> list[Slot]:
-        return [read_slot(it.split(" ")) for it in self.rows.values()]
-
-    @functools.cached_property
-    def lists(self) -> dict[str, list[str]]:
-        found = (it.split(" ") for it in self.lines[2:] if not it.startswith(("name ", "slot ", "unused ")))
-        return {it[0]: it[1:] for it in found}
-
-    def slot_at(self, id: str | None) -> Slot | None:
-        row = self.rows.get(id)
-        return read_slot(row.split(" ")) if row else None
-
-    def slot_of(self, name: str) -> Slot | None:
-        """The slot that the name's id holds still."""
-        slot = self.slot_at(self.bound.get(name))
-        return slot if slot and slot.name == name else None
 
 
 @functools.lru_cache(maxsize=None)
@@ -315,20 +240,22 @@ class Conversation:
             )
         except OSError as fault:
             raise Fault(f"{words[0]} could not be started: {fault.strerror}") from None
+        assert self.process.stdin and self.process.stdout and self.process.stderr
+        self.input, self.output, self.errors = self.process.stdin, self.process.stdout, self.process.stderr
         self.length = 0
         self.send("".join(it + "\n" for it in script.lines) + "begin\n")
         self.ask("back 0")
 
     def send(self, text: str) -> None:
         try:
-            self.process.stdin.write(text.encode("ascii", "surrogateescape"))
-            self.process.stdin.flush()
+            self.input.write(text.encode("ascii", "surrogateescape"))
+            self.input.flush()
         except (BrokenPipeError, ValueError):
             self.ended()
 
     def ended(self) -> None:
         """The program has ended where it wasn't asked to: says why."""
-        said = self.process.stderr.read().decode("ascii", "replace").strip()
+        said = self.errors.read().decode("ascii", "replace").strip()
         self.process.wait()
         at = re.search(r"bad script line (\d+)", said)
         line = self.script.lines[int(at[1]) - 1] if at and 0 < int(at[1]) <= len(self.script.lines) else None
@@ -338,7 +265,7 @@ class Conversation:
         raise Fault(told if line is None else f"{told}: {line}")
 
     def read_line(self) -> str:
-        line = self.process.stdout.readline()
+        line = self.output.readline()
         if not line.endswith(b"\n"):
             self.ended()
         return line[:-1].decode("ascii", "replace")
@@ -441,7 +368,7 @@ class Conversation:
 
     def read_some(self) -> bytes:
         """What the program has written, as soon as there is some."""
-        output: Any = self.process.stdout
+        output: Any = self.output
         part: bytes = output.read1(1 << 16)
         return part
 
@@ -462,8 +389,8 @@ class Conversation:
     def send_quietly(self, text: str) -> None:
         """Sends, where the reader is the one who tells that the program has ended."""
         try:
-            self.process.stdin.write(text.encode("ascii", "surrogateescape"))
-            self.process.stdin.flush()
+            self.input.write(text.encode("ascii", "surrogateescape"))
+            self.input.flush()
         except (BrokenPipeError, ValueError):
             pass
 
@@ -485,7 +412,7 @@ class Conversation:
         """The answer to a move, and the state behind it."""
         said = self.read_line()
         # (the line `done-yet` is a state's last one)
-        read = self.process.stdout.readline
+        read = self.output.readline
         lines: list[bytes] = []
         while not lines or not lines[-1].startswith(b"done-yet"):
             lines.append(read())
@@ -507,6 +434,24 @@ class Conversation:
             yield self.read_state_behind(move)
         writer.join()
 
+    def states_of(self, looks: list[tuple[int, str]]) -> Iterator[State]:
+        """Of many numbers of steps the state of one name each (`of_name`), asked all at once. All have to be read."""
+        moves, here = [], self.length
+        for length, name in looks:
+            moves.append(f"forward {length - here}\nstate {name}\nback 0\n" if length > here else f"back {here - length}\nstate {name}\nback 0\n")
+            here = length
+        writer = started(self.send_quietly, "".join(moves))
+        for length, name in looks:
+            said = self.read_line()
+            lines: list[str] = []
+            while not lines or not lines[-1].startswith("at "):
+                lines.append(self.read_line())
+            if not AT.match(said):
+                raise Fault(f"the program answers `{said}` where {length} steps are to stand")
+            self.length = length
+            yield State(lines[:-1])
+        writer.join()
+
     def trace(self) -> list[str]:
         return self.ask("trace")
 
@@ -522,11 +467,11 @@ class Conversation:
         """Ends the program."""
         if self.process.poll() is None:
             try:
-                self.process.stdin.write(b"quit\n")
-                self.process.stdin.close()
+                self.input.write(b"quit\n")
+                self.input.close()
             except (BrokenPipeError, ValueError):
                 pass
-            self.process.stdout.read()
+            self.output.read()
             self.process.wait()
 
     def stop(self) -> None:

@@ -4,11 +4,20 @@ from __future__ import annotations
 
 import operator
 import re
+from collections.abc import Callable
 from dataclasses import dataclass
 
-from uvt.conversation import State
+from uvt.state import State
 
-SIGNS = {"==": operator.eq, "=": operator.eq, "!=": operator.ne, "<=": operator.le, ">=": operator.ge, "<": operator.lt, ">": operator.gt}
+SIGNS: dict[str, Callable[[int, int], bool]] = {
+    "==": operator.eq,
+    "=": operator.eq,
+    "!=": operator.ne,
+    "<=": operator.le,
+    ">=": operator.ge,
+    "<": operator.lt,
+    ">": operator.gt,
+}
 WORD = r"[a-z][a-z0-9_]*(?:\.[a-z]+)?"
 CONDITION = re.compile(rf" *({WORD}) *(==|=|!=|<=|>=|<|>) *(\d+) *")
 HITS = re.compile(r" *(==|=|>=|>|%)? *([1-9]\d{0,8}) *")
@@ -52,14 +61,18 @@ class More:
     def holds(self, state: State) -> bool:
         """Whether it is hit there. A hit that the count doesn't ask for is counted."""
         if self.condition:
-            word, sign, number = CONDITION.fullmatch(self.condition).groups()
+            found = CONDITION.fullmatch(self.condition)
+            assert found, "it was checked"
+            word, sign, number = found.groups()
             value = value_of(state, word)
             if value is None or not SIGNS[sign](value, int(number)):
                 return False
         self.count += 1
         if not self.hits:
             return True
-        sign, number = HITS.fullmatch(self.hits).groups()
+        asked = HITS.fullmatch(self.hits)
+        assert asked, "it was checked"
+        sign, number = asked.groups()
         if sign == "%":
             return self.count % int(number) == 0
         return SIGNS[sign or "=="](self.count, int(number))
@@ -72,5 +85,5 @@ class More:
 def more_of(row: object) -> More:
     """What a client gave."""
     values = row if isinstance(row, dict) else {}
-    texts = [values.get(it) if isinstance(values.get(it), str) else "" for it in ("condition", "hitCondition", "logMessage")]
-    return More(*(it.strip() for it in texts))
+    condition, hits, message = (it.strip() if isinstance(it, str) else "" for it in map(values.get, ("condition", "hitCondition", "logMessage")))
+    return More(condition, hits, message)

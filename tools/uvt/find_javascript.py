@@ -7,7 +7,7 @@ import re
 from pathlib import Path
 
 from uvt.conversation import Fault
-from uvt.javascript import PLACE
+from uvt.javascript_pieces import PLACE
 from uvt.notes import Notes, read_notes
 
 STARTED = re.compile(r"an? \w+ of JavaScript, started at ([^\s,]+)")

@@ -19,9 +19,13 @@ from collections.abc import Callable, Iterator
 from dataclasses import dataclass, field
 from pathlib import Path
 
-from uvt.conversation import Conversation, Fault, Script
+from uvt.conversation import HOOKED, Conversation, Fault, Script
 from uvt.hangs import read_hang
-from uvt.record.run import Part, from_fresh, from_log, recorder, room_for, sanitizers, taken, why_not, with_hooks
+from uvt.record.parts import Part
+from uvt.record.compiled import recorder
+from uvt.record.files import room_for, taken
+from uvt.record.run import from_fresh, from_log
+from uvt.record.started import sanitizers, why_not, with_hooks
 
 SECTIONS = {"pending", "idle", "prepare", "done", "async", "check", "closing", "timers"}
 ASKS = {"now", "alive", "timeout", "due", "hasref", "active", "closing"}
@@ -57,8 +61,9 @@ def single(commands: list[str]) -> list[str]:
     return steps
 
 
-def row(kind: str, step: int, name: int, number: int, text: str, word: str = "", rest: str = "", answer: str = "") -> str:
-    return "\t".join([kind, str(step), str(name), str(number), word, rest, answer, text])
+def row(kind: str, step: int, text: str, name: int = -1, number: int = 0, shown: tuple[str, str, str] = ("", "", "")) -> str:
+    """SHOWN: the word of an op or a section, what stands behind it, and its answer."""
+    return "\t".join([kind, str(step), str(name), str(number), *shown, text])
 
 
 def has_wake(script: Script) -> bool:
@@ -70,26 +75,26 @@ def row_of(command: str, line: str, step: int, names: dict[str, int], unseen: st
     """What the program is to show at this step, or what comes from outside. `unseen`: a handle that it doesn't have."""
     words = line.split(" ")
     if not line or (unseen and words[0] != "out" and words[1:2] == [unseen]):
-        return row("silent", step, -1, 0, line or "a step without a line")
+        return row("silent", step, line or "a step without a line")
     if words[0] == "out":
         name = next((names[it] for it in words[2:] if it in names), -1)
         number = int(words[2]) if words[1] in ("tick", "take", "finish") else 0
-        return row(words[1], step, name, number, line)
+        return row(words[1], step, line, name, number)
     if words[0] in CALLS and words[1] in names and " = " not in line and len(words) > 2:
-        return row("io" if command.startswith("io ") else CALLS[words[0]], step, names[words[1]], 0, line)
+        return row("io" if command.startswith("io ") else CALLS[words[0]], step, line, names[words[1]])
     if words[0] in ("run", "end"):
-        return row(words[0], step, -1, 0, line)
+        return row(words[0], step, line)
     if words[0] == "poll":
-        return row("poll", step, -1, -1 if words[1] == "infinite" else int(words[1]), line)
+        return row("poll", step, line, number=-1 if words[1] == "infinite" else int(words[1]))
     if words[0] in SECTIONS and len(words) == 1:
-        return row("section", step, -1, 0, line, words[0])
+        return row("section", step, line, shown=(words[0], "", ""))
     op, _, code = line.partition(" = ")
     parts = op.split(" ", 2)
     if parts[0] in ASKS:
-        return row("silent", step, -1, 0, line)
+        return row("silent", step, line)
     name = names.get(parts[1], -1) if len(parts) > 1 else -1
     answer = "ok" if parts[0] in ("init", "queue") and re.fullmatch(r"\d+\.\d+", code) else code
-    return row("op", step, name, 0, line, parts[0], parts[2] if len(parts) > 2 else "", answer)
+    return row("op", step, line, name, shown=(parts[0], parts[2] if len(parts) > 2 else "", answer))
 
 
 def schedule(script: Script, commands: list[str]) -> tuple[list[str], list[str]]:
@@ -258,7 +263,12 @@ def environment_of(words: list[str], folder: Path, order: Order) -> dict[str, st
     given |= {"UVT_FORCE_STOP": "1"} if order.stop else {}
     given |= {"UVT_FORCE_EARLY": "1"} if order.early else {}
     # (what the recorder has node, Python and Lua load asks something of the loop as well)
-    return {**given, **hooks(given)} if order.script.notes.javascript else given
+    return {**given, **hooks(given)} if is_hooked(order.script) else given
+
+
+def is_hooked(script: Script) -> bool:
+    """Was the program recorded with it? What find has found of such a recording says so itself."""
+    return bool(script.notes.javascript) or HOOKED in script.lines
 
 
 def hooks(given: dict[str, str]) -> dict[str, str]:

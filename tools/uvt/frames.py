@@ -6,8 +6,9 @@ import os
 from dataclasses import dataclass
 from pathlib import Path
 
-from uvt.conversation import State
-from uvt.javascript import LISTS, OUTSIDE, JavaScript, Place
+from uvt.state import State
+from uvt.javascript import JavaScript
+from uvt.javascript_pieces import LISTS, OUTSIDE, Place
 
 Call = tuple[str, str, int]
 
@@ -71,9 +72,9 @@ class Frames:
 
     def nearest(self, path: str, line: int) -> int | None:
         """The line at which a break stops that is asked for at this one: the last one before it at which JavaScript was seen, or the next."""
-        lines = self.lines_of(path)
+        lines = sorted(self.lines_of(path))
         before = [it for it in lines if it <= line]
-        return max(before) if before else min(lines, default=None)
+        return before[-1] if before else lines[0] if lines else None
 
     def calls_at(self, path: str, line: int) -> frozenset[Call]:
         """The callbacks of the loop in which JavaScript was there."""

@@ -15,7 +15,7 @@ from pathlib import Path
 from uvt.conversation import Fault, read_bytes, read_input
 from uvt.forcing import Order, Ran, badly, bound, limit, recording_of, remake, run
 from uvt.judging import judged, other_output
-from uvt.record.run import Part
+from uvt.record.parts import Part
 
 BODY = re.compile(r"(on|after|closed) (\S+) (?:@\d+ )?(\S+)(?: (\S+))?")
 FRAME = re.compile(r"^ +#\d+ 0x[0-9a-f]+ in (\S+) (\S+):(\d+)", re.MULTILINE)
@@ -27,6 +27,8 @@ NAMELESS = {"run", "stoploop", "updatetime", "closeloop"}
 FIRST, SEARCH, STALL, BEFORE, BEHIND = 10, 15, 15, 10, 100
 # How often an order that was bad is forced again; and one of which nobody knows so soon whether it is bad again.
 AGAIN, AGAIN_LATE = 10, 2
+# What the first run is called; how often another one tells whether it was bad by itself, and how long that may take, in seconds.
+BY_ITSELF, DOUBTS, LONGER = "the first run, which nobody forced", 2, 20
 # So many callbacks of each run are looked at.
 LOOKED = Part(most=2000)
 CODES = ("ESTALE", "EINVAL", "EBUSY")
@@ -197,11 +199,14 @@ class Hunt:
         self.running = self.recording = 0.0
         self.counts = Counts()
         self.first = Ran(0, 0)
-        # how many steps that run had
+        # that run's order, as text, and as it is forced; and how many steps it has
+        self.text, self.order = "", Order()
         self.length = 0
         self.loop = 0
-        self.runs = 0
+        self.runs = self.doubts = 0
         self.fault = ""
+        # what was bad, and not each time again: it is said where no better one is found
+        self.spare: Bad | None = None
 
     # ---- runs
 
@@ -232,11 +237,18 @@ class Hunt:
         self.runs += 1
         bound(order, self.first, self.length)
         cut, before = limited and self.until is not None and left < allowed, time.monotonic()
-        ran = run(self.wishes.words, order, str(self.folder / f"run{self.runs}"), left if cut else allowed, records, LOOKED)
+
+        def is_cut(ran: Ran) -> bool:
+            # (that it had no end by then says nothing, and its log may have no line yet)
+            return cut and ran.late and not ran.hangs
+
+        def is_recorded(ran: Ran) -> bool:
+            return not is_cut(ran) and bool(records(ran) if callable(records) else records)
+
+        ran = run(self.wishes.words, order, str(self.folder / f"run{self.runs}"), left if cut else allowed, is_recorded, LOOKED)
         self.running += ran.seconds
         self.recording += time.monotonic() - before - ran.seconds
-        if cut and ran.late and not ran.hangs:
-            # (that it had no end by then says nothing)
+        if is_cut(ran):
             raise TimeOver
         return ran
 
@@ -259,13 +271,63 @@ class Hunt:
         self.length = len(paths[path].steps)
         script, commands = read_input(path)
         self.loop = script.notes.loop
+        self.text, self.order = path.read_text(), Order(script, commands, self.loop)
         how = self.first.ended() if self.first.status < 0 or "Sanitizer" in self.first.ended() else self.judged(self.first)
         if not self.first.late and how:
-            bad = self.bad(self.first, how, "the first run, which nobody forced", path.read_text())
             # (what ends a run badly is another end than that of a run that went well)
-            self.first = Ran(0, self.first.seconds, self.first.output)
-            return self.again(bad, Order(script, commands, self.loop), AGAIN)
-        return paths[path]
+            return self.by_itself(Ran(0, self.first.seconds, self.first.output), how) or paths[path]
+        for _ in range(DOUBTS if self.first.status and not self.first.late else 0):
+            if other := self.other():
+                return self.by_itself(other, self.first.ended()) or paths[path]
+        return self.odd_one() or paths[path]
+
+    def odd_one(self) -> Bad | None:
+        """Of three runs that nobody forces the first one says something else than the two others, where that is bad."""
+        one = self.other() if self.wishes.same_output and not self.first.ended() else None
+        how = other_output(self.first.output, one.output) if one else ""
+        two = self.other() if how else None
+        if not one or not two or two.output != one.output:
+            return None
+        return self.by_itself(one, how.replace("the first run", "another run"))
+
+    def other(self) -> Ran | None:
+        """Another run that nobody forces, where that ends well."""
+        self.tell("another run that nobody forces")
+        ran = run(self.wishes.words, Order(), str(self.folder / "other"), min(LONGER, self.left()), False)
+        return None if ran.late or ran.ended() else ran
+
+    def by_itself(self, well: Ran, how: str, at_once: bool = False) -> Bad | None:
+        """The first run was bad: from here on WELL is what a run is measured by. None where it isn't bad each time in that order, or, AT_ONCE, only
+        takes long: then the hunt goes on."""
+        first, self.first = self.first, well
+        if first.late:
+            # (that it hangs is seen only where it is known that the program has an end)
+            first = self.force(self.order, False, limited=False)
+            how = self.badly(first)
+        if not how or (at_once and not first.is_told_at_once()):
+            return None
+        times = AGAIN if first.is_told_at_once() else AGAIN_LATE
+        bad = self.sure(self.again(self.bad(first, how, BY_ITSELF, self.text), self.order, times), first)
+        if bad and bad.bad_again == bad.again:
+            return bad
+        self.spare = bad
+        return None
+
+    def doubt(self, ran: Ran) -> Bad | None:
+        """A run ended well, and the first one with another status, or not at all: on a busy machine a program loses its races by itself, where it
+        is busy enough each time. (A server has no end each time: so that is another matter only where it has one by itself, or surely hangs.)"""
+        if self.doubts == DOUBTS or ran.late or ran.ended() or not self.first.ended():
+            return None
+        self.doubts += 1
+        first = self.first
+        if not first.late:
+            return self.by_itself(replace(ran, seconds=first.seconds), first.ended())
+        if other := self.other():
+            return self.by_itself(other, "")
+        if bad := self.by_itself(ran, "", at_once=True):
+            return bad
+        self.first, self.spare = first, None
+        return None
 
     # ---- what is known
 
@@ -295,26 +357,29 @@ class Hunt:
     # ---- the hunt
 
     def run(self) -> Bad | None:
+        try:
+            return self.hunt() or self.spare
+        except TimeOver:
+            return self.spare
+
+    def hunt(self) -> Bad | None:
         begun = self.begin()
         if isinstance(begun, Bad):
             return begun
         self.learn(begun)
         open = [begun]
-        try:
-            for count in itertools.chain([BEFORE], itertools.repeat(BEHIND)):
-                for seed in itertools.islice(self.seeds, count):
-                    if isinstance(found := self.at_random(seed), Bad):
-                        return found
-                    if found and self.learn(found):
-                        open.append(found)
-                had = bool(open)
-                while open:
-                    if bad := self.ask_all(self.whole(open.pop(0)), open):
-                        return bad
-                if not had and self.until is None:
-                    return None
-        except TimeOver:
-            pass
+        for count in itertools.chain([BEFORE], itertools.repeat(BEHIND)):
+            for seed in itertools.islice(self.seeds, count):
+                if isinstance(found := self.at_random(seed), Bad):
+                    return found
+                if found and self.learn(found):
+                    open.append(found)
+            had = bool(open)
+            while open:
+                if bad := self.ask_all(self.whole(open.pop(0)), open):
+                    return bad
+            if not had and self.until is None:
+                return None
         return None
 
     def ask_all(self, script: Recorded, open: list[Recorded]) -> Bad | None:
@@ -354,7 +419,7 @@ class Hunt:
         self.counts.departed += ran.departures > 0 or not (ran.done or ran.ended())
         if how := self.badly(ran):
             return self.kept(self.bad(ran, how, f"the order of `{text}`", session), ran, Order(asked, commands, self.loop))
-        return self.recorded(ran)
+        return self.doubt(ran) or self.recorded(ran)
 
     def kept(self, bad: Bad, ran: Ran, order: Order) -> Bad | None:
         """The order that ends badly again. What find has found ends with the step that was asked: what comes behind it came as it liked. The
@@ -398,7 +463,7 @@ class Hunt:
         stall = STALL if seed % 2 else 0
         ran = self.force(Order(seed=seed, stall=stall, loop=self.loop), self.teaches)
         if not (how := self.badly(ran)):
-            return self.recorded(ran)
+            return self.doubt(ran) or self.recorded(ran)
         path = self.whole_recording(ran)
         bad = self.bad(ran, how, f"order {seed} at random", path.read_text() if path else "")
         if path:

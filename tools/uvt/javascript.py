@@ -13,218 +13,33 @@ import re
 from collections.abc import Mapping, Sequence
 from dataclasses import dataclass, field
 
-# How a function came to be called, by node's own functions below it, in a person's words.
-HOW = {
-    "timer": "a timer",
-    "immediate": "an immediate",
-    "tick": "process.nextTick",
-    "promise": "a promise",
-    "main": "the main program",
-    "event": "an event",
-}
-KINDS = {
-    "timer": "a timer",
-    "interval": "an interval",
-    "immediate": "an immediate",
-    "soon": "a call_soon",
-    "task": "a step of a task",
-    "callback": "a callback",
-}
-# What files that are no part of the program begin with: node's own, and those that come with Python.
-OUTSIDE = ("node:", "python:")
-# Files of node whose timers a program asks for by these names.
-BY_NAME = {"node:internal/abort_controller:": "AbortSignal.timeout", "node:timers/promises:": "setTimeout of timers/promises"}
-# What node does as soon as a callback of JavaScript is over.
-AT_ONCE = ("tick", "promise")
-# So little isn't told, in ms; and so many parts at the most.
-LEAST = 2
-PARTS = 3
-# So many columns a line of an answer about JavaScript has, and so many signs of the program's text stay at the least.
-COLUMNS = 120
-OF_TEXT = 24
-# Of the word of a step's line the list of its callbacks, and which of a name's counts is that.
-LISTS = {"call": ("on", 0), "after": ("after", 1), "closed": ("closed", 2)}
-PLACE = re.compile(r"\S+:\d+")
+from uvt.javascript_pieces import (
+    AT_ONCE,
+    HOW,
+    KINDS,
+    LEAST,
+    LISTS,
+    Look,
+    NOWHERE,
+    OUTSIDE,
+    Origin,
+    PARTS,
+    Part,
+    Place,
+    Resource,
+    Span,
+    Under,
+    at,
+    how_much,
+    length,
+    longest,
+    read_origin,
+    read_under,
+    together,
+)
 
-
-@dataclass(frozen=True)
-class Place:
-    """A function, and where it begins; or where something was asked for, and in which function."""
-
-    function: str
-    where: str
-
-    def text(self) -> str:
-        name = self.function.replace("_", " ") if self.function.startswith("bound_") else self.function
-        return f"{name} ({self.where})" if self.where != "-" else name
-
-    def words(self) -> str:
-        """As it stands in a line of the notes."""
-        return f"{self.function} {self.where}"
-
-    def is_(self, name: str) -> bool:
-        """Is it what a person typed: a function's name, or FILE:LINE?"""
-        return name == self.function or self.where == name or self.where.endswith("/" + name)
-
-
-NOWHERE = Place("-", "-")
-
-
-def fold_at(line: str, begin: int, end: int) -> int:
-    """Where a line that is too long is cut, so that the rest goes below: 0 where it can't be. From `begin` to `end` stands the program's text."""
-    least = len(line) - len(line.lstrip()) + COLUMNS // 3
-    found = [
-        it for it in re.finditer(r"[;,:]? ", line[: COLUMNS + 2]) if it.start() > least and it.end() - 1 <= COLUMNS and not begin < it.start() < end
-    ]
-    parts = [it.end() - 1 for it in found if it[0] in ("; ", ", ") or it[0] == ": " and it.end() == begin]
-    words = [it.start() for it in found]
-    return parts[-1] if parts else words[-1] if words else 0
-
-
-def fitted(line: str) -> list[str]:
-    """A line of an answer, in as many columns as a person reads. A long text of the program's is cut, and what is left goes below."""
-    indent, found = " " * (len(line) - len(line.lstrip()) + 4), []
-    while len(line) > COLUMNS:
-        begin, end = line.find("`"), line.rfind("`")
-        room = COLUMNS - begin - 4
-        if 0 <= begin and end >= COLUMNS and room >= OF_TEXT:
-            line, end = f"{line[: begin + 1 + room]}..{line[end:]}", begin + room + 3
-        cut = fold_at(line, begin, end)
-        if not cut or len(line) <= COLUMNS:
-            break
-        found.append(line[:cut])
-        line = indent + line[cut:].lstrip()
-    return [*found, line]
-
-
-def length(looks: list[Look]) -> int:
-    return sum(it.end - it.begin for it in looks)
-
-
-def longest(looks: list[Look], what: str) -> str:
-    """The line, or what was called, in which most of these looks are."""
-    by: dict[str, list[Look]] = {}
-    for it in looks:
-        by.setdefault(getattr(it.under, what), []).append(it)
-    return max(by, key=lambda it: length(by[it]))
-
-
-def how_much(took: int, whole: int) -> str:
-    """A part of a time, in words: V8 may count what a function does to the one that calls it, so a part in ms would be more than is known."""
-    return "nearly all" if 10 * took >= 9 * whole else "most" if 2 * took >= whole else "a third or more"
-
-
-def at(place: Place) -> str:
-    """`at app.js:12, in save`."""
-    return f"at {place.where}" + (f", in {place.function}" if place.function not in ("(anonymous)", "-") else "")
-
-
-@dataclass(frozen=True)
-class Origin:
-    """Where something was asked for: the program's functions that had called the one that asked, the innermost first; the callback of the loop, and
-    the timer or immediate (-1: none) whose callback was under way."""
-
-    callers: tuple[Place, ...]
-    call: tuple[str, str, int]
-    within: int
-
-    def words(self) -> str:
-        return " ".join([*map(str, self.call), str(self.within), *(it.words() for it in self.callers)])
-
-
-def read_origin(words: list[str]) -> Origin:
-    list, name, call, within, *places = words
-    return Origin(tuple(Place(*it) for it in zip(places[::2], places[1::2])), (list, name, int(call)), int(within))
-
-
-@dataclass
-class Resource:
-    id: int
-    kind: str
-    function: Place
-    # where it was asked for, when, and of a timer its ms
-    at: Place
-    when: int
-    delay: int
-    # when and where it was cleared, where it was; whether it keeps node alive, and where that was said
-    gone: int | None = None
-    gone_at: Place = NOWHERE
-    referenced: bool = True
-    referenced_at: Place = NOWHERE
-    origin: Origin | None = None
-
-    def what(self) -> str:
-        delay = f" of {self.delay} ms" if self.kind in ("timer", "interval") else ""
-        return KINDS.get(self.kind, self.kind) + delay
-
-    def in_nodes_name(self) -> str:
-        """Of a timer that the program asks for by another name than setTimeout: that name."""
-        return next((name for file, name in BY_NAME.items() if self.function.where.startswith(file)), "")
-
-    def is_programs(self) -> bool:
-        """Does the program ask for it, and not node for itself?"""
-        return not self.function.where.startswith(OUTSIDE) or bool(self.in_nodes_name())
-
-    def named(self) -> str:
-        """Its function; of one of node's that the program asks for how it does, and where."""
-        name = self.in_nodes_name()
-        return f"{name} ({self.at.where})" if name else self.function.text()
-
-    def asked(self) -> str:
-        """Where it was asked for, in words."""
-        own = "of node's own" if self.kind in ("interval", "immediate") or self.kind == "timer" and self.function.where.startswith("node:") else ""
-        return f"started {at(self.at)}" if self.at.where != "-" else own
-
-
-@dataclass
-class Span:
-    """A callback of a resource, in a callback of the loop: its list, its name and which call it is, `main` of the main program."""
-
-    id: int
-    call: tuple[str, str, int]
-    begin: int
-    end: int
-    # of a timer
-    due: int | None
-    # was it under way still as the log ends? Then its end is the last time at which that was seen
-    is_open: bool = False
-
-
-@dataclass(frozen=True)
-class Under:
-    """What was under way: how the program's function came to be called, that function, the innermost one of the program with its line, and
-    what of node or V8 that one had called."""
-
-    how: str
-    outer: Place
-    inner: Place
-    line: str
-    top: str
-
-    def words(self) -> str:
-        """As it stands in a line of the notes."""
-        return f"{self.how} {self.outer.words()} {self.inner.words()} {self.line} {self.top}"
-
-
-def read_under(words: list[str]) -> Under:
-    how, outer, where, inner, place, line, top = words
-    return Under(how, Place(outer, where), Place(inner, place), line, top)
-
-
-@dataclass
-class Look:
-    begin: int
-    end: int
-    under: Under
-
-
-@dataclass
-class Part:
-    """A function that took time: how long, that in a sentence, and what had called it, `` where that says no more."""
-
-    took: int
-    text: str
-    what: str = ""
+# What node's own calls of libuv stand for. (It runs a loop of its own for a process that it waits for.)
+STOOD_STILL = {"uv_run": "a process that it waited for", "uv_spawn": "the start of a process"}
 
 
 @dataclass
@@ -243,6 +58,10 @@ class JavaScript:
     origins: dict[tuple[str, int], Origin] = field(default_factory=dict)
     # of a callback of the loop what was under way most in it, and for how many ms
     most: dict[tuple[str, str, int], tuple[int, Under]] = field(default_factory=dict)
+    # calls in which it stood still: since when, for how many ms, and the function of libuv or of the system
+    waits: list[tuple[int, int, str]] = field(default_factory=list)
+    # when V8 collected garbage: from when to when, in thousandths of a ms
+    collections: list[tuple[int, int]] = field(default_factory=list)
     # where the program was started: its files are said from there
     home: str = ""
     language: str = "JavaScript"
@@ -263,7 +82,9 @@ class JavaScript:
         found += [f"js line {where} {text}" for where, text in self.source.items()]
         for it in self.resources.values():
             found.append(f"js new {it.id} {it.kind} {it.when} {it.delay} {it.function.words()} {it.at.words()}")
+            found += [f"js before {it.id} {it.before}"] if it.before is not None else []
             found += [f"js within {it.id} {it.origin.words()}"] if it.origin else []
+            found += [f"js later {it.id}"] if it.put_off else []
             found += [f"js gone {it.id} {it.gone} {it.gone_at.words()}"] if it.gone is not None else []
             found += [f"js ref {it.id} {int(it.referenced)} {it.referenced_at.words()}"] if it.referenced_at != NOWHERE or not it.referenced else []
         found += [f"js by {name} {call} {place.words()}" for (name, call), place in self.asked.items()]
@@ -274,6 +95,8 @@ class JavaScript:
         found += [f"js look {look.begin} {look.end} {look.under.words()}" for look in self.looks]
         found += [f"js stack {number} {below} {line} {place.words()}" for number, (below, place, line) in self.stacks.items()]
         found += [f"js busy {begin} {end - begin} {stack}" for begin, end, stack in self.busy]
+        found += [f"js wait {begin} {took} {function}" for begin, took, function in self.waits]
+        found += [f"js gc {begin} {end - begin}" for begin, end in self.collections]
         found += [f"js most {' '.join(map(str, call))} {took} {under.words()}" for call, (took, under) in self.most.items()]
         return found
 
@@ -298,14 +121,22 @@ class JavaScript:
                 self.stacks[int(number)] = int(below), Place(function, where), int(line)
             case ["busy", begin, took, stack] if int(stack) in self.stacks:
                 self.busy.append((int(begin), int(begin) + int(took), int(stack)))
+            case ["wait", begin, took, function]:
+                self.waits.append((int(begin), int(took), function))
+            case ["gc", begin, took]:
+                self.collections.append((int(begin), int(begin) + int(took)))
             case ["most", list, name, call, took, *under]:
                 self.most[list, name, int(call)] = int(took), read_under(under)
             case ["gone", id, when, function, where]:
                 self.resources[int(id)].gone, self.resources[int(id)].gone_at = int(when), Place(function, where)
             case ["ref", id, ref, function, where]:
                 self.resources[int(id)].referenced, self.resources[int(id)].referenced_at = ref == "1", Place(function, where)
+            case ["before", id, called] if int(id) in self.resources:
+                self.resources[int(id)].before = int(called)
             case ["within", id, *words] if int(id) in self.resources:
                 self.resources[int(id)].origin = read_origin(words)
+            case ["later", id] if int(id) in self.resources:
+                self.resources[int(id)].put_off = True
             case ["origin", name, call, *words]:
                 self.origins[name, int(call)] = read_origin(words)
             case ["by", name, call, function, where]:
@@ -355,27 +186,30 @@ class JavaScript:
         by: dict[Place, int] = {}
         for under, took in self.under(span.begin, span.end):
             by[under.outer] = by.get(under.outer, 0) + took
-        return max(by, key=by.get, default=found)
+        return max(by, key=by.__getitem__, default=found)
 
     def parts(self, begin: int, end: int, within: tuple[int, int] | None = None) -> list[Part]:
         """What JavaScript did between two times, the longest first. With a part of that time: what lies within it, and how long it took in all."""
-        parts: list[Part] = []
         least, most = within or (begin, end)
-        gaps, behind = [], begin
+        parts: list[Part] = []
+        gaps: list[tuple[int, int]] = []
+        behind = begin
         for it in sorted(self.spans_in(begin, end), key=lambda it: it.begin):
-            if min(it.end, end) - max(it.begin, begin) < LEAST or it.begin < behind and parts:
+            if it.begin < behind and gaps:
                 continue
-            resource, who = self.resources[it.id], self.who(it)
-            what = f"{resource.what()}, {resource.asked()}" if resource.asked() else resource.what()
-            inside = self.inside(max(it.begin, begin), min(it.end, end), who)
-            parts.append(Part(min(it.end, most) - max(it.begin, least), f"{who.text()} took {it.end - it.begin} ms{inside}", f"{who.text()}: {what}"))
-            gaps.append((behind, it.begin))
-            behind = max(behind, it.end)
+            parts.append(self.part_of_span(it, (max(it.begin, begin), min(it.end, end)), (least, most)))
+            if min(it.end, end) - max(it.begin, begin) >= LEAST:
+                gaps.append((behind, it.begin))
+                behind = max(behind, it.end)
         gaps.append((behind, end))
         parts += self.between_spans(gaps, (least, most))
-        kept = [it for it in parts if it.took >= LEAST]
-        kept.sort(key=lambda it: -it.took)
-        return kept[:PARTS]
+        return [it for it in together(parts) if it.took >= LEAST][:PARTS]
+
+    def part_of_span(self, span: Span, here: tuple[int, int], within: tuple[int, int]) -> Part:
+        resource = self.resources[span.id]
+        what = f"{resource.what()}, {resource.asked()}" if resource.asked() else resource.what()
+        took = max(0, min(span.end, within[1]) - max(span.begin, within[0]))
+        return Part("", self.who(span), took, span.end - span.begin, [(1000 * here[0], 1000 * here[1])], what=what)
 
     def between_spans(self, gaps: list[tuple[int, int]], within: tuple[int, int]) -> list[Part]:
         """The same of what no timer or immediate called, by looks."""
@@ -397,17 +231,23 @@ class JavaScript:
 
     def part_of(self, who: tuple[str, Place], rows: list[Look], took: tuple[int, bool], within: tuple[int, int]) -> Part:
         """A function that was found in these looks: how long it took in thousandths of a ms, and whether that is about so long."""
-        how, outer = who
         mine = sum(max(0, min(it.end, 1000 * within[1]) - max(it.begin, 1000 * within[0])) for it in rows)
-        name = outer.where.rpartition(":")[0] if how == "main" and outer.function == "(anonymous)" else outer.text()
-        inside = self.inside(rows[0].begin // 1000, -(-rows[-1].end // 1000), outer)
-        if how == "hook":
-            return Part(round(mine / 1000), f"the recorder itself took {round(took[0] / 1000)} ms")
-        return Part(round(mine / 1000), f"{name}, from {HOW[how]}, took {'about ' if took[1] else ''}{round(took[0] / 1000)} ms{inside}")
+        return Part(*who, round(mine / 1000), round(took[0] / 1000), [(it.begin, it.end) for it in rows], took[1])
+
+    def in_words(self, part: Part) -> str:
+        """That in a sentence."""
+        if part.how == "hook":
+            return f"the recorder itself took {part.whole} ms"
+        name = part.who.where.rpartition(":")[0] if part.how == "main" and part.who.function == "(anonymous)" else part.who.text()
+        how, about = f", from {HOW[part.how]}," if part.how else "", "about " if part.about else ""
+        often = f" in {part.calls} {'calls' if part.what else 'callbacks'}" if part.calls > 1 else ""
+        begin, end = part.pieces[0][0] // 1000, -(-part.pieces[-1][1] // 1000)
+        said = self.inside(begin, end, part.who, part.whole if part.calls > 1 else None)
+        return f"{name}{how} took {about}{part.whole} ms{often}{said}{self.garbage(part.pieces, part.whole)}"
 
     def told(self, begin: int, end: int, within: tuple[int, int] | None = None) -> list[str]:
         """The same, in a sentence each."""
-        return [it.text for it in self.parts(begin, end, within)]
+        return [self.in_words(it) for it in self.parts(begin, end, within)]
 
     def alive(self, time: int) -> list[Place]:
         """The functions of the program's timers that are to be called at this time or later, and keep node alive."""
@@ -436,21 +276,21 @@ class JavaScript:
         for span in self.spans_in(begin, end):
             who, took = self.who(span), 1000 * (min(span.end, end) - max(span.begin, begin))
             by[who] = max(by.get(who, 0), took)
-        best = max(by, key=by.get, default=None)
+        best = max(by, key=by.__getitem__, default=None)
         return best if best and by[best] >= 500 * (end - begin) else None
 
-    def inside(self, begin: int, end: int, who: Place) -> str:
-        """Which line, and what it called, took most of it, where that tells more."""
+    def inside(self, begin: int, end: int, who: Place, took: int | None = None) -> str:
+        """Which line, and what it called, took most of it, where that tells more. (It took so many ms: where nothing is said, all of the time.)"""
         by: dict[tuple[Place, str, str], list[Look]] = {}
         for it in self.looks_in(begin, end):
             if who in (it.under.outer, it.under.inner):
                 own = it.under.inner == who
                 by.setdefault((it.under.inner, it.under.line if own else "0", it.under.top if own else "-"), []).append(it)
         if not by:
-            return ""
+            return self.stood_still(begin, end)
         (inner, line, top), rows = max(by.items(), key=lambda it: length(it[1]))
-        took, whole = length(rows), sum(length(it) for it in by.values())
-        if took < LEAST * 1000 or 3 * took < max(whole, 1000 * (end - begin)):
+        mine, whole = length(rows), max(sum(length(it) for it in by.values()), 1000 * (end - begin if took is None else took))
+        if mine < LEAST * 1000 or 3 * mine < whole:
             return ""
         if inner != who:
             # (of another function all its time, where it was most)
@@ -460,7 +300,32 @@ class JavaScript:
         said += [f"in {top}, which it calls"] if top != "-" and inner == who else [f"in its call of {top}"] if top != "-" else []
         text = self.source.get(self.line_of(inner, line), "")
         said += [f"at line {line}" + (f": `{text}`" if text else "")] if line != "0" else []
-        return f", {how_much(took, max(whole, 1000 * (end - begin)))} of it {', '.join(said)}" if said else ""
+        return f", {how_much(mine, whole)} of it {', '.join(said)}{self.stood_still(begin, end)}" if said else ""
+
+    def stood_still(self, begin: int, end: int) -> str:
+        """In which calls it stood still meanwhile, where that was for a tenth of the time."""
+        by: dict[str, int] = {}
+        for since, took, function in self.waits:
+            # (the collector waits for its own threads)
+            if begin <= since < end and 2 * self.collected(1000 * since, 1000 * (since + took)) < 1000 * took:
+                by[function] = by.get(function, 0) + took
+        long = [(took, function) for function, took in by.items() if took >= LEAST and 10 * took >= end - begin]
+        told = [f"{took} ms of that in {STOOD_STILL.get(function, function)}" for took, function in sorted(long, reverse=True)[:PARTS]]
+        return "".join(f", {it}" for it in told)
+
+    def collected(self, begin: int, end: int) -> int:
+        """For how long V8 collected garbage between two times, all in thousandths of a ms."""
+        first, found = bisect.bisect_right(self.collections, begin, key=lambda it: it[1]), 0
+        for since, until in itertools.islice(self.collections, first, None):
+            if since >= end:
+                break
+            found += min(until, end) - max(since, begin)
+        return found
+
+    def garbage(self, pieces: list[tuple[int, int]], whole: int) -> str:
+        """How much of a time of so many ms, which went by in these pieces, was the collector's, where that is a tenth of it."""
+        took = round(sum(self.collected(*it) for it in pieces) / 1000)
+        return f", {min(took, whole)} of {whole} ms in the collector" if took >= LEAST and 10 * took >= whole else ""
 
     @staticmethod
     def line_of(place: Place, line: str) -> str:
@@ -471,7 +336,7 @@ class JavaScript:
         by: dict[Under, int] = {}
         for under, took in self.under(begin, end) if end - begin >= LEAST else ():
             by[under] = by.get(under, 0) + took
-        most = max(by, key=by.get, default=None)
+        most = max(by, key=by.__getitem__, default=None)
         if most and by[most] >= 1000 * LEAST:
             self.most[call] = round(by[most] / 1000), most
 

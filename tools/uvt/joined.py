@@ -83,7 +83,8 @@ def together(one: Offered, two: Offered) -> Offered:
     """What came in either, as often as it came most; how long a call took by the first that has it."""
     takes = Counter(one.takes)
     takes.update({it: ms for it, ms in two.takes.items() if it[2] > one.calls[it[:2]]})
-    return Offered(one.came | two.came, one.ticks | two.ticks, takes, one.calls | two.calls, one.closed + two.closed, max(one.clock, two.clock))
+    closed, clock = one.closed + two.closed, max(one.clock, two.clock)
+    return Offered(one.came | two.came, one.ticks | two.ticks, one.waits | two.waits, takes, one.calls | two.calls, closed, clock)
 
 
 def joined(recordings: list[Recorded]) -> tuple[Recorded, list[str]]:

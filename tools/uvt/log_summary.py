@@ -50,11 +50,16 @@ class Glance:
     due: dict[int, int] = field(default_factory=dict)
     repeats: dict[int, int] = field(default_factory=dict)
     since: dict[int, tuple[int, str]] = field(default_factory=dict)
+    # and the clock as they were started, where the loop's time was an earlier one
+    started: dict[int, int] = field(default_factory=dict)
 
     def see(self, type: str, now: int, words: list[str], line: int) -> None:
         match type, words:
             case "O", ["start", id, ms, repeat, "=", "ok"]:
                 self.due[int(id[1:])], self.repeats[int(id[1:])] = now + int(ms), int(repeat)
+                self.started.pop(int(id[1:]), None)
+            case "q", [clock, id] if int(id) in self.due:
+                self.started[int(id)] = int(clock)
             case "O", ["repeat", id, repeat, "=", "ok"]:
                 self.repeats[int(id[1:])] = int(repeat)
             case "O", ["again", id, "=", "ok"]:
@@ -80,7 +85,9 @@ class Glance:
         self.first = clock if self.first is None else self.first
         self.call = clock, line, id, what
         if what == "timer" and id in self.due:
-            self.keep(self.waited, clock - self.due[id], self.due[id], line, id, what, "it was due")
+            # (reckoned from its start one may be called too soon)
+            started, due = self.started.pop(id, 0), self.due[id]
+            self.keep(self.waited, clock - due if due >= started else 0, due, line, id, what, "it was due")
             self.start_again(id, now)
         elif id in self.since and what in ("async", "after"):
             begin, since = self.since.pop(id)
@@ -187,7 +194,7 @@ def glances(data: bytes) -> dict[int, Glance]:
         try:
             if words[:2] == ["-", "A"]:
                 symbols[int(words[2])] = words[4]
-            elif len(words) > 3 and words[1] in "OBESFVC":
+            elif len(words) > 3 and words[1] in "OBESFVCq":
                 if (loop := int(words[0])) not in loops:
                     loops[loop] = Glance(Names(symbols))
                 take(loops[loop], words, number)

@@ -18,7 +18,7 @@ from pathlib import Path
 
 from uvt.javascript import JavaScript
 from uvt.node_names import InNode, in_node
-from uvt.spent import Spent
+from uvt.spent import Held, Spent
 
 HEAD = "uvt-notes 1"
 # What would steer a terminal: the control signs of ASCII and those of 0x80 to 0x9f, except for the line feed and the tab; and half signs, which no
@@ -147,7 +147,7 @@ class Notes:
     # what these did while they took long
     spent: dict[tuple[str, str, int], Spent] = field(default_factory=dict)
     # of a poll that the system ended late, by the clock then: by how much, how long its thread waited for a processor, and whether a signal ended it
-    held: dict[int, tuple[int, int, bool]] = field(default_factory=dict)
+    held: dict[int, Held] = field(default_factory=dict)
     # the processes of which the program itself took the end, so that libuv never tells it: where
     reaped: dict[str, str] = field(default_factory=dict)
     # places in the program, in words (`at churn.c:14, in rearm`); and of each step that such a place asked for, which it is
@@ -246,7 +246,7 @@ class Notes:
         lines += [f"written {name} {told}" for name, told in self.written.items()]
         lines += [f"cpu {list} {name} {call} {ms}" for (list, name, call), ms in sorted(self.processor.items())]
         lines += [line for key, it in sorted(self.spent.items()) for line in it.lines(key)]
-        lines += [f"held {clock} {late} {waited} {signalled:d}" for clock, (late, waited, signalled) in sorted(self.held.items())]
+        lines += [f"held {clock} {it.late} {it.waited} {it.signalled:d} {it.before}" for clock, it in sorted(self.held.items())]
         lines += [f"reaped {name} {place}" for name, place in self.reaped.items()]
         lines += self.place_lines()
         lines += [it.line() for it in self.requests]
@@ -350,7 +350,7 @@ def take(notes: Notes, line: str) -> None:
             case "spent" | "waited" | "stack":
                 notes.spent.setdefault((words[1], words[2], int(words[3])), Spent()).take(words[0], words[4:])
             case "held":
-                notes.held[int(words[1])] = int(words[2]), int(words[3]), words[4] == "1"
+                notes.held[int(words[1])] = Held(int(words[2]), int(words[3]), words[4] == "1", *map(int, words[5:6]))
             case "reaped":
                 notes.reaped[words[1]] = " ".join(words[2:])
             case "place":

@@ -23,8 +23,10 @@ class Offered:
 
     # (`send`, NAME), (`io`, NAME), (`cancel`, NAME)
     came: Counter[tuple[str, str]] = field(default_factory=Counter)
-    # the time that went by in no callback, in ms: what a poll waited up to its deadline isn't counted
+    # the time that went by in no callback and in no wait, in ms
     ticks: Counter[int] = field(default_factory=Counter)
+    # what a poll waited until something ended it, in ms: what it waited up to its deadline isn't counted
+    waits: Counter[int] = field(default_factory=Counter)
     # the ms of a call: of a list (`on`, `after`) and a name, the call's number from 1
     takes: Counter[tuple[str, str, int]] = field(default_factory=Counter)
     # how often each callback was called
@@ -36,7 +38,8 @@ class Offered:
     def lines(self, given: list[str]) -> list[str]:
         """The lines that say it, except for what these lines say already."""
         said = [f"may {word} {name} {times}" for (word, name), times in sorted(self.came.items())]
-        said += ["may wait"] + [f"may tick {ms} {times}" for ms, times in sorted(self.ticks.items())]
+        said += ["may wait"] + [f"may wait {ms} {times}" for ms, times in sorted(self.waits.items())]
+        said += [f"may tick {ms} {times}" for ms, times in sorted(self.ticks.items())]
         said += self.taken(given)
         return said + ([] if any(it.startswith("most clock ") for it in given) else [f"most clock {self.clock}"])
 
@@ -53,6 +56,7 @@ class Offered:
             many(counts["io"], "callback of I/O", "callbacks of I/O"),
             many(counts["send"], "send", "sends"),
             many(counts["cancel"], "cancel", "cancels"),
+            many(sum(self.waits.values()), "wait that something ended", "waits that something ended"),
             many(sum(self.ticks.values()), "time that went by in no callback", "times that went by in no callback"),
             many(len(+self.takes), "callback that took time", "callbacks that took time"),
         ]
@@ -66,20 +70,43 @@ def many(number: int, one: str, more: str) -> str:
     return "" if not number else f"{number} {one if number == 1 else more}"
 
 
+def single(steps: list[str]) -> list[str]:
+    """The steps one by one."""
+    one = []
+    for it in steps:
+        words = it.split(" ")
+        one += ["loop"] * int(words[1]) if words[0] == "loop" and len(words) > 1 else [it]
+    return one
+
+
 @dataclass
 class Spent:
-    """A time that went by: in which call of a callback, or in none; what of it isn't the wait of a poll up to its deadline, and whether some is."""
+    """A time that went by: in which call of a callback, or in none; what of it isn't the wait of a poll up to its deadline, and whether some is; and
+    whether the loop was blocked in its poll so long, until something ended that."""
 
     ms: int
     call: tuple[str, str, int] | None = None
     closed: bool = False
     rest: int = 0
     waited: bool = False
+    blocked: bool = False
+
+
+def blocked_at(talk: Conversation, lengths: list[int]) -> set[int]:
+    """Behind how many of the steps that stand the loop is blocked, of these numbers. No more steps than the least of them stand then."""
+    found: set[int] = set()
+    for length in sorted(lengths, reverse=True):
+        talk.ask(f"back {talk.length - length}")
+        if talk.ask("loop") == ["refused blocked"]:
+            found.add(length)
+        else:
+            talk.ask("back 1")
+    return found
 
 
 def spent(script: Script, steps: list[str]) -> tuple[list[list[str]], dict[int, Spent], Counter[tuple[str, str]]]:
     """The lines of each step, the times that went by, by the numbers of their steps, and how often each callback was called. Of a wait up to the
-    deadline all is the wait, also where a worker took a request meanwhile; one that is ended by what came isn't."""
+    deadline all is the wait, also where a worker took a request meanwhile; one that is ended by what came is a time in which the loop was blocked."""
     found: dict[int, Spent] = {}
     calls: Counter[tuple[str, str]] = Counter()
     within: tuple[str, str] | None = None
@@ -110,6 +137,7 @@ def spent(script: Script, steps: list[str]) -> tuple[list[list[str]], dict[int, 
             if open_poll is not None:
                 waits.append((number, list(open_poll)))
                 open_poll.append(number)
+        short: list[int] = []
         for (number, before), state in zip(waits, talk.states_at([number for number, _ in waits])):
             deadline = re.search(r" poll (\d+)$", state.place)
             left = int(deadline[1]) - state.numbers["clock"] if deadline else 0
@@ -117,6 +145,10 @@ def spent(script: Script, steps: list[str]) -> tuple[list[list[str]], dict[int, 
                 found[number].rest, found[number].waited = found[number].ms - left, True
                 for it in before:
                     found[it].rest = 0
+            elif left > found[number].ms or state.place.endswith(" poll infinite"):
+                short.append(number)
+        for number in blocked_at(talk, [it for it in short if found[it].rest]):
+            found[number].blocked = True
     finally:
         talk.close()
     return said, found, calls
@@ -136,9 +168,8 @@ def offered(script: Script, steps: list[str]) -> Offered:
             found.takes[it.call] += it.ms
         elif it.closed:
             found.closed += it.ms
-        else:
-            found.ticks[it.rest] += 1
-    del found.ticks[0]
+        elif it.rest:
+            (found.waits if it.blocked else found.ticks)[it.rest] += 1
     return found
 
 
@@ -164,7 +195,8 @@ def recorded_lines(script: Script, steps: list[str]) -> list[str]:
             taken += 1
         if time and not time.rest:
             continue
-        said.append(f"recorded {polls} {taken} {f'tick {time.rest}' if time else step}")
+        what = step if not time else f"{'wait' if time.blocked else 'tick'} {time.rest}"
+        said.append(f"recorded {polls} {taken} {what}")
         polls = taken = 0
     return said
 

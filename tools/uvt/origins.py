@@ -7,7 +7,7 @@ from __future__ import annotations
 
 from typing import TYPE_CHECKING
 
-from uvt.javascript import NOWHERE, OUTSIDE, Origin, Place
+from uvt.javascript_pieces import NOWHERE, OUTSIDE, Origin, Place
 
 if TYPE_CHECKING:
     from uvt.walk import Walk

@@ -7,15 +7,18 @@ from __future__ import annotations
 
 from dataclasses import dataclass
 
+from uvt import machine
 from uvt.arrivals import LEFT, behind, came, waited
 from uvt.beginnings import at_least
-from uvt.javascript import LEAST, at, fitted
+from uvt.javascript_pieces import LEAST, at, fitted
 from uvt.node_names import IMMEDIATES
 from uvt.places import read_place
 from uvt.waits import Wait, follow
 from uvt.walk import Took, Walk
-from uvt.causes import FIFTH, MANY, few, in_javascript, named, sentence, times
-from uvt.why import KINDS, Why
+from uvt.causes import FIFTH, MAIN, MANY, few, in_javascript, named, one_main, sentence, times
+from uvt.why import Why
+from uvt.why_uncalled import KINDS
+from uvt.why_work import HALF, SLOW
 from uvt.why_javascript import WhyJavaScript
 from uvt.why_requests import longest
 
@@ -34,11 +37,15 @@ NAMES = 40
 
 @dataclass
 class Late:
-    """A call of a name, and how long it waited."""
+    """A call of a name, and how long it waited; and how much of that isn't the machine's."""
 
     name: str
     took: int
     wait: Wait
+    own: int = -1
+
+    def weight(self) -> tuple[int, int]:
+        return (self.took if self.own < 0 else self.own), self.took
 
 
 def head(walk: Walk) -> list[str]:
@@ -47,7 +54,8 @@ def head(walk: Walk) -> list[str]:
 
 
 def long_callbacks(walk: Walk) -> list[str]:
-    found = sorted((it for it in walk.tooks if it.is_callback()), key=Took.took, reverse=True)
+    # (what others had of the processor isn't the program's)
+    found = sorted((it for it in walk.tooks if it.is_callback()), key=lambda it: (by_itself(walk, it), it.took()), reverse=True)
     if walk.notes.javascript:
         return in_node(walk, found)
     found = found[:LINES]
@@ -56,6 +64,10 @@ def long_callbacks(walk: Walk) -> list[str]:
         + (in_javascript(walk, it, it.pieces[0][0], it.pieces[-1][1]) or it.did())
         for it in found
     ]
+
+
+def by_itself(walk: Walk, took: Took) -> int:
+    return took.took() - machine.part(walk, took, took.pieces[0][0], took.pieces[-1][1])
 
 
 def in_node(walk: Walk, found: list[Took]) -> list[str]:
@@ -72,7 +84,7 @@ def in_node(walk: Walk, found: list[Took]) -> list[str]:
 
 def main_program(walk: Walk) -> list[str]:
     """What JavaScript did before the first run of the loop."""
-    found = [it for it in walk.tooks if it.what == "the main program" and walk.notes.javascript.told(it.pieces[0][0], it.pieces[-1][1])]
+    found = [it for it in one_main(walk.tooks) if it.what == MAIN and walk.notes.javascript.told(it.pieces[0][0], it.pieces[-1][1])]
     return [f"{it.took()} ms, from step {it.first} to {it.last}" + in_javascript(walk, it, it.pieces[0][0], it.pieces[-1][1]) for it in found]
 
 
@@ -99,10 +111,10 @@ class Overview:
         return [(name, it) for name, why in self.whys.items() for it in why.history.waits if it.what == what and it.how == "called"]
 
     def away(self, wait: Wait) -> int:
-        return self.walk.clock(wait.ended) - self.walk.happened(wait.asked)
+        return self.walk.clock(wait.end()) - self.walk.happened(wait.asked)
 
     def worst(self, found: list[Late]) -> list[Late]:
-        kept = sorted((it for it in found if it.took >= self.least), key=lambda it: it.took, reverse=True)[:LINES]
+        kept = sorted((it for it in found if it.took >= self.least), key=Late.weight, reverse=True)[:LINES]
         self.next += [(it.took, it.name) for it in kept[:1]]
         return kept
 
@@ -111,11 +123,47 @@ class Overview:
         return f"{late.name}, {self.whys[late.name].first_line(late.wait)}{kind}"
 
     def timers(self) -> list[str]:
-        late = [Late(name, took, it) for name, it in self.called("timer") if (took := self.walk.clock(it.ended) - it.due) >= self.least]
+        late = [
+            Late(name, took, it)
+            for name, it in self.called("timer")
+            if (took := self.walk.clock(it.end()) - it.when()) >= self.least and not self.whys[name].too_soon(it)
+        ]
+        if self.walk.notes.names:
+            for it in late:
+                it.own = machine.own(self.walk, it.wait.when(), self.walk.clock(it.wait.end()))
+        machines = [it for it in late if self.is_machines(it)]
+        return self.by_program([it for it in late if not self.is_machines(it)]) + self.by_machine(machines)
+
+    def is_machines(self, late: Late) -> bool:
+        """Did the machine alone make it late: for nine tenths, or except for so little that it isn't told? (Without a recording nobody knows.)"""
+        return late.own >= 0 and (late.own < self.least or 10 * late.own <= late.took)
+
+    def by_machine(self, late: list[Late]) -> list[str]:
+        if not late:
+            return []
+        longest = max(late, key=lambda it: it.took)
+        names = few(list(dict.fromkeys(it.name for it in late)))
+        self.next.append((0, longest.name))
+        by = f"up to {longest.took} ms, at step {longest.wait.ended}" if len(late) > 1 else f"{longest.took} ms, at step {longest.wait.ended}"
+        return [f"for want of a processor, or woken late by the system: {times(len(late), 'call')} of {names}, late by {by}"]
+
+    def soon(self) -> list[str]:
+        """The timers that were started late in a long callback, and came too soon."""
+        found = [(early, name, it) for name, it in self.called("timer") if self.is_much(early := self.whys[name].too_soon(it), it)]
+        found.sort(key=lambda it: -it[0])
+        return [f"{name}, {self.whys[name].first_line(it)}" for _, name, it in found[:LINES]] + (
+            [f"and {times(len(found) - LINES, 'more call')}"] if len(found) > LINES else []
+        )
+
+    def is_much(self, early: int, wait: Wait) -> bool:
+        """Is it a fourth of the time for which it was started?"""
+        return early > 0 and 4 * early >= wait.when() - self.walk.state(wait.asked).numbers["now"]
+
+    def by_program(self, late: list[Late]) -> list[str]:
         if len(late) <= LINES:
             return [self.told(it, "") for it in self.worst(late)]
         groups: dict[tuple[str, int], list[Late]] = {}
-        for it in sorted(late, key=lambda it: it.took, reverse=True)[:GROUPED]:
+        for it in sorted(late, key=Late.weight, reverse=True)[:GROUPED]:
             groups.setdefault(self.culprit(it), []).append(it)
         self.worst(late)
         least = "at least " if len(late) > GROUPED else ""
@@ -123,7 +171,7 @@ class Overview:
 
     def culprit(self, late: Late) -> tuple[str, int]:
         """Where most of the time went by that a timer was late."""
-        begin, end = late.wait.due, self.walk.clock(late.wait.ended)
+        begin, end = late.wait.when(), self.walk.clock(late.wait.end())
         took = max(self.walk.causes(begin, end), key=lambda it: it.between(begin, end))
         return took.what, took.first
 
@@ -166,7 +214,7 @@ class Overview:
         return f"{late.took} ms that the loop hadn't looked: {late.name}, step {wait.ended}, call {wait.call}: {between}"
 
     def walk_between(self, wait: Wait, late: Late) -> str:
-        end = self.walk.clock(wait.ended)
+        end = self.walk.clock(wait.end())
         return self.whys[late.name].delay(end - late.took, end)
 
     def unwoken(self) -> list[str]:
@@ -197,14 +245,16 @@ class Overview:
         wait, walk = late.wait, self.walk
         if wait.cancelled:
             return "cancelled"
-        if wait.finished in walk.notes.guessed or wait.taken[0] in walk.notes.guessed:
-            full = walk.pool.full_between(wait.asked, wait.ended)
+        taken, finished = wait.taken[0] if wait.taken else None, wait.finished
+        if taken is None or finished is None or {taken, finished} & walk.notes.guessed:
+            full = walk.pool.full_between(wait.asked, wait.end())
             known = sum(walk.happened(it.last) - walk.happened(it.first) for it in full)
             return f"for {known} ms each worker had other work" if known else "when a worker took it and was through nobody knows"
-        waited = walk.happened(wait.taken[0]) - walk.happened(wait.asked)
-        ran = walk.happened(wait.finished) - walk.happened(wait.taken[0])
+        waited = walk.happened(taken) - walk.happened(wait.asked)
+        ran = walk.happened(finished) - walk.happened(taken)
         least = at_least(walk.notes, wait.asked)
-        return f"{least}{waited} ms it waited for a worker, {ran} ms it ran, {late.took - waited - ran} ms it waited for the loop"
+        rule = f" ({HALF})" if waited > 1 and walk.notes.kind(late.name) in SLOW else ""
+        return f"{least}{waited} ms it waited for a worker{rule}, {ran} ms it ran, {late.took - waited - ran} ms it waited for the loop"
 
     # ---- the rest
 
@@ -246,18 +296,36 @@ class Overview:
 
     def spins(self) -> list[str]:
         """Polls in a row that didn't wait, and who was called in most of these rounds."""
-        walk, found = self.walk, []
-        waits = {it.first for it in walk.tooks if it.is_poll()}
-        row: list[int] = []
-        for step in [*walk.steps_of("poll"), 0]:
-            if step and step not in waits:
-                row.append(step)
+        found = [it for it in self.rows_of_polls() if len(it) >= ROUNDS and self.is_spin(it)]
+        by: dict[str, list[list[int]]] = {}
+        for it in found:
+            by.setdefault(self.spin(it), []).append(it)
+        return [f"{self.polls_of(it)}: {who}" for who, it in sorted(by.items(), key=lambda it: -sum(map(len, it[1])))[:LINES]]
+
+    def polls_of(self, rows: list[list[int]]) -> str:
+        """How many polls didn't wait, from where to where, and how long that took: one story, in however many pieces it is."""
+        polls, ms = sum(map(len, rows)), sum(map(self.time_of, rows))
+        if len(rows) == 1:
+            return f"{polls} polls in a row didn't wait, from step {rows[0][0]} to {rows[0][-1]}, {ms} ms"
+        return f"{polls} polls didn't wait, in {len(rows)} rows from step {rows[0][0]} to {rows[-1][-1]}, {ms} ms in all"
+
+    def rows_of_polls(self) -> list[list[int]]:
+        """The polls in a row that don't wait. In a recording one in which the clock went on by a millisecond alone may be of them: that it is where
+        ten in front of it and ten behind it are."""
+        waits = {it.first: it.took() for it in self.walk.tooks if it.is_poll()}
+        rows: list[list[int]] = [[]]
+        turned = False
+        for step in self.walk.steps_of("poll"):
+            if step not in waits:
+                rows[-1].append(step)
+                if turned and len(rows[-1]) == ROUNDS:
+                    # (the row before goes on)
+                    rows[-2:] = [rows[-2] + rows[-1]]
+                    turned = False
                 continue
-            if len(row) >= ROUNDS and self.is_spin(row):
-                found.append(row)
-            row = []
-        found.sort(key=len, reverse=True)
-        return [self.spin(it) for it in found[:LINES]]
+            turned = bool(self.walk.notes.names) and waits[step] <= 1 and len(rows[-1]) >= ROUNDS
+            rows.append([])
+        return rows
 
     def is_spin(self, row: list[int]) -> bool:
         """In a recording: did nothing come that had to be done in most of these rounds, and is the time more than the work, that of long
@@ -289,6 +357,7 @@ class Overview:
         return any(walk.notes.what.get(name, {}).get(call, "").split(":")[0] not in STAYS for _, name, call in calls)
 
     def spin(self, row: list[int]) -> str:
+        """Who was called in these rounds, and who kept the poll from waiting."""
         counts: dict[str, int] = {}
         for kind in ("call", "after", "closed"):
             for step in self.walk.steps_between(kind, row[0], row[-1]):
@@ -300,7 +369,7 @@ class Overview:
         are = "is an active idle handle" if len(idle) == 1 else "are active idle handles"
         active = f"; {few(idle)} {are}, so the poll doesn't wait" if idle else ""
         self.next += [(self.idled(row), who[0])] if who and who[0] in self.whys else []
-        return f"{len(row)} polls in a row didn't wait, from step {row[0]} to {row[-1]}, {self.time_of(row)} ms: {why}{active}"
+        return f"{why}{active}"
 
     def who_is(self, kind: str, name: str, call: int) -> str:
         """A name, or what its callback is in node; `` where that tells nothing of the program."""
@@ -308,11 +377,11 @@ class Overview:
         return name if node is None or not node.own else IMMEDIATES if node.words == IMMEDIATES else ""
 
     def never(self) -> list[str]:
-        """Timers and sends that never came, and handles that nobody uses."""
+        """Timers, sends and requests that never came, and handles that nobody uses."""
         found = []
         for name, why in self.whys.items():
             kind = why.history.kind()
-            if kind and kind != "work" and not why.history.counts["call"] and not why.history.counts["closed"]:
+            if kind and not any(why.history.counts[it] for it in (("after",) if kind == "work" else ("call", "closed"))):
                 found.append(f"{name} ({self.kind(name, kind)})")
         return [few(found)] if found else []
 
@@ -334,6 +403,7 @@ class Overview:
             ("the main program", main_program(self.walk)),
             (f"the latest timers of {language}", self.javascript()),
             ("the latest timers", self.timers()),
+            ("timers that came too soon", self.soon()),
             ("the latest sends", self.sends()),
             ("I/O", self.io()),
             ("who waited for the next poll", self.unwoken()),

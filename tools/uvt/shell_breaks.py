@@ -5,7 +5,8 @@ from __future__ import annotations
 
 from dataclasses import dataclass
 
-from uvt.conversation import Conversation, State
+from uvt.conversation import Conversation
+from uvt.state import State
 from uvt.frames import Frames, begun
 from uvt.places import next_line, read_place
 

@@ -58,7 +58,7 @@ class Trace:
         # where the clock went on in a callback: the last step of that, by the one that begins it
         self.took = {it.first: it.last for it in walk.tooks if it.is_callback()}
         # the calls of timers that were late
-        self.late = {it.ended: it for _, it in self.called("timer") if walk.clock(it.ended) > it.due}
+        self.late = {it.end(): it for _, it in self.called("timer") if walk.clock(it.end()) > it.when()}
 
     def called(self, what: str) -> Iterator[tuple[str, Wait]]:
         return ((name, it) for name, found in self.histories.items() for it in found.waits if it.what == what and it.how == "called")
@@ -112,7 +112,7 @@ class Trace:
         args |= {"function": function} if function else {}
         args |= {"came": came} if (came := self.walk.notes.came(name, call)) and self.walk.steps[step - 1].startswith("io ") else {}
         if late := self.late.get(step):
-            args["late"] = f"{self.walk.clock(step) - late.due} ms"
+            args["late"] = f"{self.walk.clock(step) - late.when()} ms"
         what = self.walk.notes.in_node(name, kind, call)
         shown = what.words if what else f"{name}: {function}" if function else name
         self.begin(now, shown, CATEGORIES[kind], args)
@@ -126,14 +126,14 @@ class Trace:
 
     def pool(self) -> None:
         ends: dict[int, float] = {}
-        rows = [(self.when(it.taken[0]), name, it) for name, found in self.histories.items() for it in found.waits if it.taken]
-        for begin, name, it in sorted(rows, key=lambda row: row[0]):
-            tid = WORKERS + it.taken[1]
-            self.tracks[tid] = f"worker {it.taken[1]}"
+        rows = [(self.when(it.taken[0]), name, it, it.taken) for name, found in self.histories.items() for it in found.waits if it.taken]
+        for begin, name, it, (taken, worker) in sorted(rows, key=lambda row: row[0]):
+            tid = WORKERS + worker
+            self.tracks[tid] = f"worker {worker}"
             begin = max(begin, ends.get(tid, 0.0))
             ends[tid] = max(begin, self.when(it.finished) if it.finished else self.times.end(self.walk.length))
-            guessed = {it.taken[0], it.finished} & self.walk.notes.guessed
-            self.add("X", begin, tid, name, "pool", dur=round(ends[tid] - begin, 3), args={"step": it.taken[0], "seen": not guessed})
+            guessed = {taken, it.finished} & self.walk.notes.guessed
+            self.add("X", begin, tid, name, "pool", dur=round(ends[tid] - begin, 3), args={"step": taken, "seen": not guessed})
 
     def span(self, cat: str, name: str, begin: float, end: float, **args: object) -> None:
         """Something that is under way beside the loop, from one time to another."""
@@ -155,7 +155,9 @@ class Trace:
     def late_timers(self) -> None:
         for step, it in self.late.items():
             name = self.walk.calls[step][1]
-            self.span("late timer", f"{name} is due", 1000.0 * it.due, self.times.begin(step), step=step, late=f"{self.walk.clock(step) - it.due} ms")
+            self.span(
+                "late timer", f"{name} is due", 1000.0 * it.when(), self.times.begin(step), step=step, late=f"{self.walk.clock(step) - it.when()} ms"
+            )
 
     def sends(self) -> None:
         """An arrow from each send to the call that it is for."""
@@ -169,7 +171,7 @@ class Trace:
                     args |= {"by": by} if (by := self.walk.notes.by.get(step)) else {}
                     self.add("X", begin, OUTSIDE, f"send {name}", "send", dur=round(self.times.end(step) - begin, 3), args=args)
                 self.add("s", begin, OUTSIDE if outside else THREAD, "send", "send", id=number)
-                self.add("f", self.times.begin(it.ended), THREAD, "send", "send", id=number, bp="e")
+                self.add("f", self.times.begin(it.end()), THREAD, "send", "send", id=number, bp="e")
 
     def named(self) -> list[Event]:
         """What the tracks are called, and in which order they stand."""

@@ -15,7 +15,8 @@ import json
 from dataclasses import dataclass, field
 from typing import TYPE_CHECKING, Iterator
 
-from uvt.javascript import LEAST, OUTSIDE, JavaScript, Place, Resource, Span, at
+from uvt.javascript import JavaScript
+from uvt.javascript_pieces import LEAST, OUTSIDE, Place, Span, at
 from uvt.waits import Wait
 from uvt.why_javascript import WhyJavaScript
 

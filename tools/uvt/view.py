@@ -10,7 +10,7 @@ from typing import Callable, Iterator
 
 from uvt.arrivals import behind, came
 from uvt.conversation import Conversation, Fault, Script, packed, started
-from uvt.javascript import OUTSIDE
+from uvt.javascript_pieces import OUTSIDE
 from uvt.notes import Request
 from uvt.places import MEANT, Place, next_line, read_place
 from uvt.waits import Wait
@@ -36,6 +36,8 @@ RED, RED_RECORDED = 1, 5
 LONG = 2
 # So many functions of JavaScript have a lane.
 FUNCTIONS = 12
+# A call that was late: its step, its name, by how much, and that in words.
+Late = tuple[int, str, int, str]
 
 
 @dataclass
@@ -204,14 +206,15 @@ class Page:
 
     # ---- what is written
 
-    def whys(self) -> tuple[dict[str, list], list[list]]:
+    def whys(self) -> tuple[dict[str, list[str]], list[Late]]:
         """For each name its answers with their steps; and the calls that were late: step, name, by how much, and that in words."""
-        found, late = {}, []
+        found: dict[str, list[str]] = {}
+        late: list[Late] = []
         for name in self.names:
             answers = Why(self.walk, name)
             found[name] = self.cut(answers.answer())
             called = [it for it in answers.history.waits if it.how == "called"]
-            late += [[it.ended, name, *by] for it in called if self.has(it.ended) and (by := self.late_by(answers, it))[0] > 0]
+            late += [(it.end(), name, *by) for it in called if self.has(it.end()) and (by := self.late_by(answers, it))[0] > 0]
         return found, sorted(late)
 
     def has(self, step: int) -> bool:
@@ -224,7 +227,7 @@ class Page:
             return lines
         return [*lines[:WHYS], f"and {len(lines) - WHYS} lines more: `uvt why` has them"]
 
-    def opens(self, late: list[list]) -> int:
+    def opens(self, late: list[Late]) -> int:
         """Where somebody asked for; a recording at its latest call."""
         latest = max(late, key=lambda it: it[2], default=None)
         return latest[0] if latest and self.walk.notes.names and not self.asked else self.part.opens
@@ -234,7 +237,7 @@ class Page:
         if wait.what == "io":
             away = behind(self.walk, wait)
             return away, f"{away} ms behind {answers.since(wait, came(self.walk, wait))}" if away else ""
-        away = self.walk.clock(wait.ended) - wait.due if wait.due is not None else 0
+        away = self.walk.clock(wait.end()) - wait.due if wait.due is not None else 0
         return away, f"late by {away} ms"
 
     def all_lanes(self) -> list[Lane]:
@@ -263,8 +266,9 @@ class Page:
         lanes = [it for it in self.all_lanes() if self.is_told(it)]
         functions = self.functions()
         lanes[1:1] = functions
-        asked = WhyJavaScript(self.walk) if functions else None
-        whys.update({it.name: asked.answer(it.name) for it in functions})
+        if functions:
+            asked = WhyJavaScript(self.walk)
+            whys.update({it.name: asked.answer(it.name) for it in functions})
         begin, end = self.part.begin, self.part.end
         said, steps = self.walk.lines[begin : end + 1], self.walk.steps[begin:end]
         if any(SEND.fullmatch(it) for it in said):

@@ -7,7 +7,7 @@ from dataclasses import dataclass, field
 from typing import Iterator
 
 from uvt.codes import REFUSED
-from uvt.conversation import Slot
+from uvt.state import Slot
 from uvt.walk import Look, Walk
 
 WATCHERS = ("idle", "prepare", "check")
@@ -37,6 +37,26 @@ class Wait:
     ended: int | None = None
     # which call of the name it is, from 1
     call: int = 0
+
+    def end(self) -> int:
+        """The step that ended it: of one that didn't stay open."""
+        assert self.ended is not None
+        return self.ended
+
+    def when(self) -> int:
+        """When it was due: of a timer."""
+        assert self.due is not None
+        return self.due
+
+    def taken_by(self) -> tuple[int, int]:
+        """When a worker took it, and which: of a request that one took."""
+        assert self.taken is not None
+        return self.taken
+
+    def through(self) -> int:
+        """When it was done: of a request that was."""
+        assert self.finished is not None
+        return self.finished
 
 
 @dataclass
@@ -131,9 +151,9 @@ class Follower:
                 self.end_close(step)
             case ["after", self.name, *_]:
                 self.end(step, "called")
-            case ["out", "take", worker, self.name, _]:
+            case ["out", "take", worker, self.name, _] if self.open:
                 self.open.taken = (step, int(worker))
-            case ["out", "finish", _, self.name, _]:
+            case ["out", "finish", _, self.name, _] if self.open:
                 self.open.finished = step
             case ["out", op, self.name, "=", code]:
                 self.op(step, [op, self.name], code)
@@ -147,7 +167,8 @@ class Follower:
         return slot is not None and slot.name == self.name and slot.values.get("active") == "1"
 
     def begin(self, step: int, what: str) -> None:
-        due = int(self.slots[step].values["due"]) if what == "timer" else None
+        slot = self.slots[step] if what == "timer" else None
+        due = int(slot.values["due"]) if slot else None
         self.open = Wait(what, self.id, step, due)
         self.history.waits.append(self.open)
 
@@ -197,7 +218,7 @@ class Follower:
                 self.end(step, "closed")
                 self.closing = Wait("close", self.id, step)
                 self.history.waits.append(self.closing)
-            case "cancel":
+            case "cancel" if self.open:
                 self.open.cancelled = step
             case "ref" | "unref":
                 self.history.refs.append((step, words[0]))

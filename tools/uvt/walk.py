@@ -10,17 +10,15 @@ import re
 from dataclasses import dataclass, field
 from typing import Any, Callable, Iterator
 
-from uvt.conversation import MANY_STEPS, Conversation, Fault, Script, Slot, State
+from uvt.conversation import Conversation, Fault, Script
+from uvt.state import Slot, State
 from uvt.node_names import InNode
 from uvt.places import Place, next_line, read_place
 from uvt.pool import Pool
 from uvt.spent import Spent
 
-# The commands that do a step beside `loop`, those that go to another length, and those that only show something. A step `io` is from
-# outside, and is the callback itself; all that its body does is the loop's.
+# The commands that do a step beside `loop`. A step `io` is from outside, and is the callback itself; all that its body does is the loop's.
 OUTSIDE = ("take", "finish", "cancel", "send", "tick", "io")
-MOVES = ("back", "rback", "forward")
-SHOWS = ("state", "image", "trace", "walk", "record")
 LISTS = {"call": "on", "after": "after", "closed": "closed"}
 WORDS = {"on": "the callback", "after": "the after callback", "closed": "the close callback"}
 CALLBACKS = tuple(f"{it} of " for it in WORDS.values())
@@ -212,8 +210,21 @@ class Walk:
             yield from zip(lengths[at : at + AT_ONCE], self.talk.states_at(lengths[at : at + AT_ONCE]))
 
     def slots_at(self, looks: list[Look]) -> Iterator[tuple[Look, Slot | None]]:
-        """All these slots, by as few states as there can be: one serves all looks whose lengths it lies between."""
+        """All these slots, each by its name's own lines."""
         looks = sorted(looks, key=lambda it: it.last)
+        gone: list[Look] = []
+        for first in range(0, len(looks), AT_ONCE):
+            some = looks[first : first + AT_ONCE]
+            for look, state in zip(some, self.talk.states_of([(it.last, it.name) for it in some])):
+                if slot := state.slot_at(look.id):
+                    yield look, slot
+                else:
+                    gone.append(look)
+        yield from self.slots_of_states(gone)
+
+    def slots_of_states(self, looks: list[Look]) -> Iterator[tuple[Look, Slot | None]]:
+        """The same of slots that their names don't hold any more, by as few states as there can be: one serves all looks whose lengths it lies
+        between."""
         lengths: list[int] = []
         for it in looks:
             if not lengths or it.first > lengths[-1]:
@@ -361,6 +372,12 @@ class Walk:
         found = [rows[at - 1] for it in words if (rows := self.steps_of(it)) and (at := bisect.bisect_right(rows, length))]
         return max(found, default=None)
 
+    def last_one(self, words: tuple[str, ...], length: int) -> int:
+        """The same, where there is one."""
+        found = self.last_line(words, length)
+        assert found is not None
+        return found
+
     def next_line(self, word: str, step: int) -> int:
         """The next step behind this one whose line begins with this word, or the one behind the last of all."""
         rows = self.steps_of(word)
@@ -481,38 +498,3 @@ class Walk:
 
     def __exit__(self, *fault: Any) -> None:
         self.talk.__exit__(*fault)
-
-
-def ways(commands: list[str]) -> Iterator[list[str]]:
-    """The commands, cut in front of each that goes back, or forward again."""
-    part: list[str] = []
-    for command in commands:
-        if command == "quit":
-            break
-        if command.split(" ")[0] in MOVES:
-            yield part
-            part = []
-        if command.split(" ")[0] not in SHOWS:
-            part.append(command)
-    yield part
-
-
-def longest_way(script: Script, commands: list[str]) -> list[str]:
-    """The steps of the longest session that these commands come to. They may go back, and on in another way.
-
-    Where each of them is one step they are answered as they are.
-    """
-    if all(it == "loop" or it.split(" ")[0] in OUTSIDE for it in set(commands)):
-        return commands
-    best: list[str] = []
-    longest = 0
-    with Conversation(script) as talk:
-        for part in ways(commands):
-            if part and part[0].split(" ")[0] in MOVES:
-                talk.ask(part.pop(0))
-            for _ in talk.ask_each(part):
-                pass
-            if talk.length > longest:
-                longest = talk.length
-                best = talk.recording().steps
-    return best

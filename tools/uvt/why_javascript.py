@@ -8,10 +8,11 @@ from __future__ import annotations
 
 
 from uvt.conversation import Fault
-from uvt.javascript import LEAST, OUTSIDE, JavaScript, Place, Resource, Span, at, fitted
+from uvt.javascript import JavaScript
+from uvt.javascript_pieces import LEAST, OUTSIDE, Place, Resource, Span, at, fitted, together
 from uvt.origins import Origins
 from uvt.walk import Walk
-from uvt.causes import MANY, few, is_told, times
+from uvt.causes import FIFTH, MANY, ONE_BY_ONE, few, is_told, one_main, times
 from uvt.why import Why
 from uvt.causes import told as without
 
@@ -40,36 +41,64 @@ class WhyJavaScript:
 
     def delay(self, span: Span) -> tuple[str, list[str]]:
         """What went on between the time at which it was due and its call; and what had called each function of that, and where."""
-        found, below = [], []
-        causes = self.walk.causes(span.due, span.begin)
-        for took in [it for it in causes if is_told(it, span.due, span.begin)] or causes:
-            begin, end = max(span.due, took.pieces[0][0]), min(span.begin, took.pieces[-1][1])
+        found, below, parts, due = [], [], [], span.when()
+        causes = one_main(self.walk.causes(due, span.begin))
+        for took in [it for it in causes if is_told(it, due, span.begin)] or causes:
+            begin, end = max(due, took.pieces[0][0]), min(span.begin, took.pieces[-1][1])
             steps = f"from step {took.first} to {took.last}" if took.first < took.last else f"at step {took.first}"
-            if parts := self.js.parts(took.pieces[0][0], took.pieces[-1][1], (begin, end)):
-                found.append((end - begin, "; ".join(it.text for it in parts)))
-                where = took.node.words if took.node else took.what
-                below += [f"{it.what}, in {where}, {steps}" for it in parts if it.what] or [f"in {where}, {steps}"]
+            where = took.node.words if took.node else took.what
+            if mine := self.js.parts(took.pieces[0][0], took.pieces[-1][1], (begin, end)):
+                parts += mine
+                told = [f"{it.who.text()}: {it.what}, in {where}, {steps}" for it in mine if it.what] or [f"in {where}, {steps}"]
+                below += [(sum(it.took for it in mine), told)]
+                outside = took.took() - (end - begin)
+                rest = end - begin - sum(max(it.took, it.whole - outside) for it in mine)
+                if rest >= LEAST and FIFTH * rest >= self.late(span):
+                    found.append((rest, f"{rest} ms more went by in {where}, {steps}"))
+            elif took.first == self.step_of.get(span.call):
+                # (it is called in that one itself: what else that did comes later)
+                found.append((end - begin, f"{end - begin} ms went by in {where} before it, at step {took.first}"))
             else:
                 found.append((end - begin, self.why.delay(begin, end) if took.is_poll() else without(took)))
+        found += [(it.took, self.js.in_words(it)) for it in together(parts)]
         found.sort(key=lambda it: -it[0])
-        shown = [text for took, text in found if took >= LEAST] or [text for _, text in found]
-        return "; ".join(dict.fromkeys(shown)), list(dict.fromkeys(below))
+        shown = [it for it in found if it[0] >= LEAST] or found
+        others = shown[ONE_BY_ONE:]
+        texts = [text for _, text in shown[:ONE_BY_ONE]]
+        texts += [f"{len(others)} others took {sum(it[0] for it in others)} ms in all"] if len(others) > 1 else [text for _, text in others]
+        longest = sorted(below, key=lambda it: -it[0])[:MANY]
+        return "; ".join(dict.fromkeys(texts)), list(dict.fromkeys(text for it in below if it in longest for text in it[1]))
 
     def called(self, span: Span, resource: Resource, number: int) -> list[str]:
         late = self.late(span)
         how, below = self.delay(span) if late > 1 else ("", [])
-        lines = [f"{self.where(span)}, call {number}: {f'late by {late} ms: {how}' if late > 1 else 'on time'}", *(f"    {it}" for it in below)]
+        when = f"late by {late} ms: {how}" if late > 1 else "on time" if span.due is not None else NOBODY_KNOWS
+        lines = [f"{self.where(span)}, call {number}: {when}", *(f"    {it}" for it in below)]
         node = self.walk.notes.in_node(span.call[1])
         # (its own callback's name is for who goes on in the shell)
-        lines.append(f"    due at {span.due} ms, called at {span.begin} ms" + ("" if node and node.own else f", in the call of {span.call[1]}"))
+        due = f"due at {span.due} ms, " if span.due is not None else ""
+        lines.append(f"    {due}called at {span.begin} ms" + ("" if node and node.own else f", in the call of {span.call[1]}"))
+        lines += self.put_off(span, resource)
         if chain := self.origins.chain(resource.id):
             lines.append(f"    {chain}")
         took = span.end - span.begin
         if span.is_open:
-            lines.append(f"    never ended: it was under way for {took} ms as the log ends{self.js.inside(span.begin, span.end, self.js.who(span))}")
+            lines.append(f"    never ended: it was under way for {took} ms as the log ends{self.inside(span)}")
         elif took >= LEAST:
-            lines.append(f"    took {took} ms{self.js.inside(span.begin, span.end, self.js.who(span))}")
+            lines.append(f"    took {took} ms{self.inside(span)}")
         return lines
+
+    def put_off(self, span: Span, resource: Resource) -> list[str]:
+        """node counts the ms of a timer anew where the program asks it to."""
+        anew = span.due - resource.delay if span.due is not None else 0
+        if resource.kind != "timer" or not resource.put_off or anew - resource.when < LEAST:
+            return []
+        return [f"    put off by {anew - resource.when} ms: it was started at {resource.when} ms, and again at {anew} ms (timer.refresh())"]
+
+    def inside(self, span: Span) -> str:
+        """What it was at most, and how much of that was the collector's."""
+        said = self.js.inside(span.begin, span.end, self.js.who(span))
+        return said + self.js.garbage([(1000 * span.begin, 1000 * span.end)], span.end - span.begin)
 
     # ---- a name
 
@@ -93,7 +122,8 @@ class WhyJavaScript:
             # (timers that are called once each: one is started behind the other)
             spans = [(it, resource, number) for number, (it, resource, _) in enumerate(sorted(spans, key=lambda it: it[0].begin), 1)]
         count = f", {len(rows)} of them" if len(rows) > 1 else ""
-        head = [f"{first.function.text()}: {first.what()}{count}", first.asked(), times(len(spans), "call") if spans else "never called"]
+        none = "never called" if first.before is None else "no call in this recording"
+        head = [f"{first.named()}: {first.what()}{count}", first.asked(), times(len(spans), "call") if spans else none]
         lines = [", ".join(filter(None, head))]
         if first.kind in ("timer", "interval", "soon", "task"):
             worst = sorted((it for it in spans if self.late(it[0]) > 1), key=lambda it: -self.late(it[0]))[:MANY]
@@ -107,7 +137,8 @@ class WhyJavaScript:
             elif len(spans) == 1:
                 lines += self.called(*spans[0])
             elif spans:
-                lines.append(f"each on time, from {spans[0][0].begin} ms to {spans[-1][0].begin} ms")
+                known = "each on time" if all(it.due is not None for it, _, _ in spans) else f"each {NOBODY_KNOWS}"
+                lines.append(f"{known}, from {spans[0][0].begin} ms to {spans[-1][0].begin} ms")
             if first.kind == "interval":
                 for it in rows:
                     lines += self.drift(it)
@@ -123,7 +154,7 @@ class WhyJavaScript:
     def drift(self, resource: Resource) -> list[str]:
         """node starts an interval anew at each call, from when that began. So what is late stays."""
         spans = self.spans.get(resource.id, [])
-        if len(spans) < 2:
+        if len(spans) < 2 or spans[0].due is None:
             return []
         meant = spans[0].due + resource.delay * (len(spans) - 1)
         lost = spans[-1].begin - meant
@@ -140,12 +171,13 @@ class WhyJavaScript:
     def uncalled(self, resource: Resource) -> list[str]:
         """Why it isn't called, or not any more, where it isn't."""
         spans = self.spans.get(resource.id, [])
-        head = "no further call" if spans else "never called"
+        head = "no further call" if spans or resource.before is not None else "never called"
         if resource.gone is not None:
             return [f"{head}: {GONE[self.js.language]} {at(resource.gone_at)}, at {resource.gone} ms"]
         if spans and resource.kind != "interval":
             return []
-        due = f"due at {resource.when + resource.delay} ms, and " if resource.kind != "immediate" and not spans else ""
+        since = resource.before if resource.before is not None else resource.when
+        due = f"due at {since + resource.delay} ms, and " if resource.kind != "immediate" and not spans else ""
         ends = f"{due}the recording ends at {self.walk.clock(self.walk.length)} ms"
         if not resource.referenced:
             return [f"{head}: `unref` {at(resource.referenced_at)} has it keep nothing alive, and nothing else did any more: {ends}"]
@@ -159,7 +191,7 @@ class WhyJavaScript:
         for request, call in asked:
             why = Why(self.walk, request)
             found += [
-                (self.walk.clock(it.ended) - self.walk.clock(it.asked), why, it)
+                (self.walk.clock(it.end()) - self.walk.clock(it.asked), why, it)
                 for it in why.history.waits
                 if it.how == "called" and it.what == "work" and it.call == call
             ]
@@ -209,21 +241,28 @@ class WhyJavaScript:
             for it in self.js.spans
             if it.due is not None and self.late(it) >= least and it.id in self.js.resources and self.js.resources[it.id].is_programs()
         ]
+        groups: dict[tuple[str, str], list[Span]] = {}
+        for span in sorted(found, key=self.late, reverse=True):
+            groups.setdefault((self.js.resources[span.id].named(), self.js.resources[span.id].asked()), []).append(span)
         rows = []
-        for span in sorted(found, key=self.late, reverse=True)[:most]:
+        for span, *others in list(groups.values())[:most]:
             resource = self.js.resources[span.id]
             name = resource.function.function if resource.function.function not in ("-", "(anonymous)") else resource.at.where
             late = self.late(span)
-            rows.append((late, name, f"{resource.named()}, {self.where(span)}: late by {late} ms: {self.delay(span)[0]}"))
+            more = f"; {times(len(others), 'more call')} late by up to {self.late(others[0])} ms" if others else ""
+            rows.append((late, name, f"{resource.named()}, {self.where(span)}: late by {late} ms: {self.delay(span)[0]}{more}"))
         return rows
 
     def never(self) -> list[str]:
         """Those that were never called, though nobody cleared them."""
-        found = [it for it in self.js.resources.values() if it.id not in self.spans and it.gone is None and not it.function.where.startswith(OUTSIDE)]
+        uncalled = [it for it in self.js.resources.values() if it.id not in self.spans and it.gone is None and it.before is None]
+        found = [it for it in uncalled if not it.function.where.startswith(OUTSIDE)]
         mine = [it for it in found if not it.at.where.startswith(OUTSIDE)]
         return [f"{it.function.text()}, {it.what()} {it.asked()}: {self.uncalled(it)[0]}" for it in mine[:MANY]]
 
 
+# Of a timer whose ms were counted anew, where no other one tells how node's time and the log's lie to each other.
+NOBODY_KNOWS = "called, and when it was due nobody knows"
 # What somebody did who wants no call of a timer any more.
 GONE = {"JavaScript": "cleared", "Python": "cancelled", "Lua": "stopped"}
 # So many late calls of an interval are told.

@@ -59,8 +59,8 @@ def asked(walk: Walk, it: Request) -> str:
     inside = walk.calls.get(it.asked_step)
     function = walk.notes.function(*inside) if inside else ""
     # (a place says its function: that of the callback is told where it is another one)
-    is_told = not inside or function and function.split(" ")[0] in place.split(" ")
-    within = "" if is_told else f", in the callback of {inside[1]}" + (f", {function}" if function else "")
+    is_told = inside is None or function and function.split(" ")[0] in place.split(" ")
+    within = "" if is_told or inside is None else f", in the callback of {inside[1]}" + (f", {function}" if function else "")
     return f"asked for at {it.asked} ms{place}{within}"
 
 

@@ -23,15 +23,6 @@ LATEST = re.compile(r"latest (\d+) ms.*: (?:not settled within )?(\d+) states?")
 KINDS = {"timer": "timer", "async": "async"}
 
 
-def single(steps: list[str]) -> list[str]:
-    """The steps one by one."""
-    one = []
-    for it in steps:
-        words = it.split(" ")
-        one += ["loop"] * int(words[1]) if words[0] == "loop" and len(words) > 1 else [it]
-    return one
-
-
 def kinds_of(script: Script, given: Offered) -> dict[str, str]:
     """What each name is that was called: a timer, an async handle or a request. Others have no time from which they might be late."""
     ops = [it.split(" ") for it in script.lines if it.startswith(("main ", "on ", "after ", "closed "))]
@@ -182,7 +173,8 @@ class Row:
     def best(self, columns: list[str]) -> Worst | None:
         """The latest one of all that were found, that nearest to the run where several are as late."""
         known = [self.worst[it] for it in columns if self.worst[it].late is not None]
-        return max(known, key=lambda it: it.late or 0, default=None)
+        best = max((it.late or 0 for it in known), default=None)
+        return next((it for it in known if it.late == best), None)
 
 
 def known_kinds(script: Script, given: Offered, names: list[str]) -> dict[str, str]:

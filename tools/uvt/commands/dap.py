@@ -12,7 +12,8 @@ import argparse
 
 from launch.tool import run_tool
 
-from uvt.dap import Adapter, Wire
+from uvt.dap import Adapter
+from uvt.dap_wire import Wire
 
 
 def serve() -> int:

@@ -14,7 +14,8 @@ import argparse
 
 from launch.tool import run_tool
 from uvt.commands.record import positive
-from uvt.record.run import MOST, Part, from_process
+from uvt.record.parts import MOST, Part
+from uvt.record.run import from_process
 
 
 def main() -> int:

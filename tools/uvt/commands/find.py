@@ -11,7 +11,7 @@
 Of a recording that ./uvt record --lift made NAME may be a line of JavaScript, too (`app.js:12`): that of a timer's function or of its start.
 
 The lines behind `begin` (docs/FIND.md has each):
-  may send NAME N [during JOB], may cancel NAME N, may io NAME N, may tick MS N, may wait   what may come, beside the workers, which take and
+  may send NAME N [during JOB], may cancel NAME N, may io NAME N, may tick MS N, may wait [MS N]   what may come, beside the workers, which take and
                                                                   finish at any time. Of a recording, without such a line: what came in it
   may differ K                                                    what came in the recording, at most K of it at another place
   takes NAME [@K] MS                                              how long a callback takes
@@ -40,11 +40,11 @@ from pathlib import Path
 
 from launch import reasons
 from launch.tool import START, run_tool
-from uvt.conversation import INSTALLED, Fault, Script, read_input
+from uvt.conversation import HOOKED, INSTALLED, Fault, Script, read_input
 from uvt.find_javascript import named
 from uvt.joined import Recorded, joined
 from uvt.notes import harmless
-from uvt.offered import near_lines, never_called, offered
+from uvt.offered import near_lines, never_called, offered, single
 from uvt.searching import BAD_LINE, UNSETTLED, Search
 
 FOUND, NEVER, OWN_FAULT = 0, 1, 70
@@ -63,7 +63,7 @@ def inquiry(paths: list[Path], lines: list[str]) -> tuple[bytes, list[str]]:
             return with_full(paths[0].read_bytes()) if lines else paths[0].read_bytes(), []
         except OSError as fault:
             raise Fault(f"{paths[0]}: {fault.strerror}") from None
-    read = [read_input(path) for path in paths]
+    read = [(script, single(steps)) for script, steps in map(read_input, paths)]
     differing = next((it for it in lines if it.split(" ")[:2] == ["may", "differ"]), None)
     if differing and not read[0][1]:
         raise Fault(f"`{differing}`: no steps stand behind `begin` in {paths[0]} from which an order might differ")
@@ -212,6 +212,8 @@ def answer(paths: list[Path], lines: list[str], session: Path | None) -> int:
         first = output.readline()
         sys.stdout.buffer.write(first)
         rest = output.read()
+        if rest and read_input(paths[0])[0].notes.javascript:
+            rest = f"{HOOKED}\n".encode() + rest
         if session and rest:
             session.write_bytes(rest)
             sys.stdout.flush()

@@ -104,7 +104,7 @@ def at_random(words: list[str], runs: int, wanted: Order, name: str) -> int:
     if first.ended():
         print(f"a run that nobody forces {first.ended()}", flush=True)
     for number in range(1, runs + 1):
-        order = bound(Order(seed=wanted.seed + number - 1, stall=wanted.stall, loop=loop), first, steps)
+        order = bound(Order(seed=(wanted.seed or 0) + number - 1, stall=wanted.stall, loop=loop), first, steps)
         ran = run(words, order, name, limit(first), lambda it: badly(it, first))
         if bad := badly(ran, first):
             print(f"run {number} {bad}")

@@ -48,7 +48,8 @@ from launch.tool import run_tool
 from uvt.conversation import INSTALLED, ROOT, Fault, built_program
 from uvt.hunting import Bad, Counts, Hunt, Wishes, counted
 from uvt.notes import harmless
-from uvt.record.run import recorder, room_in, write
+from uvt.record.compiled import recorder
+from uvt.record.files import room_in, write
 from uvt.reports import junit, sarif
 
 WELL, FAULT, BADLY, INTERRUPTED = 0, 2, 3, 130
@@ -234,7 +235,7 @@ def join(paths: list[str], name: str | None) -> int:
     have = set(seen)
     missing = [it for it in range(1, of + 1) if it not in have]
     cut = sorted(it["part"][0] for it in reports if it["ended"])
-    bad = [(it["part"][0], Bad(**it["bad"])) for it in sorted(reports, key=lambda it: it["part"][0]) if it["bad"]]
+    bad = [(it["part"][0], Bad(**it["bad"])) for it in sorted(reports, key=lambda it: int(it["part"][0])) if it["bad"]]
     name = name or f"{Path(words[0]).name}.hunt"
     lines = [f"part{'s' * (len(missing) > 1)} {ranges(missing)} of {of} {'are' if len(missing) > 1 else 'is'} missing"] if missing else []
     lines += [f"part {it} was interrupted" for it in cut]
@@ -282,7 +283,7 @@ def hunted(wishes: Wishes, name: str, reports: list[str]) -> int:
     try:
         bad = hunt.run()
     except KeyboardInterrupt:
-        ended = True
+        bad, ended = hunt.spare, True
     finally:
         shutil.rmtree(folder, ignore_errors=True)
         teller.done()

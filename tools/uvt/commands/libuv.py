@@ -22,7 +22,8 @@ from uvt.conversation import read_input
 from uvt.libuv.differences import Parting, parting
 from uvt.libuv.runner import Library, installed, of_node, run_programs
 from uvt.libuv.session import Led, lead
-from uvt.walk import Walk, longest_way
+from uvt.walk import Walk
+from uvt.ways import longest_way
 
 PARTED = 3
 WIDTH = 40

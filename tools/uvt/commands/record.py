@@ -5,7 +5,7 @@
   ./uvt record --keep MIB [--late MS] PROGRAM [ARG..]
                                             of a program that runs for long: its last MIB megabytes of log alone are kept. ./uvt dump PID
                                             makes recordings of them while it runs. --late: what stood around a callback that took MS, a timer
-                                            that began so late or a poll that ended so late is kept apart (of the four longest)
+                                            that began so late or a poll that ended so late is kept apart (of the longest)
   ./uvt record --keep MIB [--late MS]       without a program: prints what has to be in the environment of one that somebody else starts
 
 It writes NAME.log, and for each loop with callbacks NAME.rec (NAME.1.rec, .. where there are several), and beside it NAME.notes, which
@@ -36,7 +36,9 @@ from pathlib import Path
 
 from launch.tool import run_tool
 from uvt.conversation import Fault
-from uvt.record.run import MOST, Keep, Part, from_keeping, from_log, from_program, words_to_start_with
+from uvt.record.parts import MOST, Part
+from uvt.record.run import from_keeping, from_log, from_program
+from uvt.record.started import Keep, words_to_start_with
 
 # How many MiB are kept where nobody says.
 KEPT = 64

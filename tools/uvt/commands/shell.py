@@ -19,7 +19,7 @@ from pathlib import Path
 from launch.tool import run_tool
 from uvt.conversation import Conversation, Script, home, read_input
 from uvt.shell import Quit, Shell
-from uvt.walk import longest_way
+from uvt.ways import longest_way
 
 HISTORY = home() / ".uvt_history"
 

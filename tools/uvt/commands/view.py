@@ -23,7 +23,8 @@ from uvt.progress import Teller
 from uvt.trace_event import Times, trace_events
 from uvt.trace_javascript import cpu_profile
 from uvt.view import html
-from uvt.walk import Walk, longest_way
+from uvt.walk import Walk
+from uvt.ways import longest_way
 
 
 def show(path: Path, how: str, at: int | None) -> int:

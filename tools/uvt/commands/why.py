@@ -31,13 +31,15 @@ from pathlib import Path
 
 from launch.tool import run_tool
 from uvt import log_summary
-from uvt.conversation import INSTALLED, Fault, Script, is_proved, read_descriptor, read_input
-from uvt.javascript import PLACE, fitted
+from uvt.conversation import Fault, INSTALLED, Script, is_proved, read_descriptor, read_input
+from uvt.javascript_pieces import PLACE, fitted
 from uvt.overview import Overview
 from uvt.progress import Teller
 from uvt.record import ring
-from uvt.record.run import Part, from_log
-from uvt.walk import Walk, longest_way
+from uvt.record.parts import Part
+from uvt.record.run import from_log
+from uvt.walk import Walk
+from uvt.ways import longest_way
 from uvt.why import why
 from uvt.why_javascript import WhyJavaScript
 
@@ -121,7 +123,7 @@ def answered(name: str | None, path: Path | None) -> list[str]:
     teller = Teller("uvt-why", "steps")
     with Walk(script, longest_way(script, commands), tell=teller.tell) as walk:
         teller.done()
-        if of_javascript:
+        if name is not None and of_javascript:
             return WhyJavaScript(walk).answer(name)
         if name is not None:
             return [row for line in why(walk, name) for row in (fitted(line) if script.notes.javascript else [line])]

@@ -30,7 +30,8 @@ from launch.tool import run_tool
 from uvt.conversation import INSTALLED, Fault, Script, read_input
 from uvt.progress import Teller
 from uvt.searching import search_program
-from uvt.worst import Asker, Budget, Row, Worst, beyond_budgets, rows_of, single
+from uvt.offered import single
+from uvt.worst import Asker, Budget, Row, Worst, beyond_budgets, rows_of
 
 SETTLED, BEYOND, WRONG, OPEN = 0, 1, 2, 3
 

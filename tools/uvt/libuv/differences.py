@@ -8,7 +8,7 @@ from __future__ import annotations
 
 from dataclasses import dataclass
 
-from uvt.conversation import Slot, State
+from uvt.state import Slot, State
 from uvt.libuv.runner import Library
 from uvt.libuv.session import Led
 from uvt.places import read_place

@@ -4,7 +4,8 @@ from __future__ import annotations
 
 from dataclasses import dataclass, field
 
-from uvt.conversation import Fault, State
+from uvt.conversation import Fault
+from uvt.state import State
 from uvt.libuv.runner import LAST_MS, common
 from uvt.places import read_place
 from uvt.pool import workers_of

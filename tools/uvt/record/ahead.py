@@ -69,7 +69,7 @@ class Ahead:
         return item.number if isinstance(item, Call) else 0
 
 
-def with_later_times(items: list[Item]) -> array.array:
+def with_later_times(items: list[Item]) -> array.array[int]:
     """Of each item the first behind it that looks at the clock, or shows that this was looked at, and has a later time; where there is none, a
     number behind all items, and far."""
     found = array.array("i", [len(items) + FAR]) * len(items)
@@ -131,10 +131,12 @@ def given_to(may_be_for: dict[int, tuple[int, int]], count: int) -> dict[int, in
     for at in may_be_for.keys() - set(needed):
         spare[may_be_for[at][0]].append(at)
     given: dict[int, int] = {}
-    for number, at in reversed(list(enumerate(needed))):
-        if at is not None and may_be_for[at][0] < number and spare[number]:
+    for number, found in reversed(list(enumerate(needed))):
+        if found is None:
+            continue
+        at = found
+        if may_be_for[at][0] < number and spare[number]:
             spare[may_be_for[at][0]].append(at)
             at = spare[number].pop()
-        if at is not None:
-            given[at] = number
+        given[at] = number
     return given

@@ -5,7 +5,7 @@ from __future__ import annotations
 import re
 
 from uvt.notes import THINGS, sentence
-from uvt.record.follow import Outcome
+from uvt.record.leading import Outcome
 from uvt.record.log import WATCHERS
 from uvt.record.items import Call, End, Item, Op, Program, Run, is_pool
 
@@ -54,7 +54,7 @@ def is_io(kind: str) -> bool:
 def heading_of(program: Program, outcome: Outcome) -> str:
     """The heading of the page that speaks of this difference."""
     item, made = outcome.item, MADE.search(outcome.why)
-    if any(it.line < item.line for it in program.foreign):
+    if item and any(it.line < item.line for it in program.foreign):
         return THREAD
     kind = kind_of(program, made[1]) if made else ""
     if "`closed " in outcome.why and kind in ("fs_poll", "signal"):

@@ -26,6 +26,8 @@ LONGEST = 24
 NOTHING = "?"
 # Which time of an item: that of the loop, of the clock, or that to which the clock goes on as its callback ends.
 NOW, CLOCK, END = "now", "clock", "end"
+# By what a unit, or an item of it, is known again.
+Key = tuple[object, ...]
 
 
 @dataclass
@@ -115,7 +117,7 @@ def first_sends(items: list[Item]) -> list[int]:
     return found
 
 
-def happens(item: Item) -> tuple:
+def happens(item: Item) -> Key:
     """What of an item has to be the same."""
     match item:
         case Op():
@@ -141,13 +143,13 @@ def letter(item: Item) -> bytes:
     return LETTERS.get(type(item), NO_UNIT)
 
 
-def numbered(items: list[Item]) -> array.array:
+def numbered(items: list[Item]) -> array.array[int]:
     """What happens with each item, as a number: the same for the same."""
-    numbers: dict[tuple, int] = {}
+    numbers: dict[Key, int] = {}
     return array.array("i", [numbers.setdefault(happens(it), len(numbers)) for it in items])
 
 
-def counted(items: list[Item]) -> tuple[array.array, array.array]:
+def counted(items: list[Item]) -> tuple[array.array[int], array.array[int]]:
     """How many of the callbacks that are made ready for a poll come before each item; and how many up to the first end of a poll's callbacks from
     it on."""
     before = array.array("i", [0])
@@ -173,7 +175,7 @@ class Ways:
         self.before, self.upto = counted(self.items)
         # of each of these the first send to it since it was called last
         self.first_sends = first_sends(self.items)
-        self.ways: dict[tuple, Way] = {}
+        self.ways: dict[Key, Way] = {}
         self.many = 4
         # a unit that went otherwise than the last time
         self.slow_until = 0
@@ -185,7 +187,7 @@ class Ways:
         found = UNIT.match(self.letters, at, at + LONGEST)
         return found.end() if found and self.upto[found.end()] - self.before[found.end()] <= LONGEST else 0
 
-    def key(self, at: int, end: int, where: str) -> tuple:
+    def key(self, at: int, end: int, where: str) -> Key:
         """What happens in a unit, who is called behind it before the next poll, and whom of all these somebody has sent to as it begins."""
         return (where, self.numbers[at:end].tobytes(), *self.names[self.before[end] : self.upto[end]], tuple(self.sent(at, end)))
 
@@ -196,7 +198,7 @@ class Ways:
 
     # ---- a way is learnt
 
-    def learn(self, at: int, end: int, key: tuple, length: int, late: int) -> None:
+    def learn(self, at: int, end: int, key: Key, length: int, late: int) -> None:
         """Keeps how the follower came through this unit, from so many steps on, where so many sends had come late. (A send that came late
         belongs to this time alone.)"""
         follower = self.follower

@@ -10,6 +10,7 @@ from dataclasses import dataclass, field
 
 from uvt.javascript import JavaScript
 from uvt.record.log import NO_CLOCK, TIMER_OWN, WATCHERS
+from uvt.spent import Held
 
 
 @dataclass(slots=True)
@@ -28,7 +29,7 @@ class Op(Did):
     answer: str
     # the place in the program that asked for it, as the log has it; `` where nobody knows
     place: str = ""
-    # of a request that is queued the clock then, where that is known: the loop's time is an earlier one in a long callback
+    # of a request that is queued and a timer that is started the clock then, where the loop's time is an earlier one
     queued: int = NO_CLOCK
 
 
@@ -199,12 +200,13 @@ def is_pool(kind: str) -> bool:
 
 @dataclass
 class Waited:
-    """A call in which a callback waited: which function, since when, how long, and where in the program, in words."""
+    """A call in which a callback waited: which function, since when, how long, and where in the program, in words; of a lock, who had it."""
 
     function: str
     begin: int
     took: int
     place: str
+    owner: str = ""
 
 
 @dataclass
@@ -227,9 +229,10 @@ class Program:
     # what these used of it else, in the log's numbers; the calls in which callbacks waited, and the stacks at which they were looked at
     used: dict[Key, list[int]] = field(default_factory=dict)
     waits: dict[Key, list[Waited]] = field(default_factory=lambda: collections.defaultdict(list))
-    stacks: dict[Key, collections.Counter[str]] = field(default_factory=lambda: collections.defaultdict(collections.Counter))
-    # the polls that the system ended late: when, by how much, how long the thread waited for a processor, and whether a signal ended it
-    held: list[tuple[int, int, int, bool]] = field(default_factory=list)
+    # (each with how often, and for how many ms, as the log has it)
+    stacks: dict[Key, list[tuple[str, str]]] = field(default_factory=lambda: collections.defaultdict(list))
+    # the polls that the system ended late, and when
+    held: list[tuple[int, Held]] = field(default_factory=list)
     # the processes for which the program itself has waited: the name, and where
     reaped: list[tuple[str, str]] = field(default_factory=list)
     # the requests of streams, in the order in which they were asked for

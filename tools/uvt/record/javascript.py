@@ -2,9 +2,12 @@
 
 from __future__ import annotations
 
+import bisect
+import re
 from pathlib import Path
 
-from uvt.javascript import NOWHERE, OUTSIDE, JavaScript, Look, Origin, Place, Resource, Span, Under
+from uvt.javascript import JavaScript
+from uvt.javascript_pieces import Look, NOWHERE, OUTSIDE, Origin, Place, Resource, Span, Under
 from uvt.record.log import Event, Log
 
 # node's functions that call what JavaScript asked for.
@@ -26,17 +29,57 @@ BETWEEN = ("tick", "timer", "immediate")
 COLLECTOR = "(garbage_collector)"
 SHOWN = 70
 # What a line at which a timer is called says of it.
-REPEATS, UNREFERENCED = 1, 2
+REPEATS, UNREFERENCED, PUT_OFF = 1, 2, 4
 # The hook's own file; and its functions that stand between a timer and its callback.
 HOOK = "/record/node/hook.js:"
-PASSED = {"uvt_called", "get", "set", "ref", "unref"}
+PASSED = {"uvt_called", "get", "set", "ref", "unref", "refresh"}
 
 
-def place_of(log: Log, number: int) -> Place:
+# What isn't known where a node lacks one of these methods of V8's, by the classes that they are of; the others are for looks.
+WITHOUT = (
+    (("AddGCPrologueCallback", "AddGCEpilogueCallback"), "how long the collector took"),
+    (("StackTrace", "StackFrame"), "where something was asked for"),
+    (("8Function",), "where a function begins"),
+    # (without it a place costs more, and is as well known)
+    (("GetStackSample",), ""),
+)
+
+
+def in_words(symbol: str) -> str:
+    """`v8::CpuProfiler::Dispose` of a name of the linker."""
+    found, rest = [], re.sub(r"^_ZNK?", "", symbol)
+    while number := re.match(r"\d+", rest):
+        begin, end = number.end(), number.end() + int(number[0])
+        found.append(rest[begin:end])
+        rest = rest[end:]
+    return "::".join(found) or symbol
+
+
+def lacked(log: Log) -> list[str]:
+    """What a node lacks of V8, and what isn't known for that, in a sentence each."""
+    found: dict[str, list[str]] = {}
+    for it in log.lacks:
+        what = next((what for names, what in WITHOUT if any(name in it for name in names)), "which functions were under way")
+        found.setdefault(what, []).append(in_words(it))
+    return [f"this node has no {', '.join(names)}: so {what} isn't known" for what, names in found.items() if what]
+
+
+def place_in_file(log: Log, number: int) -> Place:
     """A function with its file and line, the file as it is seen from where the program was started."""
     function, _, where = log.places.get(number, "").rpartition(" ")
     where = where.removeprefix("file://")
     return Place(function, where.removeprefix(f"{log.home}/") if log.home else where) if function else NOWHERE
+
+
+def place_of(log: Log, number: int) -> Place:
+    """The same in the source that a person wrote, where the file's map tells that."""
+    place = place_in_file(log, number)
+    return Place(place.function, log.maps.place(place.where))
+
+
+def line_of(log: Log, number: int, line: int) -> int:
+    """A line of the file of a place, in that source."""
+    return log.maps.line(place_in_file(log, number).where, line)
 
 
 def is_program(place: Place) -> bool:
@@ -47,6 +90,18 @@ def is_program(place: Place) -> bool:
 def how_of(frames: list[tuple[Place, int]]) -> str:
     """How the innermost of these came to be called, by node's own functions below it; `` where these don't tell."""
     return next((HOWS[it.function] for it, _ in frames if it.function in HOWS), "")
+
+
+def ended(begin: int, last: int, end: int, callbacks: list[tuple[int, int]]) -> int:
+    """Where a look ends, of which V8 looked at `last` for the last time, and at `end` at something else, in thousandths of a ms. It counts up to
+    there, which may come late: what was under way in a callback of the loop was over as that ended, and what was between two of them as the next
+    one began. (In the ms in which one ends and the next one begins it is that in which the look began.)"""
+    for time in (begin, last):
+        at = bisect.bisect_right(callbacks, time // 1000, key=lambda it: it[0])
+        over = 1000 * (callbacks[at - 1][1] + 1) if at else 0
+        if last < over:
+            return min(end, over)
+    return min(end, 1000 * (callbacks[at][0] + 1)) if at < len(callbacks) else end
 
 
 class Stacks:
@@ -61,7 +116,7 @@ class Stacks:
         found: list[tuple[Place, int]] = []
         while number >= 0 and (row := self.log.stacks.get(number)) and len(found) < 1000:
             number, place, line = row
-            found.append((place_of(self.log, place), line))
+            found.append((place_of(self.log, place), line_of(self.log, place, line)))
         return found
 
     def without_hook(self, number: int) -> int:
@@ -104,14 +159,18 @@ class Reader:
         self.found = JavaScript()
         self.stacks = Stacks(log)
         self.open: dict[int, tuple[tuple[str, str, int], int, int | None, int]] = {}
-        # of node's own times those of the log: never less than what a timer's line says
+        # of node's own times those of the log: as the recorder says, and of earlier ones never less than what a timer's line says
         self.behind: int | None = None
+        self.is_said = False
         self.rows: list[tuple[int, tuple[str, str, int], int, int, int | None, int]] = []
         # the last callback of JavaScript that ended, and in which of the loop
         self.last: tuple[int, tuple[str, str, int]] | None = None
         # when the loop's first callback began
         self.begun: int | None = None
-        self.raw: list[tuple[int, int, int]] = []
+        # of a look since when, how long, how late the next one came, 0 where that is in time or nobody knows, and its stack
+        self.raw: list[tuple[int, int, int, int]] = []
+        # those that were asked for before the recording begins
+        self.before: set[int] = set()
 
     def read(self, event: Event, call: tuple[str, str, int]) -> None:
         words = event.words.split(" ")
@@ -122,7 +181,9 @@ class Reader:
             case "was" if not resource:
                 at, *_ = (place_of(self.log, int(it)) for it in words[4].split("<"))
                 when = event.clock - int(words[6])
-                self.found.resources[id] = Resource(id, words[2], place_of(self.log, int(words[3])), at, when, int(words[5]))
+                self.before.add(id)
+                kind, before = ("interval", event.clock - int(words[7])) if len(words) > 7 else (words[2], None)
+                self.found.resources[id] = Resource(id, kind, place_of(self.log, int(words[3])), at, when, int(words[5]), before)
             case "new":
                 at, *callers = (place_of(self.log, int(it)) for it in words[4].split("<"))
                 self.found.resources[id] = Resource(id, words[2], place_of(self.log, int(words[3])), at, event.clock, int(words[5]))
@@ -132,10 +193,12 @@ class Reader:
                 delay = int(words[3]) if len(words) > 3 else 0
                 self.open[id] = call, event.clock, start, delay
                 if resource and start is not None:
-                    self.behind = max(self.behind if self.behind is not None else -(1 << 60), resource.when - start)
                     flags = int(words[4]) if len(words) > 4 else 0
+                    if not flags & PUT_OFF:
+                        self.reckon(resource, start, bool(flags & REPEATS))
                     resource.kind = "interval" if flags & REPEATS else resource.kind
                     resource.referenced &= not flags & UNREFERENCED
+                    resource.put_off |= bool(flags & PUT_OFF)
             case "ran" if it := self.open.pop(id, None):
                 self.last = id, call
                 self.rows.append((id, it[0], it[1], event.clock, it[2], it[3]))
@@ -145,8 +208,25 @@ class Reader:
                 resource.referenced, resource.referenced_at = words[2] == "1", place_of(self.log, int(words[3]))
             case "thread":
                 self.found.thread = id
+                if len(words) > 2:
+                    self.behind, self.is_said = int(words[2]), True
             case "busy":
-                self.raw.append((int(words[2]), int(words[2]) + int(words[3]), id))
+                self.raw.append((int(words[2]), int(words[3]), int(words[4]) if len(words) > 4 else 0, id))
+            case "gc":
+                # (in thousandths of a ms)
+                self.found.collections.append((id, id + int(words[2])))
+
+    def reckon(self, resource: Resource, start: int, repeats: bool) -> None:
+        """What a timer's start says of node's times, where the recorder said nothing: it was no earlier than it was asked for. (One that repeats
+        counts from its last call: of one that was there before nobody knows which that was.)"""
+        if not self.is_said and not (repeats and resource.id in self.before):
+            self.behind = max(self.behind if self.behind is not None else -(1 << 60), resource.when - start)
+
+    def due(self, resource: Resource, start: int | None, delay: int) -> int | None:
+        """When a call was due; None where that isn't known. (Python's timers are the loop's own, and no time of node's is said of them.)"""
+        if start is None:
+            return resource.when + resource.delay if resource.kind in LOOPS_OWN else None
+        return start + self.behind + delay if self.behind is not None else None
 
     def origin(self, callers: list[Place], call: tuple[str, str, int]) -> Origin:
         # (node does what is left by a timer's callback, its ticks and promises, before it calls the next one)
@@ -159,20 +239,19 @@ class Reader:
         self.found.asked[name, call] = place
         self.found.origins[name, call] = self.origin(callers, inside)
 
-    def done(self) -> JavaScript:
-        behind = self.behind or 0
+    def done(self, callbacks: list[tuple[int, int]]) -> JavaScript:
+        """All of it; with when each callback of the loop began and ended, in ms."""
         for id, call, begin, end, start, delay in self.rows:
             if resource := self.found.resources.get(id):
-                # (Python's timers are the loop's own, and no time of node's is said of them)
-                due = start + behind + delay if start is not None else resource.when + resource.delay if resource.kind in LOOPS_OWN else None
-                self.found.add(Span(id, call, begin, end, due))
+                self.found.add(Span(id, call, begin, end, self.due(resource, start, delay)))
         last: Look | None = None
-        for begin, end, number in sorted(self.raw):
+        for begin, took, late, number in sorted(self.raw):
+            end = ended(begin, begin + took - late, begin + took, callbacks) if late else begin + took
             frames = self.stacks.frames(number)
             self.keep(begin, end, number, frames)
             if last and frames and frames[0][0].function == COLLECTOR:
                 # (what the collector takes is taken from whom it interrupts)
-                last.end = end if begin - last.end < 2000 else last.end
+                last.end = ended(last.begin, last.end - 1, end, callbacks) if begin - last.end < 2000 else last.end
                 continue
             under = self.stacks.under(number)
             # (a look counts up to the next one, which may come late)
@@ -191,8 +270,7 @@ class Reader:
                 last = None
         for id, (call, begin, start, delay) in self.open.items():
             if resource := self.found.resources.get(id):
-                due = start + behind + delay if start is not None else resource.when + resource.delay if resource.kind in LOOPS_OWN else None
-                self.found.add(Span(id, call, begin, max(begin, self.found.seen()), due, True))
+                self.found.add(Span(id, call, begin, max(begin, self.found.seen()), self.due(resource, start, delay), True))
         self.read_sources()
         self.found.home = self.log.home if self.found else ""
         self.found.language = self.log.language
@@ -215,7 +293,7 @@ class Reader:
         while number >= 0 and number not in self.found.stacks and (row := self.log.stacks.get(number)):
             below, place, line = row
             below = self.stacks.without_hook(below)
-            self.found.stacks[number] = below, place_of(self.log, place), line
+            self.found.stacks[number] = below, place_of(self.log, place), line_of(self.log, place, line)
             number = below
 
     def read_sources(self) -> None:

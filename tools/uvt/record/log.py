@@ -11,6 +11,8 @@ from dataclasses import dataclass, field
 
 from uvt.conversation import Fault
 from uvt.notes import harmless
+from uvt.record.maps import Maps
+from uvt.spent import in_words
 
 NUMBER = r"(?:0|[1-9]\d{0,18})"
 TIMER_OWN = {"timer", "idle", "prepare", "check", "async"}
@@ -23,22 +25,25 @@ WORKERS = re.compile(r"- N (\d{1,9})")
 ENDED = re.compile(r"- X (SIG[A-Z0-9]{1,12}|signal \d{1,3})")
 TURNED = re.compile(r"- W ([1-9]\d{0,9})")
 COPIED = re.compile(r"- D (\d{1,19})")
+NOW = re.compile(r"- Y (\d{1,9}) (\d{1,19}) ([a-z_0-9]{1,32}) @((?:0|[1-9]\d{0,8})(?:<(?:0|[1-9]\d{0,8})){0,63})")
 BASE = re.compile(r"- Z \d{1,19}")
-LATE = re.compile(r"- T (callback|timer|poll) (\d{1,9}) (\d{1,19}) (\d{1,19}) (-1|\d{1,9})")
+LATE = re.compile(r"- T (callback|timer|poll) (\d{1,9}) (\d{1,19}) (\d{1,19}) (-1|\d{1,9})(?: (\d{1,19}))?")
 UNSEEN = re.compile(r"- U (-|uv_[a-z_0-9]+) (.+)")
 PLACE = re.compile(r"- J place (\d{1,9}) (.*)")
 HOME = re.compile(r"- J home (.*)")
 LANGUAGE = re.compile(r"- J language (Python|Lua)")
+LACKS = re.compile(r"- J lacks (\w{1,200})")
 STACK = re.compile(r"- J stack (\d{1,9}) (-1|\d{1,9}) (\d{1,9}) (\d{1,9})")
 NO_CLOCK = -1
 # So many functions are told of a place, each of which was called by the next one.
 CHAIN = 2
 TIMED = "BDEFGHJRSTq"
-# Of these the place in the program stands at the end of the line, that called libuv there; behind `<` the one that called that function.
+# Of these the place in the program stands at the end of the line, that called libuv there; behind `<` the one that called that function, and of a
+# call that waited all that are on the stack.
 CALLED = "DGIOSZ"
-FROM = re.compile(r"(.*) @((?:0|[1-9]\d{0,8})(?:<(?:0|[1-9]\d{0,8}))?)")
-# Of a look at a stack these are all of it, the innermost first.
-STACK_FROM = re.compile(r"(\d{1,9}) @((?:0|[1-9]\d{0,8})(?:<(?:0|[1-9]\d{0,8})){0,63})")
+FROM = re.compile(r"(.*) @((?:0|[1-9]\d{0,8})(?:<(?:0|[1-9]\d{0,8})){0,63})")
+# Of a look at a stack these are all of it, the innermost first. (Earlier logs say how often alone, and not for how many ms)
+STACK_FROM = re.compile(r"(\d{1,9}(?: \d{1,9})?) @((?:0|[1-9]\d{0,8})(?:<(?:0|[1-9]\d{0,8})){0,63})")
 # What a thread had of the processor: ms on it, and of later logs ms in the kernel, page faults without the disk and with it, how often it gave the
 # processor away and was pushed off it, and ms that it waited for one.
 USED = rf"(?: cpu {NUMBER}(?: {NUMBER}){{6}}| cpu {NUMBER})?"
@@ -48,6 +53,8 @@ ENDS = {
     "- ! filter": "the program filters its calls of the system, and what was made ready before that is full: the log ends at line {}",
 }
 CODE = r"(?:ok|E[A-Z0-9_]+)"
+# Libraries of the system, whose functions call the program's or stand between two of these: their lines tell nothing of it.
+SYSTEM = re.compile(r"(?:libc|libpthread|libm|libdl|libstdc\+\+|libgcc_s|ld-linux[\w-]*|ld-musl[\w-]*)[.-]")
 WORDS = {
     "O": re.compile(
         rf"init %{NUMBER} (?:{'|'.join(sorted(TIMER_OWN | WATCHERS))}) = ok"
@@ -55,10 +62,10 @@ WORDS = {
         rf"|start %{NUMBER}(?: \d{{1,20}} \d{{1,20}})? = {CODE}|repeat %{NUMBER} \d{{1,20}} = {CODE}"
         rf"|(?:stop|again|close|ref|unref|send|cancel) %{NUMBER} = {CODE}|(?:closeloop|stoploop|updatetime) = {CODE}"
     ),
-    "D": re.compile(rf"[a-z_0-9]+ {NUMBER}(?: %{NUMBER})?"),
+    "D": re.compile(rf"[a-z_0-9]+ {NUMBER}(?: %{NUMBER})?(?: \^(?:%{NUMBER}|#{NUMBER}|[A-Za-z0-9_.-]{{1,31}}))?"),
     "E": re.compile(rf"{NUMBER}(?: \+)?{USED}"),
-    "H": re.compile(rf"{NUMBER} {NUMBER} [01]"),
-    "Y": re.compile(r"\d{1,9}"),
+    "H": re.compile(rf"{NUMBER} {NUMBER} [01](?: {NUMBER})?"),
+    "Y": re.compile(r"\d{1,9}(?: \d{1,9})?"),
     "Z": re.compile(NUMBER),
     "q": re.compile(NUMBER),
     "B": re.compile(rf"on {NUMBER} [a-z_]+(?: [A-Za-z0-9_-]+){{0,2}}(?: %{NUMBER})?|after {NUMBER} (?:ok|ECANCELED)|closed {NUMBER}"),
@@ -77,10 +84,10 @@ WORDS = {
     "K": re.compile(rf"all|end|{NUMBER} [a-z_]+ [01] [01] [01] {NUMBER} {NUMBER} {NUMBER}"),
     "J": re.compile(
         rf"new {NUMBER} (?:timer|interval|immediate|soon|task|callback) (?:-1|{NUMBER}) (?:-1|{NUMBER}(?:<{NUMBER})*) {NUMBER}"
-        rf"|was {NUMBER} (?:timer|interval|immediate|soon|task|callback) (?:-1|{NUMBER}) (?:-1|{NUMBER}(?:<{NUMBER})*) {NUMBER} {NUMBER}"
-        rf"|run {NUMBER}(?: {NUMBER} {NUMBER}(?: [123])?)?|ran {NUMBER}"
+        rf"|was {NUMBER} (?:timer|interval|immediate|soon|task|callback) (?:-1|{NUMBER}) (?:-1|{NUMBER}(?:<{NUMBER})*) {NUMBER}"
+        rf" {NUMBER}(?: {NUMBER})?|run {NUMBER}(?: {NUMBER} {NUMBER}(?: [1-7])?)?|ran {NUMBER}"
         rf"|gone {NUMBER} (?:-1|{NUMBER})|ref {NUMBER} [01] (?:-1|{NUMBER})|by {NUMBER} {NUMBER}(?:<{NUMBER})*"
-        rf"|busy {NUMBER} {NUMBER} {NUMBER}|thread {NUMBER}"
+        rf"|busy {NUMBER} {NUMBER} {NUMBER}(?: {NUMBER})?|gc {NUMBER} {NUMBER}|thread {NUMBER}(?: -?{NUMBER})?"
     ),
     "Q": re.compile(rf"{NUMBER} {NUMBER}"),
     "W": re.compile(rf"(?:-1|{NUMBER}) \d{{1,20}} uv_[a-z_0-9]+"),
@@ -154,6 +161,8 @@ class Late:
     clock: int
     took: int
     id: int
+    # ms of that others had the processor
+    others: int = 0
 
     def begin(self) -> int:
         return self.clock - self.took
@@ -174,6 +183,9 @@ class Log:
     language: str = "JavaScript"
     places: dict[int, str] = field(default_factory=dict)
     stacks: dict[int, tuple[int, int, int]] = field(default_factory=dict)
+    # names of V8's that the recorder asks for, and this node doesn't have
+    lacks: list[str] = field(default_factory=list)
+    maps: Maps = field(default_factory=Maps)
     lines: int = 0
     # why it ends before its program did, or hasn't all of it, in a sentence
     note: str = ""
@@ -185,6 +197,8 @@ class Log:
     turned: bool = False
     # of a copy of the ring of a living program: when it was made, in ms of the first loop's time
     copied: int | None = None
+    # of such a copy, by the loop: when it was seen in its callback, by the first loop's time, in which call (`look`: in none), and the stack
+    now: dict[int, tuple[int, str, str]] = field(default_factory=dict)
     # why the ring was kept apart, where it was
     late: Late | None = None
     # why nothing of the program's libuv can be seen, in a sentence
@@ -200,7 +214,7 @@ class Log:
 
     def callers(self) -> set[int]:
         """The numbers of the places that call libuv, and of those that call these functions."""
-        places = {it.place for events in self.loops.values() for it in events if it.place}
+        places = {it.place for events in self.loops.values() for it in events if it.place} | {stack for _, _, stack in self.now.values()}
         return {int(number) for place in places for number in place.split("<")}
 
     def place(self, place: str) -> str:
@@ -208,14 +222,24 @@ class Log:
         told = [it for number in place.split("<") if number and (address := self.addresses.get(int(number))) for it in address.called_from()]
         return ", called ".join(told[:CHAIN])
 
-    def frames(self, stack: str) -> list[str]:
-        """The functions of a look at a stack with their lines (`rebuild_index@http.c:14`), the innermost first, up to the callback of the loop:
-        without those that have no name, the recorder's and libuv's."""
-        frames = [self.addresses[int(it)] for it in stack.split("<") if int(it) in self.addresses]
+    def waited_at(self, stack: str) -> str:
+        """Where a call that waited was made, in words: of the program's functions those with a line, where there are any."""
+        frames = self.callers_on(stack)
+        own = [it for it in frames if it.source() and not SYSTEM.match(it.within_file())] or frames[:CHAIN]
+        return ", called ".join([told for it in own for told in it.called_from()][:CHAIN]) if own else self.place(stack)
+
+    def callers_on(self, stack: str) -> list[Address]:
+        """The places of a stack, the innermost first, up to the callback of the loop: without the recorder's and libuv's."""
+        frames = [self.addresses[int(it)] for it in stack.split("<") if it and int(it) in self.addresses]
         # (the recorder's own function calls the callback, and libuv that one)
         ends = [at for at, it in enumerate(frames) if is_recorder(it) and at + 1 < len(frames) and is_of_libuv(frames[at + 1])]
-        frames = [it for it in frames[: ends[-1] if ends else len(frames)] if not is_recorder(it) and not is_of_libuv(it)]
-        return [one for it in frames for one in it.symbol.split("<") if not one.startswith("-")]
+        return [it for it in frames[: ends[-1] if ends else len(frames)] if not is_recorder(it) and not is_of_libuv(it)]
+
+    def frames(self, stack: str) -> list[str]:
+        """The functions of a look at a stack with their lines (`rebuild_index@http.c:14`; of the system's libraries `regexec@@regexec.c:9`), the
+        innermost first: without those that have no name."""
+        rows = [(one, SYSTEM.match(it.within_file())) for it in self.callers_on(stack) for one in it.symbol.split("<") if not one.startswith("-")]
+        return [f"{one}@" if system and "@" not in one else one.replace("@", "@@", 1) if system else one for one, system in rows]
 
 
 def is_recorder(address: Address) -> bool:
@@ -224,15 +248,6 @@ def is_recorder(address: Address) -> bool:
 
 def is_of_libuv(address: Address) -> bool:
     return "libuv.so" in address.within_file() or address.symbol.startswith("uv_")
-
-
-LAMBDA = re.compile(r"(.*?)(?:::)?\{lambda#\d+\}(?:::(?:call|_FUN|__invoke))?")
-
-
-def in_words(function: str) -> str:
-    """A function's name; of a lambda the one in which that stands."""
-    found = LAMBDA.fullmatch(function)
-    return f"a lambda of {found[1]}" if found and found[1] else function
 
 
 def is_number(text: str) -> bool:
@@ -295,6 +310,8 @@ def read_log(data: bytes) -> Log:
             log.addresses[int(address[1])] = Address(int(address[2], 16), address[3], address[4])
         elif place := PLACE.fullmatch(text):
             log.places[int(place[1])] = place[2]
+        elif lacks := LACKS.fullmatch(text):
+            log.lacks.append(lacks[1])
         elif stack := STACK.fullmatch(text):
             log.stacks[int(stack[1])] = int(stack[2]), int(stack[3]), int(stack[4])
         elif workers := WORKERS.fullmatch(text):
@@ -305,8 +322,10 @@ def read_log(data: bytes) -> Log:
             log.copied = int(copied[1])
         elif BASE.fullmatch(text):
             continue
+        elif where := NOW.fullmatch(text):
+            log.now[int(where[1])] = int(where[2]), where[3], where[4]
         elif late := LATE.fullmatch(text):
-            log.late = Late(late[1], *map(int, late.groups()[1:]))
+            log.late = Late(late[1], *(int(it or 0) for it in late.groups()[1:]))
         elif ended := ENDED.fullmatch(text):
             log.ended = ended[1]
         elif unseen := UNSEEN.fullmatch(text):

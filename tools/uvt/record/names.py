@@ -16,19 +16,19 @@ from pathlib import Path
 from typing import Any
 
 from uvt.conversation import OUT
-from uvt.record.log import CHAIN, Address, Log, in_words  # noqa: F401 (for those who tell names)
+from uvt.record.log import CHAIN, Address, Log
 
 ROOM = 26
 # What C++ has among the variables.
 OF_THE_COMPILER = ("guard variable ", "vtable ", "VTT ", "typeinfo ", "construction vtable ")
 
 
-def listed(file: str, words: list[str]) -> list[list[str]]:
-    """What nm lists of a file; nothing without nm, or of a file that it can't read."""
+def listed(file: str, words: list[str]) -> list[list[str]] | None:
+    """What nm lists of a file, nothing of one that it can't read; None without nm, or where that takes too long."""
     try:
         ran = subprocess.run(["nm", "--defined-only", *words, "--", file], capture_output=True, text=True, errors="replace", timeout=60)
     except (OSError, ValueError, subprocess.TimeoutExpired):
-        return []
+        return None
     return [line.split(" ", 3) for line in ran.stdout.splitlines()]
 
 
@@ -49,8 +49,11 @@ class Symbols:
         self.functions: dict[int, str] = {}
         self.ends: dict[int, int] = {}
         self.variables: list[tuple[int, int, str]] = []
+        self.whole = True
         for words in NM if kept is None else ():
-            for row in listed(file, ["-C", "-S", *words]):
+            rows = listed(file, ["-C", "-S", *words])
+            self.whole &= rows is not None
+            for row in rows or []:
                 if len(row) == 4 and row[2] in "bBdDvV" and not row[3].startswith(OF_THE_COMPILER):
                     self.variables.append((int(row[0], 16), int(row[1], 16), plain(row[3])))
                 # (its size is left out where that is 0)
@@ -87,37 +90,53 @@ class Symbols:
         return f"{name}+{offset - start}/{size}"
 
 
-@functools.lru_cache(maxsize=64)
-def symbols_as_of(file: str, key: str, folder: Path) -> Symbols:
-    """Those of a large file, as it was of that size and time: from what is kept, or else these are kept."""
-    kept = folder / f"{hashlib.sha256(os.fsencode(file)).hexdigest()[:24]}.json"
+def kept_of(file: str, what: str) -> Path:
+    """Where that is kept of a large file."""
+    return OUT / "symbols" / f"{hashlib.sha256(os.fsencode(file)).hexdigest()[:24]}{what}.json"
+
+
+def read_kept(path: Path, key: str) -> dict[str, Any] | None:
+    """What is kept there of the file as it is; None where that is nothing."""
     try:
-        found = json.loads(kept.read_bytes())
-        if found["key"] == key:
-            return Symbols(file, found)
+        found = json.loads(path.read_bytes())
+        return found if found["key"] == key else None
     except (OSError, ValueError, KeyError, TypeError):
-        pass
-    symbols = Symbols(file)
-    part = kept.with_suffix(f".{os.getpid()}")
+        return None
+
+
+def keep(path: Path, values: dict[str, object]) -> None:
+    part = path.with_suffix(f".{os.getpid()}")
     try:
-        folder.mkdir(parents=True, exist_ok=True)
-        part.write_text(json.dumps({"key": key, **symbols.values()}, separators=(",", ":")))
-        part.replace(kept)
+        path.parent.mkdir(parents=True, exist_ok=True)
+        part.write_text(json.dumps(values, separators=(",", ":")))
+        part.replace(path)
     except OSError:
         part.unlink(missing_ok=True)
+
+
+def key_of(file: str) -> str:
+    """Which state of a large file it is; `` of one that isn't large, or isn't there."""
+    try:
+        it = os.stat(file)
+    except (OSError, ValueError):
+        return ""
+    return f"{FORM} {it.st_dev} {it.st_ino} {it.st_size} {it.st_mtime_ns}" if it.st_size >= LARGE else ""
+
+
+@functools.lru_cache(maxsize=64)
+def symbols_as_of(file: str, key: str) -> Symbols:
+    """Those of a large file, as it was of that size and time: from what is kept, or else these are kept."""
+    kept = kept_of(file, "")
+    found = read_kept(kept, key)
+    symbols = Symbols(file, found)
+    if found is None and symbols.whole:
+        keep(kept, {"key": key, **symbols.values()})
     return symbols
 
 
 def symbols_of(file: str) -> Symbols:
-    try:
-        it = os.stat(file)
-    except (OSError, ValueError):
-        return Symbols(file)
-    return (
-        symbols_as_of(file, f"{FORM} {it.st_dev} {it.st_ino} {it.st_size} {it.st_mtime_ns}", OUT / "symbols")
-        if it.st_size >= LARGE
-        else Symbols(file)
-    )
+    key = key_of(file)
+    return symbols_as_of(file, key) if key else Symbols(file)
 
 
 def plain(symbol: str) -> str:
@@ -131,63 +150,90 @@ def plain(symbol: str) -> str:
     return re.sub(r"\(.*|<.*|\s.*", "", named) or "-"
 
 
-def sources(file: str, offsets: list[int]) -> list[str]:
-    """Of each place its source file and line, as FILE:LINE, by debug information; `` where there is none."""
-    words = ["addr2line", "-e", file, *(f"{it:x}" for it in offsets)]
+def addr2line(file: str, words: list[str], offsets: list[int]) -> str | None:
+    """What it says of these places; None where it isn't there, or took too long."""
     try:
-        ran = subprocess.run(words, capture_output=True, text=True, errors="replace", timeout=60)
+        words = ["addr2line", *words, "-e", file, *(f"{it:x}" for it in offsets)]
+        return subprocess.run(words, capture_output=True, text=True, errors="replace", timeout=60).stdout
     except (OSError, ValueError, subprocess.TimeoutExpired):
-        return [""] * len(offsets)
-    lines = [it.split(" ")[0].rsplit("/", 1)[-1] for it in ran.stdout.splitlines()]
+        return None
+
+
+def sources(said: str | None, offsets: list[int]) -> list[str]:
+    """Of each place its source file and line, as FILE:LINE, by debug information; `` where there is none."""
+    lines = [it.split(" ")[0].rsplit("/", 1)[-1] for it in (said or "").splitlines()]
     known = [it if re.fullmatch(r"[^\s?+@]+:[1-9]\d*", it) else "" for it in lines]
     return known if len(known) == len(offsets) else [""] * len(offsets)
 
 
-def chains(file: str, offsets: list[int]) -> list[list[tuple[str, str]]]:
-    """Of each place the function that it is in, as the compiler has it, and its FILE:LINE; and behind it those of which that is a part. None where
-    there is no debug information."""
-    words = ["addr2line", "-afiC", "-e", file, *(f"{it:x}" for it in offsets)]
-    try:
-        ran = subprocess.run(words, capture_output=True, text=True, errors="replace", timeout=60)
-    except (OSError, ValueError, subprocess.TimeoutExpired):
-        return [[] for _ in offsets]
-    parts = re.split(r"^0x[0-9a-f]+\n", ran.stdout, flags=re.MULTILINE)[1:]
+# The headers of C++ itself.
+OF_THE_LANGUAGE = re.compile(r"^/usr/(?:local/)?(?:include/(?:[\w-]+/)?c\+\+|lib/gcc)/")
+
+
+def chains(said: str | None, offsets: list[int]) -> list[list[tuple[str, str]]]:
+    """Of each place the function that it is in, as the compiler has it, and its FILE:LINE; and behind it those of which that is a part. What the
+    headers of C++ have in it is left out where a part of the program's is there. None where there is no debug information."""
+    parts = re.split(r"^0x[0-9a-f]+\n", said or "", flags=re.MULTILINE)[1:]
     if len(parts) != len(offsets):
         return [[] for _ in offsets]
     found = []
     for part in parts:
         lines = part.splitlines()
-        rows = [(function, line.split(" ")[0].rsplit("/", 1)[-1]) for function, line in zip(lines[::2], lines[1::2])]
-        found.append([(plain(function), line) for function, line in rows if re.fullmatch(r"[^\s?+@<]+:[1-9]\d*", line)])
+        pairs = list(zip(lines[::2], lines[1::2]))
+        pairs = [it for it in pairs if not OF_THE_LANGUAGE.search(it[1])] or pairs
+        rows = [(function, line.split(" ")[0].rsplit("/", 1)[-1]) for function, line in pairs]
+        named = [(plain(function), line) for function, line in rows if re.fullmatch(r"[^\s?+@<]+:[1-9]\d*", line)]
+        # (a lambda's body, and what calls that, are one)
+        named = [("{lambda#1}" if name in ("call", "_FUN", "__invoke") else name, line) for name, line in named]
+        found.append([it for at, it in enumerate(named) if "{lambda#" not in it[0] or it[1] not in [line for _, line in named[at + 1 :]]])
     return found
 
 
-def name_callers(symbols: Symbols, file: str, addresses: list[Address]) -> None:
-    """Gives places that call libuv the function and the line of the call, which ends there."""
+def name_callers(symbols: Symbols, file: str, addresses: list[Address]) -> bool:
+    """Gives places that call libuv the function and the line of the call, which ends there. False where nobody could be asked for lines."""
     # (each a byte before: that is in the call still)
-    for address, chain in zip(addresses, chains(file, [it.offset - 1 for it in addresses])):
+    offsets = [it.offset - 1 for it in addresses]
+    said = addr2line(file, ["-afiC"], offsets) if offsets else ""
+    for address, chain in zip(addresses, chains(said, offsets)):
         rows = [(re.sub("[+@<]", "_", name), line) for name, line in chain if name not in ("-", "??")][:CHAIN]
         address.symbol = "<".join(f"{name}@{line}" for name, line in rows)
-        address.symbol = address.symbol or re.sub("[+@<]", "_", plain(symbols.function_around(address.offset - 1))) or "-"
+        # (a library's function may have a version behind its name)
+        address.symbol = address.symbol or re.sub("[+<]", "_", plain(symbols.function_around(address.offset - 1).split("@")[0])) or "-"
+    return said is not None
+
+
+def name_some(file: str, callers: list[Address], others: list[Address]) -> bool:
+    """Gives addresses of a file their symbols: of callers those of the call. False where some of what is to be known of them is missing."""
+    symbols, functions = symbols_of(file), []
+    whole = name_callers(symbols, file, callers) and symbols.whole
+    for address in others:
+        found = symbols.name_at(address.offset)
+        if address.offset in symbols.functions:
+            address.symbol = re.sub("[+@]", "_", plain(found))
+            functions.append(address)
+        elif found != "-":
+            address.symbol = found
+    offsets = [it.offset for it in functions]
+    said = addr2line(file, [], offsets) if offsets else ""
+    for address, source in zip(functions, sources(said, offsets)):
+        address.symbol += f"@{source}" if source else ""
+    return whole and said is not None
 
 
 def name_addresses(log: Log) -> None:
-    """Gives the addresses of a fresh log their symbols."""
+    """Gives the addresses of a fresh log their symbols. Of a large file each that was asked for is kept: node's own are the same in each run."""
     callers = log.callers()
     for file in sorted({it.file for it in log.addresses.values()}):
-        symbols = symbols_of(file)
-        functions = []
-        here = [number for number, it in log.addresses.items() if it.file == file]
-        name_callers(symbols, file, [log.addresses[it] for it in here if it in callers])
-        for address in (log.addresses[it] for it in here if it not in callers):
-            found = symbols.name_at(address.offset)
-            if address.offset in symbols.functions:
-                address.symbol = re.sub("[+@]", "_", plain(found))
-                functions.append(address)
-            elif found != "-":
-                address.symbol = found
-        for address, source in zip(functions, sources(file, [it.offset for it in functions])):
-            address.symbol += f"@{source}" if source else ""
+        key, path = key_of(file), kept_of(file, "-names")
+        known: dict[str, Any] = (read_kept(path, key) if key else None) or {"key": key}
+        rows = [(f"{it.offset}{' call' * (number in callers)}", it) for number, it in log.addresses.items() if it.file == file]
+        new = {word: it for word, it in rows if word not in known}
+        whole = not new or name_some(file, [it for word, it in new.items() if " " in word], [it for word, it in new.items() if " " not in word])
+        known |= {word: it.symbol for word, it in new.items()}
+        if new and key and whole:
+            keep(path, known)
+        for word, it in rows:
+            it.symbol = known[word]
 
 
 def named_log(data: bytes, log: Log) -> bytes:

@@ -88,9 +88,9 @@ def stall_of(events: list[Event], late: Late) -> Stall:
     return open_at
 
 
-def of_late(log: Log, loop: int, events: list[Event], part: Part) -> Part:
+def of_late(log: Log, loop: int, late: Late, part: Part) -> Part:
     """A second before what took long, in the time of this loop."""
-    begin = log.late.begin() + log.behind(log.late.loop) - log.behind(loop) - BEFORE
+    begin = late.begin() + log.behind(late.loop) - log.behind(loop) - BEFORE
     return replace(part, begin=max(0, begin))
 
 
@@ -98,7 +98,7 @@ def chosen(log: Log, loop: int, part: Part) -> Chosen:
     """The part of a loop's events that is asked for."""
     events, kept = log.loops[loop], log.late if part.is_all() and part.worst else None
     if kept:
-        part = of_late(log, loop, events, part)
+        part = of_late(log, loop, kept, part)
     is_cut = log.turned and part.last is None and (part.begin is None or kept is not None) and not is_all_of(events)
     if is_cut:
         events, part = behind_the_first(events, part)
@@ -107,7 +107,7 @@ def chosen(log: Log, loop: int, part: Part) -> Chosen:
     if part.begin is None and part.worst and len(calls_of(events)) > part.most:
         return Chosen(*around(log, events, part.most, is_cut))
     time, found = part.begin if part.last is None else max(0, events[-1].now - part.last), Chosen(events)
-    if time is not None and not (kept and time == 0):
+    if time is not None and not (kept and not is_cut and is_at_beginning(events, time)):
         found = Chosen(*window(events, time, log.form))
     calls = calls_of(found.events)
     if len(calls) > part.most:
@@ -117,6 +117,11 @@ def chosen(log: Log, loop: int, part: Part) -> Chosen:
         )
         found.events = found.events[: calls[part.most]]
     return found
+
+
+def is_at_beginning(events: list[Event], time: int) -> bool:
+    """Is there no place before this time where a recording can begin, but the loop's first event?"""
+    return time == 0 or not any(events[at - 1].now <= time and begin_of(events, at) >= 0 for at in starts_of(events))
 
 
 def count_from(events: list[Event], time: int) -> int:

@@ -14,6 +14,7 @@ from pathlib import Path
 from typing import BinaryIO
 
 from uvt.conversation import Fault
+from uvt.record.now import lines_of
 
 WINDOW = 1 << 20
 MARK = b"- W "
@@ -134,6 +135,7 @@ class Living:
     ring: Path
     path: Path
     program: str
+    process: int
 
 
 def link_of(path: Path) -> str:
@@ -144,20 +146,31 @@ def link_of(path: Path) -> str:
         return ""
 
 
+def why_unseen(process: int) -> str:
+    """Why there is nothing of it in /proc. (That may be mounted with hidepid.)"""
+    try:
+        os.kill(process, 0)
+    except PermissionError:
+        return "it is another user's, and isn't seen in /proc: it takes root"
+    except OSError:
+        pass
+    return "there is no process of this number"
+
+
 def ring_of_process(process: int) -> Living:
     """Its files, as it has them open: so it doesn't matter where they lie, or from where its folders are seen."""
     folder = Path(f"/proc/{process}")
     try:
         links = [(it, name) for it in (folder / "fd").iterdir() if (name := link_of(it))]
     except OSError as fault:
-        why = "there is no process of this number" if isinstance(fault, FileNotFoundError) else fault.strerror
+        why = why_unseen(process) if isinstance(fault, FileNotFoundError) else fault.strerror
         raise Fault(f"process {process}: {why}") from None
     words = [it for it, name in links if name.removesuffix(" (deleted)").endswith(".words")]
     ring = [it for it, name in links if RING.fullmatch(Path(name.removesuffix(" (deleted)")).name)]
     if not words or not ring:
         raise Fault(f"process {process} keeps no ring: start it by ./uvt record --keep, or with what that prints")
     program = Path(os.readlink(folder / "exe")).name
-    return Living(words[0], ring[0], Path(os.readlink(ring[0])), program)
+    return Living(words[0], ring[0], Path(os.readlink(ring[0])), program, process)
 
 
 def of_process(living: Living) -> bytes:
@@ -165,4 +178,7 @@ def of_process(living: Living) -> bytes:
     data = copied(living.words, living.ring, living.path)
     base = BASE.search(data)
     now = time.clock_gettime_ns(time.CLOCK_MONOTONIC) // 1_000_000
-    return data + (b"- D %d\n" % max(0, now - int(base[1])) if base else b"")
+    if not base:
+        return data
+    where = "".join(f"{it}\n" for it in lines_of(living.process, int(base[1])))
+    return data + where.encode() + b"- D %d\n" % max(0, now - int(base[1]))

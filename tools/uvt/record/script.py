@@ -6,228 +6,23 @@ What the script says is what the program asked of libuv. Nothing here knows what
 from __future__ import annotations
 
 import bisect
-import collections
 import re
 
-from uvt.record.items import (
-    Bound,
-    Call,
-    Done,
-    End,
-    Finish,
-    Foreign,
-    Key,
-    Nothing,
-    Op,
-    Origin,
-    Poll,
-    Program,
-    Request,
-    Run,
-    Send,
-    Take,
-    Waited,
-    Written,
-    is_pool,
-)
-from uvt.record.javascript import Reader
-from uvt.record.log import NO_CLOCK, TIMER_OWN, WATCHERS, Address, Event, Log
-from uvt.record.names import base_name, element, in_words
+from uvt.record.items import Bound, Call, Done, End, Finish, Key, Nothing, Op, Poll, Program, Request, Run, Send, Take, Waited, Written, is_pool
+from uvt.record.log import NO_CLOCK, WATCHERS, Event, Log
+from uvt.record.ops import Ops
 from uvt.record.where import LOOKED, NEW, Where
+from uvt.spent import Held
 
 SCRIPT_LINES = 1048575
 NAMES = 65535
-# So many handles whose names come from one callback have numbers that stay; behind that the number of one that is gone stands for another.
-STAYS = 500
-ID = re.compile(r"%(\d+)")
-# node's function around all callbacks of requests, which tells nothing of them.
-WRAPPER = "MakeLibuvRequestCallback::Wrapper"
-# What libuv does by itself with a handle of I/O, about its callback: the recorder sees it behind that.
-SETTLES = ("start", "stop", "ref", "unref")
+# When a callback ends that is under way still.
+ENDLESS = 1 << 60
 FULL = ": docs/LIBUV.md, `More than a script holds`"
 
 
-class Maker:
+class Maker(Ops):
     """Reads the events of a loop one after another."""
-
-    def __init__(self, log: Log, loop: int, has_polls: bool) -> None:
-        self.log, self.loop = log, loop
-        self.program = Program(version=log.version, form=log.form)
-        self.items = self.program.items
-        self.bound: dict[int, Bound] = {}
-        self.first_callback: dict[int, int] = {}
-        self.variable: dict[int, tuple[int, int]] = {}
-        # by object and what its line says as it begins: the callback that it has now
-        self.callback: dict[tuple[int, str], int] = {}
-        self.functions: list[str] = []
-        # of other loops that send here: where callbacks begin and end, and where their functions lie
-        self.others: dict[int, tuple[list[Event], dict[tuple[int, str], int]]] = {}
-        self.free: dict[str, list[str]] = collections.defaultdict(list)
-        self.numbers: collections.Counter[str] = collections.Counter()
-        self.taken: set[str] = {"wake"}
-        # by object, -1 for the loop: the function by which another thread asks something of it
-        self.by_other: dict[int, str] = {}
-        # by object: the place in the program that made it
-        self.made_at: dict[int, str] = {}
-        # the callbacks under way: the first one, in which the others are, and how many
-        self.call: Call | None = None
-        self.depth = 0
-        # ops outside of callbacks, each with the function by which another thread did it
-        self.stray: list[tuple[Op, str]] = []
-        # what was asked of the program in front of the next callback, and took long
-        self.early: list[Waited] = []
-        self.runs = 0
-        self.under_way: dict[int, Request] = {}
-        self.where = Where(has_polls, log.form > 1)
-        self.javascript = Reader(log)
-
-    # ---- names
-
-    def base_of(self, id: int, kind: str) -> tuple[str, str, bool]:
-        """What a name is made of, where that comes from, and whether that is the variable in which it lies."""
-        place, size = self.variable.get(id, (-1, 0))
-        address = self.log.addresses.get(place)
-        if address and (base := base_name(address, size)):
-            return base, f"the variable {address.name()}{element(address, size)} of {address.file}", True
-        address = self.log.addresses.get(self.first_callback.get(id, -1))
-        if address and address.origin and (base := base_name(address, 0)):
-            return base, address.origin, False
-        if address and (base := base_name(address, 0)) and not address.name().endswith(WRAPPER):
-            return base, f"in memory of its own: the name is that of its function {self.told(address)}", False
-        return kind, "in memory of its own, and its function has no symbol that tells more", False
-
-    @staticmethod
-    def told(address: Address) -> str:
-        """A function, with its source where that is known."""
-        if address.symbol == "-":
-            return f"a function of {address.within_file()}"
-        return f"{in_words(address.name())} ({address.source()})" if address.source() else in_words(address.name())
-
-    def bind(self, id: int, kind: str, line: int) -> Bound:
-        base, origin, is_variable = self.base_of(id, kind)
-        stays = not is_variable and self.numbers[base] < STAYS
-        bound = self.bound[id] = Bound(id, kind, base, self.name_for(base, stays), len(self.items), stays)
-        if bound.name not in self.taken:
-            self.taken.add(bound.name)
-            self.program.names.append(bound.name)
-            self.program.origins.append(Origin(bound.name, kind, f"{origin}, first seen in line {line} of the log"))
-        self.program.slots = max(self.program.slots, len(self.bound))
-        return bound
-
-    def name_for(self, base: str, stays: bool) -> str:
-        if self.free[base] and not stays:
-            return self.free[base].pop()
-        while True:
-            self.numbers[base] += 1
-            name = base if self.numbers[base] == 1 else f"{base}_{self.numbers[base]}"
-            if name not in self.taken:
-                return name
-
-    def release(self, bound: Bound) -> None:
-        """From the beginning of its last callback on the name may stand for another one, if it is that of a variable."""
-        del self.bound[bound.id]
-        if not bound.stays:
-            self.free[bound.base].append(bound.name)
-
-    # ---- ops
-
-    def add_op(self, event: Event, text: str, answer: str, foreign: str = "", settles: bool = False) -> None:
-        """An op of the callback under way, or of the main program."""
-        op = Op(*event.when(), text, answer, event.place)
-        if self.call:
-            self.keep_op(self.call, text, foreign)
-        elif self.runs and settles and not foreign and self.settle(op):
-            return
-        elif self.runs:
-            self.stray.append((op, foreign))
-            self.program.notes["ops outside of callbacks, which were put into the next one"] += not foreign
-            return
-        else:
-            self.program.main.append(text)
-        self.items.append(op)
-
-    def settle(self, op: Op) -> bool:
-        """Puts it at the end of the last callback, if the loop did nothing behind that: it was seen as the callback was over."""
-        # (a run is under way, and its beginning stands there at the least)
-        at = len(self.items) - 1
-        while isinstance(self.items[at], (Take, Finish, Send)):
-            at -= 1
-        done = self.items[at]
-        if not isinstance(done, Done):
-            return False
-        op.now = done.now
-        done.call.body.append(op.text)
-        self.items.insert(at, op)
-        return True
-
-    def keep_op(self, call: Call, text: str, foreign: str) -> None:
-        """An op of this callback. `foreign`: by which function another thread did it."""
-        if foreign:
-            self.program.foreign_ops[call.callback, call.name, call.number, len(call.body)] = foreign
-        call.body.append(text)
-
-    def read_foreign(self, event: Event) -> None:
-        id, _, function = event.words.split(" ")
-        self.by_other[int(id)] = function
-        bound = self.bound.get(int(id))
-        self.program.foreign.append(Foreign(event.line, function, bound.name if bound else ""))
-
-    def foreign_of(self, id: int, name: str) -> str:
-        """By which function another thread does this op; `` where the loop's does. (A handle that it makes has no name before.)"""
-        function = self.by_other.pop(id, "")
-        if function and not self.program.foreign[-1].name:
-            self.program.foreign[-1].name = name
-        return function
-
-    def read_op(self, event: Event) -> bool:
-        text, answer = event.words.rsplit(" = ", 1)
-        id = ID.search(text)
-        if not id:
-            self.where.see_op(text, event.now)
-            self.add_op(event, text, answer, self.foreign_of(-1, ""))
-            return True
-        number, word = int(id[1]), text.split(" ")[0]
-        if word in ("init", "queue"):
-            return number not in self.bound and self.read_made(event, number, text.split(" ")[2])
-        bound = self.bound.get(number)
-        if not bound or not self.fits(bound, text):
-            return False
-        bound.closing |= word == "close" and answer == "ok"
-        settles = bound.kind in WATCHERS and word in SETTLES
-        self.add_op(event, ID.sub(bound.name, text), answer, self.foreign_of(number, bound.name), settles)
-        return True
-
-    def read_made(self, event: Event, id: int, kind: str) -> bool:
-        """A handle, or a request."""
-        name = self.bind(id, kind, event.line).name
-        self.made_at[id] = event.place
-        foreign = self.foreign_of(id, name)
-        if is_pool(kind):
-            self.add_op(event, f"queue {name} 1", "id", foreign)
-            return True
-        self.add_op(event, f"init {name} {kind if kind in TIMER_OWN else 'io'}", "id", foreign)
-        if kind in WATCHERS:
-            self.program.has_io = True
-            # (such a log doesn't say when it is started: it is so always, and referenced while it counts)
-            for op in ("start", "unref") if self.log.form == 1 else ():
-                self.add_op(event, f"{op} {name}", "ok")
-        return True
-
-    def fits(self, bound: Bound, text: str) -> bool:
-        """Does the recorder write this op of this kind? A log with a changed byte may say anything."""
-        word, words = text.split(" ")[0], text.count(" ")
-        may_start = {"idle", "prepare", "check"} | (WATCHERS if self.log.form > 1 else set())
-        if word == "cancel":
-            return is_pool(bound.kind)
-        if word == "start":
-            return bound.kind == "timer" if words == 3 else bound.kind in may_start
-        if word in ("again", "repeat"):
-            return bound.kind == "timer"
-        if word == "send":
-            return bound.kind == "async"
-        return not is_pool(bound.kind) and (word != "stop" or bound.kind == "timer" or bound.kind in may_start)
-
-    # ---- callbacks
 
     def read_begin(self, event: Event) -> bool:
         words = event.words.split(" ")
@@ -375,15 +170,24 @@ class Maker:
             self.program.used[key] = [one + other for one, other in zip(before, more)]
 
     def read_wait(self, event: Event) -> None:
-        function, took, *work = event.words.split(" ")
-        waited = Waited(function, event.clock - int(took), int(took), self.log.place(event.place))
-        if work:
-            if bound := self.bound.get(int(work[0][1:])):
+        function, took, *more = event.words.split(" ")
+        work = next((int(it[1:]) for it in more if it.startswith("%")), None)
+        owner = next((self.owner(it[1:]) for it in more if it.startswith("^")), "")
+        waited = Waited(function, event.clock - int(took), int(took), self.log.waited_at(event.place), owner)
+        if work is not None:
+            if bound := self.bound.get(work):
                 self.program.waits["work", bound.name, len(self.program.bodies["after", bound.name]) + 1].append(waited)
         elif key := self.here():
             self.program.waits[key].append(waited)
         elif function == "alloc":
             self.early.append(waited)
+
+    def owner(self, word: str) -> str:
+        """Who had a lock: the work of a request by its name, a thread by its own one or by its place."""
+        if not word.startswith("%"):
+            return word
+        bound = self.bound.get(int(word[1:]))
+        return f"%{bound.name}" if bound else ""
 
     def name_last(self) -> None:
         """The functions of a callback that never ended."""
@@ -424,11 +228,11 @@ class Maker:
             case "D":
                 self.read_wait(event)
             case "H":
-                late, waited, signalled = map(int, event.words.split(" "))
-                self.program.held.append((event.clock, late, waited, bool(signalled)))
+                late, waited, signalled, *before = map(int, event.words.split(" "))
+                self.program.held.append((event.clock, Held(late, waited, bool(signalled), *before)))
             case "Y":
                 if (key := self.here()) and (frames := self.log.frames(event.place)):
-                    self.program.stacks[key][" ".join(frames)] += int(event.words)
+                    self.program.stacks[key].append((" ".join(frames), event.words))
             case "Z":
                 if bound := self.bound.get(int(event.words)):
                     self.program.reaped.append((bound.name, self.log.place(event.place)))
@@ -483,9 +287,10 @@ class Maker:
             self.read_queued(event, 1)
 
     def read_queued(self, event: Event, at: int = 0) -> None:
-        """When the request was queued whose line stands just before."""
+        """When the request was queued, or the timer started, whose line stands just before."""
         bound, last = self.bound.get(int(event.words.split(" ")[at])), self.items[-1] if self.items else None
-        if bound and isinstance(last, Op) and last.text.startswith(f"queue {bound.name} ") and last.queued == NO_CLOCK:
+        asks = tuple(f"{it} {bound.name} " for it in ("queue", "start", "again")) if bound else ()
+        if isinstance(last, Op) and f"{last.text} ".startswith(asks) and last.queued == NO_CLOCK:
             last.queued = event.clock
 
     def read_run(self, event: Event) -> None:
@@ -547,10 +352,13 @@ def make_program(log: Log, events: list[Event], loop: int = 0) -> Program:
         | {it.place for it in maker.program.nothings}
     )
     maker.program.places = {place: told for place in asked if (told := log.place(place))}
-    maker.program.javascript = maker.javascript.done()
-    for it in maker.items if maker.program.javascript else ():
-        if isinstance(it, Done) and NO_CLOCK not in (it.clock, it.call.clock):
-            maker.program.javascript.note_most((it.call.callback, it.call.name, it.call.number), it.call.clock, it.clock)
+    ended = [it for it in maker.items if isinstance(it, Done) and NO_CLOCK not in (it.clock, it.call.clock)]
+    callbacks = [(it.call.clock, it.clock) for it in ended]
+    if maker.depth and maker.call and maker.call.clock != NO_CLOCK:
+        callbacks.append((maker.call.clock, ENDLESS))
+    maker.program.javascript = maker.javascript.done(callbacks)
+    for it in ended if maker.program.javascript else ():
+        maker.program.javascript.note_most((it.call.callback, it.call.name, it.call.number), it.call.clock, it.clock)
     return maker.program
 
 

@@ -80,8 +80,8 @@ def called_again(events: list[Event], at: int) -> list[Event]:
 
 
 def was(event: Event) -> bool:
-    """Does it tell again what an interpreter had asked for?"""
-    return event.type == "J" and event.words.startswith("was ")
+    """Does it tell again what an interpreter had asked for, or in which thread it is?"""
+    return event.type == "J" and event.words.startswith(("was ", "thread "))
 
 
 def is_called_first(event: Event) -> bool:
@@ -116,9 +116,14 @@ def made_again(events: list[Event], at: int, form: int) -> list[Event]:
 
 def moved(event: Event, now: int) -> Event:
     """Its times count from there."""
-    if event.type == "J" and event.words.startswith("busy "):
-        word, stack, begin, took = event.words.split(" ")
-        event = replace(event, words=f"{word} {stack} {max(0, int(begin) - 1000 * now)} {took}")
+    if event.type == "J" and event.words.startswith(("busy ", "gc ")):
+        words = event.words.split(" ")
+        begin = 2 if words[0] == "busy" else 1
+        words[begin] = str(max(0, int(words[begin]) - 1000 * now))
+        event = replace(event, words=" ".join(words))
+    elif event.type == "J" and event.words.startswith("thread ") and event.words.count(" ") == 2:
+        word, thread, behind = event.words.split(" ")
+        event = replace(event, words=f"{word} {thread} {int(behind) - now}")
     return replace(event, now=max(0, event.now - now), clock=event.clock if event.clock == NO_CLOCK else max(0, event.clock - now))
 
 
@@ -139,4 +144,6 @@ def window(events: list[Event], time: int, form: int) -> tuple[list[Event], int]
     front = next((number for number, it in enumerate(kept) if not was(it)), 0)
     kept = [replace(it, type="P") if number == front and it.type == "p" else it for number, it in enumerate(kept)]
     run = Event("R", 0, NO_CLOCK, mode, events[at - 1].line)
-    return [*places, *made_again(events, at, form), run, *called_again(events, at), *(moved(it, now) for it in kept)], now
+    # (in which thread of node's it is, and which time node has)
+    thread = [moved(it, now) for it in events[:begin] if it.type == "J" and it.words.startswith("thread ")][-1:]
+    return [*places, *thread, *made_again(events, at, form), run, *called_again(events, at), *(moved(it, now) for it in kept)], now

@@ -8,7 +8,9 @@
 // UVT_LOOKS is how many microseconds lie between two looks, 1000 where nothing is said; 0 leaves them out.
 
 (() => {
-  const { UVT_LOG, UVT_RECORDER } = process.env;
+  // (into a program that runs already it comes by a script, which says so)
+  const attached = process[Symbol.for('uvt')];
+  const { UVT_LOG, UVT_RECORDER } = attached ?? process.env;
   const loaded = { exports: {} };
   try {
     if (!UVT_LOG || !UVT_RECORDER) return;
@@ -16,18 +18,18 @@
   } catch {
     return;
   }
-  const { born, meant, begin, end, gone, referenced, look, unlook, is } = loaded.exports;
+  const { born, meant, known, begun, begin, end, gone, referenced, look, is } = loaded.exports;
   if (!is()) return;
   const { threadId } = require('worker_threads');
   const { apply } = Reflect;
-  const TIMER = 0, IMMEDIATE = 2, REPEATS = 1, UNREFERENCED = 2;
+  const TIMER = 0, IMMEDIATE = 2, REPEATS = 1, UNREFERENCED = 2, PUT_OFF = 4;
 
   // ---- timers and immediates
   //
   // node keeps the callback of each in a property, which it sets as it makes it, and to null as it is cleared or was called. Here that is a
   // property of the prototype, and so each of them passes by, those of node's own too. What else they have is as it was.
 
-  const number = Symbol('uvt number'), called = Symbol('uvt called'), isUnder = Symbol('uvt under'), keeps = Symbol('uvt keeps');
+  const number = Symbol('uvt number'), called = Symbol('uvt called'), isUnder = Symbol('uvt under'), keeps = Symbol('uvt keeps'), putOff = Symbol('uvt put off');
 
   function watch(prototype, property, kind) {
     Object.defineProperty(prototype, property, {
@@ -45,7 +47,7 @@
           return;
         }
         held[called] = function uvt_called(...words) {
-          const flags = (held._repeat ? REPEATS : 0) + (kind === TIMER && !held.hasRef() ? UNREFERENCED : 0);
+          const flags = (held._repeat ? REPEATS : 0) + (kind === TIMER && !held.hasRef() ? UNREFERENCED : 0) + (held[putOff] ? PUT_OFF : 0);
           begin(held[number], kind === TIMER ? held._idleStart ?? -1 : -1, held._idleTimeout ?? 0, flags);
           held[isUnder] = true;
           try {
@@ -66,10 +68,20 @@
     });
   }
 
-  const timer = setTimeout(() => {}, 2 ** 31 - 1), immediate = setImmediate(() => {});
+  const timer = setTimeout(() => {}, 2 ** 31 - 1);
+  begun(threadId, timer._idleStart);
+  const immediate = setImmediate(() => {});
   const timers = Object.getPrototypeOf(timer), immediates = Object.getPrototypeOf(immediate);
   clearTimeout(timer);
   clearImmediate(immediate);
+  // (its ms count anew from there)
+  const { refresh } = timers;
+  timers.refresh = {
+    refresh() {
+      if (!this[isUnder]) this[putOff] = true;
+      return apply(refresh, this, []);
+    },
+  }.refresh;
   watch(timers, '_onTimeout', TIMER);
   watch(immediates, '_onImmediate', IMMEDIATE);
   // (whether it keeps node alive is a property of node's own, by a symbol)
@@ -89,6 +101,43 @@
     });
   }
 
+  // ---- timers that were there before: of them V8 knows, as objects with that prototype
+
+  function know(held) {
+    const callback = held._onTimeout;
+    if (held._destroyed || held[number] || typeof callback !== 'function' || !Object.hasOwn(held, '_onTimeout')) return;
+    held[number] = known(held._repeat ? 1 : TIMER, callback, held._idleTimeout ?? 0, held._idleStart);
+    delete held._onTimeout;
+    held._onTimeout = callback;
+  }
+
+  function knowAll() {
+    const { Session } = require('inspector');
+    const session = new Session(), key = 'uvt timers';
+    session.connect();
+    const ask = (method, words) => {
+      let found;
+      session.post(method, words, (fault, answer) => (found = answer));
+      return found;
+    };
+    globalThis[key] = { timers, know: (held) => held !== timers && know(held) };
+    try {
+      const { result } = ask('Runtime.evaluate', { expression: `globalThis['${key}'].timers` });
+      const { objects } = ask('Runtime.queryObjects', { prototypeObjectId: result.objectId });
+      const each = `function () { for (const it of this) globalThis['${key}'].know(it); }`;
+      ask('Runtime.callFunctionOn', { objectId: objects.objectId, functionDeclaration: each });
+    } finally {
+      delete globalThis[key];
+      session.disconnect();
+    }
+  }
+
   look(threadId);
-  process.on('exit', unlook);
+  // (node asks for an immediate where one of these functions is collected as garbage, at a moment of V8's own: so all of them are kept)
+  process.on('exit', () => loaded.exports.unlook());
+  try {
+    if (attached) knowAll();
+  } catch {
+    // (a node without its inspector: the others have their names)
+  }
 })();

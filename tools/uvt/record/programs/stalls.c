@@ -1,5 +1,5 @@
-/* A server that stalls once: a client of its own asks each 5 ms, and the 400th request takes 400 ms in rebuild_index. It runs until it is killed,
- * or for so many seconds: stalls [SECONDS] */
+/* A server that stalls once: a client of its own asks each 5 ms, and the 400th request has the processor for 400 ms in rebuild_index. It runs until
+ * it is killed, or for so many seconds: stalls [SECONDS] */
 #include <netinet/in.h>
 #include <stdlib.h>
 #include <uv.h>
@@ -17,8 +17,8 @@ static void give_room(uv_handle_t *handle, size_t size, uv_buf_t *bytes) {
 }
 
 static void rebuild_index(void) {
-    uint64_t end = uv_hrtime() + 400000000;
-    while (uv_hrtime() < end) continue;
+    clock_t end = clock() + CLOCKS_PER_SEC * 2 / 5;
+    while (clock() < end) continue;
 }
 
 static void on_answered(uv_write_t *request, int status) {

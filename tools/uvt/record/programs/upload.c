@@ -24,7 +24,7 @@ static void do_pack(uv_work_t *request) {
 }
 
 static void do_upload(uv_work_t *request) {
-    uv_sleep(30);
+    uv_sleep(500);
 }
 
 static void packed(uv_work_t *request, int status) {

@@ -37,11 +37,24 @@ static bool is_program(uintptr_t at) {
     return strncmp(name, "libc.so", 7) != 0 && strncmp(name, "libc-", 5) != 0 && strncmp(name, "libpthread", 10) != 0;
 }
 
-int caller_number(int place, const void *from) {
+static int caller_of(int place, const void *from) {
     static unsigned char calls[MANY];
     if (place < 0 || place >= MANY || calls[place] >= EACH || forces()) return -1;
     calls[place]++;
     struct look look = {.from = (uintptr_t)from};
     _Unwind_Backtrace(see_frame, &look);
-    return look.found && is_program(look.found) ? address_number((const void *)look.found) : -1;
+    return look.found && is_program(look.found) ? call_number((const void *)look.found) : -1;
+}
+
+int caller_numbers(bool all, int place, const void *from, int *found) {
+    uintptr_t at[CALLERS];
+    int deep = all && !forces() ? stack_behind(from, at, CALLERS) : 0, count = 0;
+    for (int it = 0; it < deep; it++) {
+        int number = call_number((const void *)at[it]);
+        if (number >= 0) found[count++] = number;
+    }
+    if (deep) return count;
+    int number = caller_of(place, from);
+    if (number >= 0) found[count++] = number;
+    return count;
 }

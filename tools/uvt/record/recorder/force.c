@@ -30,6 +30,8 @@ int name_count;
 struct loop *forced;
 int depth;
 bool early, behind_poll;
+#define PLATFORM "perisolateplatformdata" /* as its handles are named */
+static bool in_platform; /* a callback of node's platform is under way */
 
 const char *name_of(int at) {
     return at >= 0 && at < name_count ? names[at].text : "?";
@@ -217,6 +219,18 @@ static bool is_same_word(const char *word, const char *function) {
     return strncmp(function, "uv_", 3) == 0 && strcmp(word, function + 3) == 0;
 }
 
+/* Sends of V8's to its own handle, in front of what the program does now: they are done, and the clock goes on as the session has it behind them. */
+static void pass_sends(const char *function) {
+    const struct item *it;
+    struct object *object;
+    while (state == FORCING && (it = at_cursor()) && it->type == OP && strcmp(it->word, "send") == 0 && !is_same_word("send", function)
+           && (object = platform_of(it->name))) {
+        let_held_go(object);
+        step_done();
+        advance(false);
+    }
+}
+
 /* In front of what the program asks of libuv. */
 void force_before(const char *function) {
     if (!is_leader()) return;
@@ -226,6 +240,7 @@ void force_before(const char *function) {
         return;
     }
     advance(false);
+    pass_sends(function);
     const struct item *it = at_cursor();
     if (it && it->type == OP && it->answer && strcmp(it->answer, "ESTALE") == 0 && is_same_word(it->word, function)) {
         say("AT %d %s", it->step, it->text);
@@ -266,7 +281,13 @@ static bool is_own_kind(const char *kind) {
     return false;
 }
 
+/* Is it a handle of node's own, as these are named? Of its platform's V8 asks when it likes: as its threads are through, or garbage is collected. */
+static bool is_nodes(int name, const char *handle) {
+    return name >= 0 && strncmp(names[name].text, handle, strlen(handle)) == 0;
+}
+
 static bool is_soft(const struct item *item) {
+    if (item->of_platform) return true;
     /* (the recorder sees some of what libuv does with a handle of I/O later) */
     return item->type == OP && item->name >= 0 && names[item->name].kind && !is_own_kind(names[item->name].kind)
         && strcmp(names[item->name].kind, "work") != 0 && !is_made(item->word);
@@ -326,6 +347,13 @@ static void bind_name(struct name *name, const struct shown *shown) {
     pthread_mutex_unlock(&gate);
 }
 
+/* node has one timer for all of JavaScript's, and starts it anew where one of them is due sooner. What is due sooner goes by the clock, which a
+ * session that find has found leaves as it is in the main program. */
+static bool is_start_of_nodes(const struct shown *shown) {
+    int name = strcmp(shown->word, "start") == 0 ? name_by_id(shown->id) : -1;
+    return depth == 0 && is_nodes(name, "environment_runtimers");
+}
+
 static void did_op(const char *words) {
     struct shown shown = read_shown(words);
     int sent_to = strcmp(shown.word, "send") == 0 ? name_by_id(shown.id) : -1;
@@ -337,7 +365,10 @@ static void did_op(const char *words) {
     int found = find_op(&shown, is_own);
     has_own_send = found >= 0;
     skips = found < 0 && is_own;
-    if (found < 0 && !is_own) depart("the program does %s, where the session has `%s`", told_of(&shown, room, sizeof room), it->text);
+    if (found < 0 && is_start_of_nodes(&shown))
+        say("at step %d node starts its timer for %s ms once more: in the main program the session's clock stands still", it->step, shown.rest);
+    else if (found < 0 && !is_own && !in_platform)
+        depart("the program does %s, where the session has `%s`", told_of(&shown, room, sizeof room), it->text);
     if (found < 0) return;
     while (cursor < found && state == FORCING) {
         it = at_cursor();
@@ -348,7 +379,7 @@ static void did_op(const char *words) {
     }
     if (state != FORCING || !(it = at_cursor())) return;
     if (is_made(it->word)) bind_name(&names[it->name], &shown);
-    else if (strcmp(it->word, "start") == 0 && strcmp(it->rest, shown.rest) != 0)
+    else if (strcmp(it->word, "start") == 0 && strcmp(it->rest, shown.rest) != 0 && !it->of_platform)
         depart("the program does %s, where the session has `%s`", told_of(&shown, room, sizeof room), it->text);
     if (!is_made(it->word) && it->answer && strcmp(it->answer, shown.answer) != 0)
         depart("`%s %s` answers %s in the program, and %s in the session", it->word, name_of(it->name), shown.answer, it->answer);
@@ -376,6 +407,30 @@ void depart_for_good(const char *what, const struct item *it) {
     set_free(NULL);
 }
 
+/* Callbacks of the platform's timers that the session has there, where the program goes on with another thing: `id`, `type`. */
+static void pass_platform(int id, enum type type) {
+    const struct item *it;
+    while (state == FORCING && (it = at_cursor()) && it->type >= CALL_ON && it->type <= CALL_CLOSED && is_nodes(it->name, PLATFORM "_run")
+           && (names[it->name].id != id || it->type != type)) {
+        if (it->type != CALL_ON) names[it->name].id = -1;
+        step_done();
+        pass_ops();
+        advance(true);
+    }
+}
+
+static bool is_platforms(int id) {
+    static struct {
+        void *callback;
+        bool is;
+    } seen[64];
+    struct object *object = id >= 0 ? object_by_id(id) : NULL;
+    if (!object || !object->callback) return false;
+    size_t at = ((uintptr_t)object->callback >> 4) % (sizeof seen / sizeof *seen);
+    if (seen[at].callback != object->callback) seen[at].is = is_nodes_own(object->callback), seen[at].callback = object->callback;
+    return seen[at].is;
+}
+
 static int early_id = -1; /* its close callback has begun with an earlier one */
 
 static void began_callback(const char *words) {
@@ -388,6 +443,8 @@ static void began_callback(const char *words) {
     if ((type == CALL_CLOSED || type == CALL_ON) && id == early_id) return;
     pass_ops();
     advance(true);
+    pass_platform(id, type);
+    in_platform = is_platforms(id);
     const struct item *it = at_cursor();
     if (state != FORCING || !it) return;
     int name = name_by_id(id);
@@ -401,6 +458,8 @@ static void began_callback(const char *words) {
         step_done();
         return;
     }
+    /* (one of the platform's timers, which the session doesn't have there) */
+    if (in_platform && (name < 0 || is_nodes(name, PLATFORM "_run"))) return;
     snprintf(what, sizeof what, "the %scallback of %s", type == CALL_AFTER ? "after " : type == CALL_CLOSED ? "close " : "",
              name >= 0 ? name_of(name) : "a handle that the session doesn't have");
     depart_for_good(what, it);
@@ -409,6 +468,7 @@ static void began_callback(const char *words) {
 static void began_poll(long timeout) {
     pass_ops();
     advance(true);
+    pass_platform(-1, CALL_ON);
     const struct item *it = at_cursor();
     if (state != FORCING || !it) return;
     if (it->type != POLL) {
@@ -430,6 +490,7 @@ static void ended_run(void) {
     behind_poll = false;
     pass_ops();
     advance(true);
+    pass_platform(-1, CALL_ON);
     const struct item *it = at_cursor();
     if (state == FORCING && it && it->type == END) step_done();
     else if (state == FORCING && it) depart_for_good("the end of its run", it);
@@ -455,7 +516,7 @@ void force_event(struct loop *loop, char type, const char *words) {
         if (depth++ == 0) began_callback(words);
         break;
     case 'E':
-        if (--depth == 0) advance(false);
+        if (--depth == 0) in_platform = false, advance(false);
         if (depth == 0 && cursor == item_count) set_free(NULL);
         break;
     case 'R': began_run(); break;
@@ -536,6 +597,7 @@ static void read_schedule(FILE *file) {
     size_t size = 0;
     ssize_t length;
     int item_room = 0, name_room = 0;
+    bool of_platform = false;
     static const char *const TYPES[] = {
         "tick", "take", "finish", "send", "cancel", "section", "silent", "on", "after", "closed", "op", "run", "end", "poll",
     };
@@ -565,6 +627,8 @@ static void read_schedule(FILE *file) {
         item.rest = strdup(cut(&rest));
         item.answer = strdup(cut(&rest));
         item.text = strdup(rest);
+        if (item.type >= CALL_ON && item.type <= CALL_CLOSED) of_platform = is_nodes(item.name, PLATFORM);
+        item.of_platform = of_platform && item.type == OP;
         if (item.type == OP || item.type == SEND || (item.type >= CALL_ON && item.type <= CALL_CLOSED)) last_shown = item_count;
         items[item_count++] = item;
     }

@@ -19,6 +19,7 @@ enum type { TICK, TAKE, FINISH, SEND, CANCEL, SECTION, SILENT, CALL_ON, CALL_AFT
 struct item {
     enum type type;
     bool is_io; /* of a callback: it is a step `io NAME` */
+    bool of_platform; /* of an op: it is in a callback of node's platform */
     int name, step;
     long number; /* of a tick, the worker of a take or finish, the timeout of a poll (-1: infinite) */
     char *word, *rest, *answer, *text;

@@ -25,8 +25,13 @@ REAL(uv_handle_get_type)
 /* ---- what callbacks and watchers have in common */
 
 static void note_late_timer(struct object *timer) {
-    uint64_t now = clock_ms();
-    if (timer->due && now > timer->due) note_late(timer->loop, "timer", timer->id, now, now - timer->due);
+    uint64_t now = clock_ms(), since = timer->due;
+    /* (what went by before its loop was known, as the recorder opened its files, is none of it) */
+    if (since < timer->loop->known_from) since = timer->loop->known_from;
+    if (timer->due && now > since && now - since >= minds_late()) {
+        uint64_t waited = waited_since(timer->loop, since, waited_by(now, true));
+        note_late(timer->loop, "timer", timer->id, &(struct late){now, now - since, waited});
+    }
     /* (one that repeats was started again by libuv) */
     timer->due = ((uv_timer_t *)timer->address)->timeout;
 }
@@ -87,6 +92,8 @@ struct object *made(uv_loop_t *uv, void *handle, const char *kind, bool watcher)
     object->size = (int)CALL(uv_handle_size)(object->type);
     watch_memory(object);
     write_line(object->loop, 'O', "init %%%d %s = ok", object->id, kind);
+    /* (what goes by before the loop runs counts as well) */
+    if (in_callback != object->loop) note_share_now(object->loop);
     name_place(object);
     settle(object);
     return object;
@@ -164,6 +171,14 @@ void is_in_run(struct loop *loop) {
     loop->adopted = true;
 }
 
+void is_in_no_run(void) {
+    run_here = NULL;
+}
+
+void write_run(struct loop *loop) {
+    write_line(loop, 'R', "%s%s", (unsigned)loop->mode < 3 ? MODES[loop->mode] : "default", put_off(loop));
+}
+
 REAL(uv_loop_alive)
 
 /* (that run wasn't seen to begin, and isn't seen to end) */
@@ -184,23 +199,24 @@ int uv_run(uv_loop_t *uv, uv_run_mode mode) {
     uv_run_mode outer_mode = loop ? loop->mode : mode;
     if (loop) {
         settle_all(loop, NULL);
+        if (!pthread_equal(loop->thread, pthread_self())) loop->shared = 0;
         loop->thread = pthread_self();
         loop->running++;
         loop->mode = mode;
         loop->begun++, loop->away++;
-        write_line(loop, 'R', "%s%s", (unsigned)mode < 3 ? MODES[mode] : "default", put_off(loop));
+        write_run(loop);
         look_at_memory(loop);
     }
     run_here = loop;
     struct wait wait;
-    bool waits = in_callback && begin_wait(&wait);
+    bool waits = in_callback && begin_wait(&wait, __func__, __builtin_return_address(0));
     unlock();
     int alive = CALL(uv_run)(uv, mode);
     if (waits) end_wait(&wait, __func__, __builtin_return_address(0));
     else if (!outer) no_stacks();
     lock();
     run_here = outer;
-    if (loop) {
+    if (loop && loop->uv == uv) {
         settle_all(loop, NULL);
         loop->running--;
         loop->mode = outer_mode;
@@ -388,6 +404,11 @@ OP(uv_timer_stop, uv_timer_t, "stop")
 REAL(uv_timer_again)
 REAL(uv_timer_get_repeat)
 
+/* (it is due by the loop's time, which stands still in a long callback) */
+static void write_late_start(const struct object *object, int answer) {
+    if (object && answer == 0 && is_far_behind(object->loop)) write_line(object->loop, 'q', "%d", object->id);
+}
+
 /* Of a timer that doesn't repeat libuv changes nothing, and says ok: no op, since here it would stop the timer, but a line of its own. */
 int uv_timer_again(uv_timer_t *handle) {
     if (INSIDE()) return CALL(uv_timer_again)(handle);
@@ -397,7 +418,7 @@ int uv_timer_again(uv_timer_t *handle) {
     int answer = REALLY(CALL(uv_timer_again)(handle));
     struct object *object = asked(handle);
     if (object && answer == 0) object->due = handle->timeout;
-    if (answer != 0 || !nothing) write_op(object, "again", "", answer);
+    if (answer != 0 || !nothing) write_op(object, "again", "", answer), write_late_start(object, answer);
     else if (object) write_line(object->loop, 'I', "%d %s", object->id, __func__);
     unlock();
     return answer;
@@ -409,13 +430,14 @@ REAL(uv_timer_set_repeat)
 int uv_timer_start(uv_timer_t *handle, uv_timer_cb callback, uint64_t timeout, uint64_t repeat) {
     struct object *object;
     if (INSIDE() || !callback || !(object = asked(handle))) return CALL(uv_timer_start)(handle, callback, timeout, repeat);
-    char words[64];
-    snprintf(words, sizeof words, " %llu %llu", (unsigned long long)timeout, (unsigned long long)repeat);
     lock();
     int answer = REALLY(CALL(uv_timer_start)(handle, on_timer, timeout, repeat));
     if (answer == 0) object->callback = (void *)callback, object->due = handle->timeout;
+    /* (what goes by before the loop runs counts as well) */
+    if (in_callback != object->loop) note_share_now(object->loop);
     name_callback(object, (void *)callback, OWN, "timer");
-    write_op(object, "start", words, answer);
+    write_start(object, timeout, repeat, answer);
+    write_late_start(object, answer);
     unlock();
     return answer;
 }
@@ -456,6 +478,26 @@ void adopt_own(struct object *object) {
     default: break;
     }
     if (object->type == UV_TIMER) object->due = ((uv_timer_t *)object->address)->timeout;
+}
+
+#define RETURN(TYPE, KIND)                                                                                              \
+    case TYPE: {                                                                                                        \
+        uv_##KIND##_t *it = object->address;                                                                            \
+        if (it->KIND##_cb == on_##KIND) it->KIND##_cb = (uv_##KIND##_cb)object->callback;                               \
+        break;                                                                                                          \
+    }
+
+void return_own(struct object *object) {
+    uv_handle_t *handle = object->address;
+    if (handle->close_cb == on_closed) handle->close_cb = object->closed;
+    switch (object->type) {
+        RETURN(UV_TIMER, timer)
+        RETURN(UV_IDLE, idle)
+        RETURN(UV_PREPARE, prepare)
+        RETURN(UV_CHECK, check)
+        RETURN(UV_ASYNC, async)
+    default: break;
+    }
 }
 
 REAL(uv_async_init)
@@ -519,9 +561,12 @@ static int send_here(uv_async_t *handle) {
     struct loop *by = running_here();
     if (object && !own && by) write_line(object->loop, 'S', "%d %u %d", object->id, (uint64_t)here, by->number);
     else if (object && !own) write_line(object->loop, 'S', "%d %u", object->id, (uint64_t)here);
+    /* (a loop that this wakes needs the lock at once) */
+    bool later = !own && !forces();
+    if (later) unlock();
     int answer = REALLY(CALL(uv_async_send)(handle));
     if (own) write_op(object, "send", "", answer);
-    unlock();
+    if (!later) unlock();
     if (sender) force_sent(sender);
     return answer;
 }

@@ -32,6 +32,7 @@ struct function {
     uintptr_t at;
     size_t size;
     void *bridge; /* NULL where the function is as it was */
+    size_t moved; /* so many of its first bytes are done there */
     bool known; /* by its name: else it is a local one of libuv's file fs-poll.c */
     bool ends; /* a function of somebody else comes next */
 };
@@ -327,6 +328,8 @@ static const char *make_bridge(struct function *function, void *instead) {
         }
         size_t size = move(insn, to);
         if (!size) return "an instruction can't be moved";
+        /* (a thread may have to come back behind it) */
+        if (attaches && is_in(insn, CS_GRP_CALL) && taken < JUMP) return "it calls within its first bytes";
         to += size;
         ended = is_end(insn);
     }
@@ -339,8 +342,15 @@ static const char *make_bridge(struct function *function, void *instead) {
     memcpy(slot, (const uint8_t[]){0xff, 0x25, 0, 0, 0, 0}, 6);
     memcpy(slot + 6, &instead, sizeof instead);
     function->bridge = slot + ENTRY;
+    function->moved = taken;
     bridges_used += SLOT;
     return NULL;
+}
+
+static void jump_of(const struct function *function, uint8_t jump[JUMP]) {
+    int32_t distance = (int32_t)((uint8_t *)function->bridge - ENTRY - ((uint8_t *)function->at + JUMP));
+    jump[0] = 0xe9;
+    memcpy(jump + 1, &distance, sizeof distance);
 }
 
 /* (Most functions begin at a multiple of 16: then the jump comes in one piece.) */
@@ -350,10 +360,8 @@ static void put_jump(const struct function *function) {
         uint64_t word;
         uint8_t bytes[8];
     } first;
-    int32_t distance = (int32_t)((uint8_t *)function->bridge - ENTRY - (entry + JUMP));
     memcpy(&first, entry, sizeof first);
-    first.bytes[0] = 0xe9;
-    memcpy(first.bytes + 1, &distance, sizeof distance);
+    jump_of(function, first.bytes);
     if (function->at % 8 == 0) __atomic_store_n((uint64_t *)entry, first.word, __ATOMIC_SEQ_CST);
     else memcpy(entry, first.bytes, JUMP);
 }
@@ -398,6 +406,8 @@ static void make_bridges(void *recorder) {
     }
 }
 
+static void put_jumps(void);
+
 /* The jumps to the recorder's functions. Why there can't be any, NULL where there are. */
 static const char *hook_functions(uintptr_t lowest) {
     Dl_info here;
@@ -418,7 +428,7 @@ static const char *hook_functions(uintptr_t lowest) {
     return NULL;
 }
 
-void put_jumps(void) {
+static void put_jumps(void) {
     for (int at = 0; at < function_count; at++) {
         struct function *function = &functions[at];
         if (!function->bridge || same_place(function)) continue;
@@ -433,9 +443,19 @@ void put_jumps(void) {
     }
 }
 
+void each_jump(void (*take)(void *at, const uint8_t *jump, size_t size, size_t moved)) {
+    for (int at = 0; at < function_count; at++) {
+        uint8_t jump[JUMP];
+        if (!functions[at].bridge || same_place(&functions[at])) continue;
+        jump_of(&functions[at], jump);
+        take((void *)functions[at].at, jump, sizeof jump, functions[at].moved);
+    }
+}
+
 #else
 
-void put_jumps(void) {
+void each_jump(void (*take)(void *at, const uint8_t *jump, size_t size, size_t moved)) {
+    (void)take;
 }
 
 static const char *hook_functions(uintptr_t lowest) {

@@ -113,8 +113,8 @@ static void on_alloc(uv_handle_t *handle, size_t size, uv_buf_t *bytes) {
     unlock();
     *bytes = (uv_buf_t){0};
     if (!alloc) return;
-    uint64_t begin = clock_ms();
-    struct usage before = usage_by(begin, false);
+    struct usage before;
+    uint64_t begin = clock_behind(&before);
     PROGRAM(alloc(handle, size, bytes));
     uint64_t took = clock_ms() - begin;
     if (took < 2 || !loop || loop != own) return;
@@ -197,6 +197,33 @@ void adopt_watcher(struct object *object) {
     }
 }
 
+#define RETURN(FIELD, TYPE, CALLBACK_FIELD, INSTEAD)                                                          \
+    {                                                                                                         \
+        TYPE *it = object->address;                                                                           \
+        if (it->CALLBACK_FIELD == INSTEAD) it->CALLBACK_FIELD = (__typeof__(it->CALLBACK_FIELD))object->FIELD; \
+    }
+
+void return_watcher(struct object *object) {
+    switch (object->type) {
+    case UV_TCP:
+    case UV_NAMED_PIPE:
+    case UV_TTY:
+        RETURN(callback, uv_stream_t, read_cb, on_read)
+        RETURN(second, uv_stream_t, connection_cb, on_connection)
+        RETURN(alloc, uv_stream_t, alloc_cb, on_alloc)
+        break;
+    case UV_UDP:
+        RETURN(callback, uv_udp_t, recv_cb, on_receive)
+        RETURN(alloc, uv_udp_t, alloc_cb, on_alloc)
+        break;
+    case UV_POLL: RETURN(callback, uv_poll_t, poll_cb, on_poll) break;
+    case UV_SIGNAL: RETURN(callback, uv_signal_t, signal_cb, on_signal) break;
+    case UV_FS_EVENT: RETURN(callback, uv_fs_event_t, cb, on_fs_event) break;
+    case UV_PROCESS: RETURN(callback, uv_process_t, exit_cb, on_exit_of) break;
+    default: break;
+    }
+}
+
 #define STOP(NAME, TYPE)                            \
     REAL(NAME)                                      \
     int NAME(TYPE *handle) {                        \
@@ -242,7 +269,7 @@ int uv_spawn(uv_loop_t *uv, uv_process_t *handle, const uv_process_options_t *op
     uv_process_options_t ours = *options;
     ours.exit_cb = on_exit_of;
     struct wait wait;
-    bool waits = in_callback && begin_wait(&wait);
+    bool waits = in_callback && begin_wait(&wait, __func__, __builtin_return_address(0));
     int answer = REALLY(CALL(uv_spawn)(uv, handle, &ours));
     if (waits) end_wait(&wait, __func__, __builtin_return_address(0));
     lock();

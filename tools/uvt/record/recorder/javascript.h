@@ -28,11 +28,18 @@ NODE napi_open_handle_scope(napi_env, napi_scope *);
 NODE napi_close_handle_scope(napi_env, napi_scope);
 NODE napi_add_env_cleanup_hook(napi_env, void (*)(void *), void *);
 
+/* A name of V8's that this node lacks: the log has each once (node.c). */
+void lacks(const char *symbol);
+
 /* A method of V8's: a value's gets the place at which the value stands. */
 #define V8(NAME, SYMBOL, ANSWER, ...)                                                  \
     static ANSWER (*NAME(void))(__VA_ARGS__) {                                         \
         static ANSWER (*found)(__VA_ARGS__);                                           \
-        if (!found) found = (ANSWER(*)(__VA_ARGS__))dlsym(RTLD_DEFAULT, SYMBOL);       \
+        static bool is_missing;                                                        \
+        if (found || is_missing) return found;                                         \
+        found = (ANSWER(*)(__VA_ARGS__))dlsym(RTLD_DEFAULT, SYMBOL);                   \
+        is_missing = !found;                                                           \
+        if (is_missing) lacks(SYMBOL);                                                 \
         return found;                                                                  \
     }
 
@@ -47,6 +54,8 @@ void copy_word(char *word, size_t size, const char *text);
 int place_of(napi_env env, napi_value function);
 /* A function of which the name, the file and the line are known alone; "" is no file. */
 int place_named(const char *name, const char *file, int line);
+/* Looks up all that is needed for that, so that it is known at once what is missing. */
+void look_up_places(void);
 /* Where JavaScript is: the program's own line, above which there may be node's; node's where there is none; -1 where it isn't under way. */
 int place_now(napi_env env);
 /* The same with who called that, as far as the program's functions are near: `8<12<20`. */
@@ -61,5 +70,14 @@ void begin_looks(napi_env env);
 void end_looks(void);
 /* SIGINT, SIGTERM and SIGHUP end the program when its looks are written, where it has nobody of its own for them. A second one ends it at once. */
 void look_before_signals(struct loop *loop);
+
+/* ---- garbage (collector.c): when V8 collects it */
+
+/* Looks up all that is needed for that. */
+void look_up_collections(void);
+/* From here on, in this thread. */
+void begin_collections(void *isolate);
+/* Those that were since the last ones that were written; with the lock held. */
+void write_collections(struct loop *loop);
 
 #endif

@@ -56,7 +56,7 @@ void lock(void) {
     uint64_t took = waits && !off && !forces() ? clock_ms() - wait.begin : 0;
     const void *from = called_from;
     called_from = NULL;
-    if (took >= 2) write_wait(wait.loop, "recorder", took);
+    if (took >= 2) write_wait(wait.loop, "recorder", took, "");
     called_from = from;
 }
 
@@ -64,6 +64,10 @@ void unlock(void) {
     pthread_mutex_unlock(&mutex);
     atomic_signal_fence(memory_order_seq_cst);
     locked--;
+}
+
+pid_t who_writes(void) {
+    return owner_of(&mutex);
 }
 
 int unlock_all(void) {
@@ -221,7 +225,13 @@ void note_unseen(const char *function, const char *why) {
     }
     if (is_open || unseen_count == sizeof unseen / sizeof *unseen) return;
     unseen[unseen_count++] = (struct unseen){function ? function : "-", why};
-    if (!function && open_log()) off = true;
+    if (!function && !attaches && open_log()) off = true;
+}
+
+const char *why_unseen(void) {
+    for (int at = 0; at < unseen_count; at++)
+        if (strcmp(unseen[at].function, "-") == 0) return unseen[at].why;
+    return NULL;
 }
 
 /* ---- lines */
@@ -231,58 +241,82 @@ struct line {
     char text[LINE];
 };
 
-/* (a word of the program's own is cut, so that what follows has its room) */
+/* (a word of the program's own is cut, so that what follows has its room: that of some numbers, and of the places) */
+enum { DIGITS = 20, ROOM = 512 };
+
 static inline void add_sign(struct line *line, char sign) {
-    if (line->length < LINE - 2) line->text[line->length++] = sign == '\n' ? '?' : sign;
+    line->text[line->length++] = sign;
 }
 
-static inline void add_text(struct line *line, const char *text) {
+/* (two digits at a time: that is most of what a short line costs) */
+static const char PAIRS[] =
+    "0001020304050607080910111213141516171819202122232425262728293031323334353637383940414243444546474849"
+    "5051525354555657585960616263646566676869707172737475767778798081828384858687888990919293949596979899";
+
+static char *put_long(char *to, uint64_t number) {
+    size_t length = 3;
+    for (uint64_t bound = 1000; number >= bound && length < DIGITS; bound *= 10) length++;
+    char *end = to + length;
+    for (to = end; number >= 100; number /= 100) memcpy(to -= 2, PAIRS + 2 * (number % 100), 2);
+    if (number >= 10) memcpy(to - 2, PAIRS + 2 * number, 2);
+    else to[-1] = (char)('0' + number);
+    return end;
+}
+
+static inline char *put_number(char *to, uint64_t number) {
+    if (number >= 100) return put_long(to, number);
+    if (number >= 10) {
+        memcpy(to, PAIRS + 2 * number, 2);
+        return to + 2;
+    }
+    *to = (char)('0' + number);
+    return to + 1;
+}
+
+static inline void add_number(struct line *line, uint64_t number) {
+    line->length = (size_t)(put_number(line->text + line->length, number) - line->text);
+}
+
+static void add_text(struct line *line, const char *text) {
     while (*text) add_sign(line, *text++);
 }
 
-static inline void add_digits(struct line *line, const char *digits, size_t length) {
-    if (line->length + length >= LINE - 2) return;
-    memcpy(line->text + line->length, digits, length);
-    line->length += length;
-}
-
-enum { DIGITS = 20 };
-
-static void add_number(struct line *line, uint64_t number) {
-    char digits[DIGITS];
-    int at = DIGITS;
-    do digits[--at] = (char)('0' + number % 10);
-    while (number /= 10);
-    add_digits(line, digits + at, (size_t)(DIGITS - at));
-}
-
-static void add_address(struct line *line, uint64_t number) {
+static char *put_address(char *to, uint64_t number) {
     char digits[DIGITS];
     int at = DIGITS;
     do digits[--at] = "0123456789abcdef"[number & 15];
     while (number >>= 4);
-    add_digits(line, digits + at, (size_t)(DIGITS - at));
+    memcpy(to, digits + at, (size_t)(DIGITS - at));
+    return to + (DIGITS - at);
+}
+
+static inline char *put_text(char *to, const char *end, const char *text) {
+    for (; *text && to < end; text++) *to++ = *text == '\n' ? '?' : *text;
+    return to;
+}
+
+static inline char *put_signed(char *to, int number) {
+    if (number < 0) *to++ = '-';
+    return put_number(to, (uint64_t)(number < 0 ? -(int64_t)number : number));
 }
 
 static void add_format(struct line *line, const char *format, va_list words) {
-    for (; *format; format++) {
+    char *to = line->text + line->length;
+    const char *end = line->text + LINE - ROOM;
+    for (; *format && to < end; format++) {
         if (*format != '%' || !format[1]) {
-            add_sign(line, *format);
+            *to++ = *format;
             continue;
         }
         switch (*++format) {
-        case 's': add_text(line, va_arg(words, const char *)); break;
-        case 'u': add_number(line, va_arg(words, uint64_t)); break;
-        case 'x': add_address(line, va_arg(words, uint64_t)); break;
-        case 'd': {
-            int number = va_arg(words, int);
-            if (number < 0) add_sign(line, '-');
-            add_number(line, (uint64_t)(number < 0 ? -(int64_t)number : number));
-            break;
-        }
-        default: add_sign(line, '%'); /* of an id */
+        case 's': to = put_text(to, end, va_arg(words, const char *)); break;
+        case 'u': to = put_number(to, va_arg(words, uint64_t)); break;
+        case 'x': to = put_address(to, va_arg(words, uint64_t)); break;
+        case 'd': to = put_signed(to, va_arg(words, int)); break;
+        default: *to++ = '%'; /* of an id */
         }
     }
+    line->length = (size_t)(to - line->text);
 }
 
 /* What this thread had of the processor, as it was read last, and the clock then, in ms. While that is the same nothing is read, since it takes calls
@@ -293,6 +327,7 @@ static __thread struct {
     uint64_t put_off; /* the clock as the looks at its stack were put off last */
     uint64_t work_clock;
     struct usage work_usage;
+    bool ahead; /* the usage was read in front of the lock, for the line that comes */
 } here;
 
 /* A callback or work that took less isn't told. */
@@ -301,14 +336,46 @@ enum { SHORT = 2 };
 struct usage usage_by(uint64_t clock, bool anew) {
     const struct usage none = {.waited = UNKNOWN};
     if (forces() || filtered) return none;
-    if (here.clock == clock && here.usage.processor && !anew) return here.usage;
+    bool ahead = here.ahead && clock <= here.clock + 1;
+    here.ahead = false;
+    if (ahead || (here.clock == clock && here.usage.processor && !anew)) return here.usage;
     here.clock = clock;
     read_usage(&here.usage);
+    /* (as something ends it is what there was by the clock: what it waited for since then, to read it, is none of that) */
+    uint64_t since = anew ? clock_ms() - clock : 0;
+    if (since > 1 && here.usage.waited != UNKNOWN) here.usage.waited -= since * 1000000 < here.usage.waited ? since * 1000000 : here.usage.waited;
     return here.usage;
+}
+
+/* (else the loop might wait for a worker that is pushed off its processor in these calls of the system) */
+void read_ahead(bool ends) {
+    if (off || forces() || filtered) return;
+    uint64_t clock = clock_ms();
+    if (ends ? clock < here.work_clock + SHORT : here.clock == clock && here.usage.processor) return;
+    here.clock = clock;
+    read_usage(&here.usage);
+    here.ahead = true;
+}
+
+uint64_t last_waited(void) {
+    return here.clock && here.usage.processor ? here.usage.waited : UNKNOWN;
 }
 
 uint64_t waited_by(uint64_t clock, bool anew) {
     return usage_by(clock, anew).waited;
+}
+
+/* (to read it takes calls of the system, and in them a thread is pushed off its processor: where that took long, it is read anew) */
+uint64_t clock_behind(struct usage *usage) {
+    enum { TIMES_READ = 3 };
+    uint64_t before, clock = clock_ms();
+    for (int time = 0; time < TIMES_READ; time++) {
+        before = clock;
+        bool known = here.clock == before && here.usage.processor;
+        *usage = usage_by(before, false);
+        if (known || forces() || filtered || (clock = clock_ms()) <= before + 1) break;
+    }
+    return clock;
 }
 
 uint64_t clock_ms(void) {
@@ -337,23 +404,52 @@ static uint64_t in_ms(uint64_t ns, uint64_t most) {
     return ms < most ? ms : most;
 }
 
-/* A callback or work begins or ends, by this clock. Is it known what it used as it ends? */
+/* A callback or work begins or ends, by this clock; what the thread had of the processor as it begins stands in `used`, and what it used as it ends
+ * is to stand there. Is that known? */
 static bool note_time(struct loop *loop, char type, uint64_t clock, struct usage *used, uint64_t *took) {
     struct times *times = &loop->times[loop->begun % TIMES];
     bool ends = type == 'E' && times->begun == loop->begun && !times->end;
     if (type == 'B') {
-        *times = (struct times){.begun = loop->begun, .begin = clock, .usage = loop->early ? loop->early_usage : usage_by(clock, false)};
+        *times = (struct times){.begun = loop->begun, .begin = clock, .usage = *used};
         loop->early = 0;
+        note_share(loop, clock, times->usage.waited);
         if (here.put_off != clock && !filtered) put_off_stacks();
         here.put_off = clock;
         forget_stacks();
     }
-    if (type == 'T') here.work_clock = clock, here.work_usage = usage_by(clock, false);
-    if (ends) times->end = clock, note_late(loop, "callback", -1, clock, clock - times->begin);
+    if (type == 'T') here.work_clock = clock, here.work_usage = *used;
     if (type == 'B') look_at_late(clock);
     *took = clock - (ends ? times->begin : here.work_clock);
-    if (ends) return used_since(clock, times->begin, &times->usage, used);
+    if (ends) {
+        bool known = used_since(clock, times->begin, &times->usage, used);
+        times->end = clock;
+        note_late(loop, "callback", -1, &(struct late){clock, *took, known ? used->waited : UNKNOWN});
+        return known;
+    }
     return type == 'F' && used_since(clock, here.work_clock, &here.work_usage, used);
+}
+
+/* Whether the place that called stands at a line's end, and whether it has the clock. */
+enum { PLACED = 1, CLOCKED = 2 };
+static const unsigned char HAS[128] = {
+    ['B'] = CLOCKED, ['E'] = CLOCKED, ['F'] = CLOCKED, ['H'] = CLOCKED, ['J'] = CLOCKED, ['R'] = CLOCKED, ['T'] = CLOCKED, ['q'] = CLOCKED,
+    ['D'] = PLACED | CLOCKED, ['G'] = PLACED | CLOCKED, ['S'] = PLACED | CLOCKED, ['I'] = PLACED, ['O'] = PLACED, ['Z'] = PLACED,
+};
+
+/* (the loop's time is the same in several lines, and the clock often is that, too) */
+static inline void add_time(struct line *line, uint64_t time) {
+    static __thread struct {
+        uint64_t time;
+        size_t length;
+        char text[DIGITS + 4];
+    } last;
+    if (last.time != time || !last.length) {
+        last.time = time;
+        last.length = (size_t)(put_number(last.text, time) - last.text);
+        last.text[last.length++] = ' ';
+    }
+    memcpy(line->text + line->length, last.text, sizeof last.text);
+    line->length += last.length;
 }
 
 void write_line(struct loop *loop, char type, const char *format, ...) {
@@ -362,10 +458,10 @@ void write_line(struct loop *loop, char type, const char *format, ...) {
     uint64_t took = 0;
     bool knows = false;
     /* (where a place is new that has a line of its own, in front of this one) */
-    int from = loop && called_from && !off && strchr("DGIOSZ", type) ? address_number(called_from) : -1;
-    int caller = from >= 0 ? caller_number(from, called_from) : -1;
+    int from = loop && called_from && !off && (HAS[(int)type] & PLACED) ? call_number(called_from) : -1;
+    int callers[CALLERS], count = from >= 0 ? caller_numbers(type == 'D', from, called_from, callers) : 0;
     if (loop && !loop->lines && loop->number && type != 'L') write_line(loop, 'L', "%d", loop->behind);
-    if (off || (loop && !loop->uv) || !open_log()) return;
+    if (off || (loop && (!loop->uv || loop->unseen)) || (!is_open && !open_log())) return;
     va_list words;
     if (loop && forces() && !strchr("CDGHILVTFSWKJQYZq", type)) {
         /* (what is forced there has lines of its own, in front of this one, and moves the clock) */
@@ -388,15 +484,14 @@ void write_line(struct loop *loop, char type, const char *format, ...) {
     add_sign(&line, type);
     add_sign(&line, ' ');
     if (loop) {
-        add_number(&line, CALL(uv_now)(loop->uv) - loop->base);
-        add_sign(&line, ' ');
+        add_time(&line, CALL(uv_now)(loop->uv) - loop->base);
     }
-    if (loop && strchr("BDEFGHJRSTq", type)) {
-        uint64_t clock = clock_ms();
-        if (type == 'B' && loop->early) clock = loop->early;
+    if (loop && (HAS[(int)type] & CLOCKED)) {
+        bool begins = type == 'B' || type == 'T', early = type == 'B' && loop->early;
+        uint64_t clock = early ? loop->early : begins ? clock_behind(&used) : clock_ms();
+        if (early) used = loop->early_usage;
         knows = note_time(loop, type, clock, &used, &took);
-        add_number(&line, clock - loop->base);
-        add_sign(&line, ' ');
+        add_time(&line, clock - loop->base);
     }
     va_start(words, format);
     add_format(&line, format, words);
@@ -416,9 +511,9 @@ void write_line(struct loop *loop, char type, const char *format, ...) {
         add_text(&line, " @");
         add_number(&line, (uint64_t)from);
     }
-    if (caller >= 0) {
+    for (int at = 0; at < count; at++) {
         add_sign(&line, '<');
-        add_number(&line, (uint64_t)caller);
+        add_number(&line, (uint64_t)callers[at]);
     }
     line.text[line.length++] = '\n';
     if (loop) loop->lines++;
@@ -438,6 +533,14 @@ bool is_behind(const struct loop *loop) {
     return !off && loop->uv && clock_ms() >= CALL(uv_now)(loop->uv) + SHORT;
 }
 
+/* The same of many ms, by a clock that costs little, and lags by a few. */
+bool is_far_behind(const struct loop *loop) {
+    struct timespec time;
+    if (off || !loop->uv || forces()) return false;
+    clock_gettime(CLOCK_MONOTONIC_COARSE, &time);
+    return (uint64_t)time.tv_sec * 1000 + (uint64_t)time.tv_nsec / 1000000 >= CALL(uv_now)(loop->uv) + SHORT;
+}
+
 static uint64_t starts;
 
 uint64_t next_start(void) {
@@ -448,6 +551,12 @@ void write_op(struct object *object, const char *word, const char *rest, int ans
     if (!object) return;
     if (answer == 0 && strcmp(word, "start") == 0) object->order = next_start();
     write_line(object->loop, 'O', "%s %%%d%s = %s", word, object->id, rest, answer_text(answer));
+}
+
+/* (a timer that is started anew in each of its callbacks has many of these) */
+void write_start(struct object *timer, uint64_t timeout, uint64_t repeat, int answer) {
+    if (answer == 0) timer->order = next_start(), write_line(timer->loop, 'O', "start %%%d %u %u = ok", timer->id, timeout, repeat);
+    else write_line(timer->loop, 'O', "start %%%d %u %u = %s", timer->id, timeout, repeat, answer_text(answer));
 }
 
 /* ---- libuv */
@@ -555,15 +664,25 @@ static void end_with(const char *who) {
     if (getppid() != parent) raise(SIGTERM);
 }
 
+void set_up(const char *named) {
+    static bool forks;
+    snprintf(prefix, sizeof prefix, "%s", named);
+    is_open = false;
+    ask_for_ring();
+    if (!forks) pthread_atfork(before_fork, after_fork, in_child);
+    forks = true;
+}
+
+void end_log(void) {
+    off = true;
+    end_ring();
+}
+
 static void __attribute__((constructor)) begin(void) {
     const char *named = getenv("UVT_LOG");
     if (!named || strlen(named) >= sizeof prefix) return;
-    strcpy(prefix, named);
     end_with(getenv("UVT_ENDS_WITH"));
-    ask_for_ring();
-    pthread_atfork(before_fork, after_fork, in_child);
-    attaches = getenv("UVT_ATTACH") != NULL;
-    if (attaches) return;
+    set_up(named);
     off = false;
     hook_program();
 }

@@ -14,6 +14,7 @@
 #include <unistd.h>
 
 enum { TEXT = 1000, EACH = 1000, BY_LINES = 0, WITH_NAMES = 1, LAZILY = 0, STACKS = 1 << 16, PLACES = 1 << 12, FULL = 3, DEEP = 1000 };
+enum { TOO_LATE = 2000 }; /* in microseconds */
 
 V8(isolate_here, "_ZN2v87Isolate10GetCurrentEv", void *, void)
 V8(interrupt, "_ZN2v87Isolate16RequestInterruptEPFvPS0_PvES2_", void, void *, void (*)(void *, void *), void *)
@@ -36,9 +37,13 @@ V8(node_line_count, "_ZNK2v814CpuProfileNode15GetHitLineCountEv", unsigned, void
 V8(node_lines, "_ZNK2v814CpuProfileNode12GetLineTicksEPNS0_8LineTickEj", bool, void *, void *, unsigned)
 
 static bool can_look(void) {
-    return isolate_here() && interrupt() && new_profiler() && profiler_every() && profiler_start() && profiler_stop() && profiler_end()
-           && profile_end() && profile_count() && profile_sample() && profile_time() && node_name() && node_file() && node_line()
-           && node_below() && node_number() && node_line_count() && node_lines() && napi_create_string_utf8 && napi_add_env_cleanup_hook;
+    /* (each is asked for: what is missing is told, all of it) */
+    const bool has[] = {isolate_here(), interrupt(), new_profiler(), profiler_every(), profiler_start(), profiler_stop(), profiler_end(),
+                        profile_end(), profile_count(), profile_sample(), profile_time(), node_name(), node_file(), node_line(), node_below(),
+                        node_number(), node_line_count(), node_lines()};
+    for (size_t at = 0; at < sizeof has / sizeof *has; at++)
+        if (!has[at]) return false;
+    return napi_create_string_utf8 && napi_add_env_cleanup_hook;
 }
 
 /* ---- the looks of a thread */
@@ -61,6 +66,11 @@ struct looks {
     long begun; /* callbacks of the loop, by then */
     struct known *places, *stacks;
     int place_count, stack_count;
+    pthread_t thread;
+    /* how long it was on a processor by the last look; for how many looks it hasn't been; and was it interrupted at the last one? */
+    uint64_t ran;
+    unsigned still;
+    bool asked;
 };
 
 static __thread struct looks *looks_here;
@@ -146,7 +156,7 @@ static int stack_of(struct looks *looks, void *node, int *numbers, unsigned most
     return found;
 }
 
-/* A line for each row of samples that found the same stack. */
+/* A line for each row of samples that found the same stack; with how long it was from the last of them to the next one, where that came late. */
 static void write_profile(struct looks *looks, struct loop *loop, void *profile) {
     int count = profile_count()(profile), last = -1;
     unsigned most = 1;
@@ -155,14 +165,17 @@ static void write_profile(struct looks *looks, struct loop *loop, void *profile)
         most = id >= most ? id + 1 : most;
     }
     int *numbers = calloc(most, sizeof *numbers);
-    int64_t first = 0, time = 0, from = (int64_t)loop->base * 1000;
+    int64_t first = 0, before = 0, time = 0, from = (int64_t)loop->base * 1000;
     for (int at = 0; numbers && at <= count; at++) {
         int found = at < count ? stack_of(looks, profile_sample()(profile, at), numbers, most, 0) : -1;
         /* (a look counts up to the next one, the last one for a millisecond) */
         time = at < count ? profile_time()(profile, at) : time == first ? first + 1000 : time;
+        uint64_t late = (uint64_t)(time - before);
+        before = time;
         if (found == last && at < count) continue;
         uint64_t begun = (uint64_t)(first > from ? first - from : 0), took = (uint64_t)(time - first);
-        if (last >= 0 && time > first) write_line(loop, 'J', "busy %d %u %u", last, begun, took);
+        if (last >= 0 && time > first && late > TOO_LATE) write_line(loop, 'J', "busy %d %u %u %u", last, begun, took, late);
+        else if (last >= 0 && time > first) write_line(loop, 'J', "busy %d %u %u", last, begun, took);
         last = found;
         first = time;
     }
@@ -186,6 +199,7 @@ static void write_looks(struct looks *looks, bool go_on) {
     if (go_on) profiler_start()(looks->profiler, title(looks, looks->profiles + 1), BY_LINES, true, UINT_MAX);
     void *profile = profiler_stop()(looks->profiler, title(looks, looks->profiles++));
     lock();
+    write_collections(loop);
     if (profile) write_profile(looks, loop, profile);
     unlock();
     if (profile) profile_end()(profile);
@@ -258,6 +272,38 @@ void write_looks_here(void) {
     if (looks_here) write_looks(looks_here, true);
 }
 
+/* ---- a thread that sleeps */
+
+REAL(pthread_kill)
+
+/* Is it to be interrupted for this look? One that does nothing stands where it stood: it is looked at as it begins to do nothing, and then ever more
+ * seldom. Else its sleep would be one of many short ones, behind each of which it waits for a processor. */
+static bool is_to_be_asked(struct looks *looks) {
+    enum { OWN = 300000, SELDOM = 8 };
+    clockid_t clock;
+    struct timespec time;
+    if (pthread_getcpuclockid(looks->thread, &clock) != 0 || clock_gettime(clock, &time) != 0) return true;
+    uint64_t ran = (uint64_t)time.tv_sec * 1000000000 + (uint64_t)time.tv_nsec, since = ran - looks->ran;
+    looks->ran = ran;
+    /* (what V8 does as it is interrupted is nothing of its own) */
+    if (looks->asked && since && since < OWN) return looks->asked = false;
+    looks->still = since ? 0 : looks->still + 1;
+    unsigned still = looks->still;
+    while (still > 1 && still % SELDOM == 0) still /= SELDOM;
+    return looks->asked = still <= 1;
+}
+
+/* (by V8's profiler, each time that it wants a look) */
+int pthread_kill(pthread_t thread, int signal) {
+    bool asks = true;
+    if (signal == SIGPROF && !filtered && pthread_mutex_trylock(&all_of_them) == 0) {
+        for (struct looks *it = all; it; it = it->next)
+            if (it->profiler && pthread_equal(it->thread, thread)) asks = is_to_be_asked(it);
+        pthread_mutex_unlock(&all_of_them);
+    }
+    return asks ? CALL(pthread_kill)(thread, signal) : 0;
+}
+
 /* ---- from when to when */
 
 REAL(uv_loop_configure)
@@ -286,6 +332,7 @@ void begin_looks(napi_env env) {
     looks->places = calloc(PLACES, sizeof *looks->places);
     looks->stacks = calloc(STACKS, sizeof *looks->stacks);
     looks->env = env;
+    looks->thread = pthread_self();
     looks->isolate = isolate_here()();
     napi_scope scope;
     if (!looks->places || !looks->stacks || napi_get_uv_event_loop(env, &looks->uv) != 0 || napi_open_handle_scope(env, &scope) != 0) return;
@@ -299,6 +346,7 @@ void begin_looks(napi_env env) {
     napi_close_handle_scope(env, scope);
     looks->written = looks->interrupted = looks_clock();
     looks_here = looks;
+    begin_collections(looks->isolate);
     napi_add_env_cleanup_hook(env, forget, looks);
     pthread_mutex_lock(&all_of_them);
     looks->next = all;

@@ -8,7 +8,7 @@
 #include <stdio.h>
 #include <string.h>
 
-enum { WORDS = 4, TEXT = 1000 };
+enum { WORDS = 5, TEXT = 1000 };
 
 __thread napi_env env_here;
 __thread int asking_here = -1;
@@ -19,6 +19,23 @@ void note_javascript(struct loop *loop, int id) {
     if (env_here) places_now(env_here, places);
     else snprintf(places, sizeof places, "%d", asking_here);
     if (*places != '-') write_line(loop, 'J', "by %d %s", id, places);
+}
+
+/* ---- what this node lacks */
+
+enum { LACKED = 32 };
+
+static const char *lacked[LACKED];
+static int lacked_count;
+
+void lacks(const char *symbol) {
+    for (int at = 0; at < lacked_count; at++)
+        if (strcmp(lacked[at], symbol) == 0) return;
+    if (lacked_count < LACKED) lacked[lacked_count++] = symbol;
+}
+
+static void write_lacks(void) {
+    for (int at = 0; at < lacked_count; at++) write_line(NULL, 'J', "lacks %s", lacked[at]);
 }
 
 /* ---- what the hook calls */
@@ -78,13 +95,25 @@ CALLED(born, 3) {
     return ids;
 }
 
+/* known(KIND, FUNCTION, DELAY, START): it was started at this time of node's, nobody knows where. (One that repeats is started anew at each call.)
+ * Answers its number. */
+CALLED(known, 4) {
+    int64_t kind = number(env, words[0]), delay = number(env, words[2]), start = number(env, words[3]);
+    if (!loop || kind < 0 || kind > 2) return -1;
+    char text[CHAIN_TEXT + 64];
+    snprintf(text, sizeof text, "%s %d -1 %lld", KINDS[kind], place_of(env, words[1]), (long long)(delay < 0 ? 0 : delay));
+    alive_was(loop, (uint64_t)++ids, text, (uint64_t)((int64_t)loop->base + loop->node_behind + start), kind == 1);
+    return ids;
+}
+
 /* begin(ID, START, DELAY, FLAGS): it begins; of a timer, that was started at this time of node's, START, and else -1. FLAGS: 1, it repeats,
- * 2, it keeps nothing alive. end(ID): it ends. */
+ * 2, it keeps nothing alive,
+ * 4, its ms were counted anew since. end(ID): it ends. */
 CALLED(begin, 4) {
     int64_t start = number(env, words[1]), delay = number(env, words[2]);
     uint64_t id = (uint64_t)number(env, words[0]);
-    static const char *const FLAGS[] = {"", " 1", " 2", " 3"};
-    const char *flags = FLAGS[number(env, words[3]) & 3];
+    static const char *const FLAGS[] = {"", " 1", " 2", " 3", " 4", " 5", " 6", " 7"};
+    const char *flags = FLAGS[number(env, words[3]) & 7];
     alive_run(id, number(env, words[3]) & 1);
     if (loop && start >= 0) write_line(loop, 'J', "run %u %u %u%s", id, (uint64_t)start, (uint64_t)(delay < 0 ? 0 : delay), flags);
     else if (loop) write_line(loop, 'J', "run %u", id);
@@ -110,14 +139,28 @@ CALLED(referenced, 2) {
     return 0;
 }
 
-/* look(THREAD): looks begin in this thread, of node's number; in the first one, 0, signals that end the program wait for what is to be
- * written. */
+REAL(uv_now)
+
+/* begun(THREAD, NOW): the JavaScript of this thread, of node's number, tells from here on; and which time node has just now. (It has looked at that
+ * of the loop, and counts it from another beginning.) */
+CALLED(begun, 2) {
+    if (!loop) return -1;
+    loop->has_javascript = true;
+    loop->javascript = (uint64_t)number(env, words[0]);
+    loop->node_behind = (int64_t)(CALL(uv_now)(loop->uv) - loop->base) - number(env, words[1]);
+    tell_node_thread(loop);
+    return 0;
+}
+
+/* look(THREAD): looks begin in it; in the first one, 0, signals that end the program wait for what is to be written. */
 CALLED(look, 1) {
     if (!loop) return -1;
-    uint64_t thread = (uint64_t)number(env, words[0]);
-    write_line(loop, 'J', "thread %u", thread);
     begin_looks(env);
-    if (thread == 0) look_before_signals(loop);
+    bool first = number(env, words[0]) == 0;
+    look_up_places();
+    look_up_collections();
+    if (first) write_lacks();
+    if (first && !attaches) look_before_signals(loop);
     return 0;
 }
 
@@ -141,7 +184,7 @@ napi_value napi_register_module_v1(napi_env env, napi_value exports) {
         const char *name;
         napi_value (*called)(napi_env, napi_callback_info);
     } all[] = {{"born", born}, {"meant", meant}, {"begin", begin}, {"end", end}, {"gone", gone}, {"referenced", referenced}, {"look", look},
-               {"unlook", unlook}, {"is", is}};
+               {"unlook", unlook}, {"is", is}, {"known", known}, {"begun", begun}};
     for (size_t at = 0; at < sizeof all / sizeof *all; at++) {
         napi_value function;
         if (napi_create_function(env, all[at].name, strlen(all[at].name), all[at].called, NULL, &function) == 0)

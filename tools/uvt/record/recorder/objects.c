@@ -220,6 +220,14 @@ void each(struct loop *loop, void (*tell)(struct object *)) {
             if (it->loop == loop && it->kind) tell(it);
 }
 
+void each_object(const struct loop *loop, void (*take)(struct object *)) {
+    for (size_t at = 0; at < bucket_count; at++)
+        for (struct object *it = buckets[at], *next; it; it = next) {
+            next = it->next;
+            if (it->loop == loop) take(it);
+        }
+}
+
 int object_total(void) {
     return (int)object_count;
 }
@@ -272,20 +280,29 @@ static const char *file_of(const struct link_map *map, const char *name, char ro
 }
 
 /* (the file's own symbols count from where it was loaded) */
-int address_number(const void *address) {
+static int number_by(const void *key, const void *address) {
     /* (a send may come from a signal's handler, which mustn't want memory) */
     if (sends_here ? 4 * (size_t)place_count >= 3 * place_room : 2 * (size_t)place_count >= place_room && !grow_places()) return -1;
-    struct place *place = place_at(places, place_room, address);
+    struct place *place = place_at(places, place_room, key);
     if (place->address) return place->number;
     Dl_info info;
     struct link_map *map;
     if (!dladdr1(address, &info, (void **)&map, RTLD_DL_LINKMAP) || !info.dli_fname || !map) return -1;
     char room[PATH_MAX];
-    const char *symbol = info.dli_saddr == address && info.dli_sname ? info.dli_sname : "-";
+    const char *symbol = key == address && info.dli_saddr == address && info.dli_sname ? info.dli_sname : "-";
     write_line(NULL, 'A', "%d %x %s %s", place_count, (uint64_t)((uintptr_t)address - map->l_addr), symbol,
                file_of(map, info.dli_fname, room));
-    *place = (struct place){address, place_count};
+    *place = (struct place){key, place_count};
     return place_count++;
+}
+
+int address_number(const void *address) {
+    return number_by(address, address);
+}
+
+/* (a function may begin where another one ends with a call, and has a number of its own) */
+int call_number(const void *behind) {
+    return number_by((const void *)((uintptr_t)behind | (uintptr_t)1 << 63), behind);
 }
 
 /* (most handles lie in memory that was allocated, many in a page: such a page is remembered) */
@@ -305,6 +322,13 @@ void name_callback(struct object *object, void *callback, enum role role, const 
     object->named[role] = callback;
     object->whats[role] = what;
     if (place >= 0) write_line(object->loop, 'C', "%d %d %s", object->id, place, what);
+}
+
+void forget_objects(void) {
+    while (loop_count) close_loop(loops[0]);
+    loops_made = 0;
+    place_count = 0;
+    if (places) memset(places, 0, place_room * sizeof *places);
 }
 
 void name_again(struct object *object) {

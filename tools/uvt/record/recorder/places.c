@@ -169,6 +169,12 @@ static struct kept *kept_for(void *isolate, struct kept *now) {
     return now->count ? &kept_here[(mixed >> 40) & (KEPT - 1)] : NULL;
 }
 
+void look_up_places(void) {
+    (void)isolate_here(), (void)function_script(), (void)function_line(), (void)function_column(), (void)function_origin(), (void)stack_now();
+    (void)stack_count(), (void)stack_frame(), (void)frame_script(), (void)frame_where(), (void)frame_file(), (void)frame_function();
+    (void)stack_sample(), (void)after_collection();
+}
+
 void places_now(napi_env env, char *found) {
     napi_scope scope;
     int which = 0;

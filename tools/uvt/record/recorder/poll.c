@@ -110,7 +110,10 @@ static struct loop *polls(int descriptor, const void *caller) {
     struct loop *loop = running_here();
     if (off || (!loop && !attaches) || (loop && !loop->uv) || !is_from_libuv(caller)) return NULL;
     if (!loop && !(loop = adopt_loop(descriptor))) return NULL;
-    return CALL(uv_backend_fd)(loop->uv) == descriptor ? loop : NULL;
+    if (CALL(uv_backend_fd)(loop->uv) != descriptor || (attaches && is_left(loop))) return NULL;
+    /* (that takes long: what is due by then is called first) */
+    if (attaches && !loop->hooked && hook_loop(loop)) return NULL;
+    return comes_into_view(loop) ? loop : NULL;
 }
 
 /* Is it the same poll still? libuv asks once more where it was interrupted, where nothing came for anybody, where it only looked before it
@@ -136,7 +139,14 @@ static void note_poll(struct loop *loop, int timeout) {
     write_line(loop, again ? 'p' : 'P', "%d", timeout);
     loop->waiting = true;
     loop->poll = (struct poll){.begun = loop->begun, .away = loop->away, .timeout = timeout, .wait = wait, .in = ring_window()};
-    if (wait > 0) loop->poll.clock = clock_ms(), loop->poll.waited = waited_by(loop->poll.clock, false);
+    if (wait > 0) {
+        struct usage usage;
+        uint64_t last = last_waited();
+        loop->poll.clock = clock_behind(&usage);
+        loop->poll.waited = usage.waited;
+        loop->poll.before = usage.waited == UNKNOWN || last == UNKNOWN || usage.waited < last ? 0 : usage.waited - last;
+        note_share(loop, loop->poll.clock, loop->poll.waited);
+    }
     unlock();
 }
 
@@ -147,19 +157,21 @@ static bool is_for_somebody(const uv_loop_t *uv, const struct epoll_event *event
 }
 
 /* The system ended a wait later than it was asked to: how much, how long of that this thread waited for a processor, and whether a signal ended it
- * (as one does that lets a stopped process go on). */
+ * (as one does that lets a stopped process go on). And how long the thread had waited for one since the callback before, as the wait began. */
 enum { LATE = 2 };
 
 static void note_late_poll(struct loop *loop, int got) {
     struct poll *poll = &loop->poll;
     int fault = got < 0 ? errno : 0;
     uint64_t clock = poll->wait > 0 && !forces() ? clock_ms() : 0, end = poll->clock + (uint64_t)poll->wait;
-    if (clock > end && minds_late()) note_late(loop, "poll", -1, clock, clock - end);
-    if (clock < end + LATE || poll->waited == UNKNOWN) return;
-    uint64_t waited = waited_by(clock, true);
+    bool is_late = clock >= end + LATE;
+    if (!clock || (!is_late && poll->before < LATE * 1000000ull)) return;
+    if (clock < end) end = clock;
+    uint64_t now = poll->waited == UNKNOWN ? UNKNOWN : waited_by(clock, true), waited = now == UNKNOWN ? UNKNOWN : now - poll->waited;
+    if (is_late) note_late(loop, "poll", -1, &(struct late){clock, clock - end, waited});
     if (waited == UNKNOWN) return;
     lock();
-    write_line(loop, 'H', "%u %u %d", clock - end, (waited - poll->waited + 500000) / 1000000, fault == EINTR);
+    write_line(loop, 'H', "%u %u %d %u", clock - end, (waited + 500000) / 1000000, fault == EINTR, (poll->before + 500000) / 1000000);
     unlock();
 }
 
@@ -197,7 +209,13 @@ static int really_wait(struct loop *loop, int descriptor, struct epoll_event *ev
 
 int epoll_wait(int descriptor, struct epoll_event *events, int room, int timeout) {
     struct loop *loop = polls(descriptor, __builtin_return_address(0));
+    struct wait wait;
     int got;
+    if (!loop && in_callback && begin_wait(&wait, __func__, __builtin_return_address(0))) {
+        got = CALL(epoll_wait)(descriptor, events, room, timeout);
+        end_wait(&wait, __func__, __builtin_return_address(0));
+        return got;
+    }
     note_poll(loop, timeout);
     if (loop && force_poll(loop, descriptor, events, room, timeout, &got)) return note_events(loop, events, got);
     return note_events(loop, events, really_wait(loop, descriptor, events, room, timeout, NULL));
@@ -205,7 +223,13 @@ int epoll_wait(int descriptor, struct epoll_event *events, int room, int timeout
 
 int epoll_pwait(int descriptor, struct epoll_event *events, int room, int timeout, const sigset_t *signals) {
     struct loop *loop = polls(descriptor, __builtin_return_address(0));
+    struct wait wait;
     int got;
+    if (!loop && in_callback && begin_wait(&wait, __func__, __builtin_return_address(0))) {
+        got = CALL(epoll_pwait)(descriptor, events, room, timeout, signals);
+        end_wait(&wait, __func__, __builtin_return_address(0));
+        return got;
+    }
     note_poll(loop, timeout);
     if (loop && force_poll(loop, descriptor, events, room, timeout, &got)) return note_events(loop, events, got);
     return note_events(loop, events, really_wait(loop, descriptor, events, room, timeout, signals));

@@ -104,8 +104,33 @@ struct work {
     int id;
 };
 
+/* Which thread runs the work of which request: one for each that ever ran any. (Read without the lock: who is at one's end is told of at worst.) */
+static struct at_work {
+    _Atomic pid_t thread;
+    _Atomic int id;
+} at_work[1024];
+static __thread struct at_work *mine __attribute__((tls_model("initial-exec")));
+
+int work_of(pid_t thread) {
+    for (int at = 0; at < 1024 && at_work[at].thread; at++)
+        if (at_work[at].thread == thread) return at_work[at].id;
+    return -1;
+}
+
+/* (under the lock) */
+static void note_work(int id) {
+    for (int at = 0; !mine && at < 1024; at++)
+        if (!at_work[at].thread) {
+            mine = &at_work[at];
+            mine->id = -1;
+            mine->thread = who_writes();
+        }
+    if (mine) mine->id = id;
+}
+
 static struct work begin_work(void *request) {
     struct work work = {0};
+    read_ahead(false);
     lock();
     struct object *object = first(request, is_free);
     if (!object) object = first(request, is_pooled);
@@ -116,6 +141,7 @@ static struct work begin_work(void *request) {
             write_line(object->loop, 'T', "%d", object->id);
             in_callback = work.program && !work.own ? object->loop : NULL;
             in_work = object->id + 1;
+            note_work(object->id);
         }
     }
     unlock();
@@ -125,6 +151,8 @@ static struct work begin_work(void *request) {
 static void end_work(void *request, int id) {
     in_callback = NULL;
     in_work = 0;
+    if (mine) mine->id = -1;
+    read_ahead(true);
     lock();
     struct object *object = find(request);
     while (object && object->id != id) object = earlier(object);
@@ -216,7 +244,7 @@ int uv_queue_work(uv_loop_t *uv, uv_work_t *request, uv_work_cb work, uv_after_w
     if (INSIDE() || !work) return CALL(uv_queue_work)(uv, request, work, callback);
     /* (the first one makes the pool's threads) */
     struct wait wait;
-    bool waits = in_callback && begin_wait(&wait);
+    bool waits = in_callback && begin_wait(&wait, __func__, __builtin_return_address(0));
     lock();
     struct object *object = queue(uv, request, (void *)callback, (void *)work);
     int done = REALLY(CALL(uv_queue_work)(uv, request, object ? do_work : work, object ? after_work : callback));
@@ -241,7 +269,7 @@ int uv_cancel(uv_req_t *request) {
     int NAME PARAMETERS {                                                                \
         struct wait wait;                                                                \
         if (INSIDE() || !callback || !uv) {                                              \
-            bool waits = !callback && in_callback && begin_wait(&wait);                  \
+            bool waits = !callback && in_callback && begin_wait(&wait, __func__, __builtin_return_address(0));                  \
             int at_once = CALL(NAME) WITH(callback);                                     \
             if (waits) end_wait(&wait, #NAME, __builtin_return_address(0));              \
             return at_once;                                                              \

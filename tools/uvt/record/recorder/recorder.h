@@ -27,7 +27,7 @@ void read_usage(struct usage *usage);
 /* ---- a loop, and a handle or a request (objects.c) */
 
 /* Of so many callbacks that were the last ones it is known when they began and ended. */
-enum { TIMES = 64 };
+enum { TIMES = 64, SHARES = 64 };
 
 struct loop {
     uv_loop_t *uv; /* NULL once it is closed */
@@ -40,6 +40,13 @@ struct loop {
     int running; /* how many uv_run are under way */
     bool waiting; /* for events, in a poll */
     bool adopted; /* its run began before the recorder came */
+    bool unseen; /* it was there before, with something that nobody knows: nothing is written of it yet, */
+    bool has_closing; /* also of handles that closed before */
+    bool hooked; /* its JavaScript was looked for */
+    bool has_javascript; /* the hook is in it: node's number of the thread, and how far behind the loop's time that of node begins */
+    uint64_t javascript;
+    int64_t node_behind;
+    uint64_t seen_from; /* by the clock; of any other loop 0 */
     struct object *unsettled; /* watchers whose callback has just ended: see settle() */
     struct object *looked; /* one of its handles, which lie in a ring: the next one whose memory is looked at (memory.c) */
     uint64_t looked_at; /* the loop's time as that was done last */
@@ -63,7 +70,13 @@ struct loop {
         bool in_vain; /* none of these is for anybody */
         int wait; /* how long the system is asked to wait */
         uint64_t clock, waited; /* as it began; and how long the thread had waited for a processor by then */
+        uint64_t before;        /* of that since something was read last */
     } poll; /* the last time */
+    struct share {
+        uint64_t clock, waited; /* how long its thread had waited for a processor by then, in ns */
+    } shares[SHARES]; /* where a ring is kept apart: the last ones, in the time of a run */
+    unsigned shared; /* how many there were */
+    uint64_t known_from; /* by the clock: the first one of all */
 };
 
 /* Which of its callbacks: a stream has several. */
@@ -121,16 +134,23 @@ void note_thread(struct loop *loop, int id);
 struct object *put(struct loop *loop, void *address);
 void drop(struct object *object);
 void each(struct loop *loop, void (*tell)(struct object *));
+/* (requests of streams, too; it may be dropped) */
+void each_object(const struct loop *loop, void (*take)(struct object *));
 int object_total(void);
 /* This thread sends: it may be in a signal's handler. */
 extern __thread bool sends_here;
 /* The number of an address in a program's file: the first time a line says where it is. -1 for memory that is in none. */
 int address_number(const void *address);
+/* The number of a place in a function, by what comes behind its call. */
+int call_number(const void *behind);
 /* The program's own file: the system is asked once. */
 const char *name_of_program(void);
-/* Of the place with this number, from which libuv was called now: the number of the one that called its function; -1 where nobody knows, or that is
- * none of the program's (callers.c). */
-int caller_number(int place, const void *from);
+/* Of the place with this number, from which libuv was called now: the number of the one that called its function, where that is known and is one
+ * of the program's; of a call that waited (ALL) those of all that are on the stack. Answers how many there are (callers.c). */
+enum { CALLERS = 24 };
+int caller_numbers(bool all, int place, const void *from, int *found);
+/* The places behind this one on this thread's stack, up to the loop's run; none where a stack can't be followed (stacks.c). */
+int stack_behind(const void *from, uintptr_t *found, int most);
 /* The lines that say where it lies, and which its callback is: `what` as in the line at which that begins. */
 void name_place(struct object *object);
 void name_callback(struct object *object, void *callback, enum role role, const char *what);
@@ -163,6 +183,7 @@ int workers(void);
 void write_workers(void);
 /* `LOOP O NOW WORD %ID REST = ANSWER`; nothing where there is no object. */
 void write_op(struct object *object, const char *word, const char *rest, int answer);
+void write_start(struct object *timer, uint64_t timeout, uint64_t repeat, int answer);
 const char *answer_text(int answer);
 
 /* ---- what a callback waits for (waits.c), and where it is at (stacks.c) */
@@ -171,20 +192,38 @@ const char *answer_text(int answer);
 extern __thread struct loop *in_callback __attribute__((tls_model("initial-exec")));
 /* Of a worker that has work of the program: one more than its number. */
 extern __thread int in_work __attribute__((tls_model("initial-exec")));
-void write_wait(struct loop *loop, const char *function, uint64_t ms);
+/* (OWNER: who had the lock, `` where nobody had one, or that isn't known) */
+void write_wait(struct loop *loop, const char *function, uint64_t ms, const char *owner);
 struct wait {
     struct loop *loop;
     int work;
     uint64_t begin;
+    pid_t owner; /* the thread that had the lock as this one began to wait for it, 0 if none is known; and the request whose work that ran, or -1 */
+    int owner_work;
 };
-bool begin_wait(struct wait *wait);
+bool begin_wait(struct wait *wait, const char *function, const void *caller);
 void end_wait(const struct wait *wait, const char *function, const void *caller);
+/* Who had the lock as this wait began. */
+void note_owner(struct wait *wait, pid_t thread);
 /* Another one than libuv has waited for this child. */
 void note_reaped(struct loop *loop, pid_t child, const void *caller);
+pid_t reaped(pid_t child, const void *caller);
 int really_lock(pthread_mutex_t *mutex);
-/* The clock, in ms; and how long this thread had waited for a processor by then. */
+/* The thread that has a lock, by the C library's own word: 0 where nobody has it, or where another library keeps that elsewhere. And who has the
+ * recorder's own: so a thread has its number without a call of the system, which a filter may forbid. */
+pid_t owner_of(const pthread_mutex_t *mutex);
+pid_t who_writes(void);
+/* The request whose work a thread runs, -1 if none. */
+int work_of(pid_t thread);
+/* The clock, in ms; and how long this thread had waited for a processor by then. As something begins its usage is read first: what it waits for a
+ * processor in between is none of what takes long. */
 uint64_t clock_ms(void);
+uint64_t clock_behind(struct usage *usage);
 uint64_t waited_by(uint64_t clock, bool anew);
+/* As that was read last. */
+uint64_t last_waited(void);
+/* In front of the lock: what a worker's next line says of the thread, as work begins or ends. */
+void read_ahead(bool ends);
 struct usage usage_by(uint64_t clock, bool anew);
 void put_off_stacks(void);
 void no_stacks(void);
@@ -192,6 +231,14 @@ void forget_stacks(void);
 /* In no thread any more. */
 void stop_stacks(void);
 void write_stacks(struct loop *loop);
+
+/* ---- where a callback is at that doesn't end (now.c) */
+
+void open_now(void);
+void close_now(void);
+void now_waits(const struct loop *loop, const char *function, const void *caller, uint64_t clock);
+void now_waited(const struct loop *loop);
+void now_looked(const struct loop *loop, const uintptr_t *at, int depth, uint64_t clock);
 
 /* ---- a log that is a ring (ring.c) */
 
@@ -210,10 +257,19 @@ void ring_needs(uint64_t bytes);
 /* All of its windows are made and mapped: no further one is asked for, and nothing is kept apart. */
 void ring_ahead(void);
 /* Up to this clock something of this loop took so long: `callback`, a `timer` (the handle `id`) that was late by that, or a `poll` that ended so
- * late; are such things to be kept apart; and does so, where one was noted a while ago. */
-void note_late(const struct loop *loop, const char *what, int id, uint64_t clock, uint64_t took);
-bool minds_late(void);
+ * late; `waited` ns of it the thread could run, and others had the processor (UNKNOWN: nobody knows). */
+struct late {
+    uint64_t clock, took, waited;
+};
+void note_late(const struct loop *loop, const char *what, int id, const struct late *late);
+/* From how many ms on that is kept apart, 0: never; and does so, where one was noted a while ago. */
+uint64_t minds_late(void);
 void look_at_late(uint64_t clock);
+/* How long its thread had waited for a processor by this clock; and for how long it has since `time`, as far as that is known. */
+void note_share(struct loop *loop, uint64_t clock, uint64_t waited);
+/* Notes it, where nothing was noted a little while before. */
+void note_share_now(struct loop *loop);
+uint64_t waited_since(const struct loop *loop, uint64_t time, uint64_t waited);
 
 /* ---- the real functions (log.c) */
 
@@ -259,21 +315,41 @@ void *own_function(const char *name);
 /* Calls of a function of it can't be seen, or (NULL) of none, and then nothing is recorded: a line behind the first one says why. */
 void note_unseen(const char *function, const char *why);
 
-/* The jumps, where they weren't put at once, since the program runs; and the same of the library libuv. */
-void put_jumps(void);
+/* The same of the library libuv. And the jumps, where they weren't put at once, since the program runs: a thread that is within the bytes that
+ * were moved, and not at their first one, has to leave them before. */
 void hook_library(void);
+void each_jump(void (*take)(void *at, const uint8_t *jump, size_t size, size_t moved));
 
 /* ---- a program that runs already (attach.c) */
 
 extern bool attaches; /* it is one */
-/* The loop that polls this descriptor in this thread, with its handles; NULL where it isn't found, or can't be taken over now. */
+void set_up(const char *named);
+/* What is asked for by this name: in its words, or in the environment. */
+const char *asked_for(const char *name);
+/* Why no libuv can be recorded; NULL where that isn't known. */
+const char *why_unseen(void);
+/* The loop that polls this descriptor in this thread, with its handles; NULL where it isn't found. And can it be recorded from here on? */
 struct loop *adopt_loop(int descriptor);
-/* The callbacks that a handle has become the recorder's. */
+bool comes_into_view(struct loop *loop);
+/* Runs what is asked for, in a loop's thread that has JavaScript (evaluate.c). Was it run? */
+bool run_script(const char *script);
+bool hook_loop(struct loop *loop);
+/* Is the program left, so that this loop isn't recorded any more? */
+bool is_left(struct loop *loop);
+/* The callbacks that a handle has become the recorder's; and those that are become the program's again. */
 void adopt_own(struct object *handle);
 void adopt_watcher(struct object *handle);
+void return_own(struct object *handle);
+void return_watcher(struct object *handle);
 uint64_t next_start(void);
-/* This thread is in a run of this loop that began before. */
+/* This thread is in a run of this loop that began before; is in none any more; the line of a run that began since. */
 void is_in_run(struct loop *loop);
+void is_in_no_run(void);
+void write_run(struct loop *loop);
+/* All that is known of loops, and of places, is forgotten; nothing is recorded any more, and the files are closed. */
+void forget_objects(void);
+void end_log(void);
+void end_ring(void);
 
 /* ---- an order that is forced (force.c): a library of its own, compiled with FORCE. The recorder by itself has nothing of it */
 
@@ -357,14 +433,18 @@ int new_place_number(void);
 /* What an interpreter has asked for, and is to come (alive.c): asked for (KIND FUNCTION PLACE MS); it is called, and that ends, or it is gone; all
  * of this by a line's words; and what there is of a loop is told again. */
 void alive_new(const struct loop *loop, uint64_t id, const char *text);
+void alive_was(const struct loop *loop, uint64_t id, const char *text, uint64_t clock, bool repeats);
 void alive_run(uint64_t id, bool repeats);
 void alive_end(uint64_t id, bool gone);
 void alive_note(const struct loop *loop, const char *words);
 void alive_closed(const struct loop *loop);
 void tell_alive(struct loop *loop);
+/* A line that says of which thread of node's a loop runs the JavaScript, and how far its own time begins behind that of node. */
+void tell_node_thread(struct loop *loop);
 
 /* A line that says where JavaScript asked for this object of the loop, if it is under way in this thread. */
 bool is_behind(const struct loop *loop);
+bool is_far_behind(const struct loop *loop);
 void note_javascript(struct loop *loop, int id);
 /* The line of a program in Lua that asks for requests of the pool just now, -1: none. */
 extern __thread int asking_here;

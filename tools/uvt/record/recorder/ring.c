@@ -5,7 +5,8 @@
  * program is killed. In each window a recording may begin: of each loop all that it has is written there (poll.c).
  *
  * UVT_LATE=MS: behind a callback that took so long, a timer that began so late, or a poll that ended so late, the ring goes on for a while,
- * stays as PREFIX.PID.late-N.ring, and another one begins. Of more than MOST_LATE those with the longest stay.
+ * stays as PREFIX.PID.late-N.ring, and another one begins. Windows from long before are given back to the disk. Of more than MOST_LATE, or than
+ * have LATE_ROOM times the room of a ring, those with the longest stay.
  *
  * Of processes that have ended the rings of the last LEFT stay: a program that is started again and again fills no disk. */
 #define _GNU_SOURCE
@@ -22,7 +23,8 @@
 #include <sys/stat.h>
 #include <unistd.h>
 
-enum { WINDOW = 1 << 20, NOTE = 64, FEWEST = 2, MOST = 1 << 16, MOST_LATE = 4, BEHIND_LATE = 1000, LEFT = 3, GROUPS = 512 };
+enum { WINDOW = 1 << 20, NOTE = 64, FEWEST = 2, MOST = 1 << 16, LEFT = 3, GROUPS = 512 };
+enum { MOST_LATE = 16, LATE_ROOM = 4, BEHIND_LATE = 1000, BEFORE_LATE = 2000 };
 
 static size_t keep; /* how many windows; 0: no ring */
 static char prefix[3072], process[32]; /* PREFIX.PROCESS.ring */
@@ -31,16 +33,20 @@ static char *window, *whole; /* the window; and all of them, where they are mapp
 static size_t slot, slots, used; /* the window's place in the file, how many the file has, and how much of it is used */
 static size_t number; /* of the window, from 1 */
 static uint64_t before; /* bytes in windows that are full */
+static uint64_t began[MOST]; /* by the clock, at each place in the file */
 
-/* What took long: from which time on that is, up to when, for how long, in which window, and the line that says so; and how long what is kept
- * apart took. */
-static uint64_t late, late_at, late_took, kept[MOST_LATE];
+/* What took long: from which time on that is, when it began and up to when, for how long by the thread itself, in which window, and the line that
+ * says so; and of what is kept apart how long that took, 0: nothing is, and how much room it has. */
+static uint64_t late, late_from, late_at, late_took;
+static struct {
+    uint64_t took, windows;
+} kept[MOST_LATE];
 static size_t late_in;
 static char late_line[128];
 
-/* What couldn't be written into the words yet. */
+/* What couldn't be written into the words yet; and how much of them was. */
 static char waits[1 << 16];
-static size_t waiting;
+static size_t waiting, written;
 
 bool keeps(void) {
     return keep > 0;
@@ -96,6 +102,7 @@ static bool turn(void) {
     memset(mapped, 0, WINDOW);
     window = mapped;
     slot = next;
+    began[slot] = clock_ms();
     used = (size_t)snprintf(window, NOTE, "- W %zu\n", ++number);
     return true;
 }
@@ -120,7 +127,6 @@ bool write_ring(const char *text, size_t length) {
 
 /* (a disk may be full for a while: what has no room waits. A write past the limit of a file's size would end the program) */
 bool write_words(const char *text, size_t length) {
-    static size_t written;
     if (waiting + length > sizeof waits) return false;
     memcpy(waits + waiting, text, length);
     waiting += length;
@@ -132,20 +138,84 @@ bool write_words(const char *text, size_t length) {
 
 /* ---- what took long */
 
-static void keep_late(void) {
-    char name[4096], other[4096], end[32];
-    int at = 0;
-    for (int it = 1; it < MOST_LATE; it++)
-        if (kept[it] < kept[at]) at = it;
-    late_at = 0;
-    if (kept[at] >= late_took || !write_ring(late_line, strlen(late_line))) return;
-    kept[at] = late_took;
+static void name_late(char *name, size_t size, int at) {
+    char end[32];
     snprintf(end, sizeof end, "late-%d.ring", at + 1);
+    name_of(name, size, end);
+}
+
+/* How many of the last windows have what stood before it; and the disk has the others back. */
+static size_t windows_of_late(void) {
+    size_t all = number < slots ? number : slots, count = 0;
+    while (count < all && began[(slot + slots - count) % slots] + BEFORE_LATE > late_from) count++;
+    /* (the one in which that is, and another one: in it all that the loops have is written down) */
+    return count + 2 < all ? count + 2 : all;
+}
+
+static void give_back(size_t windows) {
+    for (size_t count = windows; count < slots; count++)
+        fallocate(file, FALLOC_FL_PUNCH_HOLE | FALLOC_FL_KEEP_SIZE, (off_t)((slot + slots - count) % slots * WINDOW), WINDOW);
+}
+
+/* Which place it has, and which others have to go then; -1 where those that are kept took longer. */
+static int place_of_late(size_t windows, bool out[MOST_LATE]) {
+    size_t total = windows;
+    int free = -1;
+    for (int at = 0; at < MOST_LATE; at++) total += kept[at].windows;
+    while (true) {
+        int shortest = -1;
+        for (int at = MOST_LATE - 1; at >= 0; at--) {
+            if (!kept[at].took || out[at]) free = at;
+            else if (shortest < 0 || kept[at].took < kept[shortest].took) shortest = at;
+        }
+        if ((free >= 0 && total <= LATE_ROOM * keep) || shortest < 0) break;
+        if (kept[shortest].took >= late_took) return -1;
+        out[shortest] = true;
+        total -= kept[shortest].windows;
+    }
+    return free;
+}
+
+static void take_out(const bool out[MOST_LATE]) {
+    char name[4096];
+    for (int at = 0; at < MOST_LATE; at++) {
+        if (!out[at]) continue;
+        name_late(name, sizeof name, at);
+        unlink(name);
+        kept[at].took = kept[at].windows = 0;
+    }
+}
+
+/* The next ring, with room for a window; -1 where there is none. */
+static int make_next(const char *name) {
+    int fresh = open(name, O_RDWR | O_CREAT | O_EXCL | O_CLOEXEC | O_NOFOLLOW, 0600);
+    if (fresh >= 0 && may_grow_to(WINDOW) && posix_fallocate(fresh, 0, WINDOW) == 0) return fresh;
+    if (fresh >= 0) close(fresh), unlink(name);
+    return -1;
+}
+
+/* (for a moment the ring has another name: where a disk has no room for a further one it goes on) */
+static void keep_late(void) {
+    char name[4096], other[4096], meanwhile[4096];
+    bool out[MOST_LATE] = {false};
+    size_t windows = windows_of_late();
+    int at = place_of_late(windows, out), fresh = -1;
+    late_at = 0;
+    if (at < 0) return;
     name_of(name, sizeof name, "ring");
-    name_of(other, sizeof other, end);
-    int fresh = -1;
-    if (rename(name, other) == 0) fresh = open(name, O_RDWR | O_CREAT | O_EXCL | O_CLOEXEC | O_NOFOLLOW, 0600);
-    if (fresh < 0) return;
+    name_late(other, sizeof other, at);
+    name_late(meanwhile, sizeof meanwhile, MOST_LATE);
+    if (rename(name, meanwhile) != 0) return;
+    if ((fresh = make_next(name)) < 0) {
+        rename(meanwhile, name);
+        return;
+    }
+    write_ring(late_line, strlen(late_line));
+    take_out(out);
+    rename(meanwhile, other);
+    kept[at].took = late_took;
+    kept[at].windows = windows;
+    give_back(windows);
     close(file);
     munmap(window, WINDOW);
     before += used;
@@ -155,18 +225,47 @@ static void keep_late(void) {
     if (!turn()) off = true;
 }
 
-void note_late(const struct loop *loop, const char *what, int id, uint64_t clock, uint64_t took) {
-    if (!late || took < late || (late_at && took <= late_took)) return;
+/* (a machine on which others have the processor makes everything late: that is none of the program's, and would take the places of what is) */
+void note_late(const struct loop *loop, const char *what, int id, const struct late *it) {
+    uint64_t others = it->waited == UNKNOWN ? 0 : (it->waited + 500000) / 1000000;
+    if (others > it->took) others = it->took;
+    uint64_t own = it->took - others;
+    if (!late || own < late || (late_at && own <= late_took) || loop->unseen || it->clock - it->took < loop->seen_from) return;
     /* (of a longer one that comes meanwhile as much is to stand behind it) */
-    late_at = clock;
+    late_from = it->clock - it->took;
+    late_at = it->clock;
     late_in = number;
-    late_took = took;
-    snprintf(late_line, sizeof late_line, "- T %s %d %llu %llu %d\n", what, loop->number, (unsigned long long)(clock - loop->base),
-             (unsigned long long)took, id);
+    late_took = own;
+    snprintf(late_line, sizeof late_line, "- T %s %d %llu %llu %d %llu\n", what, loop->number, (unsigned long long)(it->clock - loop->base),
+             (unsigned long long)it->took, id, (unsigned long long)others);
 }
 
-bool minds_late(void) {
-    return late > 0;
+uint64_t minds_late(void) {
+    return late;
+}
+
+/* (so many in the time that counts as late) */
+enum { OFTEN = 8 };
+
+void note_share(struct loop *loop, uint64_t clock, uint64_t waited) {
+    const struct share *last = &loop->shares[(loop->shared - 1) % SHARES];
+    if (!late || waited == UNKNOWN || (loop->shared && clock < last->clock + late / OFTEN)) return;
+    loop->shares[loop->shared++ % SHARES] = (struct share){clock, waited};
+    if (!loop->known_from) loop->known_from = clock;
+}
+
+void note_share_now(struct loop *loop) {
+    struct usage usage;
+    if (!late || (loop->shared && clock_ms() < loop->shares[(loop->shared - 1) % SHARES].clock + late / OFTEN)) return;
+    uint64_t clock = clock_behind(&usage);
+    note_share(loop, clock, usage.waited);
+}
+
+uint64_t waited_since(const struct loop *loop, uint64_t time, uint64_t waited) {
+    const struct share *found = NULL;
+    for (unsigned back = 1; back <= SHARES && back <= loop->shared && (!found || found->clock > time); back++)
+        found = &loop->shares[(loop->shared - back) % SHARES];
+    return !found || waited == UNKNOWN || waited < found->waited ? UNKNOWN : waited - found->waited;
 }
 
 /* (in front of a callback, so that it isn't cut) */
@@ -255,6 +354,7 @@ bool open_ring(const char *named) {
     }
     if (words < 0) return false;
     flock(words, LOCK_SH | LOCK_NB);
+    open_now();
     name_of(name, sizeof name, "ring");
     file = open(name, O_RDWR | O_CREAT | O_EXCL | O_CLOEXEC | O_NOFOLLOW, 0600);
     /* (what came before isn't there) */
@@ -262,8 +362,20 @@ bool open_ring(const char *named) {
     return file >= 0 && turn();
 }
 
+void end_ring(void) {
+    if (window) munmap(window, WINDOW);
+    if (file >= 0) close(file);
+    if (words >= 0) close(words);
+    close_now();
+    window = NULL;
+    file = words = -1;
+    slot = slots = used = number = late_at = waiting = written = 0;
+    before = 0;
+    memset(kept, 0, sizeof kept);
+}
+
 static size_t number_in(const char *name) {
-    const char *text = getenv(name);
+    const char *text = asked_for(name);
     long found = text ? atol(text) : 0;
     return found < 0 ? 0 : found > MOST ? MOST : (size_t)found;
 }

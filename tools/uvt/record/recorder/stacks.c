@@ -28,7 +28,7 @@ static __thread struct stacks {
     void *room; /* the handler's own stack, where the thread has none */
     int count, each, skipped; /* of so many looks one is kept */
     struct {
-        int depth;
+        int depth, ms; /* (so many ms of the processor it stands for: while the thread is in the system no signal comes) */
         uintptr_t at[DEEP];
     } stack[STACKS];
 } *here __attribute__((tls_model("initial-exec")));
@@ -42,6 +42,7 @@ static struct {
 static pthread_mutex_t timers_lock = PTHREAD_MUTEX_INITIALIZER;
 
 static pthread_key_t key;
+static bool followable; /* may a stack be followed? */
 static pthread_once_t once = PTHREAD_ONCE_INIT;
 static volatile bool usable;
 extern __typeof__(uv_run) uv_run; /* (the recorder's own: where a stack ends) */
@@ -49,7 +50,7 @@ static uintptr_t end_of_stack;
 
 struct look {
     uintptr_t from;
-    int depth;
+    int depth, most;
     uintptr_t *at;
 };
 
@@ -90,6 +91,8 @@ static void on_signal(int number, siginfo_t *info, void *context) {
     memset(look.at, 0, sizeof stacks->stack[0].at);
     _Unwind_Backtrace(see, &look);
     stacks->stack[stacks->count].depth = look.depth;
+    stacks->stack[stacks->count].ms = 1 + (info->si_overrun > 0 ? info->si_overrun : 0);
+    if (look.depth && keeps() && !in_work) now_looked(in_callback, look.at, look.depth, clock_ms());
     if (look.depth) stacks->count++;
     errno = kept;
 }
@@ -141,11 +144,13 @@ static void prepare(void) {
     struct look none = {.from = 1};
     /* (LuaJIT's code has frames of its own, at which the unwinder ends the program) */
     bool is_compiled = dlsym(RTLD_DEFAULT, "luaJIT_setmode") != NULL;
-    if ((asked && strcmp(asked, "0") == 0) || is_compiled || forces() || pthread_key_create(&key, forget) != 0) return;
-    if (CALL(sigaction)(SIGNAL, NULL, &now) != 0 || (now.sa_flags & SA_SIGINFO) || now.sa_handler != SIG_DFL) return;
+    if ((asked && strcmp(asked, "0") == 0) || is_compiled || forces()) return;
     /* (what the unwinder loads it loads now) */
     _Unwind_Backtrace(see, &none);
     end_of_stack = (uintptr_t)dlsym(RTLD_DEFAULT, "uv_run");
+    followable = true;
+    if (pthread_key_create(&key, forget) != 0) return;
+    if (CALL(sigaction)(SIGNAL, NULL, &now) != 0 || (now.sa_flags & SA_SIGINFO) || now.sa_handler != SIG_DFL) return;
     usable = CALL(sigaction)(SIGNAL, &ours, NULL) == 0;
 }
 
@@ -195,8 +200,50 @@ void stop_stacks(void) {
     if (usable && give_back()) CALL(signal)(SIGNAL, SIG_DFL);
 }
 
+static _Unwind_Reason_Code see_behind(struct _Unwind_Context *frame, void *word) {
+    struct look *look = word;
+    uintptr_t at = _Unwind_GetIP(frame);
+    if (look->depth < 0) {
+        look->depth = -(at != look->from);
+        return _URC_NO_REASON;
+    }
+    if (_Unwind_GetRegionStart(frame) == end_of_stack) return _URC_END_OF_STACK;
+    look->at[look->depth++] = at;
+    return look->depth < look->most ? _URC_NO_REASON : _URC_END_OF_STACK;
+}
+
+int stack_behind(const void *from, uintptr_t *found, int most) {
+    struct look look = {.from = (uintptr_t)from, .depth = -1, .at = found, .most = most};
+    pthread_once(&once, prepare);
+    if (!followable || env_here) return 0;
+    _Unwind_Backtrace(see_behind, &look);
+    return look.depth > 0 ? look.depth : 0;
+}
+
 void forget_stacks(void) {
     if (here) here->count = here->skipped = 0, here->each = 1;
+}
+
+static bool is_alike(const struct stacks *stacks, int one, int other) {
+    return stacks->stack[other].depth && memcmp(stacks->stack[one].at, stacks->stack[other].at, sizeof stacks->stack[one].at) == 0;
+}
+
+/* The places of a stack by their numbers. */
+static bool in_numbers(const struct stacks *stacks, int it, char *text) {
+    size_t length = 0;
+    for (int at = 0; at < stacks->stack[it].depth; at++) {
+        int place = call_number((const void *)stacks->stack[it].at[at]);
+        char digits[12], *end = digits + sizeof digits;
+        if (place < 0) break;
+        *--end = 0;
+        do *--end = (char)('0' + place % 10);
+        while (place /= 10);
+        text[length++] = at ? '<' : '@';
+        size_t size = strlen(end);
+        memcpy(text + length, end, size + 1);
+        length += size;
+    }
+    return length > 0;
 }
 
 /* Those of the callback that ends. (Numbers of places come first: they may write lines.) */
@@ -205,28 +252,16 @@ void write_stacks(struct loop *loop) {
     int count = stacks ? stacks->count : 0;
     if (!count) return;
     stacks->count = 0;
-    for (int it = 0, times; it < count; it++) {
+    for (int it = 0; it < count; it++) {
         if (!stacks->stack[it].depth) continue;
-        times = stacks->each;
+        int times = stacks->each, ms = stacks->each * stacks->stack[it].ms;
         for (int other = it + 1; other < count; other++) {
-            if (memcmp(&stacks->stack[it], &stacks->stack[other], sizeof stacks->stack[it]) != 0) continue;
+            if (!is_alike(stacks, it, other)) continue;
             stacks->stack[other].depth = 0;
             times += stacks->each;
+            ms += stacks->each * stacks->stack[other].ms;
         }
         char text[DEEP * 12] = "";
-        size_t length = 0;
-        for (int at = 0; at < stacks->stack[it].depth; at++) {
-            int place = address_number((const void *)stacks->stack[it].at[at]);
-            char digits[12], *end = digits + sizeof digits;
-            if (place < 0) break;
-            *--end = 0;
-            do *--end = (char)('0' + place % 10);
-            while (place /= 10);
-            text[length++] = at ? '<' : '@';
-            size_t size = strlen(end);
-            memcpy(text + length, end, size + 1);
-            length += size;
-        }
-        if (length) write_line(loop, 'Y', "%d %s", times, text);
+        if (in_numbers(stacks, it, text)) write_line(loop, 'Y', "%d %d %s", times, ms, text);
     }
 }

@@ -4,7 +4,10 @@
  * Anywhere else such a call is the real one's at once. */
 #define _GNU_SOURCE
 #include "recorder.h"
+#include "waits.h"
 
+#include <ctype.h>
+#include <dirent.h>
 #include <dlfcn.h>
 #include <errno.h>
 #include <fcntl.h>
@@ -14,9 +17,12 @@
 #include <signal.h>
 #include <stdarg.h>
 #include <stdio.h>
+#include <stdlib.h>
+#include <string.h>
 #include <sys/file.h>
 #include <sys/select.h>
 #include <sys/socket.h>
+#include <sys/syscall.h>
 #include <sys/types.h>
 #include <sys/uio.h>
 #include <sys/wait.h>
@@ -28,9 +34,10 @@ enum { LONG = 2000000 }; /* in ns: what took less isn't told */
 __thread struct loop *in_callback __attribute__((tls_model("initial-exec")));
 __thread int in_work __attribute__((tls_model("initial-exec")));
 
-void write_wait(struct loop *loop, const char *function, uint64_t ms) {
-    if (in_work) write_line(loop, 'D', "%s %u %%%d", function, ms, in_work - 1);
-    else write_line(loop, 'D', "%s %u", function, ms);
+void write_wait(struct loop *loop, const char *function, uint64_t ms, const char *owner) {
+    const char *has = *owner ? " ^" : "";
+    if (in_work) write_line(loop, 'D', "%s %u %%%d%s%s", function, ms, in_work - 1, has, owner);
+    else write_line(loop, 'D', "%s %u%s%s", function, ms, has, owner);
 }
 
 static uint64_t clock_ns(void) {
@@ -39,25 +46,95 @@ static uint64_t clock_ns(void) {
     return (uint64_t)time.tv_sec * 1000000000 + (uint64_t)time.tv_nsec;
 }
 
-bool begin_wait(struct wait *wait) {
+/* ---- who has a lock */
+
+pid_t owner_of(const pthread_mutex_t *mutex) {
+#ifdef __GLIBC__
+    return mutex->__data.__owner;
+#else
+    return mutex ? 0 : -1;
+#endif
+}
+
+/* The name that the system has of a thread, with a `_` for what stands in no word. */
+static void read_name(char *name, size_t size, pid_t thread) {
+    char path[64];
+    snprintf(path, sizeof path, "/proc/self/task/%d/comm", thread);
+    int file = open(path, O_RDONLY | O_CLOEXEC);
+    ssize_t got = file < 0 ? 0 : syscall(SYS_read, file, name, size - 1);
+    if (file >= 0) close(file);
+    name[got > 0 ? got : 0] = 0;
+    name[strcspn(name, "\n")] = 0;
+    for (char *at = name; *at; at++)
+        if (!isalnum((unsigned char)*at) && !strchr("_-.", *at)) *at = '_';
+}
+
+/* The how-manieth thread of the process it is, by their numbers: main's is the first one. */
+static int place_of(pid_t thread) {
+    char room[2048];
+    int before = 0, folder = open("/proc/self/task", O_RDONLY | O_DIRECTORY | O_CLOEXEC);
+    for (long got; folder >= 0 && (got = syscall(SYS_getdents64, folder, room, sizeof room)) > 0;)
+        for (long at = 0; at < got; at += ((struct dirent64 *)(room + at))->d_reclen) {
+            pid_t one = (pid_t)strtol(((struct dirent64 *)(room + at))->d_name, NULL, 10);
+            before += one > 0 && one < thread;
+        }
+    if (folder >= 0) close(folder);
+    return before + 1;
+}
+
+/* The last one that had a lock for which this thread waited, with its name then: it may be gone behind the wait. */
+static __thread struct {
+    pid_t thread;
+    char name[32];
+} last_owner __attribute__((tls_model("initial-exec")));
+
+void note_owner(struct wait *wait, pid_t thread) {
+    wait->owner = thread;
+    wait->owner_work = thread ? work_of(thread) : -1;
+    if (!thread || wait->owner_work >= 0 || filtered || last_owner.thread == thread) return;
+    last_owner.thread = thread;
+    read_name(last_owner.name, sizeof last_owner.name, thread);
+}
+
+/* `%5`: the work of request 5; the thread's name, if it has one of its own; else its place. */
+static void name_owner(char *name, size_t size, const struct wait *wait) {
+    char main_name[32];
+    if (!wait->owner || filtered) return;
+    if (wait->owner_work >= 0) {
+        snprintf(name, size, "%%%d", wait->owner_work);
+        return;
+    }
+    read_name(name, size, wait->owner);
+    if (!*name) snprintf(name, size, "%s", last_owner.name);
+    read_name(main_name, sizeof main_name, getpid());
+    if (*name && !strcmp(name, main_name)) snprintf(name, size, "#%d", place_of(wait->owner));
+}
+
+bool begin_wait(struct wait *wait, const char *function, const void *caller) {
     wait->loop = in_callback;
     if (inside > 0 || off || forces()) return false;
     wait->work = in_work;
+    wait->owner = 0;
     in_callback = NULL;
     wait->begin = clock_ns();
+    if (keeps() && !wait->work) now_waits(wait->loop, function, caller, wait->begin / 1000000);
     return true;
 }
 
 void end_wait(const struct wait *wait, const char *function, const void *caller) {
     int kept = errno;
     uint64_t took = clock_ns() - wait->begin;
+    bool is_told = took >= LONG && !off && !is_locked_here();
+    char owner[32] = "";
+    if (is_told) name_owner(owner, sizeof owner, wait);
     in_callback = wait->loop;
     in_work = wait->work;
-    if (took >= LONG && !off && !is_locked_here()) {
+    if (keeps() && !wait->work) now_waited(wait->loop);
+    if (is_told) {
         const void *before = called_from;
         lock();
         called_from = caller;
-        write_wait(wait->loop, function, (took + 500000) / 1000000);
+        write_wait(wait->loop, function, (took + 500000) / 1000000, owner);
         called_from = before;
         unlock();
     }
@@ -73,30 +150,17 @@ int really_lock(pthread_mutex_t *mutex) {
 /* (what forces an order stands before most of these itself, and its clock isn't the system's) */
 #ifndef FORCE
 
-#define CALLER __builtin_return_address(0)
-
-#define WAITS(ANSWER, NAME, PARAMETERS, WORDS)                                         \
-    REAL(NAME)                                                                         \
-    ANSWER NAME PARAMETERS {                                                           \
-        struct wait wait;                                                              \
-        if (__builtin_expect(!in_callback, 1) || !begin_wait(&wait)) return CALL(NAME) WORDS; \
-        ANSWER got = CALL(NAME) WORDS;                                                 \
-        end_wait(&wait, #NAME, CALLER);                                                \
-        return got;                                                                    \
-    }
-
-#define WAITS_IN_VAIN(NAME, PARAMETERS, WORDS)                                         \
-    REAL(NAME)                                                                         \
-    void NAME PARAMETERS {                                                             \
-        struct wait wait;                                                              \
-        bool waits = in_callback && begin_wait(&wait);                                 \
-        CALL(NAME) WORDS;                                                              \
-        if (waits) end_wait(&wait, #NAME, CALLER);                                     \
-    }
-
 /* ---- libuv's own */
 
-WAITS_IN_VAIN(uv_mutex_lock, (uv_mutex_t *mutex), (mutex))
+REAL(uv_mutex_lock)
+void uv_mutex_lock(uv_mutex_t *mutex) {
+    struct wait wait;
+    bool waits = in_callback && begin_wait(&wait, __func__, CALLER);
+    if (waits) note_owner(&wait, owner_of(mutex));
+    CALL(uv_mutex_lock)(mutex);
+    if (waits) end_wait(&wait, __func__, CALLER);
+}
+
 WAITS_IN_VAIN(uv_rwlock_rdlock, (uv_rwlock_t *lock), (lock))
 WAITS_IN_VAIN(uv_rwlock_wrlock, (uv_rwlock_t *lock), (lock))
 WAITS_IN_VAIN(uv_cond_wait, (uv_cond_t *condition, uv_mutex_t *mutex), (condition, mutex))
@@ -116,7 +180,8 @@ int pthread_mutex_lock(pthread_mutex_t *mutex) {
     struct wait wait;
     if (__builtin_expect(!in_callback, 1)) return CALL(pthread_mutex_lock)(mutex);
     int got = CALL(pthread_mutex_trylock)(mutex);
-    if (got == 0 || got == EOWNERDEAD || !begin_wait(&wait)) return got == EBUSY ? CALL(pthread_mutex_lock)(mutex) : got;
+    if (got == 0 || got == EOWNERDEAD || !begin_wait(&wait, __func__, CALLER)) return got == EBUSY ? CALL(pthread_mutex_lock)(mutex) : got;
+    note_owner(&wait, owner_of(mutex));
     got = CALL(pthread_mutex_lock)(mutex);
     end_wait(&wait, __func__, CALLER);
     return got;
@@ -186,7 +251,7 @@ static mode_t mode_of(int flags, va_list words) {
         va_start(words, flags);                                                        \
         mode_t mode = mode_of(flags, words);                                           \
         va_end(words);                                                                 \
-        if (__builtin_expect(!in_callback, 1) || !begin_wait(&wait)) return CALL(NAME)(path, flags, mode); \
+        if (__builtin_expect(!in_callback, 1) || !begin_wait(&wait, __func__, CALLER)) return CALL(NAME)(path, flags, mode); \
         int got = CALL(NAME)(path, flags, mode);                                       \
         end_wait(&wait, #NAME, CALLER);                                                \
         return got;                                                                    \
@@ -203,7 +268,7 @@ WAITS(int, system, (const char *command), (command))
 WAITS(int, pclose, (FILE * file), (file))
 
 /* Who waits for a child that is a process of this thread's loop: its exit callback never comes then. A line says so. */
-static pid_t reaped(pid_t child, const void *caller) {
+pid_t reaped(pid_t child, const void *caller) {
     if (child > 0 && running_here() && !off && !is_from_libuv(caller)) {
         int kept = errno;
         note_reaped(running_here(), child, caller);
@@ -215,7 +280,7 @@ static pid_t reaped(pid_t child, const void *caller) {
 REAL(waitpid)
 pid_t waitpid(pid_t child, int *status, int options) {
     struct wait mine;
-    if (__builtin_expect(!in_callback, 1) || !begin_wait(&mine)) return reaped(CALL(waitpid)(child, status, options), CALLER);
+    if (__builtin_expect(!in_callback, 1) || !begin_wait(&mine, __func__, CALLER)) return reaped(CALL(waitpid)(child, status, options), CALLER);
     pid_t got = CALL(waitpid)(child, status, options);
     end_wait(&mine, __func__, CALLER);
     return reaped(got, CALLER);
@@ -224,7 +289,7 @@ pid_t waitpid(pid_t child, int *status, int options) {
 REAL(wait)
 pid_t wait(int *status) {
     struct wait mine;
-    if (__builtin_expect(!in_callback, 1) || !begin_wait(&mine)) return reaped(CALL(wait)(status), CALLER);
+    if (__builtin_expect(!in_callback, 1) || !begin_wait(&mine, __func__, CALLER)) return reaped(CALL(wait)(status), CALLER);
     pid_t got = CALL(wait)(status);
     end_wait(&mine, __func__, CALLER);
     return reaped(got, CALLER);
