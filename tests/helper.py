@@ -6,7 +6,12 @@ each that had to be left out, and at its end one line that says how many there w
 
 from __future__ import annotations
 
+import lzma
+import os
+import select
 import subprocess
+import tempfile
+import time
 from pathlib import Path
 from typing import Any, Callable
 
@@ -88,7 +93,42 @@ def waited(process: subprocess.Popen[Any], seconds: float = SECONDS) -> int:
         return LATE
 
 
+def come_to(terminal: int, wanted: bytes = b"", seconds: float = SECONDS) -> bytes:
+    """What is shown at a terminal up to this, or in so many seconds; without WANTED what is there by now."""
+    shown, end = b"", time.monotonic() + seconds
+    while not wanted or wanted not in shown:
+        left = end - time.monotonic() if wanted else 0
+        if left < 0 or not select.select([terminal], [], [], left)[0]:
+            break
+        try:
+            more = os.read(terminal, 65536)
+        except OSError:
+            # (nobody has the other end)
+            break
+        shown += more
+    return shown
+
+
 def run(words: list[Any], text: bytes = b"", **how: Any) -> Ended:
     """Runs a command on its input: its status, its output and its errors."""
     ended = limited(words, input=text, stdout=subprocess.PIPE, stderr=subprocess.PIPE, **how)
     return ended.returncode, ended.stdout, ended.stderr
+
+
+def log_at(path: Path) -> Path:
+    """Where the log of a recorded program is to be read. It is kept packed, as NAME.log.xz (`xz -dc` shows one, `xz -9` packs a new one), and is
+    unpacked once, under out/logs."""
+    packed, found = Path(f"{path}.xz"), ROOT / "out" / "logs" / path.relative_to(ROOT)
+    at = packed.stat().st_mtime_ns
+    if not found.is_file() or found.stat().st_mtime_ns != at:
+        found.parent.mkdir(parents=True, exist_ok=True)
+        # (others may do so at the same time)
+        with tempfile.NamedTemporaryFile(dir=found.parent, delete=False) as made:
+            made.write(lzma.decompress(packed.read_bytes()))
+        os.utime(made.name, ns=(at, at))
+        os.replace(made.name, found)
+    return found
+
+
+def logs_in(folder: Path) -> list[Path]:
+    return [log_at(it.with_suffix("")) for it in sorted(folder.glob("*.log.xz"))]

@@ -13,7 +13,8 @@ from uvt.conversation import Script
 from uvt.libuv.differences import Cause, parting
 from uvt.libuv.runner import Library, run_programs
 from uvt.libuv.session import lead
-from uvt.walk import Walk, longest_way
+from uvt.walk import Walk
+from uvt.ways import longest_way
 
 
 def needed(library: Library, program: Program, real: list[str], at: int) -> frozenset[str]:

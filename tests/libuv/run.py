@@ -34,7 +34,8 @@ from tests.libuv.smaller import make_small
 from uvt.conversation import Fault, built_program, read_input
 from uvt.libuv.runner import Library, installed, of_node, run_programs
 from uvt.libuv.session import lead
-from uvt.walk import Walk, longest_way
+from uvt.walk import Walk
+from uvt.ways import longest_way
 
 PART = 350  # scripts in a process of the library
 TOLD = 10000

@@ -1,6 +1,7 @@
 """Tries what the launcher adds to the program's words: files, standard input, a terminal, and why a line is bad."""
 import os
 import pty
+import select
 import shutil
 import signal
 import subprocess
@@ -115,25 +116,28 @@ def at_terminal(words: List[str], typed: List[bytes]) -> "tuple[int, bytes, byte
         return status, output.read(), errors.read()
 
 
-def interrupted(words: List[str], typed: bytes) -> "tuple[int, bytes]":
-    """The status where Ctrl-C is typed behind this, and what the terminal shows then."""
+def interrupted(words: List[str], typed: bytes, moment: float) -> "tuple[int, bytes]":
+    """The status where Ctrl-C is typed behind this, or so many seconds behind the first word, and what the terminal shows then."""
     child, terminal = pty.fork()
     if child == 0:
         # (what is started in the background may have interrupts ignored)
         signal.signal(signal.SIGINT, signal.SIG_DFL)
         os.execv(words[0], words)
-    seen = b""
+    seen, again = b"", 0.0
     try:
         while b"you may type" not in seen:
             seen += os.read(terminal, 4096)
-        # (what reads the lines starts behind that word)
-        time.sleep(1)
+        time.sleep(moment)
         os.write(terminal, typed)
         while typed and b"call i" not in seen:
             seen += os.read(terminal, 4096)
-        os.write(terminal, b"\x03")
         while True:
-            seen += os.read(terminal, 65536)
+            # (one that comes while Python starts is passed over: then somebody types another one)
+            if time.monotonic() >= again:
+                os.write(terminal, b"\x03")
+                again = time.monotonic() + 10
+            if select.select([terminal], [], [], 1)[0]:
+                seen += os.read(terminal, 65536)
     except OSError:
         # (the terminal's other side is closed)
         pass
@@ -196,9 +200,10 @@ def try_terminal(check: Check, uvt: str, folder: str) -> None:
     check("a long answer at a terminal", status == 0 and output.count(b"\n") > 10000 and output.endswith(b"\nat 0\n"), "got %r" % output[-100:])
     with open(script, "wb") as file:
         file.write(b"var i\nmain init i idle\nmain start i\nmain run default\nbegin\n")
-    for typed in (b"", b"loop 16000000\n"):
-        status, seen = interrupted([uvt, "debug", script], typed)
-        check("Ctrl-C behind %r" % typed, status in (130, -signal.SIGINT) and b"Traceback" not in seen, "status %d, seen %r" % (status, seen[-300:]))
+    for typed, moment in ((b"", 0.0), (b"", 0.03), (b"", 0.1), (b"", 0.3), (b"", 1.0), (b"loop 16000000\n", 0.0)):
+        status, seen = interrupted([uvt, "debug", script], typed, moment)
+        what = "Ctrl-C behind %r, %g s" % (typed, moment)
+        check(what, status in (130, -signal.SIGINT) and b"Traceback" not in seen, "status %d, seen %r" % (status, seen[-300:]))
     same(check, "a script that ends without begin", at_terminal([uvt, "debug"], [b"var t\n", b"\x04"])[:2], (2, b""))
 
 

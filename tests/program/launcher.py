@@ -87,6 +87,8 @@ def try_first_call(check: Check, kit: StandIn) -> None:
         check("%r before a build" % words, (status, output) == (2, b"") and errors.startswith(said), "got %r" % errors)
     same(check, "help before a build", kit.call(["help"])[0], 0)
     ended: List = [None, None]
+    # (however late the second one begins on a busy machine, the first one is at it)
+    kit.write("took", "5")
 
     def call(at: int) -> None:
         ended[at] = kit.call(["debug"], SCRIPT)
@@ -96,6 +98,7 @@ def try_first_call(check: Check, kit: StandIn) -> None:
         it.start()
     for it in both:
         it.join()
+    kit.write("took", "0.05")
     for at, real in enumerate(ended):
         check("first call %d of two at once" % at, real[:2] == (0, b"init t timer = 0.0\n"), "got %r" % (real,))
         check(
@@ -117,17 +120,18 @@ def try_first_call(check: Check, kit: StandIn) -> None:
         "got %r" % errors,
     )
     status, output, errors = kit.call(["debug"], b"var a\nmain stop b\nbegin\n")
-    check("a first call of a bad script", (status, output) == (2, b"") and b"\nuvt: bad script line 2\n" in errors, "got %r" % errors)
+    check("a first call of a bad script", (status, output, errors) == (2, b"", b"uvt: bad script line 2\n"), "got %r" % errors)
     status, output, errors = kit.call(["replay", os.path.join(ROOT, "examples", "changed-program.rec")])
-    check("a first call of replay FILE", (status, output) == (3, b"differs at 1\n") and b"\nuvt: differs at 1\n" in errors, "got %r" % errors)
+    check("a first call of replay FILE", (status, output, errors) == (3, b"differs at 1\n", b"uvt: differs at 1\n"), "got %r" % errors)
     text = b"var i\nmain init i idle\nmain start i\nmain run default\nbegin\nloop 30000\n"
     status, output, errors = kit.call(["debug"], text)
     check("a first call with a long output", status == 0 and output.count(b"\n") > 20000, "status %d, %d lines" % (status, output.count(b"\n")))
+    same(check, "what it is was said once", errors, b"")
     with open(os.path.join(ROOT, "examples", "late-timer.uvt"), "rb") as late:
         status, output, errors = kit.call(["why", "beat"], late.read())
     check(
         "a first call of a tool",
-        status == 0 and b"late by 35 ms" in output and b"none of it proved" in errors,
+        status == 0 and b"late by 35 ms" in output and errors == b"",
         "got %r" % ((status, output, errors),),
     )
     status, output, errors = kit.call(["path"])
@@ -136,7 +140,7 @@ def try_first_call(check: Check, kit: StandIn) -> None:
     source = os.path.join(kit.folder, "crates", "uv_cli", "src", "lib.rt")
     with open(source, "ab") as out:
         out.write(b"// changed before a build\n")
-    kit.write("took", "2")
+    kit.write("took", "5")
     changed = subprocess.Popen([kit.uvt(), "debug"], env=kit.env(), stdin=subprocess.PIPE, stdout=subprocess.PIPE, stderr=subprocess.DEVNULL)
     until = time.monotonic() + SECONDS
     while len(kit.log()) < 2 and time.monotonic() < until:
@@ -192,7 +196,7 @@ def most_at_once(log: List[List[str]]) -> int:
 
 def try_builds(check: Check, kit: StandIn) -> None:
     """A build that is stopped and taken up again, one that fails, two at once, and a call while one is under way."""
-    kit.write("took", "0.3")
+    kit.write("took", "1")
     kit.write("log", "")
     build = subprocess.Popen([kit.uvt(), "build"], env=kit.env(), stderr=subprocess.PIPE, start_new_session=True)
     until = time.monotonic() + SECONDS
@@ -223,8 +227,10 @@ def try_builds(check: Check, kit: StandIn) -> None:
     check("what was proved before it was stopped is not proved again", not again & done, "again %r" % (again & done))
 
     kit.write("fails", "")
+    kit.write("took", "0.5")
     both = [subprocess.Popen([kit.uvt(), "build"], env=kit.env(), stdout=subprocess.DEVNULL, stderr=subprocess.PIPE) for _ in (1, 2)]
     said = [talked(it)[1] for it in both]
+    kit.write("took", "0.05")
     same(check, "two builds at once", [it.returncode for it in both], [0, 0])
     check("one of them waits", any(b"another call is building the program" in it for it in said), "errors %r" % said)
     log = kit.log()
@@ -419,12 +425,12 @@ def try_with_kit(check: Check, copy: str, folder: str) -> None:
         same(check, "the first answer", (ended.returncode, ended.stdout), (0, due.read()))
     check("the first answer, what is said", ended.stderr.count(b"\n") == 2 and ended.stderr.count(b"uvt: ") == 2, "got %r" % ended.stderr)
     with open(os.path.join(copy, "examples", "late-timer.uvt"), "rb") as script:
-        began = time.monotonic()
         again = limited([uvt, "why", "beat"], stdin=script, stdout=subprocess.PIPE, stderr=subprocess.PIPE, env=env)
+        # (who compiles says so)
         check(
-            "a second answer, by a tool",
-            again.returncode == 0 and b"late by 35 ms" in again.stdout and time.monotonic() - began < 10,
-            "got %r after %d seconds" % ((again.returncode, again.stderr), time.monotonic() - began),
+            "a second answer, by a tool, with nothing compiled anew",
+            again.returncode == 0 and b"late by 35 ms" in again.stdout and again.stderr == b"",
+            "got %r" % ((again.returncode, again.stderr),),
         )
     for turn in (1, 2):
         build = subprocess.Popen([uvt, "build"], stderr=subprocess.PIPE, env=env)

@@ -28,7 +28,7 @@ import tempfile
 from pathlib import Path
 from typing import NamedTuple, Optional
 
-from tests.helper import ROOT, Check, limited
+from tests.helper import ROOT, Check, limited, log_at
 
 PAGES = ("README.md", "docs/TOUR.md", "docs/TOOLS.md", "docs/RECORD.md", "docs/FIND.md", "docs/HUNT.md")
 COMMANDS = (
@@ -111,14 +111,15 @@ SAYS.update(
 NOTICE = re.compile(r"uvt: this is the program before its proofs: .*\n")
 # What is said once of the parts in C that are compiled for a first recording, and a first order that is forced.
 COMPILED = re.compile(r"uvt: compiling [a-z ]+, once \([\d.]+ s\)\n")
-LOG = Path(__file__).resolve().parent.parent / "tools" / "logs" / "late.log"
+LOG = ROOT / "tests" / "tools" / "logs" / "late.log"
 # The reader's own two recordings, and the modes of one program whose logs stand in for them.
 BESIDE = {"good": "base", "bad": "lock"}
 BESIDES = Path(__file__).resolve().parent.parent / "tools" / "beside"
-HUNG = Path(__file__).resolve().parent.parent / "tools" / "truths" / "hangup.log"
-# What is said of a time of a real run where others had the processor meanwhile, and where on its stack the callback was found.
+HUNG = ROOT / "tests" / "tools" / "truths" / "hangup.log"
+# What is said of a time of a real run whose thread waited for a processor meanwhile, and where on its stack the callback was found.
 BUSY = re.compile(
-    r"(, (\d+|none) of them on the processor)?(: for \d+ ms others had the processor(, was pushed off it \d+ times?|, gave it away \w+( times)?)*)?"
+    r"( \(\d+ ms of that others had the processor\))?(, (\d+|none) of them on the processor)?"
+    r"(: the thread waited \d+ ms for a processor(, and was pushed off it (once|\d+ times))?)?"
     r"([:;] (nearly all|most) of (it|its time on the processor) in [^;\n]*)?"
 )
 # What stands in a command that runs a program, or asks of a run.
@@ -256,15 +257,15 @@ class Walker:
         """The same with a kept log in place of the run, where the program is one of the tests."""
         if command.endswith(" --beside good.rec bad.rec"):
             for name, mode in BESIDE.items():
-                shutil.copy(BESIDES / f"{mode}.log", self.folder)
+                shutil.copy(log_at(BESIDES / f"{mode}.log"), self.folder)
                 self.run(f"{self.command} record -o {name} --log {mode}.log", self.folder)
         if not command.endswith(" record ./hangup"):
             return command
-        shutil.copy(HUNG, self.folder)
+        shutil.copy(log_at(HUNG), self.folder)
         return command.replace("./hangup", "-o hangup --log %s" % HUNG.name)
 
     def of_kept_log(self, block: Block) -> None:
-        shutil.copy(LOG, os.path.join(self.folder, "kept.log"))
+        shutil.copy(log_at(LOG), os.path.join(self.folder, "kept.log"))
         made = self.run(self.command + " record -o late --log kept.log", self.folder)
         self.check("%s:%d: the recording of the kept log" % (block.page, block.line), made.returncode == 0, "got %r" % (made,))
         output = self.type(block)

@@ -168,6 +168,7 @@ CHANGED = {
 def try_changed_lines(uvt, recording):
     lines = recording.decode().splitlines()
     for at, line in enumerate(lines):
+        verdict: object
         if line == "loop":
             changed, verdict = "lxop", at + 1
         elif line.startswith("after "):
@@ -179,13 +180,14 @@ def try_changed_lines(uvt, recording):
         if isinstance(verdict, int):
             try_bad_line(uvt, what, text, verdict)
         else:
-            try_verdict(uvt, what, text, verdict.encode() + b"\n")
+            try_verdict(uvt, what, text, str(verdict).encode() + b"\n")
 
 
 def scripts_of(path):
     """The scripts of a page, each with its line and its output. A script is a block of text with a line `begin`; the
     blocks that follow it, up to the next script, call of the launcher or heading, are its output."""
-    block, script, found = None, None, []
+    block, script = None, None
+    found: list = []
     with open(path, encoding="utf-8") as page:
         for number, line in enumerate(page, 1):
             if block is None:
@@ -209,7 +211,9 @@ def scripts_of(path):
 
 def excerpts_of(path):
     """What a page shows of the output of an example: the block behind one that has the line `./uvt debug < examples/NAME.uvt` alone."""
-    blocks, name, found = None, None, []
+    name = None
+    blocks: list[str] = None
+    found: list[tuple[int, str, str]] = []
     with open(path, encoding="utf-8") as page:
         for number, line in enumerate(page, 1):
             if line.startswith("```text") and blocks is None:
@@ -416,7 +420,7 @@ def try_endless_line(uvt):
         with open("/dev/zero", "rb") as zeros:
             # (it is ended before its memory is what the machine has)
             started = subprocess.Popen([uvt, word], stdin=zeros, stdout=subprocess.PIPE, stderr=subprocess.PIPE)
-            written, said = talked(started, seconds=30)
+            written, said = talked(started, seconds=120)
         real = (started.returncode, written, said)
         check("%s of a line without an end" % word, real == (2, b"", b"uvt: bad script line 1\n"), "got %r" % (real,))
 
@@ -516,9 +520,9 @@ def try_examples(uvt, folder):
         with open(path, "rb") as recording, open(path[:-4] + ".out", "rb") as wanted:
             try_verdict(uvt, "examples/" + os.path.basename(path), recording.read(), wanted.read())
     with open(os.path.join(folder, "examples", "sent-session.rec"), "rb") as file:
-        recording = file.read()
-    try_beginnings(uvt, recording)
-    try_changed_lines(uvt, recording)
+        session = file.read()
+    try_beginnings(uvt, session)
+    try_changed_lines(uvt, session)
     with open(os.path.join(HERE, "recordings", "a-request-that-is-cancelled-twice.rec"), "rb") as file:
         try_beginnings(uvt, file.read())
 

@@ -1,8 +1,9 @@
-"""Tries the recorder on this machine's libuv: tests/recorder/run [--libuv FOLDER] [--archive FILE] [--keep FOLDER]
+"""Tries the recorder on this machine's libuv: tests/recorder/run [--libuv FOLDER] [--archive FILE] [--ring MIB] [--keep FOLDER]
 
   - the small programs of programs/ end with the same status with it as without, and their logs are followed (nested stops)
   - with --libuv, the sources of libuv (Debian: apt-get source libuv1): its own tests are linked with the shared libuv, each is run with and
     without it, and its logs are followed. A log of more than 300 kB is not
+  - with --ring, of each log the last MIB windows alone are kept, and what takes 20 ms apart
   - with --archive, libuv's static library (Debian: /usr/lib/*/libuv_a.a), all of these have libuv within them
 
 It takes a C compiler and libuv's header (gcc, libuv1-dev), and is for the hand: some minutes. It prints what differs and what isn't `same`,
@@ -23,25 +24,41 @@ from pathlib import Path
 
 ROOT = Path(__file__).resolve().parent.parent.parent
 from uvt.conversation import Fault
+from uvt.record import ring
 from uvt.record.log import read_log
 from uvt.record.names import name_addresses
-from uvt.record.run import Made, make, recorder, told
+from uvt.record.compiled import recorder
+from uvt.record.made import Made, make
+from uvt.record.told import told
 
 PROGRAMS, TESTS = "the programs", "libuv's own tests"
 SECONDS = 60
 MOST = 300_000
 
 
+# With --ring.
+RING: dict[str, str] = {}
+
+
 def run(words: list[str], folder: Path, log: str | None) -> tuple[int, str]:
     """Runs a program, and answers its status and what it printed. With the name of a log under the recorder."""
     environment = dict(os.environ, UV_RUN_AS_ROOT="1")
     if log:
-        environment |= {"UVT_LOG": str(folder / log), "LD_PRELOAD": str(recorder())}
+        environment |= {"UVT_LOG": str(folder / log), "LD_PRELOAD": str(recorder())} | RING
     try:
         ran = subprocess.run(words, cwd=folder, env=environment, capture_output=True, text=True, errors="replace", timeout=SECONDS)
         return ran.returncode, ran.stdout
     except subprocess.TimeoutExpired:
         return 124, ""
+
+
+def logs_in(folder: Path, name: str) -> list[Path]:
+    return [it for it in sorted(folder.glob(f"{name}.*")) if it.suffix == ".log" or ring.is_ring(it)]
+
+
+def log_of(path: Path) -> bytes:
+    """(A process that was ended has zeros behind its last line.)"""
+    return ring.log_of(path) if ring.is_ring(path) else path.read_bytes().rstrip(b"\0")
 
 
 def compile_program(source: Path, folder: Path, libuv: str) -> list[str]:
@@ -70,7 +87,7 @@ class Counts:
     def follow(self, path: Path, what: str, whose: str) -> None:
         """Makes the recordings of a log. A loop without callbacks doesn't count."""
         try:
-            log = read_log(path.read_bytes())
+            log = read_log(log_of(path))
         except Fault as fault:
             print(f"{what}: {fault}", flush=True)
             return
@@ -92,7 +109,7 @@ def try_programs(counts: Counts, folder: Path, linked: str) -> None:
         counts.statuses["the same" if plain[0] == recorded[0] else "OTHER"] += 1
         if plain[0] != recorded[0]:
             print(f"{source.stem}: status {plain[0]} without the recorder, {recorded[0]} with it", flush=True)
-        for path in sorted(folder.glob(f"{source.stem}.*.log")):
+        for path in logs_in(folder, source.stem):
             counts.follow(path, source.stem, PROGRAMS)
 
 
@@ -120,9 +137,8 @@ def try_libuv(counts: Counts, libuv: Path, folder: Path, linked: str) -> None:
         if plain[0] != recorded[0]:
             print(f"{test}: status {plain[0]} without the recorder, {recorded[0]} with it", flush=True)
     print(f"{len(tests)} tests, {spent[0]:.1f} s without the recorder, {spent[1]:.1f} s with it", flush=True)
-    for path in sorted(folder.glob("uv.*.log")):
-        # (a process that was ended has zeros behind its last line)
-        if len(path.read_bytes().rstrip(b"\0")) > MOST:
+    for path in logs_in(folder, "uv"):
+        if len(log_of(path)) > MOST:
             counts.loops.setdefault(TESTS, collections.Counter())["in a log that is too large"] += 1
         else:
             counts.follow(path, path.name.split(".")[1], TESTS)
@@ -132,8 +148,10 @@ def main() -> int:
     reader = argparse.ArgumentParser(description=__doc__, formatter_class=argparse.RawDescriptionHelpFormatter)
     reader.add_argument("--libuv", type=Path, metavar="FOLDER", help="the sources of libuv")
     reader.add_argument("--archive", type=Path, metavar="FILE", help="libuv's static library, in place of the shared one")
+    reader.add_argument("--ring", type=int, metavar="MIB", help="of each log the last windows alone")
     reader.add_argument("--keep", type=Path, metavar="FOLDER", help="where programs and logs are kept")
     asked = reader.parse_args()
+    RING.update({"UVT_KEEP": str(asked.ring), "UVT_LATE": "20"} if asked.ring else {})
     counts, linked = Counts(), str(asked.archive.resolve()) if asked.archive else "-luv"
     with tempfile.TemporaryDirectory() as room:
         folder = (asked.keep or Path(room)).resolve()

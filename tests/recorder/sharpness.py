@@ -18,7 +18,7 @@ from pathlib import Path
 ROOT = Path(__file__).resolve().parent.parent.parent
 from uvt.conversation import Fault
 from uvt.record.log import WATCHERS, read_log
-from uvt.record.run import make
+from uvt.record.made import make
 
 Block = tuple[int, int]
 

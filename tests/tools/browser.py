@@ -16,6 +16,7 @@ import base64
 import json
 import os
 import random
+import select
 import subprocess
 import tempfile
 import time
@@ -23,10 +24,13 @@ from pathlib import Path
 from typing import Any
 
 ROOT = Path(__file__).resolve().parent.parent.parent
+from tests.helper import SECONDS, Tries
 from tests.machines import sessions
+from tests.tools import devtools
 from uvt.conversation import Conversation, Script, read_input
 from uvt.view import html
-from uvt.walk import Walk, longest_way
+from uvt.walk import Walk
+from uvt.ways import longest_way
 from uvt.why import why
 
 EXAMPLES = ROOT / "crates" / "examples" / "data"
@@ -37,6 +41,7 @@ class Browser:
     """A Chromium without a window, asked over two pipes: each message is JSON with a zero byte behind it."""
 
     def __init__(self, chromium: str, folder: str) -> None:
+        """Starts it; its profile is to lie in this folder."""
         there, self.out = os.pipe()
         self.input, back = os.pipe()
 
@@ -81,6 +86,8 @@ class Browser:
 
     def read(self) -> dict:
         while b"\0" not in self.rest:
+            if not select.select([self.input], [], [], SECONDS)[0]:
+                raise RuntimeError(f"chromium said nothing for {SECONDS} seconds")
             part = os.read(self.input, 1 << 20)
             if not part:
                 raise RuntimeError("chromium has ended")
@@ -119,18 +126,7 @@ class Browser:
             self.ask("Browser.close")
         except (RuntimeError, OSError):
             pass
-        self.process.wait(20)
-
-
-class Tries:
-    def __init__(self) -> None:
-        self.count = self.failed = 0
-
-    def check(self, what: str, holds: bool, why_not: object = "") -> None:
-        self.count += 1
-        if not holds:
-            self.failed += 1
-            print(f"browser: {what}: {why_not}", flush=True)
+        self.process.wait(SECONDS)
 
 
 def try_states(tries: Tries, browser: Browser, folder: Path, what: str, script: Script, steps: list[str]) -> None:
@@ -211,73 +207,6 @@ def try_long(tries: Tries, browser: Browser, folder: Path) -> None:
     print(f"browser: 100,000 steps: {size / 1e6:.1f} MB, open in {took:.2f} s", flush=True)
 
 
-# ---- DevTools, which are pages of the browser
-
-# What the Performance panel's own reader has of a file, and what the panel shows of the first late timer.
-LOADED = """(async () => {
-  const ui = await import('devtools://devtools/bundled/ui/legacy/legacy.js');
-  const timeline = await import('devtools://devtools/bundled/panels/timeline/timeline.js');
-  await ui.ViewManager.ViewManager.instance().showView('timeline');
-  const panel = timeline.TimelinePanel.TimelinePanel.instance();
-  await panel.loadFromFile(new File([globalThis.text], globalThis.file, { type: 'application/json' }));
-  const until = Date.now() + 30000;
-  while (!panel.model.parsedTrace(0) && Date.now() < until) await new Promise((done) => setTimeout(done, 100));
-  const { data } = panel.model.parsedTrace(0);
-  const tracks = data.ExtensionTraceData.extensionTrackData.flatMap((it) => Object.entries(it.entriesByTrack));
-  const trace = await import('devtools://devtools/bundled/models/trace/trace.js');
-  const entries = trace.Handlers.Threads.threadsInTrace(data).flatMap((it) => it.entries);
-  const calls = entries.filter((it) => it.name === 'ProfileCall');
-  const late = tracks.find(([name]) => name === 'late timers')?.[1][0];
-  if (late) panel.select(timeline.TimelineSelection.selectionFromEvent(late));
-  await new Promise((done) => setTimeout(done, 1500));
-  const all = (from, found = []) => {
-    for (const it of from.querySelectorAll('*')) {
-      found.push(it);
-      if (it.shadowRoot) all(it.shadowRoot, found);
-    }
-    return found;
-  };
-  return JSON.stringify({
-    generic: data.Meta.traceIsGeneric,
-    tasks: entries.filter((it) => it.name === 'RunTask').length,
-    functions: [...new Set(calls.map((it) => it.callFrame.functionName))].length,
-    initiators: data.Initiators.eventToInitiator.size,
-    range: data.Meta.traceBounds.range,
-    tracks: Object.fromEntries(tracks.map(([name, entries]) => [name, entries.length])),
-    shown: late ? all(document).filter((it) => it.classList.contains('timeline-details-view')).map((it) => it.innerText).join(' ') : '',
-  });
-})()"""
-
-
-def try_devtools(tries: Tries, browser: Browser, path: Path, picture: Path | None) -> None:
-    """What the file has is there: each task, each track, who asked for what, and `why` of a late timer."""
-    text = path.read_text()
-    browser.ask("Page.navigate", url="devtools://devtools/bundled/devtools_app.html?panel=timeline")
-    time.sleep(2)
-    browser.value(f"globalThis.text = {json.dumps(text)}; globalThis.file = {json.dumps(path.name)}; 1")
-    for _ in range(10):
-        found = browser.ask("Runtime.evaluate", expression=LOADED, awaitPromise=True, returnByValue=True)
-        if "No locale data" not in str(found.get("exceptionDetails")):
-            break
-        # (its own page isn't there yet)
-        time.sleep(2)
-    tries.check(f"{path.name}: DevTools take it", "exceptionDetails" not in found, found)
-    if "exceptionDetails" in found:
-        return
-    has = json.loads(found["result"]["value"])
-    print(f"{path.name}: {has}", flush=True)
-    events = json.loads(text).get("traceEvents", [])
-    late = [it for it in events if it["ph"] == "b" and " is late by " in it["name"]]
-    tries.check(f"{path.name}: functions", has["functions"] > 3 and has["range"] > 0, has)
-    tries.check(f"{path.name}: tasks", has["tasks"] == sum(it["name"] == "RunTask" for it in events), has)
-    tries.check(f"{path.name}: arrows", has["initiators"] >= sum(it["ph"] == "s" and it["pid"] == 2 for it in events), has)
-    tries.check(f"{path.name}: late timers", has["tracks"].get("late timers", 0) == len(late), has)
-    if late:
-        tries.check(f"{path.name}: why a timer was late", late[0]["args"]["why"][:60] in has["shown"], has)
-    if picture:
-        browser.picture(picture)
-
-
 def main() -> int:
     reader = argparse.ArgumentParser(description=__doc__, formatter_class=argparse.RawDescriptionHelpFormatter)
     reader.add_argument("--chromium", default="chromium", metavar="PATH", help="the browser (chromium)")
@@ -285,15 +214,15 @@ def main() -> int:
     reader.add_argument("--long", action="store_true", help="also a run of 100,000 steps")
     reader.add_argument("--devtools", type=Path, nargs="+", metavar="FILE", help="files of uvt-view --trace-event and --cpuprofile")
     asked = reader.parse_args()
-    tries = Tries()
+    tries = Tries("browser")
     with tempfile.TemporaryDirectory() as name:
         folder = Path(name)
         browser = Browser(asked.chromium, name)
         try:
             for file in asked.devtools or []:
-                try_devtools(tries, browser, file, asked.picture)
+                devtools.try_file(tries, browser, file, asked.picture)
             if asked.devtools:
-                return 1 if tries.failed else 0
+                return tries.end()
             try_late(tries, browser, folder, asked.picture)
             script, commands = read_input(EXAMPLES / "never-called.uvt")
             try_states(tries, browser, folder, "never-called.uvt", script, longest_way(script, commands))
@@ -305,5 +234,4 @@ def main() -> int:
                 try_long(tries, browser, folder)
         finally:
             browser.close()
-    print(f"{tries.count} tried, {tries.failed} failed")
-    return 1 if tries.failed else 0
+    return tries.end()

@@ -4,12 +4,13 @@ from __future__ import annotations
 
 import json
 import os
+import shutil
 import subprocess
 import tempfile
 import time
 from pathlib import Path
 
-from tests.helper import Check, Tries
+from tests.helper import Check, Tries, log_at
 from uvt.conversation import Conversation, read_input
 
 ROOT = Path(__file__).resolve().parent.parent.parent
@@ -19,7 +20,8 @@ CONVERSATIONS = ROOT / "tests" / "program" / "conversations"
 BEFORE_SENDS = "what-a-callback-of-i-o-sends-to-in-a-poll-that-nobody-woke-is-called-an-iteration-later"
 ADAPTER = str(ROOT / "tools" / "uvt" / "uvt-dap")
 RECORD = str(ROOT / "tools" / "uvt" / "uvt-record")
-SECONDS = 60
+# (for an adapter that hangs)
+SECONDS = 600
 
 # The shapes of the protocol (its JSON schema), of what the adapter sends: a field's type, `?` where it may be missing; a list has
 # the shape of its items.
@@ -105,10 +107,13 @@ class Client:
         self.process.stdin.write(text)
         self.process.stdin.flush()
 
-    def send(self, command: str, **arguments: object) -> None:
+    def message(self, command: str, arguments: dict[str, object]) -> bytes:
         self.number += 1
         body = json.dumps({"seq": self.number, "type": "request", "command": command, "arguments": arguments}).encode()
-        self.write(b"Content-Length: %d\r\n\r\n" % len(body) + body)
+        return b"Content-Length: %d\r\n\r\n" % len(body) + body
+
+    def send(self, command: str, **arguments: object) -> None:
+        self.write(self.message(command, arguments))
 
     def read(self) -> dict:
         length = 0
@@ -416,10 +421,13 @@ def try_mixed(check: Check, path: Path) -> None:
 def paused(client: Client, command: str, wait: float, **arguments: object) -> dict:
     """Sends a request that takes long, and a while later a pause: the first one's response, once all that comes of the two is there."""
     client.events.clear()
-    client.send(command, **arguments)
-    first = client.number
-    time.sleep(wait)
-    client.send("pause", threadId=1)
+    asked, first = client.message(command, arguments), client.number
+    if wait:
+        client.write(asked)
+        time.sleep(wait)
+        asked = b""
+    # (without a wait both at once: the way back has an end)
+    client.write(asked + client.message("pause", {"threadId": 1}))
     responses: dict[int, dict] = {}
     while len(responses) < 2:
         found = client.read()
@@ -470,8 +478,9 @@ def try_javascript(check: Check) -> None:
     """Of a program in node its own source: a breakpoint in it, and frames with its lines. What took the time in json.js is its line 8, in `load`,
     which begins at line 6."""
     with tempfile.TemporaryDirectory() as folder:
-        for name in ("json.js", "node20/json.log"):
-            (Path(folder) / Path(name).name).write_bytes((Path(__file__).resolve().parent / "javascript" / name).read_bytes())
+        sources = Path(__file__).resolve().parent / "javascript"
+        for path in (sources / "json.js", log_at(sources / "node20" / "json.log")):
+            shutil.copy(path, folder)
         subprocess.run([RECORD, "--log", "json.log"], cwd=folder, capture_output=True, check=True, env=os.environ)
         source = {"path": str(Path(folder) / "json.js")}
         client = Client(check)

@@ -7,11 +7,11 @@ from __future__ import annotations
 
 import json
 import os
+import pty
 import re
 import signal
 import subprocess
 import tempfile
-import time
 from collections import Counter
 from pathlib import Path
 from typing import NamedTuple
@@ -20,10 +20,20 @@ ROOT = Path(__file__).resolve().parent.parent.parent
 EXAMPLES = ROOT / "crates" / "examples" / "data"
 TOOL, WORST, WHY = (str(ROOT / "tools" / "uvt" / f"uvt-{it}") for it in ("find", "worst", "why"))
 from tests.find.costs import growing
-from tests.helper import Check, Tries, limited, talked
+from tests.helper import Check, Tries, come_to, limited, log_at, talked
+from tests.tools import forces
+from tests.tools.records import has_libuv
 from launch import reasons
+from uvt.conversation import read_input
+from uvt.forcing import is_hooked
+from uvt.record.log import read_log
+from uvt.record.run import from_data
+
+JAVASCRIPT, LOGS = (ROOT / "tests" / "tools" / it for it in ("javascript/node20", "logs"))
 
 FOUND, NEVER, BAD, UNSETTLED, INTERRUPTED = 0, 1, 2, 3, 130
+# (what a question may take is by the clock, and more on a busy machine)
+LONG = ["--for", "600"]
 # A pool of eight with twelve requests, whose orders no search settles within some seconds.
 ENDLESS = "\n".join(
     [
@@ -36,8 +46,6 @@ ENDLESS = "\n".join(
         "",
     ]
 )
-# So many seconds behind its start a search is interrupted: it has passed a thousand states by then, also before its proofs.
-INTERRUPTED_AFTER = 10
 
 
 class Due(NamedTuple):
@@ -111,6 +119,13 @@ BAD_LINES = [
     ("var a\nbegin\nmay send a 0\nfind stuck\n", 3, "`0` is out of range: N is 1 to 4294967295"),
     ("var a\nbegin\nmay wait\n", 4, "the line is missing that says what to look for: `find ..`"),
     ("var a\nbegin\nmay wait\nmay wait\nfind stuck\n", 4, "`may wait` stands in line 3 already, and a search has it once at most"),
+    ("var a\nbegin\nmay wait 5 1\nmay wait\nmay wait 5 2\nfind stuck\n", 5, "`may wait 5` stands in line 3 already, and a search has it once"),
+    ("var a\nbegin\nmay wait 5\nfind stuck\n", 3, "no line says `may wait 5`: it has the form `may wait` or `may wait MS N`"),
+    (
+        "var a\nbegin\nmay differ 1\nrecorded 0 0 wait 5\nmay wait 5 1\nfind stuck\n",
+        5,
+        "`may wait 5 1` stands beside `may differ`: there what came in the recording may come, and nothing else but `may wait`",
+    ),
     ("var a\nbegin\nfind stuck\nfind never a\n", 4, "a second question: line 3 has the first, and one is asked at a time"),
     ("var a\nbegin\nfind code EBUZY\n", 3, "`EBUZY` is none of ok, EINVAL"),
     ("var a\nbegin\nloop\nfind stuck\n", 3, "no line behind `begin` begins with `loop` here: it is may, recorded, takes, most, full or find"),
@@ -219,21 +234,29 @@ def try_lines(check: Check, folder: str) -> None:
             and any(it.startswith(f"uvt: {why}") for it in lines),
             ran,
         )
-    path = os.path.join(folder, "endless")
-    Path(path).write_text(ENDLESS, encoding="ascii")
-    search = subprocess.Popen([TOOL, path], stdout=subprocess.PIPE, stderr=subprocess.PIPE, text=True)
-    time.sleep(INTERRUPTED_AFTER)
-    search.send_signal(signal.SIGINT)
-    out, errors = talked(search)
-    check(
-        "find, interrupted",
-        search.returncode == INTERRUPTED and re.fullmatch(r"not settled within 10+ states: interrupted\n", out) is not None,
-        (search.returncode, out, errors),
-    )
     rows = {reasons.why("find", text.encode().split(b"\n")[:-1], line).row for text, line, _ in BAD_LINES}
     check("find, each row of the table of reasons is tried", not set(reasons.ASKED_REASONS) - rows, set(reasons.ASKED_REASONS) - rows)
     ran = run([os.path.join(folder, "nowhere")])
     check("find, no such file", ran.returncode == 70 and "No such file" in ran.stderr and "Traceback" not in ran.stderr, ran)
+
+
+def try_interrupted(check: Check, folder: str) -> None:
+    """A search that is interrupted says how far it was: here once it has shown at a terminal that it has passed a thousand states."""
+    path = Path(folder, "endless")
+    path.write_text(ENDLESS, encoding="ascii")
+    ours, theirs = pty.openpty()
+    # (what is started in the background may have interrupts ignored)
+    search = subprocess.Popen(
+        [TOOL, str(path)], stdout=subprocess.PIPE, stderr=theirs, text=True, preexec_fn=lambda: signal.signal(signal.SIGINT, signal.SIG_DFL)
+    )
+    shown = come_to(ours, b" states")
+    check("find, how far it is", re.search(rb"\r\x1b\[Kuvt find: searching, \d+:\d\d, more than 10+ states", shown), shown)
+    search.send_signal(signal.SIGINT)
+    out, _ = talked(search)
+    os.close(ours)
+    os.close(theirs)
+    wanted = r"not settled within 10+ states: interrupted\n"
+    check("find, interrupted", search.returncode == INTERRUPTED and re.fullmatch(wanted, out), (search.returncode, out, shown))
 
 
 def try_recorded(check: Check) -> None:
@@ -261,7 +284,7 @@ BUDGETS = [
 def try_within_all(check: Check) -> None:
     """What is found near a recording is found over every order: so nobody is later near it, and with more steps moved as late at least."""
     for name in ("frame", "signals"):
-        words = ["--json", "--no-sessions", "--differ", "1", "--differ", "2", str(EXAMPLES / f"{name}.rec")]
+        words = [*LONG, "--json", "--no-sessions", "--differ", "1", "--differ", "2", str(EXAMPLES / f"{name}.rec")]
         ran = limited([WORST, *words], capture_output=True, text=True, env=os.environ)
         check(f"worst of {name}", ran.returncode == FOUND, ran)
         for row in json.loads(ran.stdout or "{}").get("callbacks", []):
@@ -269,10 +292,37 @@ def try_within_all(check: Check) -> None:
             check(f"worst of {name}: {row['name']} near the recording and over every order", len(late) == 4 and late == sorted(late), row)
 
 
+def try_worst_table(check: Check) -> None:
+    """The table of the examples' recordings in docs/FIND.md: each callback of theirs that is ever late, and no other."""
+    text = (ROOT / "docs" / "FIND.md").read_text(encoding="utf-8")
+    rows = re.findall(r"^\| `examples/(\S+)\.rec` \| `(\w+)` \| (\d+) \| (\d+) \| (\d+) \|$", text, re.M)
+    found = []
+    for path in sorted(EXAMPLES.glob("*.rec")):
+        ran = limited([WORST, *LONG, "--json", "--no-sessions", str(path)], capture_output=True, text=True, env=os.environ)
+        for it in json.loads(ran.stdout)["callbacks"]:
+            late = [one["ms"] or 0 for one in it["worst"]]
+            check(f"worst of {path.stem}, {it['name']}: settled", ran.returncode == FOUND and all(one["settled"] for one in it["worst"]), ran)
+            found += [(path.stem, it["name"], *map(str, late))] * any(late)
+    check("worst of each recording of the examples, as FIND has it", sorted(rows) == sorted(found), f"{rows} {found}")
+
+
+def try_worst_forced(check: Check, folder: str) -> None:
+    """An order at worst is forced on the program of its recording. By its own clock that is as late there as the table says."""
+    program = forces.compiled("budget", folder, "-luv")
+    ran = limited(
+        [WORST, *LONG, "--json", str(forces.FOLDER / "budget.rec"), "heartbeat"], capture_output=True, text=True, env=os.environ, cwd=folder
+    )
+    check("worst of a C program", ran.returncode == FOUND, ran)
+    table = json.loads(ran.stdout)["callbacks"][0]
+    status, said = forces.forced(["-o", "worst.forced", table["session"], program], folder)
+    told = [int(it) for it in re.findall(r"^late by (\d+) ms$", said, re.M)]
+    check("worst, forced on its program", told[:1] == [table["worst"][-1]["ms"]] and "0 departures, same" in said, f"{table} {status} {said}")
+
+
 def try_budgets(check: Check, folder: str) -> None:
     """How late a name may be: the status says whether that is settled, and an order that is later is kept, in which it is."""
     for words, said, status in BUDGETS:
-        ran = limited([WORST, *words, str(EXAMPLES / "frame.rec")], capture_output=True, text=True, env=os.environ, cwd=folder)
+        ran = limited([WORST, *LONG, *words, str(EXAMPLES / "frame.rec")], capture_output=True, text=True, env=os.environ, cwd=folder)
         check(f"worst, {words}", ran.returncode == status and said in ran.stdout + ran.stderr and "Traceback" not in ran.stderr, ran)
     with open(Path(folder) / "frame.vsync.uvt", "rb") as session:
         told = limited([WHY, "vsync"], stdin=session, capture_output=True, text=True, env=os.environ).stdout
@@ -321,6 +371,29 @@ def recording_of(script: list[str], commands: list[str]) -> str:
     return "\n".join([*lines[lines.index("uvt 2") :], ""])
 
 
+# A loop that waits 20 ms for a request, and then until its timer is due, at 50 ms.
+WAITED = ["var job", "var t", "main queue job 1", "main init t timer", "main start t 50 0", "main run default"]
+OF_THE_LOOP = ["loop 4", "take 0", "loop 20", "tick 20", "finish 0", "loop 20", "tick 30", "loop 20"]
+# (in no order does time go by where the loop doesn't wait: the timer is never late, and would be by a tick of as much)
+OF_WAITED: list[tuple[list[str], int]] = [
+    (["find late t 1"], NEVER),
+    (["may tick 20 1", "may wait", "find late t 20"], FOUND),
+    (["may differ 0", "find late job 20"], FOUND),
+    (["may differ 0", "find late job 21"], NEVER),
+    (["may differ 1", "find late t 1"], NEVER),
+]
+
+
+def try_waits(check: Check, folder: str) -> None:
+    """What a loop waited until something came goes by only where it is blocked so long."""
+    path = Path(folder, "waited.rec")
+    path.write_text(recording_of(WAITED, OF_THE_LOOP), encoding="ascii")
+    for lines, status in OF_WAITED:
+        ran = run([str(path), *lines])
+        check(f"find, a wait that something ended, {lines}", ran.returncode == status, ran)
+        check(f"find, {lines}: what came", len(lines) != 1 or ": 1 wait that something ended; " in ran.stderr, ran)
+
+
 def try_joined(check: Check, folder: str) -> None:
     """Two recordings of one program, as one."""
     paths = {name: os.path.join(folder, f"{name}.rec") for name in RUNS}
@@ -346,13 +419,32 @@ def try_joined(check: Check, folder: str) -> None:
     check("find, recordings that nothing is asked of", ran.returncode == 70 and "no line asks anything" in ran.stderr, ran)
 
 
+def try_hooked(check: Check, folder: str) -> None:
+    """An order of a recording in node says that its program was recorded with its hook, and so is forced; that of another recording doesn't."""
+    for log, hooked in ((log_at(JAVASCRIPT / "promise.log"), True), (log_at(LOGS / "late.log"), False)):
+        data = log.read_bytes()
+        from_data(data, read_log(data), f"{folder}/{log.stem}")
+        path = max(Path(folder).glob(f"{log.stem}*.rec"), key=lambda it: it.stat().st_size)
+        ran = run([str(path), "find section poll", "-o", f"{folder}/{log.stem}.uvt"])
+        session = Path(folder, f"{log.stem}.uvt")
+        found = read_input(session)[0] if session.exists() else None
+        check(f"find, {log.name}: is it forced with the hook?", found and is_hooked(found) == hooked, ran)
+        check(f"find, {log.name}: its session runs", session.exists() and debugged(session.read_text())[-1:], ran)
+
+
 def try_find(tries: Tries) -> None:
     with tempfile.TemporaryDirectory() as folder:
         try_recorded(tries.check)
         try_near(tries.check, folder)
+        try_waits(tries.check, folder)
         try_budgets(tries.check, folder)
         try_within_all(tries.check)
+        try_worst_table(tries.check)
+        if has_libuv():
+            try_worst_forced(tries.check, folder)
         try_joined(tries.check, folder)
+        try_hooked(tries.check, folder)
         for name, due in ANSWERS.items():
             try_example(tries.check, name, due, folder)
         try_lines(tries.check, folder)
+        try_interrupted(tries.check, folder)

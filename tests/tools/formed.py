@@ -1,10 +1,11 @@
 """How the tools and their tests are written: the formatter and the type checker have nothing to say (pyproject.toml has what they are asked),
-no line is too long, and nearly no file touches the path of imports.
+no line is too long, nearly no file touches the path of imports, and pytest finds each step.
 """
 
 from __future__ import annotations
 
 import importlib.util
+import os
 import re
 import shutil
 import subprocess
@@ -37,6 +38,23 @@ def try_checker(tries: Tries, name: str, words: list[str]) -> None:
     tries.check(f"{name} of tools and tests", ran.returncode == 0, ran.stdout[-2000:] + ran.stderr[-2000:])
 
 
+def try_pytest(tries: Tries) -> None:
+    """The steps of the parts are tests of pytest's, found by what they name; one that fails says which try did."""
+    command = shutil.which("pytest")
+    if not command:
+        tries.leave_out("pytest", "it isn't installed")
+        return
+    for words, status, wanted in (
+        (["tests/tools", "--collect-only", "-k", "uvloop"], 0, ["::records::log", "::records::sharpness"]),
+        (["tests/tools", "-k", "shorter"], 0, ["5 passed"]),
+        (["tests/tools/run.py::faults"], 1, ["a script that is none: uvt ended with status 1", "1 failed"]),
+    ):
+        # (what is none of the program's fails)
+        env = os.environ | ({"UVT": "/bin/false"} if status else {})
+        ran = subprocess.run([command, "-q", *words], cwd=ROOT, env=env, capture_output=True, text=True)
+        tries.check(f"pytest {' '.join(words)}", ran.returncode == status and all(it in ran.stdout for it in wanted), ran.stdout + ran.stderr)
+
+
 def try_form(tries: Tries) -> None:
     paths = []
     for path in sources():
@@ -47,3 +65,4 @@ def try_form(tries: Tries) -> None:
     tries.check("who says where others are", len(paths) <= PATHS, paths)
     try_checker(tries, "black", ["--check", "--quiet", "tools", "tests"])
     try_checker(tries, "mypy", ["--cache-dir", "out/mypy"])
+    try_pytest(tries)

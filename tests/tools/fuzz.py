@@ -26,7 +26,7 @@ from concurrent.futures import ProcessPoolExecutor
 from pathlib import Path
 from typing import Any, Iterator
 
-from tests.helper import Tries
+from tests.helper import Tries, log_at
 
 HERE = Path(__file__).resolve().parent
 ROOT = HERE.parent.parent
@@ -72,7 +72,7 @@ ODD = (
 
 
 def log_of(name: str) -> Path:
-    return HERE / ("truths" if name in TRUTHS else "logs") / f"{name}.log"
+    return log_at(HERE / ("truths" if name in TRUTHS else "logs") / f"{name}.log")
 
 
 class Hung(Exception):
@@ -144,9 +144,9 @@ class Wire:
 
     def receive(self) -> dict[str, Any]:
         if not self.messages:
-            from uvt import dap
+            from uvt import dap_wire
 
-            raise dap.Gone
+            raise dap_wire.Gone
         return self.messages.pop(0)
 
     def send(self, message: dict[str, Any]) -> None:
@@ -284,7 +284,7 @@ class Tried:
         yield from self.asked(draw, path)
 
     def message(self, draw: random.Random) -> Iterator[tuple[str, list[str], str]]:
-        from uvt import dap
+        from uvt import conversation, dap
 
         path = self.folder / "launched.uvt"
         path.write_bytes((ROOT / "examples" / f"{draw.choice(SCRIPTS)}.uvt").read_bytes())
@@ -292,7 +292,7 @@ class Tried:
         with contextlib.redirect_stderr(io.StringIO()):
             try:
                 dap.Adapter(Wire(asked)).serve()  # type: ignore[arg-type]
-            except dap.Fault:
+            except conversation.Fault:
                 pass
         return
         yield

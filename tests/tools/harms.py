@@ -16,14 +16,13 @@ import tempfile
 import time
 from pathlib import Path
 
-from tests.helper import LATE, ROOT, Check, Tries, limited
+from tests.helper import LATE, ROOT, SECONDS, Check, Tries, limited
 from tests.tools.records import has_libuv
 from uvt.hunting import Bad, Counts
-from uvt.record.run import recorder
+from uvt.record.compiled import recorder
 
 HERE = Path(__file__).resolve().parent / "harms"
 TOOLS = ROOT / "tools" / "uvt"
-SECONDS = 300
 # How the program ends that filters its calls of the system, by its source.
 FILTERED = 55
 # What harms/kinds.c does.
@@ -54,6 +53,11 @@ def tool(word: str, words: list[str], folder: Path, **more: str) -> tuple[int, s
     return done.returncode, done.stdout
 
 
+# A ring, of which is kept apart what takes so many ms.
+RING = {"UVT_KEEP": "2", "UVT_LATE": "20"}
+BOTH: tuple[dict[str, str], ...] = ({}, RING)
+
+
 class Room:
     """A folder with the programs of harms/."""
 
@@ -79,16 +83,15 @@ class Room:
 
 def try_handler(check: Check, room: Room) -> None:
     """The handler comes where the program is within the recorder, and may not wait for it."""
-    for _ in range(3):
-        done = room.run("handler", "10000")
-        check("harms: a signal's handler that sends", done.returncode == 0, done)
+    for more in (*BOTH, *BOTH, *BOTH):
+        done = room.run("handler", "10000", before=(), **more)
+        check(f"harms: a signal's handler that sends{', in a ring' if more else ''}", done.returncode == 0, done)
 
 
 def try_kinds(check: Check, room: Room) -> None:
     for kind in KINDS:
         plain = room.plain("kinds", kind)
-        rings: list[dict[str, str]] = [{}, {"UVT_KEEP": "2", "UVT_LATE": "20"}]
-        for more in rings:
+        for more in BOTH:
             recorded = room.run("kinds", kind, before=(), **more)
             alike = (plain.returncode, plain.stdout) == (recorded.returncode, recorded.stdout)
             check(f"harms: {kind}{', in a ring' if more else ''}: its status and output", alike and plain.returncode != LATE, (plain, recorded))
@@ -101,9 +104,10 @@ def instructions(room: Room, loops: int) -> int:
 
 
 def try_loops(tries: Tries, room: Room) -> None:
-    done = room.run("loops", "4000")
-    grown = re.match(r"(\d+) kB more", done.stdout)
-    tries.check("harms: loops that are closed keep no memory", done.returncode == 0 and grown and int(grown[1]) < 1000, done)
+    for more in BOTH:
+        done = room.run("loops", "4000", before=(), **more)
+        grown = re.match(r"(\d+) kB more", done.stdout)
+        tries.check("harms: loops that are closed keep no memory", done.returncode == 0 and grown and int(grown[1]) < 1000, (more, done))
     if not shutil.which("valgrind"):
         tries.leave_out("what loops that are closed cost", "there is no valgrind")
         return
@@ -144,7 +148,7 @@ def parent_of(process: int) -> int:
     return int(Path(f"/proc/{process}/stat").read_text().rpartition(")")[2].split()[1])
 
 
-def is_gone(process: int, seconds: float = 60) -> bool:
+def is_gone(process: int, seconds: float = SECONDS) -> bool:
     """It is, within this time."""
     end = time.monotonic() + seconds
     while time.monotonic() < end:

@@ -1,16 +1,22 @@
 """Orders forced upon real programs, and hunted, where that takes minutes: tests/tools/hunts [PART..] [--libuv FOLDER] [--keep FOLDER]
 
   nine      `./uvt hunt` of nine programs with a use after free in some order (forces/): each is found, with no hint
-  healthy   `./uvt hunt --for 15s` of programs without a fault, in C, and where they are installed in Python on uvloop, Lua on luv and node: each run
-            ends well
+  healthy   `./uvt hunt --for 15s` of programs without a fault, in C, and where they are installed in Python on uvloop, Lua on luv, R on httpuv and
+            node: each run ends well
   own       programs in the order of their own recordings: all steps, no departure, the same callbacks
   again     the sessions of send, lookup and order, ten times each: the sanitizer sees the fault each time
   random    `./uvt force --random 200 --stall 20` of the nine: a run ends badly, and its recording, forced, does so again
   hang      `./uvt hunt` of a program that in some order waits for ever (forces/never.c): that is found, and that it comes each time
   node      the programs of javascript/ in the order of their own recordings (with a `node` whose libuv is seen)
+  races     the nine races in node and the five in Python on uvloop (javascript/races, python/races): each is found with no hint, and how many seconds
+            of the processor that took, with its ten repeats
+  kept      each race of tests/tools/orders is hunted, and its order is forced twenty times more, by `force --test`: where the hunt has said that
+            it is bad each time, it is
+  slurm     a hunt in four parts, as docs/HUNT.md has it, and one that is cancelled (with a Slurm that runs; two nodes on one machine are enough)
 
-Without PART all of these, except for node. --libuv: another libuv, as its own build leaves it there (libuv.so.1). It takes a C compiler with
-AddressSanitizer and libuv's header. What isn't as it has to be is printed, and the counts; status 1 if anything isn't. What has to come is known
+Without PART all of these, except for node, races, kept and slurm. --libuv: another libuv, as its own build leaves it there (libuv.so.1). It takes
+a C compiler with AddressSanitizer and libuv's header. What isn't as it has to be is printed, and the counts; status 1 if anything isn't. What has to
+come is known
 from the programs: what their threads and their sanitizer do, and no answer of a tool's own.
 """
 
@@ -19,6 +25,7 @@ from __future__ import annotations
 import argparse
 import os
 import re
+import resource
 import shutil
 import signal
 import subprocess
@@ -26,6 +33,9 @@ import tempfile
 import time
 from collections.abc import Callable
 from pathlib import Path
+
+from tests.tools.orders import ENDS, HANGS
+from tests.tools.races import NODE, PYTHON, UVLOOP
 
 HERE = Path(__file__).resolve().parent
 ROOT = HERE.parent.parent
@@ -59,6 +69,8 @@ NOT_FORCED = {"storm", "wrongthread", "watched", "goodbye"}
 # A server that ends by itself only where it is told when, in seconds.
 WORDS = {"stalls": ["2"]}
 SECONDS = 900
+# So often is an order forced that a hunt has kept.
+FORCED_AGAIN = 20
 REPORT = "heap-use-after-free"
 FLAGS = ["-O1", "-g", "-w"]
 
@@ -120,13 +132,14 @@ def nine(tries: Tries, folder: Path) -> None:
 
 
 def interpreted() -> list[list[str]]:
-    """Healthy programs in Python, Lua and node."""
+    """Healthy programs in Python, Lua, R (with httpuv and later) and node."""
     others = {"said", "forever", "drift", "unref"}  # (a helper, and those that never end, or take long)
     found: list[list[str]] = []
     for words, pattern in (
         ("/usr/bin/python3", "python/*.py"),
         ("/usr/bin/python3", "python/races/healthy.py"),
         ("luajit", "lua/*.lua"),
+        ("Rscript", "r/*.R"),
         ("node", "javascript/*.js"),
     ):
         if shutil.which(words):
@@ -208,6 +221,53 @@ def hang(tries: Tries, folder: Path) -> None:
     print(f"hang: {said.strip().splitlines()[-1].strip()}", flush=True)
 
 
+def races(tries: Tries, folder: Path) -> None:
+    programs = [["node", str(HERE / "javascript" / "races" / f"{it}.js")] for it in NODE]
+    programs += [[PYTHON, str(HERE / "python" / "races" / f"{it}.py")] for it in UVLOOP]
+    for words in programs:
+        name, before = Path(words[-1]).stem, resource.getrusage(resource.RUSAGE_CHILDREN)
+        status, said = tool("hunt", "-o", name, *words, folder=folder)
+        spent = resource.getrusage(resource.RUSAGE_CHILDREN)
+        tries.check(f"races, {name}", status == 3 and "\n    its order is " in said, said)
+        seconds = spent.ru_utime + spent.ru_stime - before.ru_utime - before.ru_stime
+        print(f"races, {name}: {said.splitlines()[0]}; {said.strip().splitlines()[-1].strip()}, {seconds:.0f} s of the processor", flush=True)
+
+
+def kept(tries: Tries, folder: Path, names: tuple[str, ...] = (*ENDS, *HANGS)) -> None:
+    all = bad = 0
+    for name in names:
+        program = compiled(name, folder, name in ENDS)
+        said = tool("hunt", "-o", name, program, folder=folder)[1]
+        often = re.search(r", and in (\d+) of (\d+) further runs in the same order$", said, re.MULTILINE)
+        early = ["--early"] if f" --early {name}.uvt" in said else []
+        ends = [tool("force", "--test", *early, f"{name}.uvt", program, folder=folder)[0] for _ in range(FORCED_AGAIN if often else 0)]
+        all, bad = all + len(ends), bad + ends.count(3)
+        tries.check(f"kept, {name}", often is not None and (int(often[1]) < int(often[2]) or ends.count(3) == len(ends)), f"{ends} {said}")
+        print(f"kept, {name}: {often[1]} of {often[2]}, and {ends.count(3)} of {len(ends)}" if often else f"kept, {name}: not found", flush=True)
+    print(f"kept: {bad} of {all} are bad", flush=True)
+
+
+def slurm(tries: Tries, folder: Path) -> None:
+    def batch(count: int, time: str, *words: str) -> list[str]:
+        hunts = f"{TOOLS}/uvt-hunt --for {time} --part $SLURM_ARRAY_TASK_ID/{count} {' '.join(words)}"
+        return ["sbatch", "--parsable", f"--array=1-{count}", "--wrap", hunts]
+
+    subprocess.run([*batch(4, "60s", compiled("upload", folder, True)), "--wait"], cwd=folder, check=False)
+    reports = sorted(it.name for it in folder.glob("upload.asan.hunt.*.report"))
+    status, said = tool("hunt", "--join", *reports, folder=folder)
+    tries.check("slurm: four parts", len(reports) == 4 and status == 3 and REPORT in said and said.rstrip().endswith("in 4 parts"), said)
+    job = subprocess.run(batch(1, "10m", compiled("zero", folder, True)), cwd=folder, capture_output=True, text=True, check=True).stdout.strip()
+    time.sleep(20)
+    subprocess.run(["scancel", job], check=True)
+    for _ in range(30):
+        time.sleep(1)
+        if not subprocess.run(["squeue", "-h", "-j", job], capture_output=True, text=True).stdout:
+            break
+    said = "".join(it.read_text() for it in folder.glob(f"slurm-{job}_*.out"))
+    tries.check("slurm: a part that is cancelled", "it was interrupted, and not at its end\n" in said, said)
+    print(f"slurm: {len(reports)} parts of 4", flush=True)
+
+
 PARTS: dict[str, Callable[[Tries, Path], None]] = {
     "nine": nine,
     "healthy": healthy,
@@ -216,7 +276,11 @@ PARTS: dict[str, Callable[[Tries, Path], None]] = {
     "random": random,
     "hang": hang,
     "node": node,
+    "races": races,
+    "kept": kept,
+    "slurm": slurm,
 }
+BY_NAME = ("node", "races", "kept", "slurm")
 
 
 def main() -> int:
@@ -231,7 +295,7 @@ def main() -> int:
     with tempfile.TemporaryDirectory() as folder:
         where = asked.keep or Path(folder)
         where.mkdir(parents=True, exist_ok=True)
-        for name in asked.parts or [it for it in PARTS if it != "node"]:
+        for name in asked.parts or [it for it in PARTS if it not in BY_NAME]:
             began, load = time.monotonic(), os.getloadavg()[0]
             PARTS[name](tries, where)
             print(f"{name}: {time.monotonic() - began:.0f} s, load {load:.0f} to {os.getloadavg()[0]:.0f} on {os.cpu_count()} processors", flush=True)

@@ -11,7 +11,7 @@ import tempfile
 from pathlib import Path
 from typing import Any
 
-from tests.helper import Tries
+from tests.helper import Tries, log_at
 from tests.tools.javascripts import ALLOWED, answer, made, try_asked, unfolded
 from uvt.conversation import read_input
 from uvt.notes import read_notes
@@ -27,6 +27,22 @@ WRITTEN = 110
 # Of each program whom somebody asks about, whom of the loop he would have to ask about without the hook, what is to be said, what the program
 # itself calls that timer, where it is another name, and how many times of the answer the program has printed, at the least.
 PYTHON = {
+    "digest": (
+        "remind",
+        "timer_2",
+        r"late by \d+ ms: digest_all \(digest\.py:12\) took \d+ ms, nearly all of it at line 16: `data = hashlib\.sha256.*"
+        r"digest_all \(digest\.py:12\): a timer of 20 ms, started at digest\.py:26",
+        "",
+        2,
+    ),
+    "locked": (
+        "remind",
+        "timer_2",
+        r"late by \d+ ms: take_stock \(locked\.py:21\) took \d+ ms, nearly all of it at line 23: `with lock:`",
+        "",
+        2,
+    ),
+    "fetch": ("remind", "timer_2", r"late by \d+ ms: fetch \(fetch\.py:22\) took \d+ ms, nearly all of it at line 25: `peer\.recv\(10\)`", "", 2),
     "timer": (
         "beat",
         "timer_3",
@@ -78,6 +94,21 @@ PYTHON = {
     ),
 }
 LUA = {
+    "render": (
+        "remind",
+        "timer",
+        r"late by \d+ ms: render \(render\.lua:6\) took \d+ ms.*render \(render\.lua:6\): a timer of 20 ms, started at render\.lua:18",
+        "",
+        2,
+    ),
+    "execute": (
+        "remind",
+        "timer",
+        r"late by \d+ ms: deploy \(execute\.lua:6\) took \d+ ms, 133 ms of that in system"
+        r".*deploy \(execute\.lua:6\): a timer of 20 ms, started at execute\.lua:18",
+        "",
+        2,
+    ),
     "timer": (
         "beat",
         "timer",
@@ -131,7 +162,7 @@ def try_one(tries: Tries, language: str, name: str) -> None:
 
 def try_notes(tries: Tries, language: str, latest: str, functions: set[str]) -> None:
     """What is written is what is read; and the overview and the page have the functions, and no word of JavaScript."""
-    path = made("timer", (FOLDER / language / "timer.log").read_bytes())
+    path = made("timer", log_at(FOLDER / language / "timer.log").read_bytes())
     recording = path.read_bytes()
     notes = read_notes(path, recording)
     tries.check(f"{language}: notes are read as they were written", notes.text(recording) == path.with_suffix(".notes").read_text(), "")
@@ -143,7 +174,7 @@ def try_notes(tries: Tries, language: str, latest: str, functions: set[str]) -> 
         page: dict[str, Any] = Page(walk).values()
         lanes = {it["name"] for it in page["lanes"]}
         tries.check(f"{language}: lanes", functions <= lanes, lanes)
-    data = (FOLDER / language / "timer.log").read_bytes()
+    data = log_at(FOLDER / language / "timer.log").read_bytes()
     lines, whole = from_data(data, read_log(data), "timer", lifts=True)
     lifted = Path("timer.lift.rec").exists()
     tries.check(f"{language}: --lift is for node", whole and not lifted and lines[-1].startswith("--lift is for programs in node"), lines)
@@ -151,7 +182,7 @@ def try_notes(tries: Tries, language: str, latest: str, functions: set[str]) -> 
 
 def try_killed(tries: Tries) -> None:
     """A program in Python that was in a `while True` as SIGKILL ended it: what was looked at is there, up to its last tenth of a second."""
-    path, truth = made("forever", (FOLDER / "python" / "forever.log").read_bytes()), (FOLDER / "python" / "forever.said").read_text()
+    path, truth = made("forever", log_at(FOLDER / "python" / "forever.log").read_bytes()), (FOLDER / "python" / "forever.said").read_text()
     said = unfolded(answer(path, "spin"))
     found = re.search(r"never ended: it was under way for (\d+) ms as the log ends, nearly all of it at lines? (\d+): `(?:while True:|pass)`", said)
     tries.check("python, killed: what never ended", found is not None and found[2] in ("17", "18"), said)

@@ -10,7 +10,9 @@ from tests.helper import Check
 from uvt.notes import Notes, read_notes, sentence
 from uvt.record.differences import IO
 from uvt.record.log import read_log
-from uvt.record.run import Made, make, notes_of, where_it_stops
+from uvt.record.made import Made, make
+from uvt.record.noted import notes_of
+from uvt.record.told import where_it_stops
 
 # A tcp, an async handle and a check handle; the tcp is started, and the others don't count.
 MADE = [

@@ -11,7 +11,7 @@ import tempfile
 from pathlib import Path
 
 from tests.helper import Tries, limited
-from tests.tools.forces import BADLY, WELL, tool
+from tests.tools.forces import BADLY, WELL, hunted, tool
 
 HERE = Path(__file__).resolve().parent
 # Debian's, which has Debian's uvloop.
@@ -42,7 +42,7 @@ def try_race(tries: Tries, words: list[str], folder: str) -> None:
     name = Path(words[-1]).name
     alone = limited(words, capture_output=True, text=True, cwd=folder)
     tries.check(f"{name}, by itself", alone.returncode == 0, alone)
-    status, said = tool("hunt", ["-o", f"{name}.found", *words], folder)
+    status, said = hunted(["-o", f"{name}.found", *words], folder)
     found = re.match(r"the program ended with status 1, and in (\d+) of 10 further runs in the same order\n", said)
     tries.check(f"hunt, {name}", status == BADLY and found, f"{status} {said}")
     tries.check(f"hunt, {name}: its order is bad each time", found and found[1] == "10", said)

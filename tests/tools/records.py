@@ -16,7 +16,7 @@ import tempfile
 from pathlib import Path
 
 ROOT = Path(__file__).resolve().parent.parent.parent
-from tests.helper import SECONDS, Check, Tries, limited
+from tests.helper import SECONDS, Check, Tries, limited, log_at, logs_in
 from tests.tools.ios import try_io
 from uvt.conversation import Fault, built_program
 from uvt.notes import Notes, read_notes
@@ -89,6 +89,10 @@ WANTED: dict[str, dict[int, tuple[str, str] | None]] = {
 POLLS: dict[tuple[str, int], tuple[int, int, int]] = {("watchers", 0): (5, 6, 0), ("datagrams", 0): (3, 3, 1), ("storm", 0): (189, 189, 1)}
 
 
+def log_of(name: str) -> Path:
+    return log_at(LOGS / f"{name}.log")
+
+
 def recorded(words: list[str], folder: str, seconds: int = SECONDS) -> subprocess.CompletedProcess[str]:
     return limited([RECORD, *words], cwd=folder, capture_output=True, text=True, seconds=seconds, env=os.environ)
 
@@ -141,7 +145,7 @@ def agrees(recording: Path, wanted: list[tuple[str, str]]) -> str:
 
 
 def try_log(check: Check, name: str, folder: str) -> None:
-    log = LOGS / f"{name}.log"
+    log = log_of(name)
     ran = recorded(["-o", name, "--log", str(log)], folder)
     loops = WANTED[name]
     whole = all(it is None for it in loops.values())
@@ -212,7 +216,7 @@ def changes(text: bytes) -> list[bytes]:
 
 def try_changed(check: Check, folder: str) -> None:
     """A log that is cut anywhere, or has another byte: a sentence and a status, and what is written is `same`."""
-    kept = (LOGS / "work.log", LOGS / "watchers.log", LOGS / "datagrams.log", *(TRUTHS / f"{it}.log" for it in ("wrongthread", "starve", "hangup")))
+    kept = [*map(log_of, ("work", "watchers", "datagrams")), *(log_at(TRUTHS / f"{it}.log") for it in ("wrongthread", "starve", "hangup"))]
     for log in kept:
         name = log.stem
         for number, data in enumerate(changes(log.read_bytes())):
@@ -240,13 +244,13 @@ def try_faults(check: Check, folder: str) -> None:
         ("no such log", ["--log", "nowhere.log"], "nowhere.log: No such file or directory"),
         ("a folder as a log", ["--log", "."], "Is a directory"),
         ("no log", ["--log", str(ROOT / "README.md")], "this is no log of a program"),
-        ("a folder in a recording's place", ["-o", "full", "--log", str(LOGS / "late.log")], "full.rec: Is a directory"),
+        ("a folder in a recording's place", ["-o", "full", "--log", str(log_of("late"))], "full.rec: Is a directory"),
         ("a recording as a log", ["--log", str(EXAMPLES / "sent-session.rec")], "this is a recording, and no log"),
         ("a recording as a program", [str(EXAMPLES / "sent-session.rec")], "is a recording already, and no program"),
-        ("a log as a program", [str(LOGS / "late.log")], "is a log, and no program"),
-        ("a part of a log that has no place to begin", ["--last", "1", "--log", str(LOGS / "late.log")], "no recording can begin at 0 ms"),
-        ("no number of callbacks", ["--most", "none", "--log", str(LOGS / "late.log")], "`none` is no number from 1 on"),
-        ("a folder that isn't there", ["-o", "none/late", "--log", str(LOGS / "late.log")], "none/late.rec: No such file or directory"),
+        ("a log as a program", [str(log_of("late"))], "is a log, and no program"),
+        ("a part of a log that has no place to begin", ["--last", "1", "--log", str(log_of("late"))], "no recording can begin at 0 ms"),
+        ("no number of callbacks", ["--most", "none", "--log", str(log_of("late"))], "`none` is no number from 1 on"),
+        ("a folder that isn't there", ["-o", "none/late", "--log", str(log_of("late"))], "none/late.rec: No such file or directory"),
     ]
     for what, words, wanted in cases:
         ran = recorded(words, folder)
@@ -430,7 +434,7 @@ def try_two(check: Check, folder: str, libuv: str) -> None:
 
 def try_unseen(check: Check, folder: str) -> None:
     """A log that says what can't be seen."""
-    lines = (LOGS / "late.log").read_text().split("\n")
+    lines = log_of("late").read_text().split("\n")
     for unseen, wanted in (
         ("uv_signal_start it is too short", "uv_signal_start can't be seen (it is too short)"),
         ("- no capstone", "nothing can be seen"),
@@ -569,7 +573,7 @@ def try_long(check: Check, folder: str) -> None:
 
 def try_whys_of_parts(check: Check, folder: str) -> None:
     """A recording that is only a beginning: each tool says so."""
-    recorded(["-o", "cut", "--log", str(LOGS / "closing.log")], folder)
+    recorded(["-o", "cut", "--log", str(log_of("closing"))], folder)
     for words in (["uvt-why", "timer", "cut.rec"], ["uvt-why", "cut.rec"], ["uvt-shell", "cut.rec"], ["uvt-view", "cut.rec"]):
         ran = limited(
             [str(ROOT / "tools" / "uvt" / words[0]), *words[1:]],
@@ -583,7 +587,7 @@ def try_whys_of_parts(check: Check, folder: str) -> None:
         check(f"{' '.join(words)} of a beginning", "THE RECORDING IS A PART: it has the first" in ran.stdout, ran.stdout[-500:] + ran.stderr)
     for tool, *words in (("uvt-why", "tick"), ("uvt-shell",), ("uvt-view",)):
         ran = limited(
-            [str(ROOT / "tools" / "uvt" / tool), *words, str(LOGS / "zero.log")], capture_output=True, text=True, seconds=SECONDS, env=os.environ
+            [str(ROOT / "tools" / "uvt" / tool), *words, str(log_of("zero"))], capture_output=True, text=True, seconds=SECONDS, env=os.environ
         )
         check(f"{tool} of a log", ran.returncode == 1 and "this is a log of a program" in ran.stderr and "Traceback" not in ran.stderr, ran.stderr)
 
@@ -628,7 +632,7 @@ def try_pages(check: Check) -> None:
     for page, log, call, other in PAGES:
         with tempfile.TemporaryDirectory() as folder:
             (Path(folder) / "uvt").symlink_to(ROOT / "uvt")
-            shutil.copy(LOGS / f"{log}.log", folder)
+            shutil.copy(log_of(log), folder)
             # (lines of JavaScript are read from its file)
             shutil.copy(LOGS.parent / "javascript" / "app.js", folder)
             try_page(check, ROOT / page, folder, log, call, other)
@@ -636,7 +640,7 @@ def try_pages(check: Check) -> None:
 
 def try_sharpness(check: Check) -> None:
     """Changed logs are noticed: a request's callback left out or doubled always, two swapped of which not both are of I/O in nine of ten."""
-    logs = [str(LOGS / f"{name}.log") for name in WANTED]
+    logs = [str(log_of(name)) for name in WANTED]
     words = [str(ROOT / "tests" / "recorder" / "sharpness"), "--most", "20", *logs]
     ran = limited(words, capture_output=True, text=True, seconds=LONG)
     counts = {it[0]: (int(it[1]), int(it[2])) for it in re.findall(r"^([\w/ ]+): (\d+) of (\d+) noticed$", ran.stdout, re.MULTILINE)}
@@ -649,7 +653,7 @@ def try_sharpness(check: Check) -> None:
 def try_records(tries: Tries) -> None:
     check = tries.check
     os.environ["UVT"] = built_program()
-    check("record: each log is known", {it.stem for it in LOGS.glob("*.log")} == set(WANTED))
+    check("record: each log is known", {it.stem for it in logs_in(LOGS)} == set(WANTED))
     with tempfile.TemporaryDirectory() as folder:
         for name in WANTED:
             try_log(check, name, folder)

@@ -7,7 +7,8 @@
     check (whys.py, slow_why.py)
   - the page of a run (tools/uvt/uvt-view): its states beside the program's, and the lanes (views.py). How it looks in a browser is for the
     hand: tests/tools/browser
-  - the same run in the Trace Event Format, by the format's rules (trace_events.py)
+  - the same run in the Trace Event Format, by the format's rules (trace_events.py); and what Chromium's DevTools have of it, where chromium is
+    installed (devtools.py)
   - the debug adapter (tools/uvt/uvt-dap), by a client that looks at the shape of each message (daps.py). Another client, in Go,
     is for the hand: tests/tools/godap/run
   - the extension for VS Code (tools/uvt/vscode), without the editor: its files' fields, its colours beside the program, and the adapter as
@@ -15,7 +16,8 @@
   - the same script on libuv (tools/uvt/uvt-libuv), where it is installed (libuvs.py). By hand, and much more of it: tests/libuv/run
   - recordings of programs (tools/uvt/uvt-record) from the logs of logs/, logs that are cut or changed, and, with a C compiler and libuv, programs
     (records.py); and from logs that are drawn, of threads that are held up within a send (held.py)
-  - programs of which the last windows are kept, copies of them while they run, and programs that run already (keeps.py, kept.c)
+  - programs of which the last windows are kept, and copies of them while they run (keeps.py, kept.c); the recorder in programs that run
+    already, and out of them again (attaches.py)
   - orders that are forced upon real programs (tools/uvt/uvt-force), with a C compiler and libuv (forces.py, forces/)
   - races in node and in Python, hunted (races.py, javascript/races/, python/races/)
   - what `why` says of programs whose true causes are known, and that it says nothing that they don't confirm (truths.py, truths/)
@@ -52,7 +54,9 @@ from pathlib import Path
 from typing import Callable
 
 from tests.helper import EXAMPLES, ROOT, Tries, limited
+from tests.tools.attaches import try_attaches
 from tests.tools.daps import BEFORE_SENDS, CONVERSATIONS, try_adapter
+from tests.tools.devtools import try_devtools
 from tests.tools.editors import try_editors
 from tests.tools.finds import try_find
 from tests.tools.forces import try_forces
@@ -310,6 +314,7 @@ PARTS: dict[str, Callable[[Tries], None]] = {
     "terminal": try_terminal,
     "views": try_views,
     "trace-events": try_trace_events,
+    "devtools": try_devtools,
     "adapter": try_adapter,
     "editors": try_editors,
     "libuv": try_libuv,
@@ -319,6 +324,7 @@ PARTS: dict[str, Callable[[Tries], None]] = {
     "besides": try_besides,
     "records": try_records,
     "keeps": try_keeps,
+    "attaches": try_attaches,
     "held": try_held,
     "harms": try_harms,
     "forces": try_forces,

@@ -8,7 +8,7 @@ import subprocess
 import time
 from pathlib import Path
 
-from tests.helper import Tries, limited, talked
+from tests.helper import Tries, limited, log_at, talked
 
 ROOT = Path(__file__).resolve().parent.parent.parent
 LAUNCHER = str(ROOT / "uvt")
@@ -19,7 +19,7 @@ WORDS = (
     ["why", SCRIPT],
     ["view", SCRIPT],
     ["shell", SCRIPT],
-    ["record", "--log", str(ROOT / "tests" / "tools" / "logs" / "storm.log"), "-o", "/dev/null/storm"],
+    ["record", "--log", str(log_at(ROOT / "tests" / "tools" / "logs" / "storm.log")), "-o", "/dev/null/storm"],
 )
 
 

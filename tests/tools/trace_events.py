@@ -9,7 +9,7 @@ import tempfile
 from pathlib import Path
 
 ROOT = Path(__file__).resolve().parent.parent.parent
-from tests.helper import Check, Tries, limited
+from tests.helper import Check, Tries, limited, log_at
 from uvt.record.log import read_log
 from uvt.record.run import from_data
 
@@ -176,7 +176,7 @@ def profile_wrong(nodes: list[dict], samples: list[int], deltas: list[int]) -> l
 def try_javascript(check: Check, folder: str) -> None:
     """Recordings of node: what DevTools and Perfetto get of their JavaScript."""
     for name in ("json", "server", "pool", "nested"):
-        data = (HERE / "javascript" / "node20" / f"{name}.log").read_bytes()
+        data = log_at(HERE / "javascript" / "node20" / f"{name}.log").read_bytes()
         from_data(data, read_log(data), str(Path(folder) / f"js-{name}"))
         path = next(it for it in (Path(folder) / f"js-{name}.rec", Path(folder) / f"js-{name}.2.rec") if it.exists())
         events, wrong = wrong_of(traced(path))
@@ -192,7 +192,8 @@ def try_javascript(check: Check, folder: str) -> None:
         late = [json.loads(it["args"]["detail"])["devtools"] for it in mine if it["ph"] == "b" and it["name"].rpartition(" is late by ")[1]]
         said = limited([str(ROOT / "tools" / "uvt" / "uvt-why"), str(path)], capture_output=True, text=True, env=os.environ).stdout
         said = " ".join(said.split())
-        for it in late[:1]:
+        # (of calls that are alike the latest one is told without a name)
+        for it in sorted(late, key=lambda it: -int(it["tooltipText"].split(" ")[2]))[:1]:
             check(f"why a timer of {name}.js was late", dict(it["properties"])["why"][:60] in said, (it, said[:2000]))
         check(f"late timers of {name}.js", bool(late) == ("the latest timers of JavaScript" in said), late)
         arrows = {it["id"]: it["ph"] for it in mine if it["ph"] in "sf"}
@@ -236,7 +237,7 @@ def try_trace_events(tries: Tries) -> None:
         logs = [f"truths/{it}" for it in ("pool", "watched", "starve", "chat")] + [
             f"logs/{it}" for it in ("threads", "node-late", "uvloop-echo", "starved")
         ]
-        for log in (HERE / f"{it}.log" for it in logs):
+        for log in (log_at(HERE / f"{it}.log") for it in logs):
             data = log.read_bytes()
             from_data(data, read_log(data), str(Path(folder) / log.stem))
             for path in sorted(Path(folder).glob(f"{log.stem}*.rec")):

@@ -12,7 +12,7 @@ from dataclasses import dataclass, field
 from pathlib import Path
 
 ROOT = Path(__file__).resolve().parent.parent.parent
-from tests.helper import Check, Tries
+from tests.helper import Check, Tries, log_at
 from uvt import log_summary
 from uvt.conversation import read_input
 from uvt.overview import Overview
@@ -38,6 +38,133 @@ class Question:
 
 
 QUESTIONS = [
+    # ---- twenty-eight, of which the cause was written down before anything was recorded: waits, work of the C library, a busy machine
+    Question("posted", "beat", [r"of load, on_load .*: 7\d ms in sem_wait, at posted\.c:14, in fetch, called at posted\.c:18, in on_load"]),
+    Question("signalled", ALL, [r"of gate, on_gate .*: 6\d ms in pthread_cond_wait, at signalled\.c:19, in wait_ready"]),
+    Question("mapped", ALL, [r"of scan, on_scan .*; 16384 page faults had to wait for the disk; .*in sum_pages \(mapped\.c:10\)"]),
+    Question("flocked", ALL, [r"of save, on_save .*: 9\d ms in flock, at flocked\.c:10, in take_lock, called at flocked\.c:15, in on_save"]),
+    Question("lockedf", ALL, [r"of save, on_save .*: 90 ms in fcntl, at lockedf\.c:11, in take_lock"], ["doesn't see"]),
+    Question("ownpoll", ALL, [r"of drain, on_drain .*: 60 ms in epoll_wait, at ownpoll\.c:8, in wait_for_peer"], ["doesn't see"]),
+    Question("spins", ALL, [r"of rates, on_rates .*its time on the processor in pthread_spin_lock .*, called by read_rates \(spins\.c:16\)"]),
+    Question("yields", ALL, [r"of turn, on_turn .*its time on the processor in sched_yield .*, called by await_flag \(yields\.c:15\)"]),
+    Question(
+        "regexes", ALL, [r"of rule, on_rule .*its time on the processor in get_subexp .*, called by regexec .*, by match_rules \(regexes\.c:12\)"]
+    ),
+    Question("copies", ALL, [r"of snap, on_snap .*its time on the processor in memcpy \(.*, called by snapshot \(copies\.c:8\)"], ["evex|avx"]),
+    Question("copies", "snap", [r"called 0 ms after its start, 20 ms too soon: .*: 5\d ms had gone by in the main program"], ["late by"]),
+    Question("frees", ALL, [r"of drop, on_drop .*its time on the processor in free \(.*, called by drop_list \(frees\.c:7\)"], ["libc_free"]),
+    Question(
+        "hogs",
+        ALL,
+        [
+            r"120 ms, 30 of them on the processor: the callback of work, .*: the thread waited 90 ms for a processor, and was pushed off it 22 times",
+            r"the latest timers\n    beat, .*\n    for want of a processor, .*: 4 calls of work and beat, late by up to 9 ms",
+        ],
+        ["the system ended it", "gave the processor away"],
+    ),
+    Question(
+        "hogpoll",
+        "beat",
+        [r"late by 37 ms: the poll, from step \d+ to \d+, was to end at 15 ms, and the thread waited 37 ms for a processor"],
+        ["the system ended it"],
+    ),
+    Question(
+        "hogpoll",
+        ALL,
+        [r"the latest timers\n    for want of a processor, or woken late by the system: 12 calls of beat, late by up to 71 ms"],
+    ),
+    Question(
+        "lateask",
+        "second",
+        [
+            r"called [01] ms after its start, (39|40) ms too soon: it is due by the loop's time, which was 20 ms still as it was started at 80 ms: "
+            r"the callback of first, on_first \(lateask\.c:9\) had taken 60 ms by then",
+            r"started at step \d+, when the loop's time was 20 ms and the clock at 80 ms \(so it is due 60 ms too soon, reckoned from its start\)",
+        ],
+        ["late by"],
+    ),
+    Question("lateask", ALL, [r"timers that came too soon\n    second, step"], [r"second, step \d+, call 1: late"]),
+    Question("lateupd", "second", [r"call 1: (on time|late by [12] ms)"], ["too soon"]),
+    Question(
+        "lookups",
+        "look_4",
+        [r"waited for a worker from step \d+ to \d+, 120 ms, behind .* \(libuv has half of its workers at the most do lookups at a time"],
+        ["worker [4-9]", "doesn't see"],
+    ),
+    Question("lookups", "look_1", [r"waited for a worker from step \d+ to \d+, [0-3] ms; worker \d took it"], ["half of its workers"]),
+    Question(
+        "manypoll",
+        ALL,
+        [r"who spun\n    614 polls in a row didn't wait, from step \d+ to \d+, 52 ms: peer was called in each of these rounds or most\nnames"],
+    ),
+    Question("noexit", ALL, [r"never called\n    child \(process\), news \(async\), slow \(work\) and lost \(fs_stat\)"]),
+    Question(
+        "shapes", ALL, [r"of refresh, a lambda of main .*, called by shop::Cache::refill \(truth\.h:27\), by a std::function \(shapes\.cc:28\)"]
+    ),
+    Question("printing", ALL, [r"of audit, on_audit .*: 80 ms in fprintf, at printing\.c:8, in tell_all"], ["doesn't see"]),
+    Question(
+        "timedlock",
+        ALL,
+        [
+            r"of ask, a lambda of main .*: 60 ms in pthread_cond_clockwait, at timedlock\.cc:14, in await_answer, called at timedlock\.cc:35",
+            r"of look, a lambda of main .*: 50 ms in pthread_mutex_clocklock, which thread 2 had, at timedlock\.cc:17, in try_index",
+        ],
+    ),
+    Question(
+        "eleven",
+        ALL,
+        [r": 7\d ms in mtx_lock, which thread 2 had, at eleven\.c:18, in on_merge", r": 40 ms in thrd_sleep, at eleven\.c:25, in on_rest"],
+    ),
+    Question("sigwaits", ALL, [r"of ack, on_ack .*: 60 ms in sigtimedwait, at sigwaits\.c:11, in await_ack"], ["doesn't see"]),
+    Question("sends", ALL, [r"of backup, on_backup .*: 79 ms in sendfile, at sends\.c:11, in copy_file, .*the thread waited 2\d ms for a processor"]),
+    Question("unmaps", ALL, [r"of shrink, on_shrink .*; 34 ms in the kernel; it was found in munmap .*, called by drop_arena \(unmaps\.c:9\)"]),
+    Question("getlines", ALL, [r"of ask, on_ask .*: 83 ms in getline, at getlines\.c:9, in read_answer"], ["doesn't see"]),
+    Question("future", ALL, [r"of quote, a lambda of main .*: 72 ms in futex, at future\.cc:8, in await_price"], ["doesn't see"]),
+    Question("waitids", ALL, [r"of tidy, on_tidy .*: 84 ms in waitid, at waitids\.c:9, in await_helper"], ["doesn't see"]),
+    Question(
+        "saves",
+        ALL,
+        [r"of save, on_save .*: \d+ ms in write, at saves\.c:11, in save_index, called at saves\.c:17, in on_save; \d+ ms in fsync, at saves\.c:12"],
+    ),
+    Question("hooked", ALL, [r"none of them on the processor: the callback of hook, on_hook .*: 12\d ms in fgets, at hooked\.c:7, in run_hook"]),
+    Question("fullpipe", ALL, [r"none of them on the processor: the callback of report, .*: 13\d ms in write, at fullpipe\.c:13, in send_report"]),
+    Question("written", ALL, [r"none of them on the processor: the callback of look, .*: 9\d ms in uv_rwlock_rdlock, at written\.c:14, in look_up"]),
+    Question("round", ALL, [r"none of them on the processor: the callback of turn, .*: 10\d ms in uv_barrier_wait, at round\.c:10, in join_round"]),
+    Question(
+        "packet",
+        "beat",
+        [r"the callback of in, on_packet \(packet\.c:14\), took .*nearly all of its time on the processor in parse \(packet\.c:11\)"],
+    ),
+    Question("rounds", "beat", [r"late by \d\d ms: .*the callback of idle, compute \(rounds\.c:7\), took \d\d ms"]),
+    Question("prices", ALL, [r"none of them on the processor: the callback of ask, ask_price \(prices\.cc:11\), .*: 110 ms in pthread_join"]),
+    Question(
+        "sorts",
+        ALL,
+        [
+            r"of job, on_job \(sorts\.c:13\), .* of its time on the processor in msort_with_tmp \([^)]*\), called by qsort_r \([^)]*\),"
+            r" by sort_prices \(sorts\.c:9\)"
+        ],
+        [r"of job, by_number", r"msort_with_tmp \([^)]*\), by msort_with_tmp"],
+    ),
+    Question(
+        "index",
+        ALL,
+        [
+            r"of look, a lambda of main \(index\.cc:41\), .*: 115 ms in pthread_mutex_lock, which thread 2 had, at index\.cc:23, in Cache::refresh,",
+            r"of job, a lambda of main \(index\.cc:30\), .*(?:in|by) shop::Index::rebuild \(index\.cc:17\), (?:called )?by a lambda of main"
+            r" \(index\.cc:32\)",
+        ],
+        [r"/usr/include", r"std_mutex\.h", r"_FUN"],
+    ),
+    Question(
+        "held",
+        ALL,
+        [
+            r"of report, on_report .*: 81 ms in uv_mutex_lock, which thread compact had, at held\.c:\d+, in take",
+            r"of index_timer, on_index .*: 84 ms in uv_mutex_lock, which thread 2 had, at held\.c:\d+, in take",
+            r"of save, on_save .*: 110 ms in uv_mutex_lock, which the work of job had, at held\.c:\d+, in take",
+        ],
+    ),
     Question(
         "askedlate",
         "job",
@@ -434,7 +561,7 @@ SAYS = {"on_request_3": "request 3"}
 # How long a request of a stream was under way, and a callback or work on the processor: what is told, and what the program said.
 UNDER_WAY = re.compile(r"a (write|connect|shutdown|datagram)(?: of \d+ bytes?)?, asked for .*?, was (?:done|cancelled) (\d+) ms later")
 SAID_WAITED = re.compile(r"(.+): (\w+) waited (\d+) ms")
-RAN_FOR = re.compile(r"(?:the callback of ([a-z_0-9]+)|work_([a-z_]+))[^;]*? (\d+) ms, (\d+|none) of them on the processor")
+RAN_FOR = re.compile(r"(?:the callback of ([a-z_0-9]+)|work_([a-z_]+))[^;\n]*? (\d+) ms, (\d+|none) of them on the processor")
 SAID_RAN = re.compile(r"(.+) was on the processor for (\d+) ms")
 
 
@@ -475,7 +602,7 @@ AT_ONCE = {
 
 def try_glance(check: Check, program: str, walk: Walk) -> None:
     """What the log says by itself, beside what the program printed, and beside what `why` says of the late timers."""
-    told = "\n".join(log_summary.told((TRUTHS / f"{program}.log").read_bytes()))
+    told = "\n".join(log_summary.told(log_at(TRUTHS / f"{program}.log").read_bytes()))
     said = said_of(program)
     for took, name in LONG.findall(told):
         known = said.get(re.sub(r"\[(\d+)\]", r"_\1", name), [])
@@ -507,7 +634,7 @@ def untrue_of_processor(answer: str, program: str) -> list[str]:
 
 
 def recorded(check: Check, program: str, folder: Path) -> Walk:
-    data = (TRUTHS / f"{program}.log").read_bytes()
+    data = log_at(TRUTHS / f"{program}.log").read_bytes()
     lines, whole = from_data(data, read_log(data), str(folder / program))
     check(f"truths, {program}: its recording", whole, lines)
     loud = "WRONG THREAD: uv_timer_start of wrong by another thread" in "\n".join(lines)

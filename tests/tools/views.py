@@ -10,10 +10,10 @@ import tempfile
 from pathlib import Path
 
 ROOT = Path(__file__).resolve().parent.parent.parent
-from tests.helper import Check, Tries, limited
+from tests.helper import Check, Tries, limited, log_at
 from tests.tools.whys import BEHIND
 from uvt.conversation import Conversation, read_input
-from uvt.walk import longest_way
+from uvt.ways import longest_way
 
 EXAMPLES = ROOT / "crates" / "examples" / "data"
 VIEW = str(ROOT / "tools" / "uvt" / "uvt-view")
@@ -84,7 +84,7 @@ def try_io(check: Check) -> None:
 def try_opening(check: Check) -> None:
     """A recording is opened at its latest call, with what stands out beside it; a script at its beginning. Where somebody asks for a step, there."""
     with tempfile.TemporaryDirectory() as folder:
-        log = ROOT / "tests" / "tools" / "truths" / "debounced.log"
+        log = log_at(ROOT / "tests" / "tools" / "truths" / "debounced.log")
         limited([str(ROOT / "tools" / "uvt" / "uvt-record"), "-o", f"{folder}/debounced", "--log", str(log)], capture_output=True)
         pages = [viewed(words).stdout for words in ([f"{folder}/debounced.rec"], [f"{folder}/debounced.rec", "--at", "3"])]
     run, asked = (json.loads(VALUES.search(it)[1]) for it in pages)
@@ -100,7 +100,7 @@ def try_opening(check: Check) -> None:
 def try_requests(check: Check) -> None:
     """A stream's requests have a lane beside it: by its source the program writes twice in `main`, and the close callback cancels both."""
     with tempfile.TemporaryDirectory() as folder:
-        log = ROOT / "tests" / "tools" / "truths" / "hangup.log"
+        log = log_at(ROOT / "tests" / "tools" / "truths" / "hangup.log")
         limited([str(ROOT / "tools" / "uvt" / "uvt-record"), "-o", f"{folder}/hangup", "--log", str(log)], capture_output=True)
         run = json.loads(VALUES.search(viewed([f"{folder}/hangup.rec"]).stdout)[1])
     lanes = {it["name"]: it for it in run["lanes"]}

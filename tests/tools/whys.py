@@ -17,7 +17,8 @@ from uvt.arrivals import behind, came, waited
 from uvt.conversation import Script, read_text
 from uvt.overview import Overview
 from uvt.waits import Wait
-from uvt.walk import Walk, longest_way
+from uvt.walk import Walk
+from uvt.ways import longest_way
 from uvt.why import Why, why
 
 EXAMPLES = ROOT / "crates" / "examples" / "data"

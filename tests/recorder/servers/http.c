@@ -1,8 +1,8 @@
-/* A server over TCP with its clients in one process, flat out, for tests/recorder/flight: http SECONDS CLIENTS [STALL_MS STALL_AT_MS]
+/* A server over TCP with its clients in one process, for tests/recorder/flight: http SECONDS CLIENTS [STALL_MS STALL_AT_MS [PAUSE_MS]]
  *
  * A request is 5 bytes, an answer too. Each request starts a timer of its client anew, and each fiftieth has work for the pool. A beat each 100 ms
- * ends it. Where it is asked for, the first request from STALL_AT_MS on takes STALL_MS in rebuild_index. At the end it says how many callbacks it
- * had. */
+ * ends it. Where it is asked for, the first request from STALL_AT_MS on takes STALL_MS in rebuild_index. Without a pause behind each answer it is
+ * flat out. At the end it says how many callbacks it had. */
 #include <netinet/in.h>
 #include <stdio.h>
 #include <stdlib.h>
@@ -12,7 +12,7 @@
 
 struct client {
     uv_tcp_t out, in;
-    uv_timer_t patience;
+    uv_timer_t patience, rest;
     uv_write_t asked, answered;
     uv_connect_t connect;
     uv_work_t work;
@@ -24,7 +24,7 @@ static uv_timer_t beat;
 static struct client *clients;
 static long callbacks;
 static uint64_t begun, end_at, stall_at;
-static int count, accepted, stall;
+static int count, accepted, stall, pause_ms;
 static char room[64];
 
 static void rebuild_index(int ms) {
@@ -62,10 +62,18 @@ static void on_worked(uv_work_t *work, int status) {
     callbacks++;
 }
 
+static void on_rest(uv_timer_t *timer) {
+    callbacks++;
+    ask(timer->data);
+}
+
 static void on_answer(uv_stream_t *stream, ssize_t length, const uv_buf_t *bytes) {
+    struct client *client = stream->data;
     (void)bytes;
     callbacks++;
-    if (length > 0) ask(stream->data);
+    if (length <= 0) return;
+    if (pause_ms) uv_timer_start(&client->rest, on_rest, (uint64_t)pause_ms, 0);
+    else ask(client);
 }
 
 static void on_answered(uv_write_t *request, int status) {
@@ -122,6 +130,7 @@ int main(int words, char **word) {
     if (words < 3) return 2;
     count = atoi(word[2]);
     if (words > 4) stall = atoi(word[3]), stall_at = (uint64_t)atol(word[4]);
+    if (words > 5) pause_ms = atoi(word[5]);
     clients = calloc((size_t)count, sizeof *clients);
     uv_update_time(loop);
     begun = uv_now(loop);
@@ -135,6 +144,8 @@ int main(int words, char **word) {
     for (int at = 0; at < count; at++) {
         struct client *client = &clients[at];
         uv_timer_init(loop, &client->patience);
+        uv_timer_init(loop, &client->rest);
+        client->rest.data = client;
         uv_tcp_init(loop, &client->out);
         client->out.data = client->connect.data = client;
         uv_tcp_connect(&client->connect, &client->out, (struct sockaddr *)&address, on_connected);

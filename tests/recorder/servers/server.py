@@ -1,4 +1,4 @@
-"""An echo on uvloop with 20 clients of its own, and a heartbeat, for tests/recorder/flight: server.py SECONDS [STALL_MS STALL_AT_MS]"""
+"""An echo on uvloop with 20 clients of its own, and a heartbeat, for tests/recorder/flight: server.py SECONDS [STALL_MS STALL_AT_MS [PAUSE_MS]]"""
 
 import asyncio
 import sys
@@ -6,7 +6,7 @@ import time
 
 import uvloop
 
-SECONDS, STALL, STALL_AT = (float(it) for it in [*sys.argv[1:], "0", "0"][:3])
+SECONDS, STALL, STALL_AT, PAUSE = (float(it) for it in [*sys.argv[1:], "0", "0", "0"][:4])
 begun, stalled = time.monotonic(), False
 
 
@@ -28,6 +28,8 @@ async def ask(port: int) -> None:
     while True:
         writer.write(b"get")
         await reader.read(64)
+        if PAUSE:
+            await asyncio.sleep(PAUSE / 1000)
 
 
 async def heartbeat() -> None:

@@ -1,17 +1,17 @@
-/* Another thread sends three times in a row, and then four times: each row is one call. */
+/* Another thread sends once, and then four times in a row: each is one call. (A loop that gets no processor meanwhile has one for all.) */
 #include "truth.h"
 static uv_async_t news;
-static int calls;
+static volatile int calls, sent;
 static void on_news(uv_async_t *async) {
     works("news", 20);
-    if (++calls == 2) uv_close((uv_handle_t *)async, NULL);
+    if (++calls == 2 || sent == 5) uv_close((uv_handle_t *)async, NULL);
 }
 static void sender(void *none) {
     usleep(10000);
-    uv_async_send(&news);
+    sent++, uv_async_send(&news);
     usleep(5000);
     for (int at = 0; at < 4; at++) {
-        uv_async_send(&news);
+        sent++, uv_async_send(&news);
         usleep(2000);
     }
 }
