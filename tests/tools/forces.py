@@ -178,6 +178,15 @@ def try_long_ones(check: Check, folder: str) -> None:
         check(f"hunt, {name}: its order is bad each time", status == BADLY and good, f"{status} {said}")
 
 
+def try_steady(check: Check, folder: str) -> None:
+    """An order that is bad in each second run is not the answer where a further one is bad each time."""
+    program = compiled("sometimes", folder, "-luv")
+    for seed in range(1, 9):
+        status, said = hunted(["--seed", str(seed), "-o", "sometimes", program, f"{folder}/counter-{seed}"], folder)
+        good = said.startswith("the program ended with status 1, and in 10 of 10 further runs in the same order\n")
+        check(f"hunt, sometimes: its order is bad each time, by seed {seed}", status == BADLY and good, f"{status} {said}")
+
+
 def try_hunts(check: Check, folder: str) -> None:
     program = compiled("lookup", folder, "-fsanitize=address", "-luv")
     status, said = hunted(["-o", "found", program], folder)
@@ -429,7 +438,20 @@ def try_parts(check: Check, folder: str) -> None:
 
 
 HUNTS = (
-    *(try_sanitizer, try_random, try_hunts, try_kept, try_long_ones, try_hangs, try_first, try_unwritten, try_results, try_reports, try_interrupt),
+    *(
+        try_sanitizer,
+        try_random,
+        try_hunts,
+        try_kept,
+        try_long_ones,
+        try_steady,
+        try_hangs,
+        try_first,
+        try_unwritten,
+        try_results,
+        try_reports,
+        try_interrupt,
+    ),
     try_parts,
 )
 

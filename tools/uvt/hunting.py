@@ -3,6 +3,7 @@
 from __future__ import annotations
 
 import itertools
+import math
 import re
 import subprocess
 import tempfile
@@ -27,6 +28,8 @@ NAMELESS = {"run", "stoploop", "updatetime", "closeloop"}
 FIRST, SEARCH, STALL, BEFORE, BEHIND = 10, 15, 15, 10, 100
 # How often an order that was bad is forced again; and one of which nobody knows so soon whether it is bad again.
 AGAIN, AGAIN_LATE = 10, 2
+# Where it isn't each time, so many runs more at the least are for one that is.
+MORE = 20
 # What the first run is called; how often another one tells whether it was bad by itself, and how long that may take, in seconds.
 BY_ITSELF, DOUBTS, LONGER = "the first run, which nobody forced", 2, 20
 # So many callbacks of each run are looked at.
@@ -180,7 +183,7 @@ class Wishes:
 
 
 class TimeOver(Exception):
-    """No time is left."""
+    """No time is left, or no more runs are worth it."""
 
 
 class Hunt:
@@ -205,8 +208,9 @@ class Hunt:
         self.loop = 0
         self.runs = self.doubts = 0
         self.fault = ""
-        # what was bad, and not each time again: it is said where no better one is found
+        # what was bad, and not each time again: it is said where no better one is found, within so many runs
         self.spare: Bad | None = None
+        self.enough = math.inf
 
     # ---- runs
 
@@ -233,6 +237,8 @@ class Hunt:
 
     def force(self, order: Order, records: bool | Callable[[Ran], object] = True, limited: bool = True) -> Ran:
         """Forces it. One that isn't LIMITED is neither left out nor cut where no time is left."""
+        if limited and self.spare and self.runs >= self.enough:
+            raise TimeOver
         left, allowed = self.left() if limited else SEARCH, limit(self.first)
         self.runs += 1
         bound(order, self.first, self.length)
@@ -310,7 +316,7 @@ class Hunt:
         bad = self.sure(self.again(self.bad(first, how, BY_ITSELF, self.text), self.order, times), first)
         if bad and bad.bad_again == bad.again:
             return bad
-        self.spare = bad
+        self.spare, self.enough = bad, math.inf
         return None
 
     def doubt(self, ran: Ran) -> Bad | None:
@@ -319,14 +325,14 @@ class Hunt:
         if self.doubts == DOUBTS or ran.late or ran.ended() or not self.first.ended():
             return None
         self.doubts += 1
-        first = self.first
+        first, spare = self.first, self.spare
         if not first.late:
             return self.by_itself(replace(ran, seconds=first.seconds), first.ended())
         if other := self.other():
             return self.by_itself(other, "")
         if bad := self.by_itself(ran, "", at_once=True):
             return bad
-        self.first, self.spare = first, None
+        self.first, self.spare = first, spare
         return None
 
     # ---- what is known
@@ -431,7 +437,7 @@ class Hunt:
             script, commands = read_input(whole)
             other = self.again(replace(bad, order=whole.read_text(), again=0, bad_again=0), Order(script, commands, self.loop), times)
             bad = other if other.bad_again > bad.bad_again else bad
-        return self.sure(bad, ran)
+        return self.steady(self.sure(bad, ran))
 
     def whole_recording(self, ran: Ran) -> Path | None:
         """Of all of the run, and not of the part that is looked at."""
@@ -469,7 +475,7 @@ class Hunt:
         if path:
             script, commands = read_input(path)
             bad = self.again(bad, Order(script, commands, self.loop, early=ran.early), AGAIN if ran.is_told_at_once() else AGAIN_LATE)
-        return self.sure(bad, ran)
+        return self.steady(self.sure(bad, ran))
 
     def bad(self, ran: Ran, how: str, by: str, order: str) -> Bad:
         place, path = place_of(ran.output)
@@ -489,3 +495,13 @@ class Hunt:
             self.counts.once += 1
             return None
         return bad
+
+    def steady(self, bad: Bad | None) -> Bad | None:
+        """One whose order isn't bad each time: for as many runs as it took, and so many at the least, a better one is looked for."""
+        if not bad or not bad.again or bad.bad_again == bad.again:
+            return bad
+        if self.enough == math.inf:
+            self.enough = self.runs + max(self.runs, MORE)
+        if not self.spare or bad.bad_again * self.spare.again > self.spare.bad_again * bad.again:
+            self.spare = bad
+        return None

@@ -22,6 +22,7 @@ static const int KNOWN[] = {
     SYS_read, SYS_write, SYS_close, SYS_epoll_wait, SYS_epoll_pwait, SYS_epoll_ctl, SYS_epoll_create1, SYS_eventfd2, SYS_pipe2, SYS_futex, SYS_brk,
     SYS_mmap, SYS_munmap, SYS_mprotect, SYS_rt_sigreturn, SYS_rt_sigaction, SYS_rt_sigprocmask, SYS_clone, SYS_clone3, SYS_set_robust_list, SYS_rseq,
     SYS_exit, SYS_exit_group, SYS_madvise, SYS_prctl, SYS_fcntl, SYS_ioctl, SYS_getrandom, SYS_prlimit64,
+    SYS_sched_yield, /* (the loop, while another thread is about to wake it) */
 };
 
 static uv_idle_t idle;

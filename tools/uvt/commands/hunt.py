@@ -11,8 +11,9 @@ found is forced upon the program. What callbacks do that were never called befor
 end come a hundred more orders at random.
 
 Where a run ends badly, its order is NAME.uvt, and the same order is forced ten times more (twice, where each takes long): it is said in how many of
-these it ended badly. NAME is the program's, with `.hunt`. --for TIME (60s, 10m, 2h): it ends by then, and until then it goes on with orders at
-random; a run under way is ended then, those that try a bad order again are not. Ctrl-C ends it at any time, and it says what it has done.
+these it ended badly. Where that isn't each time, a better one is looked for, for as many runs as it took. NAME is the program's, with `.hunt`. --for
+TIME (60s, 10m, 2h): it ends by then, and until then it goes on with orders at random; a run under way is ended then, those that try a bad order again
+are not. Ctrl-C ends it at any time, and it says what it has done.
 
 --same-output: a run that says something else than the first one is bad, too. --check CMD: so is one that CMD calls bad. A shell runs it behind each
 run that ended well, with that run's output as its input, and its status in UVT_STATUS. Status 0: it is well. 125: it can't tell. Another one: it is
