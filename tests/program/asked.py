@@ -19,6 +19,8 @@ LONGEST = 600
 LINK = re.compile(r"\[[^\]]*\]\(([^)#\s]*)(?:#([^)\s]+))?\)")
 PATH = re.compile(r"`([\w./-]+/[\w.-]+|\.ci/run)(?: [A-Z]+)?`(?:: ((?:`[\w-]+`(?:, | and )?)+))?")
 FILE = re.compile(r"`(?:\./)?((?:tests|tools|docs|examples|crates)/[\w./-]*[\w-])")
+# Of a crate a page names a file without the folder of all crates.
+OF_CRATE = re.compile(r"`((?:uvt|uvt?_\w+)/(?:src|specs|proofs)/[\w./-]*[\w-])`")
 MINUTES = re.compile(r"some (\d+) minutes on four")
 # Who says how long a build takes: the page that measured it, and those that cite it.
 SAYS = ("docs/BENCHMARKS.md", "README.md", "tools/launch/kept.sh", "tools/launch/usage")
@@ -54,7 +56,8 @@ def wrong(docs: Path, answer: str) -> list[str]:
 def try_paths(check: Check, root: Path) -> None:
     """Each file that a page names is there. (A word in capitals stands for any; what is built is there later.)"""
     for page in (root / "README.md", *sorted((root / "docs").glob("*.md"))):
-        named = {it for it in FILE.findall(page.read_text(encoding="utf-8")) if not re.search(r"\b[A-Z]{4,}\b|/out/", it)}
+        text = page.read_text(encoding="utf-8")
+        named = {it for it in FILE.findall(text) if not re.search(r"\b[A-Z]{4,}\b|/out/", it)} | {f"crates/{it}" for it in OF_CRATE.findall(text)}
         lost = sorted(it for it in named if not (root / it).exists())
         check(f"the files that {page.name} names", not lost, f"not there: {lost}")
 
