@@ -166,6 +166,11 @@ def is_in_poll(program: subprocess.Popen[bytes]) -> bool:
     return Path(f"/proc/{program.pid}/syscall").read_text().split()[0] in map(str, WAITS)
 
 
+def state_of(program: subprocess.Popen[bytes]) -> str:
+    """The letter of its state, as `ps` shows it."""
+    return Path(f"/proc/{program.pid}/stat").read_text().rpartition(")")[2].split()[0]
+
+
 def try_c(check: Check, room: Room) -> None:
     program = subprocess.Popen([room.program, "serve"], cwd=room.folder)
     try:
@@ -177,6 +182,7 @@ def try_c(check: Check, room: Room) -> None:
         try_once(check, room, program, "second")
         check("attach: the program goes on", program.poll() is None)
         program.send_signal(signal.SIGSTOP)
+        check("attach: a program that is stopped", becomes(lambda: state_of(program) == "T"), state_of(program))
         ran = room.uvt("attach", "--detach", program.pid)
         check("attach --detach: of one that is stopped", ran.returncode == 2 and "it is stopped" in ran.stderr, said(ran))
     finally:

@@ -187,6 +187,20 @@ def try_steady(check: Check, folder: str) -> None:
         check(f"hunt, sometimes: its order is bad each time, by seed {seed}", status == BADLY and good, f"{status} {said}")
 
 
+def try_time(check: Check, folder: str, healthy: str) -> None:
+    """A hunt of a healthy program takes the time that it is given. Without that it ends behind just so many orders at random, each time; with it a
+    slow machine has fewer, and a quick one goes on. (One in between may have as many, once: then it is given another time.)"""
+    for seconds in (6, 9, 14):
+        began = time.monotonic()
+        status, said = tool("hunt", ["--for", f"{seconds}s", healthy], folder)
+        took, random = time.monotonic() - began, re.search(r", (\d+) at random", said)
+        check("hunt, a healthy program", status == WELL and said.startswith("each run ended well\n    "), f"{status} {said}")
+        check("hunt, no less than the time that is given", took > seconds - 1 and random, f"{took:.1f} s: {said}")
+        if ended := not random or int(random[1]) != BEFORE + BEHIND:
+            break
+    check("hunt, the time that is given", ended, said)
+
+
 def try_hunts(check: Check, folder: str) -> None:
     program = compiled("lookup", folder, "-fsanitize=address", "-luv")
     status, said = hunted(["-o", "found", program], folder)
@@ -196,13 +210,7 @@ def try_hunts(check: Check, folder: str) -> None:
     status, said = forced(["-o", "again", "found.uvt", program], folder)
     check("hunt, its order is forced again", status == BADLY and REPORT in said and ", 0 departures, " in said, f"{status} {said}")
     healthy = compiled("zero", folder, "-fsanitize=address", "-luv")
-    began = time.monotonic()
-    status, said = tool("hunt", ["--for", "6s", healthy], folder)
-    check("hunt, a healthy program", status == WELL and said.startswith("each run ended well\n    "), f"{status} {said}")
-    # (without that time it ends behind just so many orders at random; with it a slow machine has fewer, and a quick one goes on)
-    took, random = time.monotonic() - began, re.search(r", (\d+) at random", said)
-    ignored = random and int(random[1]) == BEFORE + BEHIND and took > 8
-    check("hunt, the time that is given", took > 5 and random and not ignored, f"{took:.1f} s: {said}")
+    try_time(check, folder, healthy)
     for words, why in (
         ([f"{folder}/missing"], "could not be started"),
         (["--part", "3/2", healthy], "a part is K/N"),

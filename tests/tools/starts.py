@@ -43,7 +43,8 @@ def try_starts(tries: Tries) -> None:
         tries.check(f"{words[0]}, a full output", ran.returncode != 0 and ran.stderr.count("\n") == 1 and "No space left" in ran.stderr, ran.stderr)
         ran = limited(["sh", "-c", 'exec "$@" >&-', "sh", LAUNCHER, *words], stdin=subprocess.DEVNULL, stderr=subprocess.PIPE, text=True)
         tries.check(f"{words[0]}, a closed output", ran.returncode != 0 and "Traceback" not in ran.stderr and bool(ran.stderr), ran.stderr)
-    # (a shell has what it starts in the background take no interrupts)
-    text = f'"{LAUNCHER}" why "{SCRIPT}" >/dev/null 2>&1 & sleep 0.05; kill -INT $!; wait $!'
+    # (a shell has what it starts in the background take no interrupts: from where that is no longer the shell itself)
+    begun = "while tr '\\0' ' ' </proc/$!/cmdline | grep -q '^sh -c '; do :; done"
+    text = f'"{LAUNCHER}" why "{SCRIPT}" >/dev/null 2>&1 & {begun}; kill -INT $!; wait $!'
     status = limited(["sh", "-c", text], env=os.environ).returncode
     tries.check("no interrupt is taken in the background", status == 0, status)
