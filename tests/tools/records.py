@@ -14,12 +14,15 @@ import subprocess
 import sys
 import tempfile
 from pathlib import Path
+from unittest.mock import patch
 
 ROOT = Path(__file__).resolve().parent.parent.parent
 from tests.helper import SECONDS, Check, Tries, limited, log_at, logs_in
 from tests.tools.ios import try_io
 from uvt.conversation import Fault, built_program
 from uvt.notes import Notes, read_notes
+from uvt.record import compiled
+from uvt.record.compiled import recorder
 from uvt.record.log import read_log
 from uvt.record.run import from_data
 
@@ -302,6 +305,29 @@ def try_queued_again(check: Check, folder: str) -> None:
     check("why, queued again is said", "QUEUED AGAIN: job was queued while it was under way" in asked.stdout, asked)
 
 
+# ---- the recorder itself
+
+
+def try_compiled(check: Check, folder: str) -> None:
+    """A recorder that lacks something is compiled anew by the next call; until then it is there, for those who are about to preload it."""
+    built, made = Path(folder) / "compiled" / "recorder.so", []
+
+    def compiles(compiler: str, to: Path, forcing: bool) -> None:
+        made.append(to.exists())
+        part = to.with_name("part")
+        part.touch()
+        part.replace(to)
+
+    with patch.object(compiled, "BUILT", built), patch.object(compiled, "compile_recorder", compiles):
+        compiled.compile_anew()
+        check("record, the recorder is compiled once", (recorder(), recorder(), made) == (built, built, [False]), made)
+        for which in (recorder(), recorder(True)):
+            made.clear()
+            compiled.compile_anew()
+            check(f"record, {which.name} that lacks something is there still", which.exists() and not made, made)
+            check(f"record, {which.name} is compiled anew", recorder(which.stem == "force") == which and made == [True], made)
+
+
 # ---- a libuv within the program
 
 
@@ -331,9 +357,11 @@ def try_within(check: Check, folder: str, libuv: str) -> None:
     subprocess.run(["strip", f"{folder}/late-within"], check=True)
     words = ["cc", "-w", "-static", str(programs / "late.c"), "-o", f"{folder}/late-whole", libuv, "-ldl", "-lpthread"]
     subprocess.run(words, check=True, capture_output=True)
+    before = recorder().stat()
     for name, wanted in (("late-within", "no symbols (strip)"), ("late-whole", "with its C library too")):
         ran = recorded([f"./{name}"], folder)
         check(f"record, {name} without what it takes", ran.returncode == 2 and wanted in ran.stderr and " is late: " in ran.stdout, ran)
+    check("record, and the recorder is the same file behind that", recorder().stat().st_ino == before.st_ino, before)
     try_merged(check, folder)
     try_two(check, folder, libuv)
     words = [
@@ -665,6 +693,7 @@ def try_records(tries: Tries) -> None:
         try_worst(check, folder)
         try_talk(check, folder)
         try_whys_of_parts(check, folder)
+        try_compiled(check, folder)
         if has_libuv():
             try_programs(check, folder)
             try_queued_again(check, folder)

@@ -2,6 +2,7 @@
 
 from __future__ import annotations
 
+import contextlib
 import fcntl
 import os
 import re
@@ -47,6 +48,13 @@ def is_new(built: Path, forcing: bool) -> bool:
     """Is it there, and no source newer?"""
     newest = max(it.stat().st_mtime for it in [*sources_of(forcing), *RECORDER.glob("*.h")])
     return built.is_file() and built.stat().st_mtime >= newest
+
+
+def compile_anew() -> None:
+    """What it lacks may be there the next time: then it is compiled again. (It stays until then: others may be about to preload it.)"""
+    for it in (BUILT, BUILT.with_name("force.so")):
+        with contextlib.suppress(OSError):
+            os.utime(it, (0, 0))
 
 
 def compile_recorder(compiler: str, built: Path, forcing: bool) -> None:

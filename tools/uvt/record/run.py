@@ -11,7 +11,7 @@ from pathlib import Path
 from uvt.conversation import Fault, built_program
 from uvt.notes import signal_name
 from uvt.record import ring
-from uvt.record.compiled import BUILT
+from uvt.record.compiled import compile_anew
 from uvt.record.files import room_for, taken, write
 from uvt.record.javascript import lacked
 from uvt.record.lift import CantLift, NothingToLift, lift
@@ -182,9 +182,8 @@ def from_fresh(data: bytes, name: str, several: bool, part: Part, ended_by: str 
     if ended_by and data.endswith(b"\n"):
         data += f"- X {ended_by}\n".encode()
     log = read_log(data)
-    if log.blind:
-        # (what it lacks may be there the next time: then it is compiled again)
-        BUILT.unlink(missing_ok=True)
+    if "capstone" in log.blind:
+        compile_anew()
     if log.blind and not several:
         raise Fault(f"{log.program}: {log.blind}")
     name_addresses(log)
