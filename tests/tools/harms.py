@@ -173,14 +173,15 @@ def try_killed(check: Check, room: Room) -> None:
     check("harms: the next record takes that away", not (left := list(room.folder.glob(".left.*"))), left)
 
 
-def processes_in(folder: Path, words: bytes) -> list[int]:
-    """Those in this folder that were started by these words."""
+def started_in(folder: Path, words: bytes) -> list[tuple[int, int]]:
+    """The processes in this folder that were started by these words, each with the one that started it."""
     found = []
     for it in Path("/proc").glob("[0-9]*"):
         try:
             if (it / "cmdline").read_bytes() == words and (it / "cwd").resolve() == folder.resolve():
-                found.append(int(it.name))
+                found.append((int(it.name), parent_of(int(it.name))))
         except OSError:
+            # (it has ended meanwhile)
             continue
     return found
 
@@ -191,15 +192,16 @@ def try_hunt_killed(check: Check, room: Room) -> None:
     words = [str(TOOLS / "uvt-hunt"), "--for", "120s", "./ended", "0"]
     more = dict(os.environ, TMPDIR=str(temporary))
     with subprocess.Popen(words, cwd=room.folder, env=more, stdout=subprocess.DEVNULL, stderr=subprocess.DEVNULL) as tools:
-        found: list[int] = []
+        found: list[tuple[int, int]] = []
         end = time.monotonic() + SECONDS
         while not found and time.monotonic() < end:
             time.sleep(0.2)
-            found = processes_in(room.folder, b"./ended\x000\x00")
+            found = started_in(room.folder, b"./ended\x000\x00")
         check("harms: hunt has started its program", found)
         if found:
-            os.kill(parent_of(found[0]), signal.SIGKILL)
-            check("harms: hunt is killed, and its program ends", is_gone(found[0]), found)
+            program, hunter = found[0]
+            os.kill(hunter, signal.SIGKILL)
+            check("harms: hunt is killed, and its program ends", is_gone(program), found)
         tools.kill()
     check("harms: hunt is killed: its folder is there still", list(temporary.glob("uvt-hunt.*")))
     tool("hunt", ["--for", "1s", "./ended", "15"], room.folder, TMPDIR=str(temporary))
