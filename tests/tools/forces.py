@@ -21,7 +21,9 @@ from xml.etree import ElementTree
 
 from tests.helper import SECONDS, Check, Tries, come_to, limited, talked, waited
 from tests.tools.records import ROOT, archive, has_libuv
+from uvt import forcing
 from uvt.commands.hunt import prepare
+from uvt.conversation import Fault
 from uvt.hunting import BEFORE, BEHIND, Bad, Hunt, Recorded, Wishes
 
 FOLDER = Path(__file__).resolve().parent / "forces"
@@ -296,6 +298,20 @@ def try_first(check: Check, folder: str) -> None:
     check("hunt, a program that ends with status 1 each time", status == WELL and said.startswith("each run ended well\n"), f"{status} {said}")
 
 
+def try_late_start(check: Check, folder: str) -> None:
+    """A first run that has called nobody by the time that it may take is given more; of one that has no end, and calls nobody, that is said."""
+    program, prepared = compiled("starts-late", folder, "-luv"), prepare()
+    with patch.object(forcing, "FIRSTS", (1, SECONDS)):
+        ran = forcing.first_run([program], f"{folder}/starts-late")
+        check("hunt, a first run that begins late", not ran.late and Path(folder, "starts-late.rec").exists(), ran)
+    with patch.object(forcing, "FIRSTS", (1, 2)):
+        try:
+            told = str(Hunt(Wishes(["sleep", "1000"]), prepared, Path(folder), lambda what: None).begin())
+        except Fault as fault:
+            told = str(fault)
+        check("hunt, a first run that has no end, and calls nobody", "called nothing of libuv" in told, told)
+
+
 def try_unwritten(check: Check, folder: str) -> None:
     """A run that ends before its log has a line: with the time of a hunt that is no fault, and else it is said."""
     program = compiled("unwritten", folder, "-rdynamic", "-luv")
@@ -455,6 +471,7 @@ HUNTS = (
         try_steady,
         try_hangs,
         try_first,
+        try_late_start,
         try_unwritten,
         try_results,
         try_reports,

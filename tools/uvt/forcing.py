@@ -6,7 +6,9 @@ The library is that of tools/uvt/record/recorder, compiled with force.c. Here it
 from __future__ import annotations
 
 import contextlib
+import glob
 import io
+import math
 import os
 import re
 import shlex
@@ -37,6 +39,8 @@ SHOWN = 8
 # How long a run may take, in seconds: so often the time of the first run, and as long at the least. Where that didn't end by itself: so long, and
 # so long behind the session's last step.
 TIMES, LEAST, ENDLESS, GRACE = 10, 30, 10, 2
+# How long a run that nobody forces may take; and where it has called nobody by then, as where others have the processors, so long in turn.
+FIRSTS = (10, 30, 90)
 # How often it is looked whether it is over.
 LOOK = 0.2
 # What the page says of a run that hangs: that nothing moves, that nothing could, or that the loop goes round in its timers.
@@ -423,6 +427,29 @@ def run(
         return ran
 
 
+def first_run(words: list[str], name: str, until: float = math.inf) -> Ran:
+    """A run that nobody forces, recorded. One that is late, and of which there is nothing to record, is made again for longer, where that is over by
+    UNTIL."""
+    seen: list[Ran] = []
+
+    def records(ran: Ran) -> bool:
+        seen[:] = [ran]
+        return True
+
+    for seconds in FIRSTS:
+        is_last = seconds == FIRSTS[-1] or time.monotonic() + 2 * seconds > until
+        try:
+            ran = run(words, Order(), name, min(seconds, max(FIRSTS[0], until - time.monotonic())), records)
+        except Fault:
+            # (its log had no line yet)
+            if is_last or not seen or not seen[0].late:
+                raise
+            continue
+        if is_last or not ran.late or any(Path(name).parent.glob(f"{glob.escape(Path(name).name)}*.rec")):
+            break
+    return ran
+
+
 def remake(name: str) -> None:
     """The recording of the whole log, where it was of a part."""
     with contextlib.redirect_stdout(io.StringIO()):
@@ -444,7 +471,7 @@ def bound(order: Order, first: Ran, steps: int) -> Order:
 
 def limit(first: Ran) -> float:
     """How long a run may take where the first one took so long."""
-    return ENDLESS if first.late else max(LEAST, TIMES * first.seconds)
+    return max(ENDLESS, first.seconds) if first.late else max(LEAST, TIMES * first.seconds)
 
 
 def badly(ran: Ran, first: Ran) -> str:

@@ -28,7 +28,7 @@ ROUND = "round "
 def source_of(file: str, offset: str) -> tuple[str, str]:
     """The function at an address of a file, and `PATH:LINE`, each `` where nobody knows."""
     try:
-        ran = subprocess.run(["addr2line", "-f", "-C", "-e", file, offset], capture_output=True, text=True, errors="replace", timeout=20)
+        ran = subprocess.run(["addr2line", "-f", "-C", "-e", file, offset], capture_output=True, text=True, errors="replace", timeout=120)
     except (OSError, subprocess.TimeoutExpired):
         return "", ""
     function, _, place = ran.stdout.strip().partition("\n")

@@ -14,7 +14,7 @@ from dataclasses import dataclass, field, replace
 from pathlib import Path
 
 from uvt.conversation import Fault, read_bytes, read_input
-from uvt.forcing import Order, Ran, badly, bound, limit, recording_of, remake, run
+from uvt.forcing import Order, Ran, badly, bound, first_run, limit, recording_of, remake, run
 from uvt.judging import judged, other_output
 from uvt.record.parts import Part
 
@@ -23,9 +23,9 @@ FRAME = re.compile(r"^ +#\d+ 0x[0-9a-f]+ in (\S+) (\S+):(\d+)", re.MULTILINE)
 # Sources of the sanitizer's own, and of the C library, as distributions compile it.
 OTHERS = re.compile(r"\.\.|\./(?:nptl|libio|stdlib|csu|string|elf|posix|io|misc|socket|inet|resolv|time|malloc|debug|nss|signal|sysdeps)/")
 NAMELESS = {"run", "stoploop", "updatetime", "closeloop"}
-# How long the first run and a search may take, in seconds; how long a stall is where no callback of the recording took longer, in ms; and how many
-# orders at random come before the questions, and behind them.
-FIRST, SEARCH, STALL, BEFORE, BEHIND = 10, 15, 15, 10, 100
+# How long a search may take, in seconds; how long a stall is where no callback of the recording took longer, in ms; and how many orders at random
+# come before the questions, and behind them.
+SEARCH, STALL, BEFORE, BEHIND = 15, 15, 10, 100
 # How often an order that was bad is forced again; and one of which nobody knows so soon whether it is bad again.
 AGAIN, AGAIN_LATE = 10, 2
 # Where it isn't each time, so many runs more at the least are for one that is.
@@ -269,7 +269,7 @@ class Hunt:
     def begin(self) -> Recorded | Bad:
         """The first run, which nobody forces. Of several loops the one that has the most callbacks is hunted."""
         self.tell("the first run")
-        self.first = run(self.wishes.words, Order(), str(self.folder / "first"), FIRST)
+        self.first = first_run(self.wishes.words, str(self.folder / "first"), self.until or math.inf)
         paths = {it: read(it) for it in sorted(self.folder.glob("first*.rec"))}
         if not paths:
             raise Fault(f"no recording was made of the first run: {self.first.recorded.strip() or 'it called nothing of libuv'}")

@@ -34,7 +34,7 @@ from pathlib import Path
 
 from launch.tool import run_tool
 from uvt.conversation import INSTALLED, read_input
-from uvt.forcing import Order, Ran, agreement, badly, bound, limit, recording_of, run
+from uvt.forcing import Order, Ran, agreement, badly, bound, first_run, limit, recording_of, run
 from uvt.hunting import place_of
 from uvt.judging import judged
 from uvt.notes import harmless
@@ -42,8 +42,8 @@ from uvt.notes import harmless
 WELL, DEPARTS, FAULT, BADLY = 0, 1, 2, 3
 # A test that says nothing, as automake, meson and ctest (SKIP_RETURN_CODE 77) have it; and how long one may take, in seconds.
 SKIPPED, TEST = 77, 60
-# How long the run that nobody forces may take, in seconds, and how much of a program's output is shown, in lines.
-FIRST, LINES = 10, 12
+# How much of a program's output is shown, in lines.
+LINES = 12
 FORCE = "uvt force" if INSTALLED else "./uvt force"
 
 
@@ -90,7 +90,7 @@ def tested(words: list[str], order: Order, session: str, seconds: float, check: 
 
 def busiest(words: list[str], folder: Path) -> tuple[Ran, int, int]:
     """A run that nobody forces, its loop that has the most steps, and how many: the first loops of node are its own."""
-    first = run(words, Order(), str(folder / "first"), FIRST)
+    first = first_run(words, str(folder / "first"))
     steps = {it: len(read_input(it)[1]) for it in folder.glob("first*.rec")}
     most = max(steps, key=lambda it: steps[it], default=None)
     return (first, read_input(most)[0].notes.loop, steps[most]) if most else (first, 0, 0)

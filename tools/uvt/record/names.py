@@ -26,7 +26,7 @@ OF_THE_COMPILER = ("guard variable ", "vtable ", "VTT ", "typeinfo ", "construct
 def listed(file: str, words: list[str]) -> list[list[str]] | None:
     """What nm lists of a file, nothing of one that it can't read; None without nm, or where that takes too long."""
     try:
-        ran = subprocess.run(["nm", "--defined-only", *words, "--", file], capture_output=True, text=True, errors="replace", timeout=60)
+        ran = subprocess.run(["nm", "--defined-only", *words, "--", file], capture_output=True, text=True, errors="replace", timeout=600)
     except (OSError, ValueError, subprocess.TimeoutExpired):
         return None
     return [line.split(" ", 3) for line in ran.stdout.splitlines()]
@@ -154,7 +154,7 @@ def addr2line(file: str, words: list[str], offsets: list[int]) -> str | None:
     """What it says of these places; None where it isn't there, or took too long."""
     try:
         words = ["addr2line", *words, "-e", file, *(f"{it:x}" for it in offsets)]
-        return subprocess.run(words, capture_output=True, text=True, errors="replace", timeout=60).stdout
+        return subprocess.run(words, capture_output=True, text=True, errors="replace", timeout=600).stdout
     except (OSError, ValueError, subprocess.TimeoutExpired):
         return None
 

@@ -30,7 +30,7 @@ def sanitizers(program: str) -> list[str]:
     if not path:
         return []
     try:
-        ran = subprocess.run(["ldd", path], capture_output=True, text=True, errors="replace", timeout=20)
+        ran = subprocess.run(["ldd", path], capture_output=True, text=True, errors="replace", timeout=120)
     except (OSError, subprocess.TimeoutExpired):
         return []
     return re.findall(r"=> (\S*/lib(?:asan|hwasan|tsan)\.so\S*)", ran.stdout)
