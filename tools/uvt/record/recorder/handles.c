@@ -46,7 +46,7 @@ struct object *enter(void *handle, const char *what, const char *known) {
         if (minds_late() && object->type == UV_TIMER) note_late_timer(object);
         object->loop->begun++;
         if (!object->watcher && strcmp(object->kind, "async") != 0) object->loop->away++;
-        write_line(object->loop, 'B', "on %d %s%s%s", object->id, what, *known ? " " : "", known);
+        write_begin(object->loop, object->id, what, known);
     }
     unlock();
     return object;
@@ -60,7 +60,7 @@ static const char *put_off(const struct loop *loop) {
 
 void write_end(struct loop *loop, int id) {
     if (!loop->uv) return;
-    write_line(loop, 'E', "%d%s", id, put_off(loop));
+    write_number(loop, 'E', id, put_off(loop));
     look_at_memory(loop);
 }
 

@@ -452,7 +452,20 @@ static inline void add_time(struct line *line, uint64_t time) {
     line->length += last.length;
 }
 
-void write_line(struct loop *loop, char type, const char *format, ...) {
+/* What a callback or work had of the processor. */
+static void add_usage(struct line *line, const struct usage *used, uint64_t took) {
+    add_text(line, " cpu ");
+    add_number(line, in_ms(used->processor, took));
+    if (used->waited == UNKNOWN) return;
+    const uint64_t more[] = {in_ms(used->kernel, took), used->faults, used->disk, used->gave, used->lost, in_ms(used->waited, took)};
+    for (size_t at = 0; at < sizeof more / sizeof *more; at++) {
+        add_sign(line, ' ');
+        add_number(line, more[at]);
+    }
+}
+
+/* A line of this text, behind the loop, the type and the times. */
+static void write_rest(struct loop *loop, char type, const struct line *rest) {
     struct line line;
     struct usage used;
     uint64_t took = 0;
@@ -462,15 +475,9 @@ void write_line(struct loop *loop, char type, const char *format, ...) {
     int callers[CALLERS], count = from >= 0 ? caller_numbers(type == 'D', from, called_from, callers) : 0;
     if (loop && !loop->lines && loop->number && type != 'L') write_line(loop, 'L', "%d", loop->behind);
     if (off || (loop && (!loop->uv || loop->unseen)) || (!is_open && !open_log())) return;
-    va_list words;
     if (loop && forces() && !strchr("CDGHILVTFSWKJQYZq", type)) {
         /* (what is forced there has lines of its own, in front of this one, and moves the clock) */
-        line.length = 0;
-        va_start(words, format);
-        add_format(&line, format, words);
-        va_end(words);
-        line.text[line.length] = 0;
-        force_event(loop, type, line.text);
+        force_event(loop, type, rest->text);
         if (off || !loop->uv || force_skips()) return;
     }
     if (type == 'E') {
@@ -493,20 +500,9 @@ void write_line(struct loop *loop, char type, const char *format, ...) {
         knows = note_time(loop, type, clock, &used, &took);
         add_time(&line, clock - loop->base);
     }
-    va_start(words, format);
-    add_format(&line, format, words);
-    va_end(words);
-    if (knows) {
-        add_text(&line, " cpu ");
-        add_number(&line, in_ms(used.processor, took));
-        if (used.waited != UNKNOWN) {
-            const uint64_t more[] = {in_ms(used.kernel, took), used.faults, used.disk, used.gave, used.lost, in_ms(used.waited, took)};
-            for (size_t at = 0; at < sizeof more / sizeof *more; at++) {
-                add_sign(&line, ' ');
-                add_number(&line, more[at]);
-            }
-        }
-    }
+    memcpy(line.text + line.length, rest->text, rest->length);
+    line.length += rest->length;
+    if (knows) add_usage(&line, &used, took);
     if (from >= 0) {
         add_text(&line, " @");
         add_number(&line, (uint64_t)from);
@@ -522,6 +518,39 @@ void write_line(struct loop *loop, char type, const char *format, ...) {
     else if (!loop || (type == 'L' && keeps())) write_word(line.text, line.length);
     /* (in the ring it says that the loop begins here) */
     if (loop && (type != 'L' || !loop->adopted)) write_text(line.text, line.length);
+}
+
+void write_line(struct loop *loop, char type, const char *format, ...) {
+    struct line rest;
+    va_list words;
+    rest.length = 0;
+    va_start(words, format);
+    add_format(&rest, format, words);
+    va_end(words);
+    rest.text[rest.length] = 0;
+    write_rest(loop, type, &rest);
+}
+
+void write_begin(struct loop *loop, int id, const char *what, const char *known) {
+    struct line rest;
+    const char *end = rest.text + LINE - ROOM;
+    memcpy(rest.text, "on ", 3);
+    char *to = put_signed(rest.text + 3, id);
+    *to++ = ' ';
+    to = put_text(to, end, what);
+    if (*known && to < end) *to++ = ' ';
+    to = put_text(to, end, known);
+    *to = 0;
+    rest.length = (size_t)(to - rest.text);
+    write_rest(loop, 'B', &rest);
+}
+
+void write_number(struct loop *loop, char type, int number, const char *behind) {
+    struct line rest;
+    char *to = put_text(put_signed(rest.text, number), rest.text + LINE - ROOM, behind);
+    *to = 0;
+    rest.length = (size_t)(to - rest.text);
+    write_rest(loop, type, &rest);
 }
 
 const char *answer_text(int answer) {

@@ -136,7 +136,7 @@ static void note_poll(struct loop *loop, int timeout) {
         /* (where it only looks, that is how long it will wait) */
         if (timeout == 0 && loop->mode == UV_RUN_DEFAULT) timeout = CALL(uv_backend_timeout)(loop->uv);
     }
-    write_line(loop, again ? 'p' : 'P', "%d", timeout);
+    write_number(loop, again ? 'p' : 'P', timeout, "");
     loop->waiting = true;
     loop->poll = (struct poll){.begun = loop->begun, .away = loop->away, .timeout = timeout, .wait = wait, .in = ring_window()};
     if (wait > 0) {

@@ -172,6 +172,9 @@ bool is_locked_here(void);
  * of a callback or work that took long enough how long its thread was on the processor.
  * The format knows %d, %u (64 bits), %x (64 bits) and %s. */
 void write_line(struct loop *loop, char type, const char *format, ...);
+/* The lines that most logs are made of: a callback begins, or ends, and a poll. They take no format. */
+void write_begin(struct loop *loop, int id, const char *what, const char *known);
+void write_number(struct loop *loop, char type, int number, const char *behind);
 /* May a file have this size? (Past its limit the program would be ended by a signal.) */
 bool may_grow_to(size_t size);
 /* The clock, in ms. */
@@ -290,7 +293,8 @@ void add_text_of_libuv(uintptr_t from, uintptr_t to);
 bool knows_libuv(void);
 
 #define REAL(name) static void *kept_##name;
-#define CALL(name) ((__typeof__(name) *)real(#name, &kept_##name))
+/* (the one that was found, without a call) */
+#define CALL(name) ((__typeof__(name) *)(__atomic_load_n(&kept_##name, __ATOMIC_ACQUIRE) ?: real(#name, &kept_##name)))
 #define INSIDE() is_inside(__builtin_return_address(0), __func__)
 #define REALLY(call)                 \
     ({                               \
