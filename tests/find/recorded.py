@@ -16,7 +16,8 @@ from pathlib import Path
 
 ROOT = Path(__file__).resolve().parent.parent.parent
 from tests.helper import logs_in
-from uvt.conversation import Fault, read_input
+from uvt.conversation import Fault
+from uvt.inputs import read_input
 from uvt.offered import offered
 
 LOGS = [*logs_in(ROOT / "tests/tools/logs"), *logs_in(ROOT / "tests/tools/truths")]

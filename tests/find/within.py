@@ -21,7 +21,8 @@ from random import Random
 ROOT = Path(__file__).resolve().parent.parent.parent
 from tests.find import scripts
 from tests.find.recorded import LOGS, recordings, search_program
-from uvt.conversation import Conversation, Fault, Script, read_input
+from uvt.conversation import Conversation, Fault, Script
+from uvt.inputs import read_input
 from uvt.offered import single
 from uvt.worst import Asker, Row, rows_of
 

@@ -31,7 +31,8 @@ from tests.libuv.planted import PLANTED
 from tests.libuv.programs import Program
 from tests.libuv.scripts import FAMILIES, program_text
 from tests.libuv.smaller import make_small
-from uvt.conversation import Fault, built_program, read_input
+from uvt.conversation import Fault, built_program
+from uvt.inputs import read_input
 from uvt.libuv.runner import Library, installed, of_node, run_programs
 from uvt.libuv.session import lead
 from uvt.walk import Walk

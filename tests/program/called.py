@@ -12,7 +12,7 @@ from typing import Any, List, Tuple
 HERE = os.path.dirname(os.path.realpath(__file__))
 ROOT = os.path.dirname(os.path.dirname(HERE))
 
-from launch import reasons
+from launch import bad_line, reasons
 from tests.helper import Check, limited, run, waited
 from tests.program import scripts
 
@@ -381,14 +381,14 @@ def try_reasons(check: Check, uvt: str, folder: str) -> None:
     path, seen = os.path.join(folder, "bad.uvt"), set()
     for at, (script, number, row) in enumerate(scripts.bad_scripts(), 1):
         text = scripts.begun(script)
-        found = reasons.why("debug", text.split(b"\n")[:-1], number)
+        found = bad_line.why("debug", text.split(b"\n")[:-1], number)
         same(check, "why script %d of bad-scripts is bad" % at, found and found.row, row)
         if found:
             seen.add(found.row)
             try_bad_file(check, uvt, path, "bad script %d" % at, ("debug", text, number, found.sentence().encode()))
     for what, script, number, row in scripts.LIMITS:
         if number is not None:
-            found = reasons.why("debug", scripts.begun(script).split(b"\n")[:-1], number)
+            found = bad_line.why("debug", scripts.begun(script).split(b"\n")[:-1], number)
             same(check, "why it is bad: " + what, found and found.row, row)
             seen.add(row)
     for word, text, number, row, sentence in TOLD:

@@ -9,7 +9,7 @@ from pathlib import Path
 
 from tests.helper import Tries, log_at
 from uvt.beside import beside
-from uvt.conversation import read_input
+from uvt.inputs import read_input
 from uvt.record.log import read_log
 from uvt.record.run import from_data
 from uvt.walk import Walk

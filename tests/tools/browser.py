@@ -27,7 +27,8 @@ ROOT = Path(__file__).resolve().parent.parent.parent
 from tests.helper import SECONDS, Tries
 from tests.machines import sessions
 from tests.tools import devtools
-from uvt.conversation import Conversation, Script, read_input
+from uvt.conversation import Conversation, Script
+from uvt.inputs import read_input
 from uvt.view import html
 from uvt.walk import Walk
 from uvt.ways import longest_way

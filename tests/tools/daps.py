@@ -11,7 +11,8 @@ import time
 from pathlib import Path
 
 from tests.helper import Check, Tries, log_at
-from uvt.conversation import Conversation, read_input
+from uvt.conversation import Conversation
+from uvt.inputs import read_input
 
 ROOT = Path(__file__).resolve().parent.parent.parent
 EXAMPLES = ROOT / "crates" / "examples" / "data"

@@ -12,7 +12,8 @@ from typing import Any
 
 from tests.helper import Check, Tries
 from tests.tools.daps import EXAMPLES, Client, fits
-from uvt.conversation import Conversation, Fault, Script, read_input
+from uvt.conversation import Conversation, Fault, Script
+from uvt.inputs import read_input
 
 ROOT = Path(__file__).resolve().parent.parent.parent
 FOLDER = ROOT / "tools" / "uvt" / "vscode"

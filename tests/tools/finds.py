@@ -23,8 +23,8 @@ from tests.find.costs import growing
 from tests.helper import Check, Tries, come_to, limited, log_at, talked
 from tests.tools import forces
 from tests.tools.records import has_libuv
-from launch import reasons
-from uvt.conversation import read_input
+from launch import bad_line, reasons
+from uvt.inputs import read_input
 from uvt.forcing import is_hooked
 from uvt.record.log import read_log
 from uvt.record.run import from_data
@@ -234,7 +234,7 @@ def try_lines(check: Check, folder: str) -> None:
             and any(it.startswith(f"uvt: {why}") for it in lines),
             ran,
         )
-    rows = {reasons.why("find", text.encode().split(b"\n")[:-1], line).row for text, line, _ in BAD_LINES}
+    rows = {bad_line.why("find", text.encode().split(b"\n")[:-1], line).row for text, line, _ in BAD_LINES}
     check("find, each row of the table of reasons is tried", not set(reasons.ASKED_REASONS) - rows, set(reasons.ASKED_REASONS) - rows)
     ran = run([os.path.join(folder, "nowhere")])
     check("find, no such file", ran.returncode == 70 and "No such file" in ran.stderr and "Traceback" not in ran.stderr, ran)

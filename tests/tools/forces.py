@@ -24,7 +24,9 @@ from tests.tools.records import ROOT, archive, has_libuv
 from uvt import forcing
 from uvt.commands.hunt import prepare
 from uvt.conversation import Fault
-from uvt.hunting import BEFORE, BEHIND, Bad, Hunt, Recorded, Wishes
+from uvt.hunting import BEFORE, BEHIND, Hunt, Wishes
+from uvt.hunt_ends import Bad
+from uvt.hunt_questions import Recorded
 
 FOLDER = Path(__file__).resolve().parent / "forces"
 PROGRAMS = ROOT / "tools" / "uvt" / "record" / "programs"

@@ -18,7 +18,7 @@ from pathlib import Path
 
 from tests.helper import LATE, ROOT, SECONDS, Check, Tries, limited
 from tests.tools.records import has_libuv
-from uvt.hunting import Bad, Counts
+from uvt.hunt_ends import Bad, Counts
 from uvt.record.compiled import recorder
 
 HERE = Path(__file__).resolve().parent / "harms"

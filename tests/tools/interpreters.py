@@ -13,8 +13,8 @@ from typing import Any
 
 from tests.helper import Tries, log_at
 from tests.tools.javascripts import ALLOWED, answer, made, try_asked, unfolded
-from uvt.conversation import read_input
-from uvt.notes import read_notes
+from uvt.inputs import read_input
+from uvt.notes_read import read_notes
 from uvt.overview import Overview
 from uvt.record.log import read_log
 from uvt.record.run import from_data

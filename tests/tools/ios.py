@@ -7,7 +7,8 @@ from pathlib import Path
 
 ROOT = Path(__file__).resolve().parent.parent.parent
 from tests.helper import Check
-from uvt.notes import Notes, read_notes, sentence
+from uvt.notes import Notes, sentence
+from uvt.notes_read import read_notes
 from uvt.record.differences import IO
 from uvt.record.log import read_log
 from uvt.record.made import Made, make

@@ -17,9 +17,9 @@ from typing import Any
 
 ROOT = Path(__file__).resolve().parent.parent.parent
 from tests.helper import Tries, limited, log_at
-from uvt.conversation import read_input
+from uvt.inputs import read_input
 from uvt.javascript_pieces import fitted
-from uvt.notes import read_notes
+from uvt.notes_read import read_notes
 from uvt.overview import Overview, long_callbacks
 from uvt.record.javascript import ended
 from uvt.record.log import read_log

@@ -20,7 +20,8 @@ ROOT = Path(__file__).resolve().parent.parent.parent
 from tests.helper import SECONDS, Check, Tries, limited, log_at, logs_in
 from tests.tools.ios import try_io
 from uvt.conversation import Fault, built_program
-from uvt.notes import Notes, read_notes
+from uvt.notes import Notes
+from uvt.notes_read import read_notes
 from uvt.record import compiled
 from uvt.record.compiled import recorder
 from uvt.record.log import read_log

@@ -80,7 +80,8 @@ from tests.tools.unharmed import try_unharmed
 from tests.tools.views import try_views
 from tests.tools.whys import try_whys
 from tests.tools.words import try_old_words
-from uvt.conversation import Conversation, Fault, Script, read_input
+from uvt.conversation import Conversation, Fault, Script
+from uvt.inputs import read_input
 from uvt.notes import Notes
 
 HERE = Path(__file__).resolve().parent

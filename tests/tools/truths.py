@@ -14,7 +14,7 @@ from pathlib import Path
 ROOT = Path(__file__).resolve().parent.parent.parent
 from tests.helper import Check, Tries, log_at
 from uvt import log_summary
-from uvt.conversation import read_input
+from uvt.inputs import read_input
 from uvt.overview import Overview
 from uvt.record.log import read_log
 from uvt.record.run import from_data

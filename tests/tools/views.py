@@ -12,7 +12,8 @@ from pathlib import Path
 ROOT = Path(__file__).resolve().parent.parent.parent
 from tests.helper import Check, Tries, limited, log_at
 from tests.tools.whys import BEHIND
-from uvt.conversation import Conversation, read_input
+from uvt.conversation import Conversation
+from uvt.inputs import read_input
 from uvt.ways import longest_way
 
 EXAMPLES = ROOT / "crates" / "examples" / "data"

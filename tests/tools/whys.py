@@ -14,7 +14,8 @@ from tests.helper import Check, Tries, limited
 from tests.machines import sessions
 from tests.tools.slow_why import Seen, SlowWhy
 from uvt.arrivals import behind, came, waited
-from uvt.conversation import Script, read_text
+from uvt.conversation import Script
+from uvt.inputs import read_text
 from uvt.overview import Overview
 from uvt.waits import Wait
 from uvt.walk import Walk

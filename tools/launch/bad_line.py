@@ -2,10 +2,26 @@
 
 WORD is the program's command, and NUMBER is that of the line, as the program has said it. All goes to standard error."""
 import sys
+from typing import List, Optional
 
-from launch import reasons
+from launch.asked_reasons import of_inquiry
+from launch.reasons import Why, of_recording, of_script
 
 SHOWN = 120
+
+
+def why(word: str, lines: List[bytes], number: int) -> Optional[Why]:
+    """Why this line is the first bad one of the input of `uvt WORD`; None where it can't be told."""
+    try:
+        if word == "replay":
+            of_recording(lines, number)
+        elif word == "find":
+            of_inquiry(lines, number)
+        else:
+            of_script(lines, number, word == "debug")
+    except Why as found:
+        return found
+    return None
 
 
 def show() -> None:
@@ -28,7 +44,7 @@ def show() -> None:
     elif word == "debug" and path != "/dev/stdin":
         print("uvt: %s has no line `begin`, so what came behind it was read as a part of the script" % path, file=sys.stderr)
         return
-    found = reasons.why(word, lines, number)
+    found = why(word, lines, number)
     if found:
         print("uvt: %s" % found.sentence(), file=sys.stderr)
 

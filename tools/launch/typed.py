@@ -15,7 +15,7 @@ import sys
 import threading
 from typing import Iterator, List, Optional
 
-from launch import reasons
+from launch import bad_line, reasons
 from launch.tool import START, take_interrupts
 
 BAD = b"bad command\n"
@@ -198,7 +198,7 @@ class Typed:
             return
         number = self.bad_line()
         if number:
-            found = reasons.why("debug", self.lines, number)
+            found = bad_line.why("debug", self.lines, number)
             say("line %d isn't taken: %s" % (number, found.sentence() if found else "it is bad") + ("" if line != b"quit" else "; here Ctrl-D ends"))
             self.lines.pop()
 

@@ -9,7 +9,8 @@ from collections import deque
 from pathlib import Path
 
 from uvt.codes import CODES, SECTIONS
-from uvt.conversation import Conversation, read_input
+from uvt.conversation import Conversation
+from uvt.inputs import read_input
 from uvt.state import State
 from uvt.dap_javascript import InJavaScript
 from uvt.dap_steps import MOST, THREAD, Steps

@@ -8,7 +8,8 @@ from pathlib import Path
 
 from uvt.conversation import Fault
 from uvt.javascript_pieces import PLACE
-from uvt.notes import Notes, read_notes
+from uvt.notes import Notes
+from uvt.notes_read import read_notes
 
 STARTED = re.compile(r"an? \w+ of JavaScript, started at ([^\s,]+)")
 

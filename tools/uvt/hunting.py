@@ -1,31 +1,27 @@
-"""The hunt for an order in which a program ends badly: what is asked of its recordings, what of that is forced, and what the runs teach."""
+"""The hunt for an order in which a program ends badly: its questions, what is found and forced, and what the runs teach."""
 
 from __future__ import annotations
 
 import itertools
 import math
-import re
 import subprocess
 import tempfile
 import time
 import zlib
 from collections.abc import Callable, Iterator
-from dataclasses import dataclass, field, replace
+from dataclasses import dataclass, replace
 from pathlib import Path
 
-from uvt.conversation import Fault, read_bytes, read_input
+from uvt.conversation import Fault
 from uvt.forcing import Order, Ran, badly, bound, first_run, limit, recording_of, remake, run
+from uvt.hunt_ends import Bad, Counts, place_of
+from uvt.hunt_questions import STALL, Recorded, names_in, read
+from uvt.inputs import read_bytes, read_input
 from uvt.judging import judged, other_output
 from uvt.record.parts import Part
 
-BODY = re.compile(r"(on|after|closed) (\S+) (?:@\d+ )?(\S+)(?: (\S+))?")
-FRAME = re.compile(r"^ +#\d+ 0x[0-9a-f]+ in (\S+) (\S+):(\d+)", re.MULTILINE)
-# Sources of the sanitizer's own, and of the C library, as distributions compile it.
-OTHERS = re.compile(r"\.\.|\./(?:nptl|libio|stdlib|csu|string|elf|posix|io|misc|socket|inet|resolv|time|malloc|debug|nss|signal|sysdeps)/")
-NAMELESS = {"run", "stoploop", "updatetime", "closeloop"}
-# How long a search may take, in seconds; how long a stall is where no callback of the recording took longer, in ms; and how many orders at random
-# come before the questions, and behind them.
-SEARCH, STALL, BEFORE, BEHIND = 15, 15, 10, 100
+# How long a search may take, in seconds; and how many orders at random come before the questions, and behind them.
+SEARCH, BEFORE, BEHIND = 15, 10, 100
 # How often an order that was bad is forced again; and one of which nobody knows so soon whether it is bad again.
 AGAIN, AGAIN_LATE = 10, 2
 # Where it isn't each time, so many runs more at the least are for one that is.
@@ -34,138 +30,6 @@ MORE = 20
 BY_ITSELF, DOUBTS, LONGER = "the first run, which nobody forced", 2, 20
 # So many callbacks of each run are looked at.
 LOOKED = Part(most=2000)
-CODES = ("ESTALE", "EINVAL", "EBUSY")
-# Of so many names each pair is asked about: of more than that, of neighbours alone.
-PAIRS = 12
-
-
-@dataclass
-class Recorded:
-    """A recording's script, and what came from outside."""
-
-    lines: list[str]
-    steps: list[str]
-    bodies: dict[tuple[str, str], list[str]] = field(default_factory=dict)
-    # the names, in the order in which they were called first
-    called: list[str] = field(default_factory=list)
-    # how long its longest callback took, in ms, or STALL where none took longer
-    longest: int = 0
-
-    def __post_init__(self) -> None:
-        for line in self.lines:
-            if it := BODY.match(line):
-                self.bodies.setdefault((it[1], it[2]), []).append(line)
-
-    def names(self) -> list[str]:
-        return [it.split(" ")[1] for it in self.lines if it.startswith("var ")]
-
-    def kinds(self) -> dict[str, str]:
-        """The handles, each with its kind, except for `wake`, which the program doesn't have."""
-        found = {it[1]: it[2] for line in self.lines if (it := re.search(r" init (\S+) (\S+)$", line))}
-        return {name: kind for name, kind in found.items() if name != "wake"}
-
-    def requests(self) -> list[str]:
-        return list(dict.fromkeys(it[1] for line in self.lines if (it := re.search(r" queue (\S+) ", line))))
-
-    def offers(self) -> list[str]:
-        clock = sum(int(it.split(" ")[1]) for it in self.steps if it.startswith("tick "))
-        came = [(word, it, self.steps.count(f"{word} {it}")) for it in self.kinds() for word in ("send", "io")]
-        return ["may wait", f"most clock {3 * clock + 100}", *(f"may {word} {name} {min(3, count)}" for word, name, count in came if count)]
-
-    def pairs(self, names: list[str]) -> Iterator[str]:
-        """Two that were called in this order, the other way."""
-        known = [it for it in self.called if it in names]
-        known += [it for it in names if it not in known]
-        pairs = itertools.combinations(known, 2) if len(known) <= PAIRS else zip(known, known[1:])
-        return (f"{later} before {it}" for it, later in pairs)
-
-    def questions(self) -> list[str]:
-        kinds, requests = self.kinds(), self.requests()
-        timers = [name for name, kind in kinds.items() if kind == "timer"]
-        sent = [name for name, kind in kinds.items() if kind == "async"]
-        asked = [f"late {it} 0" for it in timers] + [f"code {it}" for it in CODES]
-        asked += [f"code {code} of {it}" for code in CODES[:2] for it in kinds]
-        asked += [f"code ok of {it}" for it in requests if any(f" cancel {it}" in line for line in self.lines)]
-        asked += [f"code ECANCELED of {it}" for it in requests] if any(" cancel " in line for line in self.lines) else []
-        asked += self.pairs(requests)
-        asked += self.pairs(timers + sent + requests)
-        # (an order that is found has the fewest steps: so the one is called as soon behind the other as may be)
-        asked += [f"{it} after {other}" for it in sent[:PAIRS] for other in (timers + requests)[:PAIRS]]
-        asked += [f"never {it}" for it in timers + sent + requests] + ["stuck"]
-        return list(dict.fromkeys(f"find {it}" for it in asked + [f"call {it} 2" for it in timers + sent]))
-
-
-def read(path: Path) -> Recorded:
-    text = path.read_text(errors="replace").splitlines()
-    begin, calls = text.index("begin"), text.index("calls")
-    outside = read_input(path)[0].notes.outside
-    ticks = [int(it.split(" ")[1]) for at, it in enumerate(text[begin + 1 : calls], 1) if it.startswith("tick ") and at not in outside]
-    called = list(dict.fromkeys(it.split(" ")[1] for it in text[calls + 1 : -1] if it.split(" ")[0] in ("call", "after")))
-    return Recorded(text[1:begin], text[begin + 1 : calls], called=called, longest=max([STALL, *ticks]))
-
-
-def names_in(line: str) -> list[str]:
-    it = BODY.match(line)
-    return [it[2], *([it[4]] if it[4] and it[3] not in NAMELESS else [])] if it else []
-
-
-@dataclass
-class Bad:
-    """A bad end, and its order."""
-
-    how: str
-    # which question, or which order at random
-    by: str
-    # a session or a recording, as text, and which loop of the program it is of
-    order: str
-    loop: int
-    # how often the same order was forced again, and in how many of these runs it ended badly too
-    again: int = 0
-    bad_again: int = 0
-    # where, as a sanitizer has it, `` where it says nothing
-    place: str = ""
-    # who waits for whom, where it hangs
-    hang: list[str] = field(default_factory=list)
-    # the same place for a machine: PATH:LINE
-    path: str = ""
-    # work begins where it is taken: 1
-    early: int = 0
-
-
-@dataclass
-class Counts:
-    questions: int = 0
-    found: int = 0
-    never: int = 0
-    departed: int = 0
-    random: int = 0
-    # runs that took too long, and didn't again
-    once: int = 0
-    seconds: float = 0
-
-    def text(self) -> str:
-        left = self.questions - self.found - self.never
-        more = [f"{left} not settled"] if left else []
-        departed = [f"{self.departed} departed"] if self.departed else []
-        once = in_brackets([f"{self.once} took too long, and not again"] if self.once else [])
-        return (
-            f"{counted(self.questions, 'question')}{in_brackets(more)}, {counted(self.found, 'order')} found and forced{in_brackets(departed)},"
-            f" {self.random} at random{once}, {self.seconds:.0f} s"
-        )
-
-
-def counted(count: int, word: str) -> str:
-    return f"{count} {word}{'' if count == 1 else 's'}"
-
-
-def in_brackets(words: list[str]) -> str:
-    return f" ({', '.join(words)})" if words else ""
-
-
-def place_of(output: str) -> tuple[str, str]:
-    """The innermost function of a sanitizer's report whose source is known and is neither the sanitizer's own nor the C library's; and PATH:LINE."""
-    found = next((it for it in FRAME.finditer(output) if not OTHERS.match(it[2])), None)
-    return (f"{found[1]} ({Path(found[2]).name}:{found[3]})", f"{found[2]}:{found[3]}") if found else ("", "")
 
 
 @dataclass

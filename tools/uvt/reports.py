@@ -10,7 +10,7 @@ from typing import Any
 from urllib.parse import quote
 from xml.etree import ElementTree
 
-from uvt.hunting import Bad
+from uvt.hunt_ends import Bad
 from uvt.notes import harmless
 
 SCHEMA = "https://json.schemastore.org/sarif-2.1.0.json"

@@ -38,9 +38,10 @@ import tempfile
 from concurrent.futures import ThreadPoolExecutor
 from pathlib import Path
 
-from launch import reasons
+from launch import bad_line
 from launch.tool import START, run_tool
-from uvt.conversation import HOOKED, INSTALLED, Fault, Script, read_input
+from uvt.conversation import INSTALLED, Fault, Script
+from uvt.inputs import HOOKED, read_input
 from uvt.find_javascript import named
 from uvt.joined import Recorded, joined
 from uvt.notes import harmless
@@ -130,7 +131,7 @@ def explain(asked: bytes, said: bytes) -> None:
     number = int(named[1])
     if number <= len(lines):
         print(f"uvt: line {number} is: {harmless(lines[number - 1].decode('ascii', 'backslashreplace'))}", file=sys.stderr)
-    why = reasons.why("find", lines, number)
+    why = bad_line.why("find", lines, number)
     if why:
         print(f"uvt: {why.sentence()}", file=sys.stderr)
 

@@ -33,9 +33,11 @@ import tempfile
 from pathlib import Path
 
 from launch.tool import run_tool
-from uvt.conversation import INSTALLED, read_input
-from uvt.forcing import Order, Ran, agreement, badly, bound, first_run, limit, recording_of, run
-from uvt.hunting import place_of
+from uvt.conversation import INSTALLED
+from uvt.inputs import read_input
+from uvt.forcing import Order, Ran, badly, bound, first_run, limit, recording_of, run
+from uvt.schedule import agreement
+from uvt.hunt_ends import place_of
 from uvt.judging import judged
 from uvt.notes import harmless
 

@@ -47,7 +47,8 @@ from typing import Any
 
 from launch.tool import run_tool
 from uvt.conversation import INSTALLED, ROOT, Fault, built_program
-from uvt.hunting import Bad, Counts, Hunt, Wishes, counted
+from uvt.hunting import Hunt, Wishes
+from uvt.hunt_ends import Bad, Counts, counted
 from uvt.notes import harmless
 from uvt.record.compiled import recorder
 from uvt.record.files import room_in, write

@@ -18,7 +18,7 @@ import difflib
 from pathlib import Path
 
 from launch.tool import run_tool
-from uvt.conversation import read_input
+from uvt.inputs import read_input
 from uvt.libuv.differences import Parting, parting
 from uvt.libuv.runner import Library, installed, of_node, run_programs
 from uvt.libuv.session import Led, lead

@@ -17,7 +17,8 @@ import sys
 from pathlib import Path
 
 from launch.tool import run_tool
-from uvt.conversation import Conversation, Script, home, read_input
+from uvt.conversation import Conversation, Script, home
+from uvt.inputs import read_input
 from uvt.shell import Quit, Shell
 from uvt.ways import longest_way
 

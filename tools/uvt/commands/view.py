@@ -18,7 +18,8 @@ import json
 from pathlib import Path
 
 from launch.tool import run_tool
-from uvt.conversation import Fault, read_input
+from uvt.conversation import Fault
+from uvt.inputs import read_input
 from uvt.progress import Teller
 from uvt.trace_event import Times, trace_events
 from uvt.trace_javascript import cpu_profile

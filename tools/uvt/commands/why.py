@@ -31,7 +31,8 @@ from pathlib import Path
 
 from launch.tool import run_tool
 from uvt import log_summary
-from uvt.conversation import Fault, INSTALLED, Script, is_proved, read_descriptor, read_input
+from uvt.conversation import Fault, INSTALLED, Script, is_proved
+from uvt.inputs import read_descriptor, read_input
 from uvt.javascript_pieces import PLACE, fitted
 from uvt.overview import Overview
 from uvt.progress import Teller

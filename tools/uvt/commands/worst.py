@@ -27,7 +27,8 @@ import sys
 from pathlib import Path
 
 from launch.tool import run_tool
-from uvt.conversation import INSTALLED, Fault, Script, read_input
+from uvt.conversation import INSTALLED, Fault, Script
+from uvt.inputs import read_input
 from uvt.progress import Teller
 from uvt.searching import search_program
 from uvt.offered import single

@@ -13,23 +13,17 @@ import struct
 import time
 from dataclasses import dataclass
 from pathlib import Path
-from typing import Callable, Iterator
+from typing import Callable
 
 from uvt.conversation import Fault
 from uvt.record import ring
+from uvt.record.borrowed import STILL, NotStill, ahead_of_others, borrowed
 from uvt.record.tracing import NONE, Borrowed, Gone, Loaded, Memory, Thread, check_machine, loaded_in, threads_of
 
 # How often it is tried where no thread can be borrowed, not all stand still, or one is where it may not be; and how long it goes on between, in s.
 TRIES, PAUSE = 60, 0.03
-# Where not all stand still within so many s they go on, and it is tried again.
-STILL = 0.03
 # So long the recorder may take to make ready what is to be changed, and for the hook of JavaScript, in s.
 READY, HOOKS = 300.0, 120.0
-# Calls of the system in which a thread may be borrowed: it waits there, and has nothing of the C library's in its hands. (Of a futex those waits
-# alone that aren't for a lock.)
-EPOLL_WAIT, EPOLL_PWAIT, EPOLL_PWAIT2, FUTEX = 232, 281, 441, 202
-WAITS = {EPOLL_WAIT, EPOLL_PWAIT, EPOLL_PWAIT2, 7, 271, 23, 270, 35, 230, 34, 130}
-WAIT_BITSET = 9
 MMAP, READ_WRITE_EXECUTE, PRIVATE_ANONYMOUS = 9, 7, 0x22
 # What is laid out in its memory: a code, words, texts and a stack.
 ROOM, WORDS, TEXTS, BEHIND, PAGE = 1 << 16, 0x100, 0x200, 0x4000, 4096
@@ -47,84 +41,6 @@ CODE = bytes.fromhex(
     "c7434001000000 31c0 5b c3"  # done = 1; return
 )
 TRAP = 0xF0
-
-
-@contextlib.contextmanager
-def ahead_of_others() -> Iterator[None]:
-    """Others wait for this process: so it waits for none, where it may ask for that."""
-    try:
-        os.sched_setscheduler(0, os.SCHED_RR, os.sched_param(1))
-    except OSError:
-        yield
-        return
-    try:
-        yield
-    finally:
-        os.sched_setscheduler(0, os.SCHED_OTHER, os.sched_param(0))
-
-
-class NotStill(Exception):
-    """Threads don't stand still in the time that they have for it: on a busy machine they wait for a processor."""
-
-
-# ---- a thread that can be borrowed
-
-
-def waits_in(process: int, thread: int) -> bool:
-    """Does it wait there, as far as can be seen from outside?"""
-    try:
-        words = Path(f"/proc/{process}/task/{thread}/syscall").read_text().split()
-    except OSError:
-        return False
-    if not words or not words[0].isdigit():
-        return False
-    number = int(words[0])
-    return number in WAITS or number == FUTEX and int(words[2], 16) & 0x7F == WAIT_BITSET
-
-
-def may_be_borrowed(memory: Memory, thread: Thread) -> Borrowed | None:
-    kept = thread.registers()
-    number = kept["orig_rax"]
-    in_wait = number in WAITS or number == FUTEX and kept["rsi"] & 0x7F == WAIT_BITSET
-    return Borrowed(thread, kept) if in_wait and memory.read(kept["rip"] - 2, 2) == b"\x0f\x05" else None
-
-
-def lends(memory: Memory, thread: Thread, use: Callable[[Borrowed], None]) -> bool:
-    """Does it do that? (It has to be where it may be borrowed.)"""
-    try:
-        thread.hurry()
-        thread.interrupt()
-        if not thread.stops(time.monotonic() + STILL):
-            raise NotStill
-        if not (found := may_be_borrowed(memory, thread)):
-            return False
-        with found:
-            use(found)
-        return True
-    except Gone:
-        return False
-    finally:
-        thread.leave()
-
-
-def borrowed(process: int, memory: Memory, use: Callable[[Borrowed], None]) -> float | None:
-    """Has a thread that waits do that: for how long it stood still, in s; None where none waits. (One of a pool before one that may run a loop.)"""
-    waiting, still = [it for it in threads_of(process) if waits_in(process, it)], True
-    for number in sorted(waiting, key=lambda it: it == process):
-        try:
-            thread = Thread(number)
-        except Gone:
-            continue
-        with ahead_of_others():
-            begin = time.monotonic()
-            try:
-                if lends(memory, thread, use):
-                    return time.monotonic() - begin
-            except NotStill:
-                still = False
-    if not still:
-        raise NotStill
-    return None
 
 
 # ---- the recorder is loaded

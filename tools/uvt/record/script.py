@@ -11,7 +11,7 @@ import re
 from uvt.record.items import Bound, Call, Done, End, Finish, Key, Nothing, Op, Poll, Program, Request, Run, Send, Take, Waited, Written, is_pool
 from uvt.record.log import NO_CLOCK, WATCHERS, Event, Log
 from uvt.record.ops import Ops
-from uvt.record.where import LOOKED, NEW, Where
+from uvt.record.where import LOOKED, NEW
 from uvt.spent import Held
 
 SCRIPT_LINES = 1048575
