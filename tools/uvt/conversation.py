@@ -316,31 +316,43 @@ class Conversation:
             yield self.read_state_behind(move)
         writer.join()
 
-    def states_of(self, looks: list[tuple[int, str]]) -> Iterator[State]:
-        """Of many numbers of steps the state of one name each (`of_name`), asked all at once. All have to be read."""
+    def lines_of(self, looks: list[tuple[int, str]]) -> Iterator[list[str]]:
+        """Of many numbers of steps the lines of one name each (`of_name`), asked all at once. All have to be read."""
         moves, here = [], self.length
         for length, name in looks:
             moves.append(f"forward {length - here}\nstate {name}\nback 0\n" if length > here else f"back {here - length}\nstate {name}\nback 0\n")
             here = length
         writer = started(self.send_quietly, "".join(moves))
+        rows = self.rows()
         for length, name in looks:
-            said = self.read_line()
+            if not AT.match(next(rows)):
+                raise Fault(f"the program answers otherwise where {length} steps are to stand")
             lines: list[str] = []
-            while not lines or not lines[-1].startswith("at "):
-                lines.append(self.read_line())
-            if not AT.match(said):
-                raise Fault(f"the program answers `{said}` where {length} steps are to stand")
+            while not (line := next(rows)).startswith("at "):
+                lines.append(line)
             self.length = length
-            yield State(lines[:-1])
+            yield lines
         writer.join()
+
+    def rows(self) -> Iterator[str]:
+        """All lines, as they come."""
+        rest = b""
+        while True:
+            part = self.read_some()
+            if not part:
+                self.ended()
+            *rows, rest = (rest + part).split(b"\n")
+            for row in rows:
+                yield row.decode("ascii", "replace")
 
     def trace(self) -> list[str]:
         return self.ask("trace")
 
     def record(self) -> list[str]:
-        """The lines of the recording: the last one is `end`, and no other one is."""
+        """The lines of the recording: the last one is `end`, and no other one is. (Of those that are alike one is kept.)"""
         self.send("record\n")
-        return self.lines_until(b"end\n")
+        known: dict[str, str] = {}
+        return [known.setdefault(it, it) for it in self.lines_until(b"end\n")]
 
     def recording(self) -> Recording:
         return read_recording("\n".join(self.record()) + "\n")

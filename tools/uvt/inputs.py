@@ -65,7 +65,9 @@ class Recording:
 
 
 def read_lines(text: str) -> list[str]:
-    lines = text.split("\n")
+    # (a recording has the same lines again and again: of those one is kept)
+    known: dict[str, str] = {}
+    lines = [known.setdefault(it, it) for it in text.split("\n")]
     return lines[:-1] if lines and not lines[-1] else lines
 
 

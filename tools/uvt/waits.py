@@ -59,6 +59,24 @@ class Wait:
         return self.finished
 
 
+@dataclass(slots=True)
+class Seen:
+    """Of a slot that was wanted what is asked of it: whose it is, whether that is active, and of a timer when it is due."""
+
+    name: str
+    is_active: bool
+    due: int | None
+
+
+def seen(slot: Slot | None, name: str) -> Seen | None:
+    """The same of a slot: of that name, as it mostly is, or of another one. (There are many of them.)"""
+    if not slot:
+        return None
+    is_active = slot.values.get("active") == "1"
+    due = int(slot.values["due"]) if is_active and "due" in slot.values else None
+    return Seen(name if slot.name == name else slot.name, is_active, due)
+
+
 @dataclass
 class Refusal:
     """An op of the name that was refused."""
@@ -115,7 +133,7 @@ class Follower:
         self.kind = ""
         # of a timer: by its ops
         self.repeat = "0"
-        self.slots: dict[int, Slot | None] = {}
+        self.slots: dict[int, Seen | None] = {}
         # what is asked for and didn't come yet: the handle's or request's callback, and a close callback
         self.open: Wait | None = None
         self.closing: Wait | None = None
@@ -136,7 +154,7 @@ class Follower:
             elif kind in STARTED and words[0] == "call" and behind[1][0] != "call":
                 yield Look(self.name, id, step, behind[0] - 1)
 
-    def follow(self, slots: dict[int, Slot | None]) -> History:
+    def follow(self, slots: dict[int, Seen | None]) -> History:
         """The slots are those that were wanted, by their steps."""
         self.slots = slots
         for step, words in self.walk.of_name.get(self.name, []):
@@ -164,11 +182,11 @@ class Follower:
 
     def is_active(self, step: int) -> bool:
         slot = self.slots[step]
-        return slot is not None and slot.name == self.name and slot.values.get("active") == "1"
+        return slot is not None and slot.name == self.name and slot.is_active
 
     def begin(self, step: int, what: str) -> None:
         slot = self.slots[step] if what == "timer" else None
-        due = int(slot.values["due"]) if slot else None
+        due = slot.due if slot else None
         self.open = Wait(what, self.id, step, due)
         self.history.waits.append(self.open)
 
@@ -251,7 +269,7 @@ def repeat_of(words: list[str], before: str) -> str:
 def follow(walk: Walk, names: list[str]) -> dict[str, History]:
     """What became of each callback of these names."""
     followers = {name: Follower(walk, name) for name in names}
-    slots: dict[str, dict[int, Slot | None]] = collections.defaultdict(dict)
+    slots: dict[str, dict[int, Seen | None]] = collections.defaultdict(dict)
     for look, slot in walk.slots_at([look for it in followers.values() for look in it.looks()]):
-        slots[look.name][look.first] = slot
+        slots[look.name][look.first] = seen(slot, look.name)
     return {name: it.follow(slots[name]) for name, it in followers.items()}

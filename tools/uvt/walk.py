@@ -11,7 +11,7 @@ from dataclasses import dataclass, field
 from typing import Any, Callable, Iterator
 
 from uvt.conversation import Conversation, Fault, Script
-from uvt.state import Slot, State
+from uvt.state import Slot, State, read_slot
 from uvt.node_names import InNode
 from uvt.places import Place, next_line, read_place
 from uvt.pool import Pool
@@ -31,6 +31,7 @@ ANY = re.compile(rb"(\d+) (.*)\n")
 # So many lines of states are kept, and so many are asked for without waiting.
 MANY_LINES = 1_000_000
 AT_ONCE = 200
+LOOKS_AT_ONCE = 5_000
 # How the lines begin behind which a request may be done, or an async handle sent to.
 WAKES = ("send ", "out send ", "cancel ", "out cancel ", "out finish ")
 
@@ -213,11 +214,11 @@ class Walk:
         """All these slots, each by its name's own lines."""
         looks = sorted(looks, key=lambda it: it.last)
         gone: list[Look] = []
-        for first in range(0, len(looks), AT_ONCE):
-            some = looks[first : first + AT_ONCE]
-            for look, state in zip(some, self.talk.states_of([(it.last, it.name) for it in some])):
-                if slot := state.slot_at(look.id):
-                    yield look, slot
+        for first in range(0, len(looks), LOOKS_AT_ONCE):
+            some = looks[first : first + LOOKS_AT_ONCE]
+            for look, lines in zip(some, self.talk.lines_of([(it.last, it.name) for it in some])):
+                if row := next((it for it in lines if it.startswith(f"slot {look.id} ")), ""):
+                    yield look, read_slot(row.split(" "))
                 else:
                     gone.append(look)
         yield from self.slots_of_states(gone)

@@ -13,30 +13,52 @@ from uvt.record.items import Call, End, Finish, Item, Op, Poll, Run, Send
 FAR = 40
 # So many items ahead a thread may be held up in its send.
 AHEAD = 200
+# What looks at the clock, or shows that this was looked at.
+LOOK = (Call, Poll, Run, End)
 
 
 class Ahead:
     """Of a program's items, by their numbers."""
 
     def __init__(self, items: list[Item]) -> None:
-        self.ends = [at for at, it in enumerate(items) if isinstance(it, End)]
-        self.polls = [at for at, it in enumerate(items) if isinstance(it, Poll)]
-        # the requests whose after callbacks come, in their order
-        self.afters = [it.name for it in items if isinstance(it, Call) and it.callback == "after"]
-        # requests whose work begins and ends by a line of its own; what becomes of the others, and when, nobody sees
-        self.seen = {it.name for it in items if isinstance(it, Finish)}
         self.items = items
-        # of each name its callbacks that have to be made ready
+        self.ends: list[int] = []
+        self.polls: list[int] = []
+        # the requests whose after callbacks come, in their order
+        self.afters: list[str] = []
+        # requests whose work begins and ends by a line of its own; what becomes of the others, and when, nobody sees
+        self.seen: set[str] = set()
+        # of each name its callbacks that have to be made ready, and the sends to it
         self.calls: dict[str, list[int]] = collections.defaultdict(list)
-        for at, it in enumerate(items):
-            if isinstance(it, Call) and it.is_polled():
-                self.calls[it.name].append(at)
+        self.sends: dict[str, list[int]] = collections.defaultdict(list)
         self.closes: dict[str, list[int]] = collections.defaultdict(list)
         for at, it in enumerate(items):
-            if isinstance(it, Op) and it.text.startswith("close "):
-                self.closes[it.text.split(" ")[1]].append(at)
-        self.calls_before = calls_before(items, self.calls)
+            if isinstance(it, Call):
+                if it.callback == "after":
+                    self.afters.append(it.name)
+                if it.is_polled():
+                    self.calls[it.name].append(at)
+            elif isinstance(it, Poll):
+                self.polls.append(at)
+            elif isinstance(it, Op):
+                if it.text.startswith("close "):
+                    self.closes[it.text.split(" ")[1]].append(at)
+                elif it.text.startswith("send "):
+                    self.sends[it.text.split(" ")[1]].append(at)
+            elif isinstance(it, Send):
+                self.sends[it.name].append(at)
+            elif isinstance(it, End):
+                self.ends.append(at)
+            elif isinstance(it, Finish):
+                self.seen.add(it.name)
+        self.calls_before = calls_before(items, self.polls, self.calls, self.sends)
         self.later = with_later_times(items)
+
+    def is_sent_before(self, name: str, at: int) -> bool:
+        """Does a callback, or another thread, send to that one from this item on before it is called?"""
+        calls, sends = self.calls[name], self.sends[name]
+        call, send = bisect.bisect_left(calls, at), bisect.bisect_left(sends, at)
+        return send < len(sends) and (call == len(calls) or sends[send] < calls[call])
 
     def has_end_near(self, at: int) -> bool:
         """Does a run end within the next items?"""
@@ -73,45 +95,46 @@ def with_later_times(items: list[Item]) -> array.array[int]:
     """Of each item the first behind it that looks at the clock, or shows that this was looked at, and has a later time; where there is none, a
     number behind all items, and far."""
     found = array.array("i", [len(items) + FAR]) * len(items)
-    # those behind the item that none with the same time or a later one stands before: the next one last, and so by their times
-    row: list[int] = []
+    # those behind the item that none with the same time or a later one stands before: the next one last, and so by their times, which stand beside
+    row, times = array.array("i"), list[int]()
     for at in range(len(items) - 1, -1, -1):
-        now = items[at].now
-        if isinstance(items[at], (Call, Poll, Run, End)):
-            while row and items[row[-1]].now <= now:
-                row.pop()
-        found[at] = next((it for it in reversed(row) if items[it].now > now), found[at])
-        if isinstance(items[at], (Call, Poll, Run, End)):
+        item = items[at]
+        now, first = item.now, len(times)
+        while first and times[first - 1] <= now:
+            first -= 1
+        if first:
+            found[at] = row[first - 1]
+        if isinstance(item, LOOK):
+            del row[first:], times[first:]
             row.append(at)
+            times.append(now)
     return found
 
 
-def calls_before(items: list[Item], calls: dict[str, list[int]]) -> dict[int, int]:
+def calls_before(items: list[Item], polls: list[int], calls: dict[str, list[int]], sends: dict[str, list[int]]) -> dict[int, int]:
     """Of the sends that are for a later callback than the next one: how many come before it. A thread may be held up between a send's line
     and what libuv does, up to the line of its next send; and the loop between that and the callback's line, from the end of its poll on. So
     each callback gets one of the sends that may be for it, where there is one."""
     found: dict[int, int] = {}
-    polls = [at for at, it in enumerate(items) if isinstance(it, Poll)]
-    for name, sends in sends_by_name(items).items():
-        seen = [polls[behind - 1] if (behind := bisect.bisect_left(polls, at)) else at for at in calls[name]]
-        may_be_for = {at: (bisect.bisect_left(calls[name], at), bisect.bisect_left(seen, last)) for at, last in sends}
-        given = given_to(may_be_for, len(calls[name]))
+    for name, those in sends_by_name(items, sends).items():
+        mine = calls.get(name, [])
+        seen = [polls[behind - 1] if (behind := bisect.bisect_left(polls, at)) else at for at in mine]
+        may_be_for = {at: (bisect.bisect_left(mine, at), bisect.bisect_left(seen, last)) for at, last in those}
+        given = given_to(may_be_for, len(mine))
         found.update({at: number - may_be_for[at][0] for at, number in given.items() if number > may_be_for[at][0]})
     return found
 
 
-def sends_by_name(items: list[Item]) -> dict[str, list[tuple[int, int]]]:
+def sends_by_name(items: list[Item], sends: dict[str, list[int]]) -> dict[str, list[tuple[int, int]]]:
     """Of each name the sends to it, in their order, and with each the item up to which it may be held up. The loop's own isn't."""
-    found: dict[str, list[tuple[int, int]]] = collections.defaultdict(list)
+    held: dict[int, int] = {}
     next_of: dict[str, int] = {}
-    for at in range(len(items) - 1, -1, -1):
-        match items[at]:
-            case Send(name=name, thread=thread):
-                found[name].append((at, min(next_of.get(thread, len(items)), at + AHEAD)))
-                next_of[thread] = at
-            case Op(text=text) if text.startswith("send "):
-                found[text.split(" ")[1]].append((at, at))
-    return {name: sends[::-1] for name, sends in found.items()}
+    for at in sorted((at for those in sends.values() for at in those), reverse=True):
+        item = items[at]
+        if isinstance(item, Send):
+            held[at] = min(next_of.get(item.thread, len(items)), at + AHEAD)
+            next_of[item.thread] = at
+    return {name: [(at, held.get(at, at)) for at in those] for name, those in sends.items()}
 
 
 def given_to(may_be_for: dict[int, tuple[int, int]], count: int) -> dict[int, int]:

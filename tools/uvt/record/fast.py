@@ -102,31 +102,6 @@ def add_step(steps: Steps, command: str, line: str) -> None:
     steps.whole.append(not line.endswith(" "))
 
 
-def first_sends(items: list[Item]) -> list[int]:
-    """Of each callback, except for those of I/O, the first send to its handle since that was called last; where there is none, behind all items."""
-    sent: dict[str, int] = {}
-    found = []
-    for at, item in enumerate(items):
-        match item:
-            case Send():
-                sent.setdefault(item.name, at)
-            case Op() if item.text.startswith("send "):
-                sent.setdefault(item.text.split(" ")[1], at)
-            case Call() if not item.is_io():
-                found.append(sent.pop(item.name, len(items)) if item.callback == "on" else len(items))
-    return found
-
-
-def happens(item: Item) -> Key:
-    """What of an item has to be the same."""
-    match item:
-        case Op():
-            return Op, item.text, item.answer
-        case Call():
-            return Call, item.name, item.callback, item.section
-    return (type(item),)
-
-
 # What an item is to a unit, as a letter: a callback, a poll, an op, and the end of a callback; and how a unit is made of these.
 LETTERS = {Poll: b"P", Done: b"D"}
 NO_UNIT = b"-"
@@ -143,22 +118,49 @@ def letter(item: Item) -> bytes:
     return LETTERS.get(type(item), NO_UNIT)
 
 
-def numbered(items: list[Item]) -> array.array[int]:
-    """What happens with each item, as a number: the same for the same."""
-    numbers: dict[Key, int] = {}
-    return array.array("i", [numbers.setdefault(happens(it), len(numbers)) for it in items])
+class Units:
+    """What the items are to units: gone through once."""
 
+    def __init__(self, items: list[Item]) -> None:
+        # of each item a letter, and a number for what happens with it: the same for the same
+        self.numbers = array.array("i")
+        # the names of the callbacks that are made ready for a poll (all but those of I/O), and how many of them come before each item
+        self.names: list[str] = []
+        self.before = array.array("i")
+        # of each of these the first send to its handle since that was called last; where there is none, behind all items
+        self.first_sends = array.array("i")
+        numbers: dict[Key | type, int] = {}
+        letters: list[bytes] = []
+        sent: dict[str, int] = {}
+        for at, it in enumerate(items):
+            self.before.append(len(self.names))
+            happens: Key | type = type(it)
+            if isinstance(it, Call):
+                happens = it.name, it.callback, it.section
+                if not it.is_io():
+                    self.names.append(it.name)
+                    self.first_sends.append(sent.pop(it.name, len(items)) if it.callback == "on" else len(items))
+            elif isinstance(it, Op):
+                happens = it.text, it.answer
+                if it.text.startswith("send "):
+                    sent.setdefault(it.text.split(" ")[1], at)
+            elif isinstance(it, Send):
+                sent.setdefault(it.name, at)
+            number = numbers.setdefault(happens, len(letters))
+            if number == len(letters):
+                letters.append(letter(it))
+            self.numbers.append(number)
+        self.before.append(len(self.names))
+        self.letters = b"".join(map(letters.__getitem__, self.numbers))
 
-def counted(items: list[Item]) -> tuple[array.array[int], array.array[int]]:
-    """How many of the callbacks that are made ready for a poll come before each item; and how many up to the first end of a poll's callbacks from
-    it on."""
-    before = array.array("i", [0])
-    for it in items:
-        before.append(before[-1] + (isinstance(it, Call) and not it.is_io()))
-    upto = array.array("i", before)
-    for at in range(len(items) - 1, -1, -1):
-        upto[at] = before[at] if isinstance(items[at], ENDS) else upto[at + 1]
-    return before, upto
+    def upto(self, items: list[Item]) -> array.array[int]:
+        """How many of these callbacks come up to the first end of a poll's callbacks from each item on."""
+        found, last = array.array("i", self.before), self.before[-1]
+        for at in range(len(items) - 1, -1, -1):
+            if isinstance(items[at], ENDS):
+                last = self.before[at]
+            found[at] = last
+        return found
 
 
 class Ways:
@@ -166,15 +168,9 @@ class Ways:
 
     def __init__(self, follower: Follower) -> None:
         self.follower, self.items = follower, follower.items
-        # of each item a letter, and a number for what happens with it
-        self.letters = b"".join(map(letter, self.items))
-        self.numbers = numbered(self.items)
-        # the callbacks that are made ready for a poll, and how many of them come before each item, and up to the next end of such ones
-        self.calls = [it for it in self.items if isinstance(it, Call) and not it.is_io()]
-        self.names = [it.name for it in self.calls]
-        self.before, self.upto = counted(self.items)
-        # of each of these the first send to it since it was called last
-        self.first_sends = first_sends(self.items)
+        units = Units(self.items)
+        self.letters, self.numbers, self.names, self.before = units.letters, units.numbers, units.names, units.before
+        self.first_sends, self.upto = units.first_sends, units.upto(self.items)
         self.ways: dict[Key, Way] = {}
         self.many = 4
         # a unit that went otherwise than the last time
@@ -265,10 +261,15 @@ class Ways:
         """Asks these units together, and answers the item behind the last one that went as it was to."""
         follower, first = self.follower, at
         asked: list[Asked] = []
+        commands: list[str] = []
+        clock = follower.clock
         for end, way in units:
-            asked.append(self.asked(first, end, way, asked[-1].clock if asked else follower.clock))
-            first = end
-        answers = follower.talk.ask_all([command for it in asked for command in (*it.commands, NOTHING)])
+            unit = self.asked(first, end, way, clock)
+            asked.append(unit)
+            commands += unit.commands
+            commands.append(NOTHING)
+            first, clock = end, unit.clock
+        answers = follower.talk.ask_all(commands)
         done: list[Asked] = []
         behind = -1
         for unit in asked:

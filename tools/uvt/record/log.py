@@ -7,6 +7,7 @@ from __future__ import annotations
 
 import functools
 import re
+from collections.abc import Iterator
 from dataclasses import dataclass, field
 
 from uvt.conversation import Fault
@@ -47,6 +48,8 @@ STACK_FROM = re.compile(r"(\d{1,9}(?: \d{1,9})?) @((?:0|[1-9]\d{0,8})(?:<(?:0|[1
 # What a thread had of the processor: ms on it, and of later logs ms in the kernel, page faults without the disk and with it, how often it gave the
 # processor away and was pushed off it, and ms that it waited for one.
 USED = rf"(?: cpu {NUMBER}(?: {NUMBER}){{6}}| cpu {NUMBER})?"
+# So many bytes of a log are made lines at a time.
+AT_ONCE = 1 << 20
 # Why nothing is recorded from a line on.
 ENDS = {
     "- ! no room": "the disk had no room for more: the log ends at line {}",
@@ -255,48 +258,70 @@ def is_number(text: str) -> bool:
 
 
 @functools.lru_cache(maxsize=1 << 16)
-def is_good(type: str, words: str) -> bool:
-    return WORDS[type].fullmatch(words) is not None
+def number_of(text: str) -> int:
+    """The number that a word is; -1 where it is none. (The same words come again and again, and so do texts of lines: each is looked at once, and
+    stands in memory once.)"""
+    return int(text) if is_number(text) else -1
+
+
+@functools.lru_cache(maxsize=1 << 16)
+def read_words(type: str, words: str) -> tuple[str, str] | None:
+    """What a line has behind its times, and the place in the program that called libuv, `` where it has none. None where no line says that."""
+    if type == "Y":
+        looked = STACK_FROM.fullmatch(words)
+        return (looked[1], looked[2]) if looked else None
+    place = ""
+    if type in CALLED and (called := FROM.fullmatch(words)):
+        words, place = called[1], called[2]
+    return (words, place) if WORDS[type].fullmatch(words) else None
 
 
 def read_event(text: str, line: int) -> tuple[int, Event] | None:
     parts = text.split(" ", 3)
-    if len(parts) != 4 or parts[1] not in WORDS or not is_number(parts[0]) or not is_number(parts[2]):
+    if len(parts) != 4 or parts[1] not in WORDS:
         return None
-    loop, type, now, words, place = int(parts[0]), parts[1], int(parts[2]), parts[3], ""
-    if type in CALLED and (called := FROM.fullmatch(words)):
-        words, place = called[1], called[2]
-    if type == "Y":
-        looked = STACK_FROM.fullmatch(words)
-        return (loop, Event(type, now, NO_CLOCK, looked[1], line, looked[2])) if looked else None
+    _, type, _, words = parts
+    loop, now = number_of(parts[0]), number_of(parts[2])
+    if loop < 0 or now < 0:
+        return None
     if type in TIMED:
         clock, _, rest = words.partition(" ")
-        if is_number(clock) and is_good(type, rest):
-            return loop, Event(type, now, int(clock), rest, line, place)
+        if (at := number_of(clock)) >= 0 and (found := read_words(type, rest)):
+            return loop, Event(type, now, at, found[0], line, found[1])
         # (logs of earlier recorders have a clock at a callback's end alone)
         if type == "E":
             return None
-    return (loop, Event(type, now, NO_CLOCK, words, line, place)) if is_good(type, words) else None
+    found = read_words(type, words)
+    return (loop, Event(type, now, NO_CLOCK, found[0], line, found[1])) if found else None
 
 
 def within(workers: int) -> int:
     return max(1, min(1024, workers))
 
 
+def lines_of(data: bytes) -> Iterator[str]:
+    """The lines of a log, but one that is cut: so many bytes at a time are made a text."""
+    begin, end = 0, data.rfind(b"\n")
+    while begin <= end:
+        behind = data.find(b"\n", min(begin + AT_ONCE, end)) + 1
+        # (a window of the file that wasn't filled has zeros at its end)
+        yield from harmless(data[begin : behind - 1].replace(b"\0", b"").decode("utf-8", "replace")).split("\n")
+        begin = behind
+
+
 def read_log(data: bytes) -> Log:
     """What stands in a log, up to its first line that is none."""
-    # (a window of the file that wasn't filled has zeros at its end)
-    lines = harmless(data.replace(b"\0", b"").decode("utf-8", "replace")).split("\n")
-    cut = lines.pop() != ""
-    head = HEAD.fullmatch(lines[0]) if lines else None
-    if not head and re.match(r"uvt \d", lines[0] if lines else ""):
+    lines = lines_of(data)
+    first = next(lines, "")
+    head = HEAD.fullmatch(first)
+    if not head and re.match(r"uvt \d", first):
         raise Fault("this is a recording, and no log: uvt-why, uvt-shell and uvt-view take it as it is")
     if not head:
         raise Fault(
             "this is no log of a program: its first line isn't `uvt-log 1` or `uvt-log 2` with libuv's version, a process, workers" " and a program"
         )
     log = Log(int(head[1]), head[2], int(head[3]), within(int(head[4])), head[5])
-    for number, text in enumerate(lines[1:], 2):
+    for number, text in enumerate(lines, 2):
         log.lines = number
         if event := read_event(text, number):
             log.loops.setdefault(event[0], []).append(event[1])
@@ -339,6 +364,6 @@ def read_log(data: bytes) -> Log:
         else:
             log.note = f"line {number} of the log is none that the recorder writes: what stands before it was taken"
             return log
-    if cut:
-        log.note = f"the log is cut in its line {len(lines) + 1}: what stands before it was taken"
+    if data[data.rfind(b"\n") + 1 :].strip(b"\0"):
+        log.note = f"the log is cut in its line {max(1, log.lines) + 1}: what stands before it was taken"
     return log

@@ -2,6 +2,7 @@
 
 from __future__ import annotations
 
+import itertools
 import subprocess
 from dataclasses import dataclass
 
@@ -38,9 +39,9 @@ def replayed(lines: list[str]) -> str:
 def agrees(program: Program, outcome: Outcome) -> bool:
     """Are the recording's callbacks those of the log, by their names, as far as they go?"""
     calls = outcome.recording[outcome.recording.index("calls") + 1 : -1]
-    names = [" ".join(it.split(" ")[:2]) for it in calls if not it.startswith("call wake ")]
-    wanted = [f"{CALLS[it.callback]} {it.name}" for it in program.items if isinstance(it, Call)]
-    return names == wanted[: outcome.callbacks]
+    names = [it for it in calls if not it.startswith("call wake ")]
+    wanted = list(itertools.islice((it for it in program.items if isinstance(it, Call)), outcome.callbacks))
+    return len(names) == len(wanted) and all(f"{line} ".startswith(f"{CALLS[it.callback]} {it.name} ") for line, it in zip(names, wanted))
 
 
 def followed(program: Program, workers: int) -> Outcome:

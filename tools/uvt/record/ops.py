@@ -34,6 +34,8 @@ class Ops:
         # by object and what its line says as it begins: the callback that it has now
         self.callback: dict[tuple[int, str], int] = {}
         self.functions: list[str] = []
+        # of each place in the program: its function in words
+        self.told_of: dict[int, str] = {}
         # of other loops that send here: where callbacks begin and end, and where their functions lie
         self.others: dict[int, tuple[list[Event], dict[tuple[int, str], int]]] = {}
         self.free: dict[str, list[str]] = collections.defaultdict(list)

@@ -8,7 +8,7 @@ import itertools
 import re
 from collections.abc import Iterator
 
-from uvt.record.items import Call, End, Item, Op, Poll, Run, Send
+from uvt.record.items import Call, End, Op, Poll, Run, Send
 from uvt.record.leading import Leader, Stopped
 
 # What is kept before a send or a finish that may be put off.
@@ -33,11 +33,6 @@ KEPT = (
 CALLED = re.compile(r"(?:^|has `)(?:after|call) (\S+) ")
 
 
-def sends_to(item: Item, name: str) -> bool:
-    """Is it a send to that one, by the program's loop or by a thread?"""
-    return (isinstance(item, Op) and item.text == f"send {name}") or (isinstance(item, Send) and item.name == name)
-
-
 class Outside(Leader):
     """The same, and what comes to it from outside."""
 
@@ -48,7 +43,8 @@ class Outside(Leader):
                 self.finish(item.name)
             elif self.send_late(item):
                 pass
-            elif ready and self.sends_before(item, at):
+            elif ready and self.ahead.is_sent_before(item.name, at):
+                # (where somebody woke the poll, nobody else has to)
                 continue
             elif item.name not in self.senders or not self.is_pending(item.name):
                 self.later(f"send {item.name}", f"out send {item.name} = ok")
@@ -86,12 +82,6 @@ class Outside(Leader):
         if left := tuple(it for it in waiting if it[0] > item.number):
             self.sent_late[item.name] = left
         return len(left) < len(waiting)
-
-    def sends_before(self, item: Call, at: int) -> bool:
-        """Does a callback, or another thread, send to that one from this item on before it is called? Where somebody woke the poll, nobody else
-        has to."""
-        before = itertools.takewhile(lambda it: it is not item, itertools.islice(self.items, at, None))
-        return any(sends_to(it, item.name) for it in before)
 
     def group(self, at: int) -> list[Call]:
         """The callbacks of this poll, from this item on, that the loop calls in this order in one iteration; except for those of I/O."""

@@ -16,7 +16,7 @@ SECTIONS = frozenset(SECTION_WORDS)
 CALLBACKS = ("call ", "after ", "closed ")
 
 
-@dataclass
+@dataclass(slots=True)
 class Wait:
     """How long a poll may wait, -1 for ever; and where it stands: its step, or its line in the log."""
 

@@ -71,8 +71,11 @@ class Maker(Ops):
 
     def function(self, id: int, what: str) -> str:
         """Its name, with its source where that is known; of one without a symbol its file."""
-        address = self.log.addresses.get(self.callback.get((id, what), -1))
-        return self.told(address) if address else ""
+        place = self.callback.get((id, what), -1)
+        if place not in self.told_of:
+            address = self.log.addresses.get(place)
+            self.told_of[place] = self.told(address) if address else ""
+        return self.told_of[place]
 
     def functions_of(self, callback: str, name: str, call: int, told: str) -> None:
         """From this call on that is the function."""

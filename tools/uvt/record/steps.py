@@ -8,6 +8,11 @@ from uvt.record.items import Call, Op, Program
 LINES = {"on": "call", "after": "after", "closed": "closed"}
 
 
+def begins(item: Call | Op | None) -> str:
+    """How the line of such an item's step begins."""
+    return f"{item.text} = " if isinstance(item, Op) else f"{LINES[item.callback]} {item.name} " if item else ""
+
+
 class Steps:
     """Of a program's ops and callbacks, by the lines of a recording's steps: they stand there in the same order."""
 
@@ -20,21 +25,28 @@ class Steps:
         self.calls: dict[tuple[str, str, int], int] = {}
         # up to this step it is what there was as it begins
         self.before = 0
-        found = enumerate(lines, 1)
-        for item in program.items:
-            match item:
-                case Op():
-                    step = next((at for at, line in found if line.startswith(f"{item.text} = ")), 0)
-                    if step and item.line == program.again_line:
-                        self.before = step
-                    if step and item.place:
-                        self.asked_at[step] = item.place
-                    if step and item.queued > item.now:
-                        self.queued[step] = item.queued
-                case Call():
-                    step = next((at for at, line in found if line.startswith(f"{LINES[item.callback]} {item.name} ")), 0)
-                    if step:
-                        self.calls[item.callback, item.name, item.number] = step
+        items = (it for it in program.items if isinstance(it, (Call, Op)))
+        item = next(items, None)
+        wanted = begins(item)
+        for step, line in enumerate(lines, 1):
+            if not line.startswith(wanted):
+                continue
+            if isinstance(item, Call):
+                self.calls[item.callback, item.name, item.number] = step
+            elif item:
+                self.see_op(item, step)
+            item = next(items, None)
+            if item is None:
+                break
+            wanted = begins(item)
+
+    def see_op(self, item: Op, step: int) -> None:
+        if item.line == self.program.again_line:
+            self.before = step
+        if item.place:
+            self.asked_at[step] = item.place
+        if item.queued > item.now:
+            self.queued[step] = item.queued
 
     def places(self) -> tuple[list[str], dict[str, int]]:
         """The places in words, each once; and by how the log has it which of these each is."""
