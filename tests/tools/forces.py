@@ -16,7 +16,7 @@ import subprocess
 import tempfile
 import time
 from pathlib import Path
-from unittest.mock import patch
+from unittest.mock import Mock, patch
 from xml.etree import ElementTree
 
 from tests.helper import SECONDS, Check, Tries, come_to, limited, talked, waited
@@ -72,9 +72,13 @@ def forced(words: list[str], folder: str) -> tuple[int, str]:
     return tool("force", words, folder)
 
 
+# How long it is hunted until something is found, on a machine that does much else; and that in seconds, with what comes behind it.
+LONGEST, ENDED = "1h", 5400
+
+
 def hunted(words: list[str], folder: str) -> tuple[int, str]:
     """Until it has found something: how many orders that takes is by lot."""
-    return tool("hunt", ["--for", "15m", *words], folder)
+    return tool("hunt", ["--for", LONGEST, *words], folder, ENDED)
 
 
 def is_whole(said: str) -> bool:
@@ -306,6 +310,12 @@ def try_late_start(check: Check, folder: str) -> None:
     with patch.object(forcing, "FIRSTS", (1, SECONDS)):
         ran = forcing.first_run([program], f"{folder}/starts-late")
         check("hunt, a first run that begins late", not ran.late and Path(folder, "starts-late.rec").exists(), ran)
+    # (a server has no end, however much it has of the processor; one that gets none is looked at for longer)
+    serves = [compiled("serves-on", folder, "-luv")]
+    for waited, begun in ((0, 1), (SECONDS, 2)):
+        with patch.object(forcing, "FIRSTS", (2, 3)), patch.object(forcing, "waited_by", Mock(return_value=waited)) as asked:
+            ran = forcing.first_run(serves, f"{folder}/serves-on")
+        check(f"hunt, a first run without an end that waited {waited} s for a processor", ran.late and asked.call_count == begun, ran)
     with patch.object(forcing, "FIRSTS", (1, 2)):
         try:
             told = str(Hunt(Wishes(["sleep", "1000"]), prepared, Path(folder), lambda what: None).begin())
@@ -424,7 +434,7 @@ def try_ctest(check: Check, folder: str) -> None:
 
 def try_interrupt(check: Check, folder: str) -> None:
     """By an interrupt, and by the signal that ends a job of the background, where interrupts are passed over; once it is at an order at random."""
-    words = [str(ROOT / "tools" / "uvt" / "uvt-hunt"), "--for", "15m", compiled("zero", folder, "-luv")]
+    words = [str(ROOT / "tools" / "uvt" / "uvt-hunt"), "--for", LONGEST, compiled("zero", folder, "-luv")]
     for number, passed_over in ((signal.SIGINT, signal.SIG_DFL), (signal.SIGTERM, signal.SIG_IGN)):
         ours, theirs = pty.openpty()
         hunting = subprocess.Popen(
@@ -449,9 +459,9 @@ def try_interrupt(check: Check, folder: str) -> None:
 def try_parts(check: Check, folder: str) -> None:
     """Three parts beside one another, each until it has found one, and what they found together."""
     program, hangs = compiled("lookup", folder, "-fsanitize=address", "-luv"), compiled("joins", folder, "-luv")
-    words = [str(ROOT / "tools" / "uvt" / "uvt-hunt"), "--for", "15m", "-o", "parts", "--part"]
+    words = [str(ROOT / "tools" / "uvt" / "uvt-hunt"), "--for", LONGEST, "-o", "parts", "--part"]
     parts = [subprocess.Popen([*words, f"{it}/3", program], cwd=folder, stdout=subprocess.DEVNULL, stderr=subprocess.DEVNULL) for it in (1, 2, 3)]
-    ends = [waited(part) for part in parts]
+    ends = [waited(part, ENDED) for part in parts]
     reports = sorted(it.name for it in Path(folder).glob("parts.*.report"))
     check("hunt, a report of each part", reports == [f"parts.{it}-of-3.report" for it in (1, 2, 3)] and ends == [BADLY] * 3, f"{reports} {ends}")
     status, said = tool("hunt", ["-o", "joined", "--join", *reports], folder)

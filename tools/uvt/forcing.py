@@ -38,7 +38,7 @@ SHOWN = 8
 # How long a run may take, in seconds: so often the time of the first run, and as long at the least. Where that didn't end by itself: so long, and
 # so long behind the session's last step.
 TIMES, LEAST, ENDLESS, GRACE = 10, 30, 10, 2
-# How long a run that nobody forces may take; and where it has called nobody by then, as where others have the processors, so long in turn.
+# How long a run that nobody forces may take; and where it has called nobody by then, or others had the processors meanwhile, so long in turn.
 FIRSTS = (10, 30, 90)
 # How often it is looked whether it is over.
 LOOK = 0.2
@@ -81,8 +81,9 @@ class Ran:
     status: int
     seconds: float
     output: str = ""
-    # it was ended, since it took too long
+    # it was ended, since it took too long; and for how much of that its first thread waited for a processor, in seconds
     late: bool = False
+    waited: float = 0
     told: list[str] = field(default_factory=list)
     steps: int = 0
     departures: int = 0
@@ -217,6 +218,14 @@ def end_all(ran: subprocess.Popen[bytes]) -> None:
     ran.wait()
 
 
+def waited_by(process: int) -> float:
+    """How long the first thread of a process has waited for a processor, in seconds; 0 where the system doesn't say."""
+    try:
+        return int(Path(f"/proc/{process}/schedstat").read_text().split()[1]) / 1e9
+    except (OSError, ValueError, IndexError):
+        return 0
+
+
 def wait_for(ran: subprocess.Popen[bytes], seconds: float, grace: Callable[[], float | None]) -> bool:
     """Waits for its end. False where it took too long, or all is over but its end: so long is it waited then."""
     until = time.monotonic() + seconds
@@ -269,10 +278,11 @@ def run_for(words: list[str], environment: dict[str, str], folder: Path, seconds
             raise Fault(why_not(words[0], fault)) from None
         try:
             late = not wait_for(ran, seconds, grace)
+            waited = waited_by(ran.pid) if late else 0
         finally:
             end_all(ran)
     text = (folder / "output").read_text(errors="replace")
-    return ran.pid, Ran(ran.returncode, time.monotonic() - began, text, late)
+    return ran.pid, Ran(ran.returncode, time.monotonic() - began, text, late, waited)
 
 
 def run(
@@ -310,8 +320,8 @@ def run(
 
 
 def first_run(words: list[str], name: str, until: float = math.inf) -> Ran:
-    """A run that nobody forces, recorded. One that is late, and of which there is nothing to record, is made again for longer, where that is over by
-    UNTIL."""
+    """A run that nobody forces, recorded. One that is late, and of which there is nothing to record, or which waited for a processor most of that
+    time, is made again for longer, where that is over by UNTIL."""
     seen: list[Ran] = []
 
     def records(ran: Ran) -> bool:
@@ -327,7 +337,8 @@ def first_run(words: list[str], name: str, until: float = math.inf) -> Ran:
             if is_last or not seen or not seen[0].late:
                 raise
             continue
-        if is_last or not ran.late or any(Path(name).parent.glob(f"{glob.escape(Path(name).name)}*.rec")):
+        made = any(Path(name).parent.glob(f"{glob.escape(Path(name).name)}*.rec"))
+        if is_last or not ran.late or (made and ran.waited < ran.seconds / 2):
             break
     return ran
 
