@@ -10,8 +10,8 @@ import shutil
 import signal
 import subprocess
 import tempfile
-import threading
 import time
+from pathlib import Path
 from typing import List, NamedTuple, Set, Tuple
 
 HERE = os.path.dirname(os.path.realpath(__file__))
@@ -55,6 +55,12 @@ class StandIn(NamedTuple):
         with open(path, encoding="ascii") as file:
             return [line.split() for line in file]
 
+    def hold(self) -> None:
+        """What is begun from here on takes until there is a file `go`."""
+        self.write("took", "held")
+        if os.path.exists(os.path.join(self.room, "go")):
+            os.remove(os.path.join(self.room, "go"))
+
     def call(self, words: List[str], text: bytes = b"") -> "tuple[int, bytes, bytes]":
         return run([self.uvt()] + words, text, env=self.env())
 
@@ -75,6 +81,33 @@ def stand_in(folder: str, program: str) -> StandIn:
     return made
 
 
+# What a call says that waits for another one.
+WAITS = b"another call is building the program"
+
+
+def two_at_once(kit: StandIn, words: List[str], text: bytes = b"") -> "List[tuple[int, bytes, bytes]]":
+    """The same call twice: neither gets on until one of them says that it waits, however late that begins. What became of both."""
+    kit.hold()
+    said = [os.path.join(kit.room, "said-%d" % at) for at in (0, 1)]
+    calls = []
+    for path in said:
+        with open(path, "wb") as errors, tempfile.TemporaryFile() as given:
+            given.write(text)
+            given.seek(0)
+            calls.append(subprocess.Popen([kit.uvt()] + words, env=kit.env(), stdin=given, stdout=subprocess.PIPE, stderr=errors))
+
+    def told() -> List[bytes]:
+        return [Path(it).read_bytes() for it in said]
+
+    until = time.monotonic() + SECONDS
+    while not any(WAITS in it for it in told()) and time.monotonic() < until:
+        time.sleep(0.05)
+    kit.write("go", "")
+    outputs = [talked(it)[0] for it in calls]
+    kit.write("took", "0.05")
+    return list(zip([it.returncode for it in calls], outputs, told()))
+
+
 def try_first_call(check: Check, kit: StandIn) -> None:
     """Without a built program: the answer of the one before its proofs, and the words that go with it. It is compiled once."""
     asked: List[Tuple[List[str], bytes]] = [
@@ -86,19 +119,7 @@ def try_first_call(check: Check, kit: StandIn) -> None:
         status, output, errors = kit.call(words)
         check("%r before a build" % words, (status, output) == (2, b"") and errors.startswith(said), "got %r" % errors)
     same(check, "help before a build", kit.call(["help"])[0], 0)
-    ended: List = [None, None]
-    # (however late the second one begins on a busy machine, the first one is at it)
-    kit.write("took", "5")
-
-    def call(at: int) -> None:
-        ended[at] = kit.call(["debug"], SCRIPT)
-
-    both = [threading.Thread(target=call, args=(at,)) for at in (0, 1)]
-    for it in both:
-        it.start()
-    for it in both:
-        it.join()
-    kit.write("took", "0.05")
+    ended = two_at_once(kit, ["debug"], SCRIPT)
     for at, real in enumerate(ended):
         check("first call %d of two at once" % at, real[:2] == (0, b"init t timer = 0.0\n"), "got %r" % (real,))
         check(
@@ -106,7 +127,7 @@ def try_first_call(check: Check, kit: StandIn) -> None:
             b"before its proofs" in real[2] and b"./uvt build" in real[2] and b"none of it proved" in real[2],
             "got %r" % real[2],
         )
-    check("one of two first calls waits", sum(b"another call is building" in it[2] for it in ended) == 1, "got %r" % ended)
+    check("one of two first calls waits", sum(WAITS in it[2] for it in ended) == 1, "got %r" % ended)
     script = os.path.join(kit.room, "script.uvt")
     with open(script, "wb") as file:
         file.write(SCRIPT)
@@ -140,13 +161,14 @@ def try_first_call(check: Check, kit: StandIn) -> None:
     source = os.path.join(kit.folder, "crates", "uv_cli", "src", "lib.rt")
     with open(source, "ab") as out:
         out.write(b"// changed before a build\n")
-    kit.write("took", "5")
+    kit.hold()
     changed = subprocess.Popen([kit.uvt(), "debug"], env=kit.env(), stdin=subprocess.PIPE, stdout=subprocess.PIPE, stderr=subprocess.DEVNULL)
     until = time.monotonic() + SECONDS
     while len(kit.log()) < 2 and time.monotonic() < until:
         time.sleep(0.05)
     with open(source, "ab") as out:
         out.write(b"// changed while it is compiled\n")
+    kit.write("go", "")
     same(check, "a first call behind a change", (talked(changed, SCRIPT)[0], changed.returncode), (b"init t timer = 0.0\n", 0))
     same(check, "it compiles anew", [line[0] for line in kit.log()], ["tries", "tries"])
     kit.write("took", "0.05")
@@ -227,12 +249,9 @@ def try_builds(check: Check, kit: StandIn) -> None:
     check("what was proved before it was stopped is not proved again", not again & done, "again %r" % (again & done))
 
     kit.write("fails", "")
-    kit.write("took", "0.5")
-    both = [subprocess.Popen([kit.uvt(), "build"], env=kit.env(), stdout=subprocess.DEVNULL, stderr=subprocess.PIPE) for _ in (1, 2)]
-    said = [talked(it)[1] for it in both]
-    kit.write("took", "0.05")
-    same(check, "two builds at once", [it.returncode for it in both], [0, 0])
-    check("one of them waits", any(b"another call is building the program" in it for it in said), "errors %r" % said)
+    both = two_at_once(kit, ["build"])
+    same(check, "two builds at once", [it[0] for it in both], [0, 0])
+    check("one of them waits", sum(WAITS in it[2] for it in both) == 1, "got %r" % both)
     log = kit.log()
     same(check, "no crate is proved twice by them", len([1 for what, crate in log if (what, crate) == ("begins", "uvt")]), 1)
     same(check, "the built program", kit.call(["debug"], SCRIPT), (0, b"init t timer = 0.0\n", b""))

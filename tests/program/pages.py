@@ -124,6 +124,8 @@ BUSY = re.compile(
 )
 # What stands in a command that runs a program, or asks of a run.
 REAL = ("./late", "late.rec", "./upload", "upload.hunt", "race.uvt", "stalls.")
+# So often more a real run may go another way than the page shows.
+AGAIN = 8
 # Of README.md.
 MOST_LINES = 200
 
@@ -295,7 +297,7 @@ class Walker:
             return
         real = any(it in command for it in REAL for command in block.commands)
         holds = is_like(block.shown, output) if real else is_shown(block.shown, output)
-        for _ in range(2):
+        for _ in range(AGAIN):
             # (on a machine that does much else a run may go another way: it is recorded once more)
             if real and not holds:
                 self.run(self.recorded, self.folder)
