@@ -3,7 +3,7 @@
 #include <stdlib.h>
 #include <uv.h>
 
-enum { SECONDS = 30 };
+enum { SECONDS = 1000 };
 
 static uv_loop_t *loop;
 static uv_tcp_t server;
