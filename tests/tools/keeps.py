@@ -5,6 +5,7 @@ The program is kept.c. Without a C compiler `cc` and libuv's header these are le
 
 from __future__ import annotations
 
+import contextlib
 import os
 import platform
 import re
@@ -15,7 +16,7 @@ import sys
 import tempfile
 import time
 from pathlib import Path
-from typing import Callable
+from typing import Callable, Iterator
 
 from tests.helper import ROOT, SECONDS, Check, Tries, limited, waited
 from tests.tools.records import has_libuv
@@ -237,6 +238,20 @@ SCHEDSTAT = "/proc/thread-self/schedstat"
 HELD, ROUNDS = 0.4, 3
 
 
+@contextlib.contextmanager
+def hurried() -> Iterator[None]:
+    """This process waits for no processor, where that may be asked for: who waits for it stands still meanwhile."""
+    before = os.sched_getscheduler(0)
+    with contextlib.suppress(OSError):
+        os.sched_setscheduler(0, os.SCHED_RR | os.SCHED_RESET_ON_FORK, os.sched_param(1))
+    try:
+        yield
+    finally:
+        with contextlib.suppress(OSError):
+            os.sched_setscheduler(0, before, os.sched_param(0))
+
+
+@hurried()
 def held_as_it_looks(process: int) -> None:
     """Has a program stand still where the recorder reads, in front of a callback, what its thread had of the processor."""
     memory, thread = Memory(process), Thread(process)
