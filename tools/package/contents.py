@@ -21,7 +21,7 @@ ROOT = Path(__file__).resolve().parent.parent.parent
 TAKEN = (
     "start.py",
     "uvt",
-    *(f"launch/{it}" for it in ("__init__.py", "tool.py", "typed.py", "bad_line.py", "reasons.py", "usage")),
+    *(f"launch/{it}" for it in ("__init__.py", "tool.py", "typed.py", "bad_line.py", "reasons.py", "asked_reasons.py", "usage")),
     "package/__init__.py",
     "package/uninstall.py",
 )
