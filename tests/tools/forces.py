@@ -316,9 +316,12 @@ def try_late_start(check: Check, folder: str) -> None:
         with patch.object(forcing, "FIRSTS", (2, 3)), patch.object(forcing, "waited_by", Mock(return_value=waited)) as asked:
             ran = forcing.first_run(serves, f"{folder}/serves-on")
         check(f"hunt, a first run without an end that waited {waited} s for a processor", ran.late and asked.call_count == begun, ran)
+    # (in a folder of its own, where no other hunt has left its first run)
+    sleeps = Path(folder, "sleeps")
+    sleeps.mkdir()
     with patch.object(forcing, "FIRSTS", (1, 2)):
         try:
-            told = str(Hunt(Wishes(["sleep", "1000"]), prepared, Path(folder), lambda what: None).begin())
+            told = str(Hunt(Wishes(["sleep", "1000"]), prepared, sleeps, lambda what: None).begin())
         except Fault as fault:
             told = str(fault)
         check("hunt, a first run that has no end, and calls nobody", "called nothing of libuv" in told, told)
