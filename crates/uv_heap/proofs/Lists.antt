@@ -62,3 +62,17 @@ swap_same xs a p =
   where
     at : (i : ℕ) → Swapped (λ k. entry_at xs k) (λ k. entry_at (swap xs a a) k) a a → (i ≡ a) ⊎ (i ≡ a → ⊥) → entry_at (swap xs a a) i ≡ entry_at xs i
     at i s e2 = grind arith
+
+-- each of two entries put where the other stood
+pub set-set : (xs : List Entry) (a b : ℕ) → a < length xs → b < length xs → set (set xs a (entry_at xs b)) b (entry_at xs a) ≡ swap xs a b
+set-set xs a b p q =
+    let s = swapped_at xs a b p q in
+    let swapped = length-swap xs a b in
+    let one = length-set xs a (entry_at xs b) in
+    let two = length-set (set xs a (entry_at xs b)) b (entry_at xs a) in
+    ext_get_or no_entry (set (set xs a (entry_at xs b)) b (entry_at xs a)) (swap xs a b) (two ∙ one ∙ sym swapped)
+    (λ k l. at k s one (cases_eq k a) (cases_eq k b))
+  where
+    at : (k : ℕ) → Swapped (λ j. entry_at xs j) (λ j. entry_at (swap xs a b) j) a b → length (set xs a (entry_at xs b)) ≡ length xs
+        → (k ≡ a) ⊎ (k ≡ a → ⊥) → (k ≡ b) ⊎ (k ≡ b → ⊥) → entry_at (set (set xs a (entry_at xs b)) b (entry_at xs a)) k ≡ entry_at (swap xs a b) k
+    at k s one e f = grind (arith, get_or-set_same, get_or-set_other)

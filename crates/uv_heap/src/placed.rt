@@ -106,8 +106,10 @@ impl PlacedEntries {
         ensures array { self.new.array ≡ swap self.old.array a b }
         ensures room { self.new.room ≡ self.old.room }
     {
-        self.entries.swap(a, b);
-        self.places[self.entries[a].slot as usize] = Some(a as u32);
-        self.places[self.entries[b].slot as usize] = Some(b as u32);
+        let (first, second) = (self.entries[a], self.entries[b]);
+        self.entries[a] = second;
+        self.entries[b] = first;
+        self.places[second.slot as usize] = Some(a as u32);
+        self.places[first.slot as usize] = Some(b as u32);
     }
 }
