@@ -1,4 +1,4 @@
-//! Runs each example over the plain loop, but for those that print an image, and compares what is written with the output beside it.
+//! Runs each example over the plain loop, except those that print an image, and compares what is written with the output beside it.
 //! Then it runs them over the loop of the program, each time with a read, a write or a flush that fails in mid-stream, and calls
 //! once what may want memory.
 #![tactic(auto)]

@@ -322,11 +322,6 @@ module _ (c : Change) where
     abbrev coded_changed : Coded → Coded
     coded_changed x = record { state = changed c x.state; code = x.code }
 
-    by_why : (o : Option Op) (w : Option Code) (x x' : ops.Done) → x' ≡ done_changed o x →
-        found_or w (refuses (changed c s)) x' ≡ done_changed o (found_or w (refuses s) x)
-    by_why o None x x' same = same
-    by_why o (Some code) x x' same = refl
-
     by_handle : (o : Option Op) (t : Result (Id × HandleRecord) Code) (why : HandleRecord → Option Code) (f f' : Id → HandleRecord → ops.Done) →
         ((h : HandleRecord) → why (changed_handle c h) ≡ why h) →
         ((u : Id × HandleRecord) → t ≡ Ok u → why u.1 ≡ None → f' (c.id u.0) (changed_handle c u.1) ≡ done_changed o (f u.0 u.1)) →

@@ -50,12 +50,6 @@ module _ (p : Program) (s : State) (run : Run) where
       (λ e. found_both IsMove (steps.first_due s s.timers) (λ t. tt) (fire_moves part))
   timers_move part Firing = fire_moves part
 
-  after_walk_moves : (kind : WatcherKind) → IsMove (steps.after_walk s run kind)
-  after_walk_moves watcher.Idle = tt
-  after_walk_moves watcher.Prepare = tt
-  after_walk_moves watcher.Check = tt
-  after_walk_moves watcher.Async = tt
-
   walk_moves : (kind : WatcherKind) → IsMove (steps.in_walk p s run kind)
   walk_moves watcher.Idle = found_both IsMove (front s s.watchers.idle.yet) (λ t. tt) tt
   walk_moves watcher.Prepare = found_both IsMove (front s s.watchers.prepare.yet) (λ t. tt) tt

@@ -16,5 +16,4 @@ pub mod Relinking
 pub mod Removals
 pub mod Splices
 pub mod Stand
-pub mod Succeeds
 pub mod Walk

@@ -20,7 +20,7 @@ pub ends_put : (t : ChainPlace) (a b : Option ℕ) (c : Chains) (e : Ends) → s
 ends_put t a b c e g = get-each (new_ends t a b) c.ends t.list e g
     ∙ ap (λ (u : Bool). Some (cond u (record { head = none_or t.before a e.head; tail = none_or t.after b e.tail }) e)) (eq-eqb t.list t.list refl)
 
--- the lists, but for list k, which is new
+-- the lists, except list k, which is new
 abbrev pub with_list : ℕ → List ℕ → (ℕ → List ℕ) → ℕ → List ℕ
 with_list k new xs j = cond (eqb k j) new (xs j)
 

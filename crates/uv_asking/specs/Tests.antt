@@ -257,7 +257,7 @@ part_by names word rest =
     else if bytes_eq word (codes "find") then option_map Finds (question_of names rest)
     else None
 
--- the fields of a line, but for `find latest NAME`
+-- the fields of a line, except `find latest NAME`
 abbrev pub most_parts_of : List (List ℕ) → List (List ℕ) → Option Part
 most_parts_of names [] = None
 most_parts_of names (word ∷ rest) = part_by names word rest

@@ -75,9 +75,6 @@ pub record IsPassed (old new : List ℕ) : Type 0 where
   pub free : NoFeed over
   pub whole : old ≡ over ++ new
 
-pub none_passed : (old : List ℕ) → IsPassed old old
-none_passed old = record { over = []; free = λ k d l. absurd (omega arith); whole = refl }
-
 pub passed_then : (old mid new : List ℕ) → IsPassed old mid → IsPassed mid new → IsPassed old new
 passed_then old mid new h k = record {
   over = h.over ++ k.over;

@@ -146,7 +146,7 @@ pub record AreSame {input a b : List ℕ} {x y : End} (h : Out input a x) (k : O
   pub end : x ≡ y
   pub text : images_of h ≡ images_of k → a ≡ b
 
--- an input has one end, and one text but for its images
+-- an input has one end, and one text except its images
 abbrev pub HasOneAnswer : List ℕ → Type 0
 HasOneAnswer input = (a b : List ℕ) (x y : End) (h : Out input a x) (k : Out input b y) → AreSame h k
 

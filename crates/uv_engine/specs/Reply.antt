@@ -101,7 +101,7 @@ abbrev pub last_match : Shown → ℕ → Option ℕ
 last_match s zero = None
 last_match s (suc n) = if stops_at s (suc n) then Some (suc n) else last_match s n
 
--- the last step that matches a break, but for the present one
+-- the last step that matches a break, except the present one
 abbrev pub last_break : Shown → Option ℕ
 last_break s = last_match s (length s.standing - 1)
 

@@ -93,7 +93,7 @@ pub data Replays (input : List ℕ) (r : Result (Unit {0}) Fault) (old new : Lis
   no_memory : r ≡ Err fault.Memory → new ≡ old → Replays input r old new
   no_read : r ≡ Err fault.Read → new ≡ old → Replays input r old new
 
--- what a replay may answer but for `same`: a bad line, a verdict, a growth that was refused, or a reader or a writer that failed
+-- what a replay may answer except `same`: a bad line, a verdict, a growth that was refused, or a reader or a writer that failed
 abbrev pub IsReplayFault : Fault → Type 0
 IsReplayFault (fault.Script line) = Unit {0}
 IsReplayFault (fault.Refused why) = Unit {0}

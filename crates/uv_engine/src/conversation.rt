@@ -137,7 +137,7 @@ impl<M: Machine> Conversation<M> {
     }
 }
 
-/// Every input has an answer, a text and an end. The end is one alone, and the text is one alone but for what the commands
+/// Every input has an answer, a text and an end. The end is one alone, and the text is one alone except what the commands
 /// `image` print: so the input settles all else that `converse` writes. It does nothing, and is called for its clauses.
 #[tactic(auto, using(crate::proofs::OneAnswer::answers))]
 pub fn one_answer()

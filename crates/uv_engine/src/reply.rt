@@ -131,7 +131,7 @@ pub(crate) fn clear_breaks<M: Machine>(
     text.extend_from_slice(b"break ok\n")
 }
 
-/// Goes back to the last step that matches a break, but for the present one.
+/// Goes back to the last step that matches a break, except the present one.
 #[tactic(auto, using(crate::proofs::Replies::breaks_back, uv_script::proofs::Writing::writing))]
 pub(crate) fn back_to_break<M: Machine>(
     session: &mut Session<M>,

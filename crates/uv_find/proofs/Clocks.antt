@@ -138,11 +138,6 @@ module _ (p : Program) where
       let few = timeless p s e t line is in
       omega (arith, one, few)
 
-  -- a state that steps led to
-  pub clock_step : (es : List Event) (e : Event) (t : State) (line : Option Seen) → next p (after p es) e ≡ Moves t line →
-      t.clock ≤ (after p es).clock + ms_by e
-  clock_step es e t line is = let h = holds_after p es in step_clock h.told h.past (after p es) h.at e t line h.holds is
-
   brief_ms : (n : ℕ) (e : Event) → is_brief (Some n) e ≡ true → ms_by e < LONG
   brief_ms n e brief = grind arith
 

@@ -83,6 +83,3 @@ plain_tick p l = grind arith
 abbrev pub calls_name : Var → Seen → Bool
 calls_name name (seen.Call v id) = v.0 == name.0
 calls_name name l = false
-
-pub plain_calls : (p : Program) (name : Var) (l : Seen) → calls_name name (plain_line p l) ≡ calls_name name l
-plain_calls p name l = grind arith

@@ -189,10 +189,6 @@ module _ (r : Rules) (s : Spot) where
       let way = moves_course r s d.0 u d.1 in
       (u, way.0, way.1.1, way.1.0, d.2)
 
-  -- where it stands no more may be taken
-  pub found_deep_here : (limit : ℕ) → IsDeep s → Finds r s limit answer.TooDeep s
-  found_deep_here limit deep = (s, [], sym (append-nil s.steps), refl, deep)
-
 -- where the same moves were taken back, it is the same
 pub same_back : {X : Type 0} (p u : X) (ps us xs : List X) → xs ≡ p ∷ ps → xs ≡ u ∷ us → u ≡ p
 same_back p u ps us xs e f =

@@ -9,8 +9,20 @@ use std::alloc::Global;
 use uv_model::{Machine, STEPS};
 use uv_search::{Found, Reached, go_back, search, shortest};
 
-/// So many moves are made at most to make the steps that are found fewer (own).
-const EFFORT: usize = 2_097_152;
+/// So many moves are made to make the steps that are found fewer, so many more for each place that was kept until then, and so many at most
+/// (own): an answer that came at once isn't kept waiting.
+const EFFORT: usize = 65_536;
+
+const EFFORT_EACH: usize = 1_024;
+
+const EFFORT_MOST: usize = 2_097_152;
+
+/// How many moves that may take, where so many places were kept.
+fn effort(keys: usize) -> usize {
+    keys.saturating_mul(EFFORT_EACH)
+        .saturating_add(EFFORT)
+        .min(EFFORT_MOST)
+}
 
 /// What a search of orders finds.
 #[derive(Clone, Copy, PartialEq, Eq)]
@@ -54,7 +66,7 @@ fn find_behind<M: Machine>(alloc: Global, orders: &mut Orders<M>, limit: usize) 
     match search(alloc, orders, limit) {
         Found::Way(Reached { way, keys }) => {
             go_back(orders, way.len());
-            match shortest(alloc, orders, way, EFFORT) {
+            match shortest(alloc, orders, way, effort(keys)) {
                 Ok(Some(_)) => Answer::Found(keys),
                 Ok(None) => Answer::TooDeep,
                 Err(_) => Answer::OutOfMemory(keys),
@@ -100,7 +112,7 @@ pub fn each_finishes()
     ensures { EachFinishes }
 {}
 
-/// Each move of an order that differs from a recording is an offer of every order of what came in it, but for a send that libuv sees otherwise
+/// Each move of an order that differs from a recording is an offer of every order of what came in it, except a send that libuv sees otherwise
 /// than the loop does, and a take of a worker that isn't the idle one of the least number. It does nothing, and is called for its clause.
 pub fn near_is_within()
     ensures { NearIsWithin }

@@ -28,7 +28,7 @@ first_is xs a c b e h = ap (λ (k : ℕ). before xs k b) e ∙ h
 second_is : (xs : List Entry) (a b c : ℕ) → b ≡ c → before xs a b ≡ false → before xs a c ≡ false
 second_is xs a b c e h = ap (before xs a) (sym e) ∙ h
 
--- the array would be a heap, but for the entry at a place
+-- the array would be a heap, except the entry at a place
 pub record HasHole (xs : List Entry) (i : ℕ) : Type 0 where
   pub others : (k : ℕ) → k < length xs → (k ≡ i → ⊥) → (parent k ≡ i → ⊥) → is_before (entry_at xs k) (entry_at xs (parent k)) ≡ false
   pub across : (k : ℕ) → k < length xs → 0 < i → parent k ≡ i → is_before (entry_at xs k) (entry_at xs (parent i)) ≡ false

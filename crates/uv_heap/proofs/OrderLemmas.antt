@@ -41,7 +41,7 @@ pub count_by-pushed : (p : Entry → Bool) (xs : List Entry) (e : Entry) → cou
 unfolding pushed
 count_by-pushed p xs e = grind (arith, length_push, count_by-moved_up, sum_by_push)
 
--- what a list has, but for its last entry
+-- what a list has, except its last entry
 count_by-taken : (p : Entry → Bool) (xs : List Entry) (n : ℕ) → n + 1 ≡ length xs → count_by p (take n xs) + one p (entry_at xs n) ≡ count_by p xs
 count_by-taken p xs n e =
     sym (sum_by_push (one p) (take n xs) (entry_at xs n))

@@ -102,7 +102,7 @@ impl Mode {
 
 /// A section of the loop, as its trace line names it; the poll has a line of its own, which shows its timeout.
 ///
-/// An iteration has them in the order of this list, but for the timers, whose place the script's `Order` says.
+/// An iteration has them in the order of this list, except the timers, whose place the script's `Order` says.
 #[derive(Clone, Copy, PartialEq, Eq)]
 pub enum Phase {
     Pending,

@@ -12,18 +12,9 @@ pub record Reached (input rest : List ℕ) : Type 0 where
   pub text : List ℕ
   pub can : CanBegin input text rest
 
-pub reached_start : (input : List ℕ) → Reached input input
-reached_start input = record { text = []; can = can_start input }
-
 pub reached_next : {input rest line after : List ℕ} (fed : Bool) → Reached input rest → TakesLine rest line fed after → line ≢ codes "begin" →
     Reached input after
 reached_next {line = line} fed h taken other = record { text = h.text ++ with_line line fed; can = can_go_on fed h.can taken other refl }
-
-pub reached_few : {input rest : List ℕ} → Reached input rest → length rest ≤ length input
-reached_few {input} {rest} h =
-    let whole = ap length h.can.whole in
-    let parts = length-append h.text rest in
-    omega arith
 
 pub reached_begin : {input rest line after : List ℕ} (fed : Bool) → Reached input rest → TakesLine rest line fed after → line ≡ codes "begin" →
     Begins input (take (length input - length rest) input) after

@@ -93,12 +93,6 @@ no_lines callback.Handle = refl
 no_lines callback.After = refl
 no_lines callback.Close = refl
 
-pub none_undeclared : (p : Program) (w : Wanted) (k : Callback) (v : Var) (line : ℕ) → length p.callbacks ≤ v.0 → NoneAt p w (site.In k v line)
-none_undeclared p w k v line past =
-    let none : lines_in p k v ≡ [] = ap (λ (c : Option Callbacks). lines_of k (unwrap_or c no_callbacks)) (slice_get_past p.callbacks v.0 past)
-    ∙ no_lines k in
-    none_wanted p w k v [] (sym none) refl line
-
 pub each_kind : (P : Callback → Type 0) → P callback.Handle → P callback.After → P callback.Close → (k : Callback) → P k
 each_kind P h a c callback.Handle = h
 each_kind P h a c callback.After = a

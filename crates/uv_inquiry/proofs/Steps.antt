@@ -102,10 +102,6 @@ some_is : {A : Type 0} (o : Option A) → is_some o ≡ true → (x : A) × (o �
 some_is None e = absurd cc
 some_is (Some x) e = (x, refl)
 
-empty_is : {A : Type 0} (xs : List A) → (length xs == 0) ≡ true → xs ≡ []
-empty_is [] e = refl
-empty_is (x ∷ xs) e = absurd (omega (arith, eqb-true (length (x ∷ xs)) 0 e))
-
 is_empty : {A : Type 0} (xs : List A) → xs ≡ [] → (length xs == 0) ≡ true
 is_empty [] e = refl
 is_empty (x ∷ xs) e = absurd (let f : ⊥ = cc in f)

@@ -11,9 +11,6 @@ absorbs l l' v took is carries = record {
   carried = λ t h. (carries t).1 (inl h);
 }
 
-pub absorbs_none : (l : LoopView) → Absorbs l l
-absorbs_none l = record { tickets = refl; splits = refl; joins = refl; carried = λ t h. h }
-
 still_carried : (l l' : LoopView) (v : Var) → Absorbs l l' → AllCarried l v → AllCarried l' v
 still_carried l l' v a h = λ t is in_list. a.carried t (h t is (subst (λ (ts : List Ticket). Contains ts t) a.tickets in_list))
 

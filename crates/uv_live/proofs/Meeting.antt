@@ -8,14 +8,6 @@ part_other k entry rest e = ap (λ (b : Bool). cond b (entry ∷ part_of k rest)
 part_here : (k : ℕ) (entry : PoolEvent) (rest : List PoolEvent) → is_of k entry ≡ true → part_of k (entry ∷ rest) ≡ entry ∷ part_of k rest
 part_here k entry rest e = ap (λ (b : Bool). cond b (entry ∷ part_of k rest) (part_of k rest)) e
 
--- the entry is of none of the shifts' workers
-pub passed_over : (shifts : List Worked) (met : List ℕ) (entry : PoolEvent) (rest : List PoolEvent)
-    → ((k : ℕ) → k < length shifts → is_of k entry ≡ false) → AreLeft shifts met rest ↔ AreLeft shifts met (entry ∷ rest)
-passed_over shifts met entry rest none = (
-  λ h k x at. h k x at ∙ sym (part_other k entry rest (none k (slice_get_within shifts k x at))),
-  λ h k x at. h k x at ∙ part_other k entry rest (none k (slice_get_within shifts k x at)),
-)
-
 drop_at : (events : List PoolEvent) (at : ℕ) (d : PoolEvent) → at < length events → drop at events ≡ get_or events at d ∷ drop (at + 1) events
 drop_at events at d l = drop-cons events at d l ∙ ap (λ (n : ℕ). get_or events at d ∷ drop n events) (sym (add-one at))
 

@@ -4,9 +4,6 @@ use Rattle.uv_live.proofs.Names.{◌≡◌, ◌∙◌, ◌<◌, ℕ, ◌+◌, �
 abbrev var_of : ℕ → Var
 var_of n = record { 0 = n }
 
-pub none_noted : (lines : List ThreadLine) (names : List Var) → AreNoted 0 lines names
-none_noted lines names = record { each = λ v low some. absurd (omega (arith, low)) }
-
 -- a name more was looked at, and is among these where some line sends to it
 pub noted_more : (lines : List ThreadLine) (names more : List Var) (n : ℕ) (v : Var) → v.0 ≡ n → ((w : Var) → Contains names w → Contains more w)
     → (0 < count_by (is_line v.0) lines → Contains more v) → AreNoted n lines names → AreNoted (n + 1) lines more

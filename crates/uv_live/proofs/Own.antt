@@ -40,30 +40,6 @@ line_noted own line k within = elim (cases_eq k line.thread) [
       ∙ sym (ap (λ (names : List Var). get_or own k [] ++ names) (one_other line k (λ e. other (sym e))) ∙ append-nil (get_or own k []))
 ]
 
--- or those of no thread that there is
-pub line_passed : (own : List (List Var)) (line : ThreadLine) (k : ℕ) → k < length own → length own ≤ line.thread →
-    get_or own k [] ≡ get_or own k [] ++ names_by k (line ∷ [])
-line_passed own line k within past =
-    sym (ap (λ (names : List Var). get_or own k [] ++ names) (one_other line k (omega (arith, within, past))) ∙ append-nil (get_or own k []))
-
--- of so many lines each thread has its own
-pub own_more : (lines : List ThreadLine) (n : ℕ) (d : ThreadLine) (own more : List (List Var)) → n < length lines → HasOwn 0 (take n lines) own →
-    length more ≡ length own →
-    ((k : ℕ) → k < length own → get_or more k [] ≡ get_or own k [] ++ names_by k (get_or lines n d ∷ [])) → HasOwn 0 (take (n + 1) lines) more
-own_more lines n d own more within has same noted = record {
-  count = same ∙ has.count;
-  names = λ k least below.
-      noted k (omega (arith, below, has.count)) ∙ ap (λ (names : List Var). names ++ names_by k (get_or lines n d ∷ [])) (has.names k least below)
-      ∙ sym (names_more k lines n d within);
-}
-
--- those that are taken leave the others
-pub own_taken : (lines : List ThreadLine) (n : ℕ) (own : List (List Var)) → HasOwn n lines own → HasOwn (n + 1) lines (set own n [])
-own_taken lines n own has = record {
-  count = length-set own n [] ∙ has.count;
-  names = λ k behind below. get_or-set_other own n k [] [] (omega (arith, behind)) ∙ has.names k (omega (arith, behind)) below;
-}
-
 -- a thread has a line where it has a name
 has_none : (thread : ℕ) (lines : List ThreadLine) → length (names_by thread lines) ≡ 0 → list_any (is_by thread) lines ≡ false
 has_none thread [] none = refl

@@ -30,26 +30,8 @@ may_more log events n e within here is h = record {
   theirs = theirs_more log (length events) n e h.theirs here is;
 }
 
--- the log begins with the events
-pub may_none : (log events : List PoolEvent) → length events ≤ length log → take (length events) log ≡ events → MayTake (length events) log events
-may_none log events within begins = record {
-  begins = begins;
-  from = omega arith;
-  within = within;
-  theirs = λ m low high. absurd (omega (arith, low, high));
-}
-
 same_course : (s t : Course) → s.steps ≡ t.steps → s.events ≡ t.events → s ≡ t
 same_course s t a b = λ l. record { steps = a l; events = b l }
-
--- nothing was applied yet
-pub none_taken : (log : List PoolEvent) (s : Course) → take (length s.events) log ≡ s.events → s ≡ taken (length s.events) log s
-none_taken log s begins =
-    let rest : drop (length s.events) (take (length s.events) log) ≡ [] =
-    ap (λ (xs : List PoolEvent). drop (length s.events) xs) begins ∙ drop_all (length s.events) s.events (omega arith) in
-    let steps : s.steps ++ map step_of (drop (length s.events) (take (length s.events) log)) ≡ s.steps =
-    ap (λ (xs : List PoolEvent). s.steps ++ map step_of xs) rest ∙ append-nil s.steps in
-    same_course s (taken (length s.events) log s) (sym steps) (sym begins)
 
 steps_more : (log : List PoolEvent) (from n : ℕ) (d : PoolEvent) (steps : List Event) → from ≤ n → n < length log
     → (steps ++ map step_of (drop from (take n log))) ++ step_of (get_or log n d) ∷ [] ≡ steps ++ map step_of (drop from (take (n + 1) log))

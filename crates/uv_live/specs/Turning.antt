@@ -28,7 +28,7 @@ abbrev pub TakesAll : List PoolEvent → Course → Course → Type 0
 TakesAll log s t = MayTake (length log) log s.events × (t ≡ taken (length log) log s)
 
 -- on success all of the log's rest was applied and then one step of the loop, whose event is the log's new entry. On a fault the log is
--- as before, and so is the session but for what was applied
+-- as before, and so is the session except what was applied
 abbrev pub Turns : List PoolEvent → Course → Result (List PoolEvent) Fault → List PoolEvent → Course → Type 0
 Turns log s (Ok events) log' t =
     MayTake (length log) log s.events × (t ≡ stepped step.Loop events (taken (length log) log s)) × (log' ≡ t.events)

@@ -262,22 +262,3 @@ module _ (p : Program) (es : List Event) (seen : List (Option Seen)) (rs : List 
       subst (λ (x : Course). (0 < length x.standing) × (fs ≡ take (length x.standing - 1) x.standing)
       × DropsOne x.walk (record { image = j; records = qs }) × (m ≡ x.pieces)) same
       (some, is ∙ ap (λ k. take k es) less, record { dropped = r; records = split; back = back }, kept)
-
--- a finish with the result of the job that the worker runs is the event
-pub answers_event : (p : Program) (es : List Event) (k : ℕ) (job : Job) (r : Result Outcome Fault) (fs : List Event)
-    → job_run (after p es) k ≡ Some job → AnswersResult STEPS p es k job r fs → Answers STEPS p es (Finish k) r fs
-answers_event p es k job (Ok outcome) fs runs a = a.1
-answers_event p es k job (Err fault.Memory) fs runs a = a.1
-answers_event p es k job (Err (fault.Refused why)) fs runs a = (
-  a.0,
-  a.1,
-  elim a.2 [ inl same ↦ same | inr other ↦ (let one : other.1.0 ≡ job = cc (other.1.1, runs) in absurd (other.1.2 one)) ],
-)
-answers_event p es k job (Err fault.StepsFull) fs runs a = a
-answers_event p es k job (Err (fault.Script line)) fs runs a = absurd a
-answers_event p es k job (Err fault.Read) fs runs a = absurd a
-answers_event p es k job (Err fault.Write) fs runs a = absurd a
-answers_event p es k job (Err (fault.Torn at)) fs runs a = absurd a
-answers_event p es k job (Err fault.Stalled) fs runs a = absurd a
-answers_event p es k job (Err (fault.Differs at)) fs runs a = absurd a
-answers_event p es k job (Err fault.Limit) fs runs a = absurd a

@@ -58,9 +58,6 @@ get_last : {X : Type 0} (xs : List X) (x : X) → slice_get (xs ++ x ∷ []) (le
 get_last [] x = refl
 get_last (y ∷ xs) x = get_last xs x
 
-pub said_narrow : (ls : List Line) (ws : List Seen) (l : Line) (s : Option Seen) → Says s l → all_said ws (ls ++ l ∷ []) ≡ all_said ws ls ++ s ∷ []
-said_narrow ls ws l s says = map-append (said ws) ls (l ∷ []) ∙ ap (λ x. all_said ws ls ++ x ∷ []) (says.says ws)
-
 said_wide : (ls : List Line) (ws : List Seen) (w : Seen) → AreKept ls ws
     → all_said (ws ++ w ∷ []) (ls ++ line.Wide (length ws) ∷ []) ≡ all_said ws ls ++ Some w ∷ []
 said_wide ls ws w k = map-append (said (ws ++ w ∷ [])) ls (line.Wide (length ws) ∷ [])

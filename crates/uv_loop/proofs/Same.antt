@@ -16,9 +16,6 @@ module _ (i : Image Place) (s : State) (h : StandsFor i s) where
   slots_long =
       sym (length-map i.arena.memory.row.items (λ (c : Cell Content). c.slot)) ∙ ap (λ (ss : List (Slot Content)). length ss) slots_as
 
-  pub past_shown : (n : ℕ) → length i.arena.memory.row.items ≤ n → slice_get s.arena.slots n ≡ None
-  past_shown n l = let long = slots_long in slice_get_past s.arena.slots n (omega (arith, l, long))
-
   -- a slot that was used
   pub slot_shown : (n : ℕ) (t : Slot Content) → n < length i.arena.memory.row.items → t ≡ slot_at i.arena.memory n
       → slice_get s.arena.slots n ≡ Some t

@@ -67,7 +67,7 @@ pub(crate) fn check_name(memory: &Memory<PackedPlace>, name: Var) -> Result<(), 
     Ok(())
 }
 
-/// A cancel is never refused but for its name.
+/// A cancel is never refused except for its name.
 fn cancel_plan(memory: &Memory<PackedPlace>, name: Var) -> Result<Plan, Why>
     ensures { (p : Program) → Plans p (held memory.now).image (Cancel name) result }
 {

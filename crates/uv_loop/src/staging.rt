@@ -38,7 +38,7 @@ pub(crate) fn is_staged(place: PackedPlace) -> bool
     }
 }
 
-/// What the run does next where no body is under way, but for its done section.
+/// What the run does next where no body is under way, except its done section.
 pub(crate) fn in_stage(memory: &mut Memory<PackedPlace>, script: &Script, run: &Run) -> PackedLine
     requires ready { IsReady (held memory.old) }
     requires last { (held memory.old).image.arena.last ≡ (arena_size script.now).last_generation }

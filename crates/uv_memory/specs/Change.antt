@@ -1,4 +1,4 @@
--- What takes a change back that a step did to the memory, but for its names and where it stands, by the kind of change.
+-- What takes a change back that a step did to the memory, except its names and where it stands, by the kind of change.
 use Rattle.std.specs.Prelude.{ℕ, Bool}
 use Rattle.uv_records.specs.declared.handle.HandleRecord.{HandleRecord}
 use Rattle.uv_arena.specs.declared.undo.PushUndo.{PushUndo}

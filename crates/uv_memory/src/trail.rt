@@ -80,7 +80,7 @@ impl<P: Copy> Trail<P> {
         Ok(())
     }
 
-    /// One more, which is as this but for where the loop stood. It takes no memory.
+    /// One more, which is as this except where the loop stood. It takes no memory.
     #[inline(always)]
     pub fn push_at<Q: Copy>(&mut self, place: P, last: &LastStep<Q>)
         requires { 0 < self.old.room }
@@ -107,7 +107,7 @@ impl<P: Copy> Trail<P> {
         }
     }
 
-    /// The last one goes, if there is one, and is this but for where the loop stood, which is answered.
+    /// The last one goes, if there is one, and is this except where the loop stood, which is answered.
     pub fn pop_at<Q: Copy>(&mut self, last: &mut LastStep<Q>) -> Option<P>
         ensures some { IfSome result (λ place. self.old.records ≡ self.new.records ++ at_place place last.new ∷ []) }
         ensures none { IfNone result ((self.old.records ≡ []) × (self.new.records ≡ []) × (last.new ≡ last.old)) }

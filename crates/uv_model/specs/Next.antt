@@ -1,5 +1,5 @@
 -- One step of the loop: a place and what holds there give the line and the next place (design overview, the orders of 1.44 and 1.45).
--- The loop's own steps in short; what comes from outside stands behind them, and needs no place but for a callback of I/O:
+-- The loop's own steps in short; what comes from outside stands behind them, and needs no place except for a callback of I/O:
 --
 --   place                     line                                        next place
 --   main program: an op       the op = its answer                         the next line

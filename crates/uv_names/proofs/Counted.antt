@@ -38,11 +38,6 @@ count_capped n callback.Handle c = refl
 count_capped n callback.After c = refl
 count_capped n callback.Close c = refl
 
-count_counted : (kind : Callback) (c : Calls) → count_of kind (counted kind c) ≡ count_of kind c + 1
-count_counted callback.Handle c = refl
-count_counted callback.After c = refl
-count_counted callback.Close c = refl
-
 pub twice : (a n : ℕ) → min (min a n) n ≡ min a n
 twice a n = omega arith
 

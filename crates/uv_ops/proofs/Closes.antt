@@ -8,7 +8,7 @@ use Rattle.uv_stands.proofs.Retimed.{retimed, AreRetimed, stands_then, list_left
 use Rattle.uv_stands.proofs.Stops.{ids_rescheduled}
 use Rattle.uv_stands.proofs.TakenOff.{timers_left, lists_left}
 
--- but for the closing list a handle that is closed is off its lists, and no more
+-- except the closing list a handle that is closed is off its lists, and no more
 closed_lists : (s : State) (d : Id) (h : HandleRecord) (l : ListName) → l ≢ name.Closing → members (closed s d h) l ≡ members (taken_off s d h) l
 closed_lists s d h name.Closing ne = absurd (ne refl)
 closed_lists s d h l ne = refl

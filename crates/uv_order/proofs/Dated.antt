@@ -69,9 +69,6 @@ dated_started p past now s u id h x at t n own q k = record {
   drawn = n ∙ ap (λ (m : ℕ). m + 1) k.drawn ∙ sym q.drawn;
   due = λ i y e timer on. due i y timer on (same_id i id) refl (sym (touched_at s u id h x t i) ∙ e);
 } where
-  own_told : x.due ≡ record { at = at; start = starts p (seens past) }
-  own_told = own ∙ ap (λ (m : ℕ). record { at = at; start = m }) k.drawn
-
   due : (i : Id) (y : HandleRecord) → is_timer y.kind ≡ true → y.active ≡ true → (b : Bool) → same_id i id ≡ b →
       (if same_id i id then Some x else held_at s.arena.slots i) ≡ Some y → y.due ≡ due_told p now i
   due i y timer on b d e = grind (arith, same, turned, k.due, q.due)

@@ -1,4 +1,4 @@
--- The steps that change no request: those of handles, of the loop's sections but for the requests that are done, and of the clock.
+-- The steps that change no request: those of handles, of the loop's sections except the requests that are done, and of the clock.
 use Rattle.uv_order.proofs.Names.{◌≡◌, List, Option, Some, None, drop, refl, Id, Var, Kind, HandleRecord, Slot, Walk, inited, activated, referenced_as, repeating, taken, next_free, Op, Program, arena_size, Content, State, handle, stopped, restarted, do_op, Next, Moves, Refuses, WatcherKind}
 use Rattle.uv_records.specs.Handles as records
 use Rattle.uv_model.specs.Ops as ops

@@ -86,7 +86,7 @@ pub async_moved : (slots more : List (Slot Content)) → ((id : Id) → pends sl
     AsyncLeft slots at ids → AsyncLeft more at ids
 async_moved slots more f at ids k = grind arith
 
--- the members of the lists that sections walk, but for those that were called
+-- the members of the lists that sections walk, except those that were called
 pub record Rest : Type 0 where
   pub ready : List Id
   pub idle : List Id

@@ -13,7 +13,7 @@ use uv_ids::Id;
 /// The handles of a list, and those of them that the section under way has yet to run. The orders are own.
 #[derive(Drop)]
 pub struct Walked {
-    /// Front first, but for those yet to run.
+    /// Front first, except those yet to run.
     list: Vec<Id>,
     /// Those that the section under way has yet to run, front first.
     yet: Vec<Id>,

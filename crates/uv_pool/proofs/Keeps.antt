@@ -31,12 +31,6 @@ same_hold s t h e = same s.contents t.contents h (ap (λ (x : Hold). x.contents)
 moved : (s t u : Contents) (n : ℕ) → Keeps s u n → t ≡ u → Keeps s t n
 moved s t u n h e = let P : Contents → Type 0 = λ x. Keeps s x n in subst P (sym e) h
 
-pub reserve_keeps : (s t : Hold) (r : Result (Unit {0}) Fault) → Reserves s r t → IsReplay s.contents → Keeps s.contents t.contents 0
-reserve_keeps s t (Ok u) h k = same s.contents t.contents k h.0
-reserve_keeps s t (Err fault.Memory) h k = same s.contents t.contents k h.2
-reserve_keeps s t (Err fault.Limit) h k = same s.contents t.contents k h.1
-reserve_keeps s t (Err f) h k = absurd h
-
 pub submit_keeps : (s t : Hold) (job : Job) (r : Result (Unit {0}) Fault) → Submits s job r t → IsReplay s.contents → Keeps s.contents t.contents 0
 submit_keeps s t job (Ok u) h k =
     moved s.contents t.contents (queued s.contents job) 0 (record {

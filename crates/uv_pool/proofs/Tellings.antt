@@ -12,16 +12,6 @@ module _ {G : Type 0} (begins ends : G → ℕ → Id → G → Type 0) where
   told_both g h i (event.Cancel id ∷ more) ys a b = absurd a
   told_both g h i (event.Collect id ∷ more) ys a b = absurd a
 
-  -- nothing was answered, and it was told nothing
-  pub tells_nothing : (s t : List PoolEvent) (g h : G) → t ≡ s → h ≡ g → TellsOf begins ends s t g h
-  tells_nothing s t g h same is = ([], same ∙ sym (append-nil s), is)
-
-  pub tells_begun : (k : ℕ) (id : Id) (s t : List PoolEvent) (g h : G) → t ≡ s ++ event.Take k id ∷ [] → begins g k id h → TellsOf begins ends s t g h
-  tells_begun k id s t g h is told = (event.Take k id ∷ [], is, (h, told, refl))
-
-  pub tells_ended : (k : ℕ) (id : Id) (s t : List PoolEvent) (g h : G) → t ≡ s ++ event.Finish k id ∷ [] → ends g k id h → TellsOf begins ends s t g h
-  tells_ended k id s t g h is told = (event.Finish k id ∷ [], is, (h, told, refl))
-
   -- meanwhile, and then meanwhile
   pub tells_both : (r s t : List PoolEvent) (g h i : G) → TellsOf begins ends r s g h → TellsOf begins ends s t h i → TellsOf begins ends r t g i
   tells_both r s t g h i (xs, x, a) (ys, y, b) = (

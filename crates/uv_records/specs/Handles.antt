@@ -34,7 +34,7 @@ is_io kind.Io = true
 abbrev pub no_due : Due
 no_due = record { at = 0; start = 0 }
 
--- a handle as `init` makes it: referenced, and inactive but for an async one (uv_async_init)
+-- a handle as `init` makes it: referenced, and inactive, except an async one (uv_async_init)
 abbrev pub inited : Var → Kind → HandleRecord
 inited v k = record {
   name = v;

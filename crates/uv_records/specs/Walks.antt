@@ -2,7 +2,7 @@
 use Rattle.std.specs.Prelude.{List, [], ◌∷◌, ◌++◌, Bool, not, filter}
 
 pub record Walk (X : Type 0) : Type 0 where
-  -- front first, but for those yet to run
+  -- front first, except those yet to run
   pub list : List X
   -- those that the section under way has yet to run, front first
   pub yet : List X

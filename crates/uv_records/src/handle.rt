@@ -57,7 +57,7 @@ pub fn due_after(time: u64, start: u64, timeout: u64) -> Due
 }
 
 impl HandleRecord {
-    /// A handle as `init` makes it: referenced, and inactive but for an async one.
+    /// A handle as `init` makes it: referenced, and inactive, except an async one.
     pub fn new(name: Var, kind: Kind) -> HandleRecord
         ensures { result ≡ inited name kind }
     {

@@ -44,7 +44,7 @@ in_rest x y (z ∷ zs) n h = elim (eqb_tells z y) [
 -- ---- the frame
 
 module _ {X : Type 0} (read : X → Option Request) (i j : Image X) (r q : Running) where
-  -- all else stays: wait and ends are the members of the lists but for d's slot, a says that d waits now, and b that it is done, as m
+  -- all else stays: wait and ends are the members of the lists except d's slot, a says that d waits now, and b that it is done, as m
   pub record Leaves (d : Id) (k : ℕ) (wait ends : List ℕ) (a b : Bool) (m : Done) : Type 0 where
     pub same : (e : Id) → e.slot ≢ d.slot → held j e ≡ held i e
     pub kept : (e : Id) → e.slot ≢ d.slot → on_list j e ≡ on_list i e

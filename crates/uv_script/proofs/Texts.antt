@@ -10,12 +10,6 @@ lines_text-append (x ∷ xs) ys = ap (λ t. x ++ 10 ∷ t) (lines_text-append xs
 pub line_more : (text line : List ℕ) (rest : List (List ℕ)) → text ++ line ++ 10 ∷ [] ++ lines_text rest ≡ text ++ lines_text (line ∷ rest)
 line_more text line rest = simp append_assoc
 
--- in a loop over a slice that writes a line for each element: what is written, with the lines that are left, is all
-pub line_turn : {A : Type 0} (f : A → List ℕ) (xs : List A) (i : ℕ) (d : A) (start text : List ℕ) → i < length xs →
-    text ++ lines_text (map f (drop i xs)) ≡ start ++ lines_text (map f xs) →
-    text ++ f (get_or xs i d) ++ 10 ∷ [] ++ lines_text (map f (drop (i + 1) xs)) ≡ start ++ lines_text (map f xs)
-line_turn f xs i d start text within all = grind (arith, line_more, drop-cons)
-
 pub lines_end : {A : Type 0} (f : A → List ℕ) (xs : List A) (i : ℕ) (start text : List ℕ) → i ≡ length xs →
     text ++ lines_text (map f (drop i xs)) ≡ start ++ lines_text (map f xs) → text ≡ start ++ lines_text (map f xs)
 lines_end f xs i start text at_end all = grind (arith, append-nil, drop-length)
@@ -39,15 +33,6 @@ pub setting_texts : (text order : List ℕ) (xs ys : List (List ℕ)) (workers s
     text ++ order ++ 10 ∷ [] ++ lines_text xs ++ lines_text ys ++ workers ++ 10 ∷ [] ++ slots ++ 10 ∷ []
     ≡ text ++ lines_text (order ∷ xs ++ ys ++ workers ∷ slots ∷ [])
 setting_texts text order xs ys workers slots = simp (two_lines, line_more, three_lists)
-
--- in the loop over the names
-pub name_turn : (names : List (List ℕ)) (i : ℕ) (start text : List ℕ) → i < length names →
-    text ++ lines_text (map var_line (drop i names)) ≡ start ++ lines_text (map var_line names) →
-    text ++ (codes "var " ++ name_text names (record { 0 = i })) ++ 10 ∷ [] ++ lines_text (map var_line (drop (i + 1) names))
-    ≡ start ++ lines_text (map var_line names)
-name_turn names i start text within all =
-    ap (λ name. text ++ (codes "var " ++ name) ++ 10 ∷ [] ++ lines_text (map var_line (drop (i + 1) names))) (grind (arith, slice_get-get_or))
-    ∙ line_turn var_line names i [] start text within all
 
 -- and in that over their callbacks
 pub callbacks_turn : (p : Program) (i : ℕ) (start text : List ℕ) → i < length p.names →

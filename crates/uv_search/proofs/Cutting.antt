@@ -240,8 +240,5 @@ distinct_once (y ∷ ys) once = (
 pub has_none : (xs : List (List ℕ)) (key : List ℕ) → ((i : ℕ) → slice_get xs i ≡ Some key → ⊥) → Has xs key → ⊥
 has_none xs key none has = let at = number_of xs key has in none at.0 at.1
 
-pub none_has : (xs : List (List ℕ)) (key : List ℕ) → (Has xs key → ⊥) → (i : ℕ) → slice_get xs i ≡ Some key → ⊥
-none_has xs key none i e = none (has_at xs i key e)
-
 pub kept_twice : {X : Type 0} (xs ys zs : List X) → KeepsNumbers xs ys → KeepsNumbers ys zs → KeepsNumbers xs zs
 kept_twice xs ys zs first second i x e = second i x (first i x e)

@@ -85,17 +85,6 @@ one_more {last} {before} {places} {before'} {places'} {n} {place} {at} old alike
       leads_still (λ j less. alike j (omega (arith, same, less)))
       (subst (λ m. Leads places p m a) (sym same) (old.lasts p a (ap (slice_get last) one ∙ is_last ∙ ap Some (sym same_at))))
 
--- no row yet
-pub none_linked : {last before places : List ℕ} → ((i at : ℕ) → slice_get last i ≡ Some at → at ≡ 0) → Linked last before places 0
-none_linked none = record {
-  lasts = λ place at e. let one = none place at e in record {
-    within = omega (arith, one);
-    none_behind = λ i from less _. absurd (omega (arith, less));
-    is_there = λ i e'. absurd (omega (arith, one, e'));
-  };
-  befores = λ i place at less _ _. absurd (omega (arith, less));
-}
-
 -- a row that is linked anew
 pub linked_anew : {X : Type 0} (f : X → ℕ) (xs : List X) (last before : List ℕ) (n at : ℕ) (x : X) → Linked last before (map f xs) n
     → slice_get xs n ≡ Some x → slice_get last (f x) ≡ Some at → length before ≡ length xs

@@ -139,10 +139,6 @@ module _ {P : Type 0} (moves : P → ℕ) (next : P → ℕ → Option (P × Boo
         let at = lead_at p way n m q (whole p way q w) l led in
         omega (arith, at.0)
 
-    -- no moves answer
-    pub mute_none : (p q : P) → IsWay moves next key IsDeep p [] q → ⊥
-    mute_none p q (is, i, e, a) = omega (arith, ap length e, length-append is (i ∷ []))
-
     -- moves with one more that doesn't answer
     pub mute_more : (p : P) (way : List ℕ) (n : ℕ) (m s q : P) → n < length way → LeadTo moves next p (take n way) m
         → next m (get_or way n 0) ≡ Some (s, false) → IsWay moves next key IsDeep p (take (n + 1) way) q → ⊥

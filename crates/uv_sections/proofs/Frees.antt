@@ -25,7 +25,7 @@ other_slot (q ∷ ss) zero (suc x) t ne = refl
 other_slot (q ∷ ss) (suc n) zero t ne = refl
 other_slot (q ∷ ss) (suc n) (suc x) t ne = other_slot ss n x t (λ e. ne (ap suc e))
 
--- ---- what is mapped alike but for one slot
+-- ---- what is mapped alike except one slot
 
 mapped_off : (f g : ℕ → Id) (n : ℕ) → ((x : ℕ) → x ≢ n → f x ≡ g x) → (xs : List ℕ) → map f (without eqb xs n) ≡ map g (without eqb xs n)
 mapped_off f g n same [] = refl

@@ -49,13 +49,6 @@ drop_more zero n es = let same : 0 + n ≡ n = omega arith in rw same refl
 drop_more (suc k) n [] = drop_none (suc k + n) ∙ sym (drop_none n)
 drop_more (suc k) n (e ∷ es) = let same : suc k + n ≡ suc (k + n) = omega arith in rw same (drop_more k n es)
 
--- one step taken back is run again
-pub split_again : (p : Program) (limit : ℕ) (breaks : List Break) (k : ℕ) (es : List Event) →
-    split p limit breaks (k + 1) es ≡ moved_forward 1 (split p limit breaks k es)
-split_again p limit breaks k es =
-    ap₂ (λ (xs ys : List Event). record { program = p; limit = limit; standing = xs; taken_back = ys; breaks = breaks })
-    (take-add k 1 es) (drop_more k 1 es)
-
 -- and one more
 pub forward_more : (s : Shown) (n : ℕ) → moved_forward 1 (moved_forward n s) ≡ moved_forward (n + 1) s
 forward_more s n = ap₂ (λ (xs ys : List Event). record {

@@ -60,7 +60,7 @@ stops_at s step = stops s.breaks (unwrap_or (slice_get (seen_in s) (step - 1)) N
 abbrev pub NoneFrom : Shown → ℕ → Type 0
 NoneFrom s from = (step : ℕ) → from ≤ step → step < length s.standing → stops_at s step ≡ false
 
--- the last step that matches, but for the present one
+-- the last step that matches, except the present one
 pub record IsLastBreak (s : Shown) (step : ℕ) : Type 0 where
   pub first : 1 ≤ step
   pub before : step < length s.standing

@@ -205,7 +205,7 @@ impl<M: Machine> Session<M> {
         self.breaks.stop(seen)
     }
 
-    /// Goes back to the last step that matches a break, but for the present one, and answers how many steps stand then.
+    /// Goes back to the last step that matches a break, except the present one, and answers how many steps stand then.
     /// `Refused(Range)` where none does, with nothing changed; want of memory may leave some of the steps taken back.
     pub fn back_to_break(&mut self) -> Result<usize, Fault>
         ensures moves { GoesToBreak self.old result self.new }
@@ -220,7 +220,7 @@ impl<M: Machine> Session<M> {
         }
     }
 
-    /// The last step that matches a break, but for the present one.
+    /// The last step that matches a break, except the present one.
     fn last_break(&self) -> Option<usize>
         ensures some { IfSome result (λ step. IsLastBreak self.now step) }
         ensures none { IfNone result (NoneFrom self.now 1) }

@@ -23,9 +23,6 @@ pub record_there : (i : Image Place) (s : State) (d : Id) (h : HandleRecord) →
 record_there i s d h st e = sym (held_there i s d st) ∙ content_is handle_of holds.Handle only_handle i.arena d h e
 
 module _ (i : Image Place) (s : State) (v : Var) (h : StandsFor i s) where
-  pub unbound_handle : None ≡ (named i.names v.0).id → live_handle s v ≡ Err code.Estale
-  unbound_handle e = ap as_handle (live_by i s v None h e)
-
   pub no_handle : (d : Id) (c : Code) → Some d ≡ (named i.names v.0).id
       → ((why : HandleRecord → Option Code) → refusal why (found handle_of i.arena d) ≡ Some c) → live_handle s v ≡ Err c
   no_handle d c e r =
@@ -37,9 +34,6 @@ module _ (i : Image Place) (s : State) (v : Var) (h : StandsFor i s) where
       → live_handle s v ≡ Ok (d, r)
   some_handle d r e there =
       ap as_handle (live_by i s v (Some d) h e) ∙ ap (λ o. as_handle (with_id d o)) (record_there i s d r h there)
-
-  pub unbound_live : None ≡ (named i.names v.0).id → is_some (live s v) ≡ false
-  unbound_live e = ap (λ (o : Option (Id × Content)). is_some o) (live_by i s v None h e)
 
   pub bound_live : (d : Id) → Some d ≡ (named i.names v.0).id → is_some (live s v) ≡ is_some (arena.held i.arena d)
   bound_live d e =

@@ -22,13 +22,6 @@ module _ {X : Type 0} (read : X → Option HandleRecord) (i : Image X) where
   no_handle : (slot : ℕ) → record_at read i (id_of slot (slot_at i.memory slot)) ≡ None → handle_of read i slot ≡ None
   no_handle slot e = ap (λ (b : Bool). if b then Some (id_of slot (slot_at i.memory slot)) else None) (ap is_some e)
 
-  pub due_is : (array : List Entry) (time : ℕ) (d : Id) (h : HandleRecord) → IsDue read i array time d h
-      → Some d ≡ first_due read i array time
-  due_is array time d h due =
-      sym (ap (due_of read i time) due.least
-      ∙ ap (λ (b : Bool). if b then handle_of read i due.entry.slot else None) (le-leb due.entry.due.at time due.due)
-      ∙ ap (handle_of read i) (sym due.slot) ∙ handle_here d h due.handle)
-
   pub none_due : (array : List Entry) (time : ℕ) → NoneIsDue read i array time → None ≡ first_due read i array time
   none_due array time none = at (slice_get array 0) none where
     at : (o : Option Entry) → IfSome o (λ e. e.due.at ≤ time → record_at read i (id_of e.slot (slot_at i.memory e.slot)) ≡ None)

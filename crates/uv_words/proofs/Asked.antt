@@ -32,11 +32,6 @@ pub neither : (found : Option (Text × List Row)) → option_map (λ p. p.0) fou
 neither None e = refl
 neither (Some p) e = cc
 
-pub name_is : {Z : Type 0} (found : Option (Box SubCommand Z)) →
-    option_map (λ b. (out-SubCommand (box_value b)).name.now) found ≡ option_map (λ (p : Text × List Row). p.0) (subcommand_rows found)
-name_is None = refl
-name_is (Some b) = refl
-
 -- the words were taken
 pub found : (a : App) (words : List Text) (m : ArgMatches) → a ≡ uvt_app →
     (is_simple a ≡ true → (rows_of (found_of m) ≡ matches_of a words) × (subcommand_rows_of m ≡ subcommand_of a words)) →
