@@ -188,8 +188,11 @@ def try_many_late(check: Check, room: Room) -> None:
     finally:
         program.kill()
         program.wait()
-    room.run("rests", "rests", MANY, windows=4, late=100)
-    found = lates(room, "rests")
+    # (where others take the processor just as the callback begins, its time may count as theirs: then none is kept apart)
+    for _ in range(RESTS):
+        room.run("rests", "rests", MANY, windows=4, late=100)
+        if found := lates(room, "rests"):
+            break
     check("keep, --late: what stood long before is given back", found and room_of(found[-1:]) < found[-1].stat().st_size, found)
     ran = room.uvt("record", "-o", "rests", "--log", *found[-1:])
     check("keep, --late: it begins a second before, and no earlier than it has to", begins_last(ring.log_of(found[-1]), ran.stdout), said(ran))
@@ -236,6 +239,8 @@ OPEN_AT, WAITS = 257, (232, 281)
 SCHEDSTAT = "/proc/thread-self/schedstat"
 # So long it stands still there, in s; and how often.
 HELD, ROUNDS = 0.4, 3
+# How often a program is run until something of it is kept apart.
+RESTS = 5
 
 
 @contextlib.contextmanager
