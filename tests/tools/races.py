@@ -11,7 +11,7 @@ import tempfile
 from pathlib import Path
 
 from tests.helper import Tries, limited
-from tests.tools.forces import BADLY, WELL, hunted, tool
+from tests.tools.forces import BADLY, WELL, hunted, is_whole, tool
 
 HERE = Path(__file__).resolve().parent
 # Debian's, which has Debian's uvloop.
@@ -32,9 +32,6 @@ UVLOOP = ("lost_update", "lookups_in_order", "timer_first", "answered_twice", "c
 HEALTHY_LUA = ("async", "idle", "server")
 # So often one is run by itself, until it ends well.
 ALONE = 10
-# The first orders of hunts. (What an interpreter's own threads do is in no order: where one hunt has found none that is bad each time, another does.
-# And where others have the processors a thread of Python waits for the interpreter's lock, and the loop for that thread: such a run may take long.)
-SEEDS = (1, 1001, 2001, 3001)
 # How long a healthy one is hunted.
 HUNTED = "12s"
 
@@ -50,13 +47,21 @@ def try_race(tries: Tries, words: list[str], folder: str) -> None:
     while alone[-1].returncode and len(alone) < ALONE:
         alone.append(limited(words, capture_output=True, text=True, cwd=folder))
     tries.check(f"{name}, by itself", alone[-1].returncode == 0, alone)
-    for seed in SEEDS:
-        status, said = hunted(["--seed", str(seed), "-o", f"{name}.found", *words], folder)
-        found = re.match(r"the program ended with status 1, and in (\d+) of 10 further runs in the same order\n", said)
-        if found and found[1] == "10":
-            break
+    status, said = hunted(["-o", f"{name}.found", *words], folder)
+    found = re.match(r"the program ended with status 1, and in (\d+) of 10 further runs in the same order\n", said)
     tries.check(f"hunt, {name}", status == BADLY and found, f"{status} {said}")
     tries.check(f"hunt, {name}: its order is bad each time", found and found[1] == "10", said)
+
+
+def try_lock(tries: Tries, folder: str) -> None:
+    """A thread needs Python's lock to come to its send, and the loop's thread, which waits for that, has it: in a callback."""
+    words = [PYTHON, str(HERE / "python" / "races" / "held_lock.py")]
+    tool("record", ["-o", "lock", *words], folder)
+    log = Path(folder, "lock.log").read_text()
+    within = log.partition(" 3600000 0 = ok")[2].partition(" 7200000 0 = ok")[0]
+    tries.check("record, Python's lock: the thread sends in the callback", "\n0 S " in within, log)
+    status, said = tool("force", ["-o", "lock.forced", "lock.rec", *words], folder)
+    tries.check("force, Python's lock: all steps, no departure, the same callbacks", status == WELL and is_whole(said), f"{status} {said}")
 
 
 def try_healthy(tries: Tries, words: list[str], folder: str) -> None:
@@ -78,6 +83,7 @@ def try_races(tries: Tries) -> None:
             for name in UVLOOP:
                 try_race(tries, [PYTHON, str(HERE / "python" / "races" / f"{name}.py")], folder)
             try_healthy(tries, [PYTHON, str(HERE / "python" / "races" / "healthy.py")], folder)
+            try_lock(tries, folder)
         else:
             tries.leave_out("races in Python", f"there is no uvloop for {PYTHON}")
         # (LuaJIT's compiled code has no frames that anybody could follow)

@@ -72,7 +72,7 @@ void write_taken(int id) {
 static void do_take(const struct item *item) {
     struct worker *worker;
     pthread_mutex_lock(&gate);
-    if (WAIT(worker_at(AT_TAKE) != NULL)) {
+    if (WAIT_FOR_COMER(worker_at(AT_TAKE) != NULL)) {
         worker = worker_at(AT_TAKE);
         worker->number = item->number;
         worker->name = item->name;
@@ -115,14 +115,39 @@ static void do_finish(const struct item *item) {
     pthread_mutex_unlock(&gate);
 }
 
+bool says_last(const struct item *item) {
+    if (item != &items[last_shown]) return false;
+    say("AT %d %s", item->step, item->text);
+    page->steps = item->step;
+    page->done = item == &items[item_count - 1];
+    return true;
+}
+
+/* (with the gate's mutex) It has come, where the loop's thread had to wait for the one that sends. */
+static bool has_come(const struct item *item) {
+    bool has = item->name >= 0 && names[item->name].ahead > 0;
+    if (has) names[item->name].ahead--;
+    return has;
+}
+
+const struct item *next_send(int name) {
+    for (int at = cursor; at < item_count && items[at].type <= CANCEL; at++)
+        if (items[at].type == SEND && items[at].name == name) return &items[at];
+    return NULL;
+}
+
 static void do_send(const struct item *item) {
     pthread_mutex_lock(&gate);
     struct sender *sender = NULL;
+    if (has_come(item)) {
+        pthread_mutex_unlock(&gate);
+        return;
+    }
     for (int tries = 0; !sender && state == FORCING; tries++) {
         int whole = patience;
         struct worker *holder = worker_at(TAKEN);
         if (holder && !holder->may_run) patience = SOON; /* the work of a request may send: first those that send anyway */
-        WAIT((sender = sender_of(item->name)) != NULL);
+        WAIT_FOR_COMER((sender = sender_of(item->name)) != NULL);
         patience = whole;
         if (sender || !holder || holder->may_run) break;
         holder->may_run = true;
@@ -132,12 +157,7 @@ static void do_send(const struct item *item) {
     if (sender) {
         long before = sent;
         sender->may_send = true;
-        sender->last = cursor == last_shown;
-        if (sender->last) {
-            say("AT %d %s", item->step, item->text);
-            page->steps = item->step;
-            page->done = cursor + 1 == item_count;
-        }
+        sender->last = says_last(item);
         pthread_cond_broadcast(&changed);
         WAIT(sent != before);
     } else {
@@ -185,6 +205,7 @@ static void do_item(const struct item *item) {
     case CANCEL: depart("`%s` comes from outside, and no program does that", item->text); break;
     default: break;
     }
+    end_waits();
 }
 
 static bool is_outside(const struct item *item) {

@@ -30,6 +30,7 @@ struct name {
     int id; /* of its object, -1 where it has none */
     void *address;
     const char *kind;
+    int ahead; /* so many sends were let through before the leader came to their steps */
 };
 
 /* An op of the log, cut: WORD %ID REST = ANSWER. */
@@ -51,6 +52,10 @@ extern bool early, behind_poll;
 
 const char *name_of(int at);
 const struct item *at_cursor(void);
+/* (with the gate's mutex) The send of this name that comes in front of all that the program shows next; NULL where there is none. */
+const struct item *next_send(int name);
+/* It is the session's last step: that is said before it is done. */
+bool says_last(const struct item *item);
 /* Does what comes from outside, up to the next thing that is none of that. With `through`: up to the next thing that the program shows. */
 void advance(bool through);
 void look_at_clock(void);
@@ -109,22 +114,32 @@ char state_in(int process, int thread);
 char state_of(int thread);
 bool is_awake(int thread);
 bool somebody_runs(void);
+bool somebody_can_come(void);
 void come_to_rest(void);
 void come_to_gate(void);
 void leave_gate(void);
 
-/* (with the gate's mutex) the leader waits: true where CONDITION came; false where it didn't for long, or nothing is forced any more */
-#define WAIT(CONDITION)                                                     \
-    ({                                                                      \
-        long seen = progress;                                               \
-        int waited = 0, naps = 0;                                           \
-        while (state == FORCING && !(CONDITION) && waited < patience && naps++ < AT_MOST) { \
-            wait_a_little();                                                \
-            if (seen != progress) seen = progress, waited = 0;              \
-            else if (!somebody_runs()) waited++;                            \
-        }                                                                   \
-        (CONDITION);                                                        \
+/* One wait of the leader's. */
+struct stay {
+    long seen;
+    int waited, naps;
+    bool for_comer; /* for who isn't at its gate yet */
+};
+bool stays_on(struct stay *stay);
+/* (with no lock of ours) What it waited for is done: it takes back what it has given up for that. */
+void end_waits(void);
+
+#define WAIT_AS(CONDITION, FOR_COMER)                                                     \
+    ({                                                                                    \
+        struct stay stay = {.seen = progress, .for_comer = FOR_COMER};                    \
+        while (state == FORCING && !(CONDITION) && stays_on(&stay)) continue;             \
+        (CONDITION);                                                                      \
     })
+
+/* (with the gate's mutex) the leader waits: true where CONDITION came; false where it didn't for long, or nothing is forced any more */
+#define WAIT(CONDITION) WAIT_AS(CONDITION, false)
+/* The same for a thread that is to come to its gate: it isn't waited for long where each other one stands at a gate, or sleeps until it is woken. */
+#define WAIT_FOR_COMER(CONDITION) WAIT_AS(CONDITION, true)
 
 /* (with the gate's mutex) another thread waits, as long as the leader may come to it: where the program's own code has it wait for
  * something (a semaphore, a lock, the end of a thread), nothing that is held at a gate would ever come. False then, the sooner where it waits with
@@ -146,6 +161,12 @@ void leave_gate(void);
         leave_gate();                                                       \
         waited < BLOCKED && naps < AT_MOST;                                 \
     })
+
+/* ---- Python's lock (force_python.c) */
+
+/* This thread gives it up, where it has it: what `take_interpreter` gets, else NULL. (With no lock of ours) */
+void *give_interpreter(void);
+void take_interpreter(void *given);
 
 /* ---- workers, and threads that send (force_gates.c) */
 

@@ -118,8 +118,8 @@ void leave_gate(void) {
         }
 }
 
-/* Does any other thread of the program run, or could it? */
-bool somebody_runs(void) {
+/* Is there any other thread of the program, except for those at gates, of which this is so? */
+static bool is_any(bool (*so)(int)) {
     /* (opendir would ask for memory, and whoever gives that may look at the clock) */
     char room[4096];
     bool found = false;
@@ -129,11 +129,56 @@ bool somebody_runs(void) {
         for (long at = 0; !found && at < got; at += ((struct dirent64 *)(room + at))->d_reclen) {
             int thread = atoi(((struct dirent64 *)(room + at))->d_name);
             if (thread <= 0 || thread == own_id() || thread == watch_id || is_at_gate(thread)) continue;
-            char state = state_of(thread);
-            found = state == 'R' || state == 'D';
+            found = so(thread);
         }
     close(folder);
     return found;
+}
+
+static bool runs(int thread) {
+    char its = state_of(thread);
+    return its == 'R' || its == 'D';
+}
+
+static bool can_come(int thread) {
+    return !is_no_help(thread);
+}
+
+/* Does any other thread of the program run, or could it? */
+bool somebody_runs(void) {
+    return is_any(runs);
+}
+
+bool somebody_can_come(void) {
+    return is_any(can_come);
+}
+
+/* ---- the leader waits */
+
+static void *given; /* Python's lock, which the leader has given up */
+
+/* (with the gate's mutex) One more nap; false where it has waited long enough. Who is to come may need Python's lock, which the leader has in a
+ * callback: it gives it up until what it waits for is done, as it had lost it in the run of which the session is. */
+bool stays_on(struct stay *stay) {
+    if (stay->waited >= patience || stay->naps++ >= AT_MOST) return false;
+    if (stay->naps == 2 && !given) {
+        pthread_mutex_unlock(&gate);
+        given = give_interpreter();
+        pthread_mutex_lock(&gate);
+    }
+    wait_a_little();
+    if (stay->seen != progress) stay->seen = progress, stay->waited = 0;
+    else if (!somebody_runs()) stay->waited += stay->for_comer && !somebody_can_come() ? QUICKLY : 1;
+    return true;
+}
+
+void end_waits(void) {
+    int led = leads;
+    if (!given) return;
+    leads = 0; /* (who has it, and stands at a gate, is let through) */
+    take_interpreter(given);
+    leads = led;
+    given = NULL;
 }
 
 /* Threads of the program come to their gates, or to what they wait for: how far they are where the loop goes on isn't the machine's matter. Who
@@ -337,6 +382,20 @@ struct sender *sender_of(int name) {
     return NULL;
 }
 
+/* (with the gate's mutex) A send is let through before the leader has come to its step. Where that is what comes next, all is as in the session. */
+static void let_send(struct sender *sender, bool leads_on) {
+    bool is_awaited = me && waits_for == me, ahead = !joining && !is_awaited && !leads_on;
+    const struct item *next = ahead ? next_send(sender->name) : NULL;
+    if (ahead) names[sender->name].ahead++;
+    if (next) {
+        sender->last = says_last(next);
+        return;
+    }
+    const char *why = joining ? "the program waits for that thread" : is_awaited ? "its request is to be finished there"
+                    : leads_on ? "" : "the loop's thread waits in the program's own code, and may wait for it";
+    depart("a thread sends to %s, and the session has no send there%s%s", name_of(sender->name), *why ? ": " : "", why);
+}
+
 /* A thread sends: it waits for its step. True: SENDER has to be handed to `force_sent`. */
 bool force_send(void *handle, struct sender **handed) {
     *handed = NULL;
@@ -356,11 +415,7 @@ bool force_send(void *handle, struct sender **handed) {
     progress++;
     pthread_cond_broadcast(&changed);
     bool leads_on = WAIT_FOR_LEADER(sender->may_send || joining || (me && waits_for == me));
-    if (!sender->may_send && state == FORCING) {
-        const char *why = joining ? "the program waits for that thread" : me && waits_for == me ? "its request is to be finished there"
-                        : leads_on ? "" : "the loop's thread waits in the program's own code, and may wait for it";
-        depart("a thread sends to %s, and the session has no send there%s%s", name_of(name), *why ? ": " : "", why);
-    }
+    if (!sender->may_send && state == FORCING) let_send(sender, leads_on);
     sender->may_send = true;
     pthread_mutex_unlock(&gate);
     if (sender->last) stop_here();

@@ -165,6 +165,7 @@ static bool choose(void) {
     if (found && found->what == THE_CLOCK) found = NULL; /* (that is the poll's) */
     if (found) come(found);
     pthread_mutex_unlock(&gate);
+    end_waits();
     progress++;
     return found != NULL;
 }
@@ -199,6 +200,7 @@ static bool is_clocks_turn(int timeout) {
     bool is = found->what == THE_CLOCK;
     if (!is) come(found);
     pthread_mutex_unlock(&gate);
+    end_waits();
     lock_again(held);
     return is;
 }
