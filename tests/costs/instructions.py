@@ -52,6 +52,7 @@ WORN = 60_000
 PATIENCE = 60
 COLUMNS = ["on, printed", "back", "run again", "bytes"]
 PLAIN_COLUMNS = ["on, printed", "bytes"]
+VALGRIND = ["valgrind", "--tool=callgrind", "--callgrind-out-file=/dev/null"]
 COLLECTED = re.compile(rb"Collected : (\d+)")
 
 
@@ -143,19 +144,18 @@ def text_of(lines: list[str]) -> bytes:
     return ("\n".join(lines) + "\n").encode()
 
 
+def counted_by(said: bytes, status: int, program: str) -> int:
+    """The instructions of a run, by what valgrind said of it."""
+    found = COLLECTED.search(said)
+    if status or not found:
+        raise Fault(f"{program} under valgrind ended with status {status}: {said[-200:].decode('ascii', 'replace')}")
+    return int(found[1])
+
+
 def collected(words: list[str], given: bytes = b"", patience: Optional[float] = None) -> int:
     """The instructions of a whole run of a command over this input."""
-    ran = subprocess.run(
-        ["valgrind", "--tool=callgrind", "--callgrind-out-file=/dev/null", *words],
-        input=given,
-        stdout=subprocess.DEVNULL,
-        stderr=subprocess.PIPE,
-        timeout=patience,
-    )
-    found = COLLECTED.search(ran.stderr)
-    if ran.returncode or not found:
-        raise Fault(f"{words[0]} under valgrind ended with status {ran.returncode}: {ran.stderr[-200:].decode('ascii', 'replace')}")
-    return int(found[1])
+    ran = subprocess.run([*VALGRIND, *words], input=given, stdout=subprocess.DEVNULL, stderr=subprocess.PIPE, timeout=patience)
+    return counted_by(ran.stderr, ran.returncode, words[0])
 
 
 def instructions(program: Program, lines: list[str]) -> int:

@@ -5,7 +5,9 @@ by how many more. The steps are those of idle handles that spin, one or ten (as 
 between the two. What a command takes is the difference of a session that gives it and one that doesn't. A replay is a whole run of the
 program over a recording, so its figure has the callbacks that are compared: of ten handles half of the steps call one, of one a tenth. A
 handle of `state` has two lines in it, that of its name and that of its slot, and if it is started its name stands in the line of a list;
-a script gives a handle three lines, of which one is its name's.
+a script gives a handle three lines, of which one is its name's. A line `loop` does one step and prints its line, of the idle handle that
+spins: lines that follow one another in the input are read some hundreds at a time, and of those that are waited for each is sent once the
+answer to the one before it has come, as when somebody types them.
 
 The program is that of ./uvt build, or the one that is named. With --beside another program stands beside it, as the same one of an older
 version, and the ratio of the two. With --steps the table of tests/costs/instructions stands in front: both are the tables of
@@ -18,13 +20,16 @@ import argparse
 import shutil
 import subprocess
 import sys
+import tempfile
 from pathlib import Path
 from typing import Callable
 
-from tests.costs.instructions import COLUMNS, ROOT, Fault, Program, collected, idle_handles, ratio, show, shown, text_of
+from tests.costs.instructions import COLUMNS, ROOT, VALGRIND, Fault, Program, collected, counted_by, idle_handles, ratio, show, shown, text_of
 
 # sessions of so many steps are compared: the lists of both have room for the same number
 FEW, MANY = 36_000, 60_000
+# behind the first steps so many lines are given, each a command
+LINES = 4000
 # and states of so many handles
 SOME, MORE = 1000, 4000
 
@@ -54,6 +59,34 @@ def command(program: str, lines: list[str], word: str) -> int:
 def a_step(program: str, count: int) -> float:
     few, many = (conversation(program, spinning(count, steps)) for steps in (FEW, MANY))
     return (many - few) / (MANY - FEW)
+
+
+def a_line(program: str) -> float:
+    """A line `loop` among others."""
+    few, many = (conversation(program, [*spinning(1, FEW), *["loop"] * count]) for count in (LINES, 2 * LINES))
+    return (many - few) / LINES
+
+
+def typed(program: str, count: int) -> int:
+    """The instructions of a session in which so many lines `loop` are given, each once the one before it is answered."""
+    with tempfile.TemporaryFile() as said:
+        with subprocess.Popen([*VALGRIND, program, "debug"], stdin=subprocess.PIPE, stdout=subprocess.PIPE, stderr=said) as child:
+            assert child.stdin and child.stdout
+            given, answers = text_of([*spinning(1, FEW), "back 0"]), FEW + 1
+            for _ in range(count + 1):
+                child.stdin.write(given)
+                child.stdin.flush()
+                if not all(child.stdout.readline() for _ in range(answers)):
+                    raise Fault(f"{program} ended early")
+                given, answers = b"loop\n", 1
+            child.stdin.close()
+        said.seek(0)
+        return counted_by(said.read(), child.returncode, program)
+
+
+def a_typed_line(program: str) -> float:
+    """A line `loop` that is waited for."""
+    return (typed(program, 2 * LINES) - typed(program, LINES)) / LINES
 
 
 def shown_step(program: str, count: int, word: str) -> float:
@@ -90,6 +123,8 @@ def read_line(program: str) -> float:
 
 FIGURES: dict[str, Callable[[str], float]] = {
     "an idle handle: a step on, printed": lambda program: a_step(program, 1),
+    "a line `loop`, among others": a_line,
+    "a line `loop` that is waited for": a_typed_line,
     "a line of `trace`": lambda program: shown_step(program, 1, "trace"),
     "a step of `record`": lambda program: shown_step(program, 1, "record"),
     "a replayed step": lambda program: replayed(program, 1),
