@@ -28,8 +28,8 @@ from tests.costs.instructions import COLUMNS, ROOT, VALGRIND, Fault, Program, co
 
 # sessions of so many steps are compared: the lists of both have room for the same number
 FEW, MANY = 36_000, 60_000
-# behind the first steps so many lines are given, each a command
-LINES = 4000
+# behind the first steps so many lines are given, each a command; so many where each is waited for, which takes a turn of two processes
+LINES, TYPED = 4000, 500
 # and states of so many handles
 SOME, MORE = 1000, 4000
 
@@ -86,7 +86,7 @@ def typed(program: str, count: int) -> int:
 
 def a_typed_line(program: str) -> float:
     """A line `loop` that is waited for."""
-    return (typed(program, 2 * LINES) - typed(program, LINES)) / LINES
+    return (typed(program, 2 * TYPED) - typed(program, TYPED)) / TYPED
 
 
 def shown_step(program: str, count: int, word: str) -> float:
