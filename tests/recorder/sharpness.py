@@ -17,7 +17,8 @@ from pathlib import Path
 
 ROOT = Path(__file__).resolve().parent.parent.parent
 from uvt.conversation import Fault
-from uvt.record.log import WATCHERS, read_log
+from uvt.record.events import WATCHERS
+from uvt.record.log import read_log
 from uvt.record.made import make
 
 Block = tuple[int, int]

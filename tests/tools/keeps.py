@@ -23,7 +23,8 @@ from tests.tools.records import has_libuv
 from uvt.conversation import Fault
 from uvt.record import ring
 from uvt.record.javascript import Reader
-from uvt.record.log import Event, read_log
+from uvt.record.events import Event
+from uvt.record.log import read_log
 from uvt.record.compiled import recorder
 from uvt.record.tracing import SYSCALL, Memory, Thread
 from uvt.record.window import moved

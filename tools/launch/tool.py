@@ -6,6 +6,7 @@ tool of uvt/ does stands within `run_tool`.
 
 from __future__ import annotations
 
+import gc
 import os
 import signal
 import sys
@@ -26,6 +27,12 @@ def take_interrupts() -> None:
     """From here on an interrupt is an exception, if this process takes any."""
     if _TAKES_INTERRUPTS:
         signal.signal(signal.SIGINT, signal.default_int_handler)
+
+
+def keeps_all() -> None:
+    """From here on all that is made stays until it isn't used any more, or to the end: nobody looks for circles of what isn't. (A tool that reads
+    something long makes none, and to look for them takes a sixth of its time.)"""
+    gc.disable()
 
 
 def run_tool(tool: str, work: Callable[[], int], failed: int, what: str = "the output") -> int:

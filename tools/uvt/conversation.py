@@ -341,9 +341,10 @@ class Conversation:
             part = self.read_some()
             if not part:
                 self.ended()
-            *rows, rest = (rest + part).split(b"\n")
-            for row in rows:
-                yield row.decode("ascii", "replace")
+            part = rest + part
+            end = part.rfind(b"\n") + 1
+            rest = part[end:]
+            yield from part[:end].decode("ascii", "replace").split("\n")[:-1]
 
     def trace(self) -> list[str]:
         return self.ask("trace")
@@ -352,7 +353,12 @@ class Conversation:
         """The lines of the recording: the last one is `end`, and no other one is. (Of those that are alike one is kept.)"""
         self.send("record\n")
         known: dict[str, str] = {}
-        return [known.setdefault(it, it) for it in self.lines_until(b"end\n")]
+        found: list[str] = []
+        for line in self.rows():
+            found.append(known.setdefault(line, line))
+            if line == "end":
+                break
+        return found
 
     def recording(self) -> Recording:
         return read_recording("\n".join(self.record()) + "\n")

@@ -34,7 +34,7 @@ import re
 import signal
 from pathlib import Path
 
-from launch.tool import run_tool
+from launch.tool import keeps_all, run_tool
 from uvt.conversation import Fault
 from uvt.record.parts import MOST, Part
 from uvt.record.run import from_keeping, from_log, from_program
@@ -97,6 +97,7 @@ def main() -> int:
     def record() -> int:
         if asked.lift and asked.bare:
             raise Fault("--lift takes what --bare leaves out")
+        keeps_all()
         if asked.keep:
             keep = Keep(asked.keep, asked.late or 0)
             if words:

@@ -29,7 +29,7 @@ import re
 import sys
 from pathlib import Path
 
-from launch.tool import run_tool
+from launch.tool import keeps_all, run_tool
 from uvt import log_summary
 from uvt.conversation import Fault, INSTALLED, Script, is_proved
 from uvt.inputs import read_descriptor, read_input
@@ -150,6 +150,7 @@ def answered_beside(good: Path, words: list[str]) -> list[str]:
 
 
 def answer(words: list[str], good: str | None) -> int:
+    keeps_all()
     print("\n".join(answered_beside(Path(good), words) if good else answered(*read_asked(words))))
     return 0
 

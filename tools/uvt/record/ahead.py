@@ -2,7 +2,6 @@
 
 from __future__ import annotations
 
-import array
 import bisect
 import collections
 import heapq
@@ -52,7 +51,6 @@ class Ahead:
             elif isinstance(it, Finish):
                 self.seen.add(it.name)
         self.calls_before = calls_before(items, self.polls, self.calls, self.sends)
-        self.later = with_later_times(items)
 
     def is_sent_before(self, name: str, at: int) -> bool:
         """Does a callback, or another thread, send to that one from this item on before it is called?"""
@@ -89,26 +87,6 @@ class Ahead:
         found = bisect.bisect_left(calls, at)
         item = self.items[calls[found]] if found < len(calls) else None
         return item.number if isinstance(item, Call) else 0
-
-
-def with_later_times(items: list[Item]) -> array.array[int]:
-    """Of each item the first behind it that looks at the clock, or shows that this was looked at, and has a later time; where there is none, a
-    number behind all items, and far."""
-    found = array.array("i", [len(items) + FAR]) * len(items)
-    # those behind the item that none with the same time or a later one stands before: the next one last, and so by their times, which stand beside
-    row, times = array.array("i"), list[int]()
-    for at in range(len(items) - 1, -1, -1):
-        item = items[at]
-        now, first = item.now, len(times)
-        while first and times[first - 1] <= now:
-            first -= 1
-        if first:
-            found[at] = row[first - 1]
-        if isinstance(item, LOOK):
-            del row[first:], times[first:]
-            row.append(at)
-            times.append(now)
-    return found
 
 
 def calls_before(items: list[Item], polls: list[int], calls: dict[str, list[int]], sends: dict[str, list[int]]) -> dict[int, int]:

@@ -6,7 +6,7 @@ import re
 
 from uvt.notes import THINGS, sentence
 from uvt.record.leading import Outcome
-from uvt.record.log import WATCHERS
+from uvt.record.events import WATCHERS
 from uvt.record.items import Call, End, Item, Op, Program, Run, is_pool
 
 PAGE = "docs/LIBUV.md"

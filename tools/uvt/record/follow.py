@@ -18,7 +18,7 @@ from uvt.record.ahead import FAR
 from uvt.record.fast import CLOCK, END, NOW, Ways
 from uvt.record.items import Call, Done, End, Finish, Item, Op, Poll, Run, Send, Take
 from uvt.record.leading import POLLED, Outcome, Stopped
-from uvt.record.log import NO_CLOCK
+from uvt.record.events import NO_CLOCK
 from uvt.record.outside import Outside
 from uvt.record.where import NOWHERE, PENDING
 
@@ -281,24 +281,25 @@ class Follower(Outside):
         return self.outcome
 
     def go_along(self, at: int) -> None:
-        ways = Ways(self)
+        units, ways = self.units, Ways(self, self.units)
         while at < len(self.items):
             self.tell(at, len(self.items))
-            end = ways.end_of(at)
-            if end:
+            unit = units.at(at)
+            if unit >= 0:
                 self.flush()
-                if (behind := ways.run(at)) > at:
+                if (behind := ways.run(unit)) > at:
                     at = self.kept_at = behind
                     continue
-            begin, key, late, self.trail = self.talk.length, ways.key(at, end, self.where), self.came_late, []
-            for self.at in range(at, end or at + 1):
+            begin, where, late, self.trail = self.talk.length, self.where, self.came_late, []
+            end = units.ends[unit] if unit >= 0 else at + 1
+            for self.at in range(at, end):
                 self.do(self.items[self.at], self.at)
                 if not self.queue:
                     self.kept, self.kept_at = self.talk.length, self.at + 1
-            if end:
+            if unit >= 0:
                 self.flush()
-                ways.learn(at, end, key, begin, late)
-            at = end or at + 1
+                ways.learn(unit, where, begin, late)
+            at = end
 
     def record(self) -> None:
         self.outcome.steps = self.talk.length

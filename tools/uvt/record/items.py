@@ -6,10 +6,11 @@ The script says what the program asked of libuv. Nothing here knows what the loo
 from __future__ import annotations
 
 import collections
+from collections.abc import Sequence
 from dataclasses import dataclass, field
 
 from uvt.javascript import JavaScript
-from uvt.record.log import NO_CLOCK, TIMER_OWN, WATCHERS
+from uvt.record.events import NO_CLOCK, TIMER_OWN, WATCHERS
 from uvt.spent import Held
 
 
@@ -63,8 +64,8 @@ class Call(Did):
     made: int
     # what libuv said of it
     what: str
-    # its ops
-    body: list[str] = field(default_factory=list)
+    # its ops (most have none)
+    body: Sequence[str] = ()
     # of a callback of I/O, of an async handle or of a request: where libuv calls it; and of one of I/O what is known of what came
     section: str = ""
     known: str = ""
@@ -192,6 +193,11 @@ class Bound:
     made: int
     stays: bool = False
     closing: bool = False
+    # is it a request of the pool?
+    is_pool: bool = field(init=False)
+
+    def __post_init__(self) -> None:
+        self.is_pool = is_pool(self.kind)
 
 
 def is_pool(kind: str) -> bool:
@@ -216,7 +222,7 @@ class Program:
     names: list[str] = field(default_factory=list)
     main: list[str] = field(default_factory=list)
     # by callback and name, those of each call
-    bodies: dict[tuple[str, str], list[list[str]]] = field(default_factory=lambda: collections.defaultdict(list))
+    bodies: dict[tuple[str, str], list[Sequence[str]]] = field(default_factory=lambda: collections.defaultdict(list))
     items: list[Item] = field(default_factory=list)
     origins: list[Origin] = field(default_factory=list)
     # of a callback and a name the functions that were called, each with the first call from which it is that
@@ -227,7 +233,7 @@ class Program:
     # how long callbacks and works were on the processor, in ms, of those that took long enough
     processor: collections.Counter[Key] = field(default_factory=collections.Counter)
     # what these used of it else, in the log's numbers; the calls in which callbacks waited, and the stacks at which they were looked at
-    used: dict[Key, list[int]] = field(default_factory=dict)
+    used: dict[Key, tuple[int, ...]] = field(default_factory=dict)
     waits: dict[Key, list[Waited]] = field(default_factory=lambda: collections.defaultdict(list))
     # (each with how often, and for how many ms, as the log has it)
     stacks: dict[Key, list[tuple[str, str]]] = field(default_factory=lambda: collections.defaultdict(list))
@@ -261,7 +267,7 @@ class Program:
     stopped: str = ""
 
     def callbacks(self) -> int:
-        return sum(isinstance(it, Call) for it in self.items)
+        return sum(map(len, self.bodies.values()))
 
     def body_lines(self) -> list[str]:
         """The bodies by name. One that is the same in each call stands there once."""
@@ -270,7 +276,7 @@ class Program:
         for name in self.names:
             for kind in ("on", "after", "closed"):
                 bodies = self.bodies.get((kind, name), [])
-                if bodies and (kind, name) not in apart and all(it == bodies[0] for it in bodies):
+                if bodies and (kind, name) not in apart and bodies.count(bodies[0]) == len(bodies):
                     lines += [f"{kind} {name} {op}" for op in bodies[0]]
                 else:
                     lines += [f"{kind} {name} @{call} {op}" for call, body in enumerate(bodies, 1) for op in body]

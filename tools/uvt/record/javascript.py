@@ -8,7 +8,8 @@ from pathlib import Path
 
 from uvt.javascript import JavaScript
 from uvt.javascript_pieces import Look, NOWHERE, OUTSIDE, Origin, Place, Resource, Span, Under
-from uvt.record.log import Event, Log
+from uvt.record.events import Event
+from uvt.record.log import Log
 
 # node's functions that call what JavaScript asked for.
 HOWS = {

@@ -8,10 +8,11 @@ from typing import Callable
 
 from uvt.codes import SECTIONS
 from uvt.conversation import Conversation, Script
-from uvt.record.ahead import FAR, Ahead
+from uvt.record.ahead import FAR, LOOK, Ahead
 from uvt.record.fast import END, NOW
 from uvt.record.items import Call, Done, End, Finish, Item, Op, Poll, Program, Run, Send, Take
-from uvt.record.log import NO_CLOCK
+from uvt.record.events import NO_CLOCK
+from uvt.record.units import Units
 
 # Where a loop is whose poll was left by a callback of I/O, before its next step.
 POLLED = "polled"
@@ -64,6 +65,7 @@ class Leader:
     def __init__(self, program: Program, workers: int, wake: bool, tell: Callable[[int, int], None] = lambda *_: None) -> None:
         self.program, self.items, self.wake = program, program.items, wake
         self.workers = workers
+        self.is_before_45 = program.is_before(45)
         self.talk = Conversation(Script(program.script(workers, wake)))
         self.tell = tell
         # commands that are asked with the next one: what the answer begins with, the op, and is it a tick when no callback is under way?
@@ -89,7 +91,7 @@ class Leader:
         self.later_on: set[str] = set()
         self.outcome = Outcome([], 0, program.callbacks(), 0)
         self.senders = {it.text.split(" ")[1] for it in self.items if isinstance(it, Op) and it.text.startswith("send ")}
-        self.ahead = Ahead(self.items)
+        self.ahead, self.units = Ahead(self.items), Units(self.items)
         # how many of the after callbacks have come
         self.after_at = 0
         # sends and finishes before which all was kept; those that are to come only where what they call does, and the clock of such sends
@@ -221,10 +223,13 @@ class Leader:
 
     def end_time(self, at: int) -> int:
         item = self.items[at]
-        if self.program.is_before(45) and self.ahead.has_end_near(at) and self.starts_behind_end(item.now, self.items[at + 1 : at + FAR]):
+        if self.is_before_45 and self.ahead.has_end_near(at) and self.starts_behind_end(item.now, self.items[at + 1 : at + FAR]):
             return NO_CLOCK
-        later = self.ahead.later[at]
-        return min(item.clock, self.items[later].now) if later < at + FAR else item.clock
+        # (up to the next item that looks at the clock, or shows that this was looked at, and has a later time)
+        for other in self.items[at + 1 : at + FAR]:
+            if other.now > item.now and isinstance(other, LOOK):
+                return min(item.clock, other.now)
+        return item.clock
 
     def starts_behind_end(self, now: int, ahead: list[Item]) -> bool:
         """Does the run end by the same time, and the main program start a timer by it then? The last iteration looks at the clock

@@ -21,7 +21,8 @@ import re
 from dataclasses import dataclass, field
 
 from uvt.record.javascript import REPEATS, UNREFERENCED, is_program, place_of
-from uvt.record.log import NO_CLOCK, Address, Event, Log
+from uvt.record.events import NO_CLOCK, Event, Events
+from uvt.record.log import Address, Log
 
 FIRST = 10_000_000  # the number of the first handle, behind all that a log has
 WAITING = 64  # so many immediates may wait at a time
@@ -88,7 +89,7 @@ class Own:
         return id in (self.timer, self.check)
 
 
-def own_handles(events: list[Event]) -> Own:
+def own_handles(events: Events) -> Own:
     """node makes them in this order, before anything else of their kinds: a timer, a check and an idle handle, and then a prepare and a check
     handle around each poll."""
     found: dict[str, list[int]] = {}
@@ -383,6 +384,6 @@ def lift(log: Log, loop: int) -> tuple[Log, int]:
     if not lifting.made:
         raise NothingToLift("JavaScript asked for no timer and no immediate")
     found = copy.copy(log)
-    found.loops = {loop: events}
+    found.loops = {loop: Events(events)}
     found.addresses = {**log.addresses, **lifting.addresses}
     return found, lifting.made

@@ -5,19 +5,16 @@ A log may be cut anywhere, and any byte of it may be another one: it is read up 
 
 from __future__ import annotations
 
-import functools
 import re
 from collections.abc import Iterator
 from dataclasses import dataclass, field
 
 from uvt.conversation import Fault
 from uvt.notes import harmless
+from uvt.record.events import Events, read_event
 from uvt.record.maps import Maps
 from uvt.spent import in_words
 
-NUMBER = r"(?:0|[1-9]\d{0,18})"
-TIMER_OWN = {"timer", "idle", "prepare", "check", "async"}
-WATCHERS = {"tcp", "udp", "pipe", "tty", "poll", "signal", "fs_event", "fs_poll", "process"}
 # In logs of version 1 `ref` and `unref` of a watcher say whether it counts for the loop (it is active and referenced, or has a request
 # under way), and nothing says that it is started or stopped; `P` has the timeout that libuv asks with, be it only to look.
 HEAD = re.compile(r"uvt-log ([12]) (1\.\d{1,4}\.\d{1,4}\S*) (\d{1,9}) (\d{1,9}) (.*)")
@@ -35,19 +32,8 @@ HOME = re.compile(r"- J home (.*)")
 LANGUAGE = re.compile(r"- J language (Python|Lua)")
 LACKS = re.compile(r"- J lacks (\w{1,200})")
 STACK = re.compile(r"- J stack (\d{1,9}) (-1|\d{1,9}) (\d{1,9}) (\d{1,9})")
-NO_CLOCK = -1
 # So many functions are told of a place, each of which was called by the next one.
 CHAIN = 2
-TIMED = "BDEFGHJRSTq"
-# Of these the place in the program stands at the end of the line, that called libuv there; behind `<` the one that called that function, and of a
-# call that waited all that are on the stack.
-CALLED = "DGIOSZ"
-FROM = re.compile(r"(.*) @((?:0|[1-9]\d{0,8})(?:<(?:0|[1-9]\d{0,8})){0,63})")
-# Of a look at a stack these are all of it, the innermost first. (Earlier logs say how often alone, and not for how many ms)
-STACK_FROM = re.compile(r"(\d{1,9}(?: \d{1,9})?) @((?:0|[1-9]\d{0,8})(?:<(?:0|[1-9]\d{0,8})){0,63})")
-# What a thread had of the processor: ms on it, and of later logs ms in the kernel, page faults without the disk and with it, how often it gave the
-# processor away and was pushed off it, and ms that it waited for one.
-USED = rf"(?: cpu {NUMBER}(?: {NUMBER}){{6}}| cpu {NUMBER})?"
 # So many bytes of a log are made lines at a time.
 AT_ONCE = 1 << 20
 # Why nothing is recorded from a line on.
@@ -55,65 +41,8 @@ ENDS = {
     "- ! no room": "the disk had no room for more: the log ends at line {}",
     "- ! filter": "the program filters its calls of the system, and what was made ready before that is full: the log ends at line {}",
 }
-CODE = r"(?:ok|E[A-Z0-9_]+)"
 # Libraries of the system, whose functions call the program's or stand between two of these: their lines tell nothing of it.
 SYSTEM = re.compile(r"(?:libc|libpthread|libm|libdl|libstdc\+\+|libgcc_s|ld-linux[\w-]*|ld-musl[\w-]*)[.-]")
-WORDS = {
-    "O": re.compile(
-        rf"init %{NUMBER} (?:{'|'.join(sorted(TIMER_OWN | WATCHERS))}) = ok"
-        rf"|queue %{NUMBER} (?:work|addrinfo|nameinfo|random|fs_[a-z]+) = ok"
-        rf"|start %{NUMBER}(?: \d{{1,20}} \d{{1,20}})? = {CODE}|repeat %{NUMBER} \d{{1,20}} = {CODE}"
-        rf"|(?:stop|again|close|ref|unref|send|cancel) %{NUMBER} = {CODE}|(?:closeloop|stoploop|updatetime) = {CODE}"
-    ),
-    "D": re.compile(rf"[a-z_0-9]+ {NUMBER}(?: %{NUMBER})?(?: \^(?:%{NUMBER}|#{NUMBER}|[A-Za-z0-9_.-]{{1,31}}))?"),
-    "E": re.compile(rf"{NUMBER}(?: \+)?{USED}"),
-    "H": re.compile(rf"{NUMBER} {NUMBER} [01](?: {NUMBER})?"),
-    "Y": re.compile(r"\d{1,9}(?: \d{1,9})?"),
-    "Z": re.compile(NUMBER),
-    "q": re.compile(NUMBER),
-    "B": re.compile(rf"on {NUMBER} [a-z_]+(?: [A-Za-z0-9_-]+){{0,2}}(?: %{NUMBER})?|after {NUMBER} (?:ok|ECANCELED)|closed {NUMBER}"),
-    "R": re.compile(r"(?:default|once|nowait)(?: \+)?"),
-    "r": re.compile("[01]"),
-    "P": re.compile(r"-?\d{1,10}"),
-    "p": re.compile(r"-?\d{1,10}"),
-    "T": re.compile(NUMBER),
-    "F": re.compile(rf"{NUMBER}{USED}"),
-    "G": re.compile(rf"{NUMBER} {NUMBER} (?:write|connect|shutdown|send) \d{{1,20}}"),
-    "I": re.compile(rf"{NUMBER} uv_[a-z_]+"),
-    "L": re.compile(r"-?\d{1,10}"),
-    "S": re.compile(rf"{NUMBER} \d{{1,20}}(?: {NUMBER})?"),
-    "C": re.compile(rf"{NUMBER} \d{{1,9}}(?: [a-z_]+)?"),
-    "V": re.compile(rf"{NUMBER} \d{{1,9}}(?: \d{{1,9}})?"),
-    "K": re.compile(rf"all|end|{NUMBER} [a-z_]+ [01] [01] [01] {NUMBER} {NUMBER} {NUMBER}"),
-    "J": re.compile(
-        rf"new {NUMBER} (?:timer|interval|immediate|soon|task|callback) (?:-1|{NUMBER}) (?:-1|{NUMBER}(?:<{NUMBER})*) {NUMBER}"
-        rf"|was {NUMBER} (?:timer|interval|immediate|soon|task|callback) (?:-1|{NUMBER}) (?:-1|{NUMBER}(?:<{NUMBER})*) {NUMBER}"
-        rf" {NUMBER}(?: {NUMBER})?|run {NUMBER}(?: {NUMBER} {NUMBER}(?: [1-7])?)?|ran {NUMBER}"
-        rf"|gone {NUMBER} (?:-1|{NUMBER})|ref {NUMBER} [01] (?:-1|{NUMBER})|by {NUMBER} {NUMBER}(?:<{NUMBER})*"
-        rf"|busy {NUMBER} {NUMBER} {NUMBER}(?: {NUMBER})?|gc {NUMBER} {NUMBER}|thread {NUMBER}(?: -?{NUMBER})?"
-    ),
-    "Q": re.compile(rf"{NUMBER} {NUMBER}"),
-    "W": re.compile(rf"(?:-1|{NUMBER}) \d{{1,20}} uv_[a-z_0-9]+"),
-    "M": re.compile(rf"{NUMBER} {NUMBER}(?: stack)?(?: made)?"),
-}
-
-
-@dataclass(slots=True)
-class Event:
-    """A line of a loop."""
-
-    type: str
-    # the loop's time; and of a callback or work that begins or ends, and of a send the clock, or NO_CLOCK: in ms since the loop was first seen
-    now: int
-    clock: int
-    words: str
-    line: int
-    # of an op, a send and a request of a stream: the place in the program that called libuv, by its number, and behind `<` the one that called that
-    # function; `` where nobody knows
-    place: str = ""
-
-    def when(self) -> tuple[int, int, int]:
-        return self.now, self.clock, self.line
 
 
 @dataclass(slots=True)
@@ -179,7 +108,7 @@ class Log:
     process: int
     workers: int
     program: str
-    loops: dict[int, list[Event]] = field(default_factory=dict)
+    loops: dict[int, Events] = field(default_factory=dict)
     addresses: dict[int, Address] = field(default_factory=dict)
     # of JavaScript: a function, or where it was, and its file and line; and of a stack the one below it, the place and its line
     home: str = ""
@@ -217,7 +146,7 @@ class Log:
 
     def callers(self) -> set[int]:
         """The numbers of the places that call libuv, and of those that call these functions."""
-        places = {it.place for events in self.loops.values() for it in events if it.place} | {stack for _, _, stack in self.now.values()}
+        places = {it.place for events in self.loops.values() for it in events.said if it.place} | {stack for _, _, stack in self.now.values()}
         return {int(number) for place in places for number in place.split("<")}
 
     def place(self, place: str) -> str:
@@ -253,48 +182,6 @@ def is_of_libuv(address: Address) -> bool:
     return "libuv.so" in address.within_file() or address.symbol.startswith("uv_")
 
 
-def is_number(text: str) -> bool:
-    return text.isdecimal() and text.isascii() and len(text) <= 19 and (text[0] != "0" or text == "0")
-
-
-@functools.lru_cache(maxsize=1 << 16)
-def number_of(text: str) -> int:
-    """The number that a word is; -1 where it is none. (The same words come again and again, and so do texts of lines: each is looked at once, and
-    stands in memory once.)"""
-    return int(text) if is_number(text) else -1
-
-
-@functools.lru_cache(maxsize=1 << 16)
-def read_words(type: str, words: str) -> tuple[str, str] | None:
-    """What a line has behind its times, and the place in the program that called libuv, `` where it has none. None where no line says that."""
-    if type == "Y":
-        looked = STACK_FROM.fullmatch(words)
-        return (looked[1], looked[2]) if looked else None
-    place = ""
-    if type in CALLED and (called := FROM.fullmatch(words)):
-        words, place = called[1], called[2]
-    return (words, place) if WORDS[type].fullmatch(words) else None
-
-
-def read_event(text: str, line: int) -> tuple[int, Event] | None:
-    parts = text.split(" ", 3)
-    if len(parts) != 4 or parts[1] not in WORDS:
-        return None
-    _, type, _, words = parts
-    loop, now = number_of(parts[0]), number_of(parts[2])
-    if loop < 0 or now < 0:
-        return None
-    if type in TIMED:
-        clock, _, rest = words.partition(" ")
-        if (at := number_of(clock)) >= 0 and (found := read_words(type, rest)):
-            return loop, Event(type, now, at, found[0], line, found[1])
-        # (logs of earlier recorders have a clock at a callback's end alone)
-        if type == "E":
-            return None
-    found = read_words(type, words)
-    return (loop, Event(type, now, NO_CLOCK, found[0], line, found[1])) if found else None
-
-
 def within(workers: int) -> int:
     return max(1, min(1024, workers))
 
@@ -323,10 +210,13 @@ def read_log(data: bytes) -> Log:
     log = Log(int(head[1]), head[2], int(head[3]), within(int(head[4])), head[5])
     for number, text in enumerate(lines, 2):
         log.lines = number
-        if event := read_event(text, number):
-            log.loops.setdefault(event[0], []).append(event[1])
-            if event[1].type == "L":
-                log.later[event[0]] = int(event[1].words)
+        if found := read_event(text):
+            loop, said, now, clock = found
+            if loop not in log.loops:
+                log.loops[loop] = Events()
+            log.loops[loop].add(said, now, clock, number)
+            if said.type == "L":
+                log.later[loop] = int(said.words)
         elif home := HOME.fullmatch(text):
             log.home = home[1]
         elif language := LANGUAGE.fullmatch(text):

@@ -67,7 +67,7 @@ def followed(program: Program, workers: int) -> Outcome:
 
 def make(log: Log, loop: int, part: Part = Part()) -> Made | None:
     """The recording of a loop. None if it has no callback."""
-    if not any(it.type == "B" for it in log.loops[loop]):
+    if not log.loops[loop].has("B"):
         return None
     found = chosen(log, loop, part)
     program = program_of(log, found.events, loop)

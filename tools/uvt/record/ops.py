@@ -7,7 +7,8 @@ import re
 
 from uvt.record.items import Bound, Call, Done, Finish, Foreign, Op, Origin, Program, Request, Send, Take, Waited, is_pool
 from uvt.record.javascript import Reader
-from uvt.record.log import TIMER_OWN, WATCHERS, Address, Event, Log
+from uvt.record.events import TIMER_OWN, WATCHERS, Event
+from uvt.record.log import Address, Log
 from uvt.record.names import base_name, element
 from uvt.record.where import Where
 from uvt.spent import in_words
@@ -132,7 +133,7 @@ class Ops:
         if not isinstance(done, Done):
             return False
         op.now = done.now
-        done.call.body.append(op.text)
+        self.add_to_body(done.call, op.text)
         self.items.insert(at, op)
         return True
 
@@ -140,7 +141,13 @@ class Ops:
         """An op of this callback. `foreign`: by which function another thread did it."""
         if foreign:
             self.program.foreign_ops[call.callback, call.name, call.number, len(call.body)] = foreign
-        call.body.append(text)
+        self.add_to_body(call, text)
+
+    def add_to_body(self, call: Call, text: str) -> None:
+        body = self.program.bodies[call.callback, call.name][call.number - 1]
+        if not isinstance(body, list):
+            body = call.body = self.program.bodies[call.callback, call.name][call.number - 1] = []
+        body.append(text)
 
     def read_foreign(self, event: Event) -> None:
         id, _, function = event.words.split(" ")

@@ -5,7 +5,8 @@ from __future__ import annotations
 
 from dataclasses import dataclass, replace
 
-from uvt.record.log import Event, Late, Log
+from uvt.record.events import Events
+from uvt.record.log import Late, Log
 from uvt.record.window import NoPart, begin_of, starts_of, window
 from uvt.record.worst import Stall, around
 
@@ -34,7 +35,7 @@ class Part:
 class Chosen:
     """A part of a loop's events."""
 
-    events: list[Event]
+    events: Events
     # the loop's time where it begins, None where that is where the loop does
     begin: int | None = None
     # where it is cut, in a sentence
@@ -42,8 +43,10 @@ class Chosen:
 
     def again_line(self) -> int:
         """The line of the log for which the ops stand that make what there was by then; -1 where none do."""
-        run = next((at for at, it in enumerate(self.events) if it.type == "R"), 0)
-        return next((it.line for it in self.events[:run] if it.type == "O"), -1) if self.begin is not None else -1
+        if self.begin is None:
+            return -1
+        run = next((at for at, it in enumerate(self.events.said) if it.type == "R"), 0)
+        return next((it.line for it in self.events[:run] if it.type == "O"), -1)
 
     def began(self) -> str:
         return (
@@ -51,16 +54,12 @@ class Chosen:
         )
 
 
-def calls_of(events: list[Event]) -> list[int]:
-    return [at for at, it in enumerate(events) if it.type == "B"]
-
-
-def is_all_of(events: list[Event]) -> bool:
+def is_all_of(events: Events) -> bool:
     """Is the first line of this loop in what was kept of a ring? (That stands with the words, too.)"""
     return [it.type for it in events[:2]] == ["L", "L"]
 
 
-def behind_the_first(events: list[Event], part: Part) -> tuple[list[Event], Part]:
+def behind_the_first(events: Events, part: Part) -> tuple[Events, Part]:
     """Nothing before the first place at which all of it was written down can be followed."""
     known = [at for at in starts_of(events) if begin_of(events, at) >= 0]
     if not known:
@@ -69,21 +68,21 @@ def behind_the_first(events: list[Event], part: Part) -> tuple[list[Event], Part
     if part.begin is not None:
         return events, replace(part, begin=max(part.begin, first))
     rest = events[begin_of(events, known[0]) :]
-    if part.worst and len(calls_of(rest)) > part.most:
+    if part.worst and len(rest.places_of("B")) > part.most:
         return rest, part
     return events, replace(part, begin=first)
 
 
-def stall_of(events: list[Event], late: Late) -> Stall:
+def stall_of(events: Events, late: Late) -> Stall:
     """The callback for which a ring was kept apart, or with which that was over."""
     number, open_at = -1, Stall(0, 0, -1)
-    for at, it in enumerate(events):
+    for at, (it, clock) in enumerate(zip(events.said, events.clocks)):
         if it.type == "B":
             number += 1
             open_at = Stall(at, number, late.took)
-            if late.what != "callback" and it.clock >= late.clock and (late.id < 0 or it.words.split(" ")[1] == str(late.id)):
+            if late.what != "callback" and clock >= late.clock and (late.id < 0 or it.words.split(" ")[1] == str(late.id)):
                 return open_at
-        elif it.type == "E" and late.what == "callback" and it.clock >= late.clock:
+        elif it.type == "E" and late.what == "callback" and clock >= late.clock:
             return open_at
     return open_at
 
@@ -104,12 +103,12 @@ def chosen(log: Log, loop: int, part: Part) -> Chosen:
         events, part = behind_the_first(events, part)
     if kept and kept.loop == loop and part.begin is not None and count_from(events, part.begin) > part.most:
         return Chosen(*around(log, events, part.most, is_cut, stall_of(events, kept)))
-    if part.begin is None and part.worst and len(calls_of(events)) > part.most:
+    if part.begin is None and part.worst and len(events.places_of("B")) > part.most:
         return Chosen(*around(log, events, part.most, is_cut))
     time, found = part.begin if part.last is None else max(0, events[-1].now - part.last), Chosen(events)
     if time is not None and not (kept and not is_cut and is_at_beginning(events, time)):
         found = Chosen(*window(events, time, log.form))
-    calls = calls_of(found.events)
+    calls = found.events.places_of("B")
     if len(calls) > part.most:
         found.cut = (
             f"the log has {len(calls)} callbacks, and the first {part.most} were taken: --most N takes another number,"
@@ -119,10 +118,10 @@ def chosen(log: Log, loop: int, part: Part) -> Chosen:
     return found
 
 
-def is_at_beginning(events: list[Event], time: int) -> bool:
+def is_at_beginning(events: Events, time: int) -> bool:
     """Is there no place before this time where a recording can begin, but the loop's first event?"""
     return time == 0 or not any(events[at - 1].now <= time and begin_of(events, at) >= 0 for at in starts_of(events))
 
 
-def count_from(events: list[Event], time: int) -> int:
-    return sum(it.type == "B" and it.now >= time for it in events)
+def count_from(events: Events, time: int) -> int:
+    return sum(it.type == "B" and now >= time for it, now in zip(events.said, events.nows))

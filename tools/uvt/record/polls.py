@@ -6,7 +6,12 @@ compared one by one.
 
 from __future__ import annotations
 
+import array
+import bisect
+import itertools
+from collections.abc import Iterator
 from dataclasses import dataclass
+from typing import NamedTuple
 
 from uvt.codes import SECTIONS as SECTION_WORDS
 from uvt.record.items import Call, Item, Poll, Program
@@ -16,12 +21,32 @@ SECTIONS = frozenset(SECTION_WORDS)
 CALLBACKS = ("call ", "after ", "closed ")
 
 
-@dataclass(slots=True)
-class Wait:
+class Wait(NamedTuple):
     """How long a poll may wait, -1 for ever; and where it stands: its step, or its line in the log."""
 
     timeout: int
     at: int
+
+
+class Waits:
+    """All polls, each behind so many callbacks."""
+
+    def __init__(self) -> None:
+        self.waits: list[Wait] = []
+        self.behind = array.array("i")
+
+    def add(self, timeout: int, at: int, callbacks: int) -> None:
+        self.waits.append(Wait(timeout, at))
+        self.behind.append(callbacks)
+
+    def before(self, callbacks: int) -> int:
+        """How many come before so many callbacks."""
+        return bisect.bisect_left(self.behind, callbacks)
+
+    def together(self, upto: int) -> Iterator[tuple[int, list[Wait]]]:
+        """Of the first ones those that are behind as many callbacks."""
+        for callbacks, those in itertools.groupby(range(upto), self.behind.__getitem__):
+            yield callbacks, [self.waits[it] for it in those]
 
 
 @dataclass
@@ -56,40 +81,41 @@ def timeout_of(text: str) -> int:
     return -1 if text == "infinite" else int(text)
 
 
-def parted(lines: list[str]) -> list[list[Wait]]:
-    """The polls of the steps, those before the first callback, between it and the second one, .. (The handle `wake` isn't the program's.)"""
-    found: list[list[Wait]] = [[]]
+def waits_of(lines: list[str]) -> tuple[Waits, int]:
+    """The polls of the steps, and how many callbacks these have. (The handle `wake` isn't the program's.)"""
+    found, callbacks = Waits(), 0
     for step, line in enumerate(lines, 1):
         if line in SECTIONS:
             continue
-        if line.startswith("poll "):
-            found[-1].append(Wait(timeout_of(line[5:]), step))
-        elif line.startswith(CALLBACKS) and not line.startswith("call wake "):
-            found.append([])
-    return found
+        if line.startswith(CALLBACKS):
+            callbacks += not line.startswith("call wake ")
+        elif line.startswith("poll "):
+            found.add(timeout_of(line[5:]), step, callbacks)
+    return found, callbacks
 
 
-def parted_log(items: list[Item]) -> list[list[Wait]]:
+def waits_of_log(items: list[Item]) -> Waits:
     """The same of what the program did."""
-    found: list[list[Wait]] = [[]]
+    found, callbacks = Waits(), 0
     for item in items:
-        if isinstance(item, Poll) and item.timeout is not None:
-            found[-1].append(Wait(item.timeout, item.line))
-        elif isinstance(item, Call):
-            found.append([])
+        if isinstance(item, Call):
+            callbacks += 1
+        elif isinstance(item, Poll) and item.timeout is not None:
+            found.add(item.timeout, item.line, callbacks)
     return found
 
 
 def compare(program: Program, lines: list[str], callbacks: int, whole: bool) -> Polls:
     """The polls of a recording whose steps have these lines, up to its last callback where it isn't whole."""
-    here, there = parted(lines), parted_log(program.items)
-    upto = len(here) if whole else callbacks
-    polls = Polls(sum(map(len, here[:upto])), sum(map(len, there[:upto])))
+    (here, count), there = waits_of(lines), waits_of_log(program.items)
+    upto = count + 1 if whole else callbacks
+    polls = Polls(here.before(upto), there.before(upto))
+    theirs = dict(there.together(polls.there))
     # (logs of form 1 have the timeout of a look in place of the poll's own)
-    for ours, theirs in zip(here[:upto], there[:upto]) if program.form > 1 else ():
-        if len(ours) != len(theirs):
+    for behind, ours in here.together(polls.here) if program.form > 1 else ():
+        if len(ours) != len(theirs.get(behind, ())):
             continue
-        for one, other in zip(ours, theirs):
+        for one, other in zip(ours, theirs[behind]):
             polls.compared += 1
             if one.timeout != other.timeout:
                 polls.others += 1

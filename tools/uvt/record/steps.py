@@ -3,7 +3,7 @@
 from __future__ import annotations
 
 from uvt.notes import Request
-from uvt.record.items import Call, Op, Program
+from uvt.record.items import Call, Key, Op, Program
 
 LINES = {"on": "call", "after": "after", "closed": "closed"}
 
@@ -18,11 +18,12 @@ class Steps:
 
     def __init__(self, program: Program, lines: list[str]) -> None:
         self.program = program
-        # of each op's step the place that asked for it; and the step of each callback
+        # of each op's step the place that asked for it; and the step of each callback of which requests and calls that changed nothing are
         self.asked_at: dict[int, str] = {}
         # of a request's step the clock as it was queued, where the loop's time was an earlier one
         self.queued: dict[int, int] = {}
-        self.calls: dict[tuple[str, str, int], int] = {}
+        self.calls: dict[Key, int] = {}
+        calls = {it.within for it in program.nothings} | {key for it in program.requests for key in (it.within, it.by)}
         # up to this step it is what there was as it begins
         self.before = 0
         items = (it for it in program.items if isinstance(it, (Call, Op)))
@@ -32,7 +33,8 @@ class Steps:
             if not line.startswith(wanted):
                 continue
             if isinstance(item, Call):
-                self.calls[item.callback, item.name, item.number] = step
+                if calls and (key := (item.callback, item.name, item.number)) in calls:
+                    self.calls[key] = step
             elif item:
                 self.see_op(item, step)
             item = next(items, None)

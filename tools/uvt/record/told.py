@@ -10,7 +10,8 @@ from uvt.conversation import INSTALLED
 from uvt.notes import LEFT_OUT, NODES_ALONE, Notes
 from uvt.record.differences import PAGE, heading_of, says
 from uvt.record.items import Call, Done, End, Program
-from uvt.record.log import NO_CLOCK, Late, Log
+from uvt.record.events import NO_CLOCK
+from uvt.record.log import Late, Log
 from uvt.record.made import Made
 from uvt.record.script import program_of
 from uvt.spent import LOOKED, UNKNOWN, Spent
@@ -74,7 +75,8 @@ def where_it_ended(made: Made, log: Log, loop: int) -> str:
     function = Notes(functions=made.program.functions).function(call.callback, call.name, call.number)
     kind = {"on": "callback", "after": "after callback", "closed": "close callback"}[call.callback]
     inside = isinstance(last, Call)
-    since = max((it.clock for it in log.loops[loop] if it.type in "BE" and it.clock != NO_CLOCK), default=NO_CLOCK)
+    events = log.loops[loop]
+    since = max((clock for it, clock in zip(events.said, events.clocks) if it.type in "BE" and clock != NO_CLOCK), default=NO_CLOCK)
     long = f", for {at - since} ms" if inside else f", which ended {at - since} ms before"
     if log.copied is None or since == NO_CLOCK:
         long = ""
@@ -226,7 +228,7 @@ def folded(rows: list[tuple[int, list[str]]]) -> list[str]:
 def of_main_alone(log: Log, loop: int) -> list[str]:
     """What is told of a loop with JavaScript that called nothing: all that the program did it did before. Nothing of any other."""
     events = log.loops[loop]
-    if any(it.type == "B" for it in events) or not any(it.type == "J" for it in events):
+    if events.has("B") or not events.has("J"):
         return []
     javascript = program_of(log, events, loop).javascript
     told = javascript.told(0, javascript.seen() + 1)

@@ -4,7 +4,8 @@ from __future__ import annotations
 
 from dataclasses import dataclass
 
-from uvt.record.log import NO_CLOCK, Event, Log
+from uvt.record.events import NO_CLOCK, Events
+from uvt.record.log import Log
 from uvt.record.window import NoPart, starts_of, window
 
 
@@ -17,10 +18,11 @@ class Stall:
     took: int
 
 
-def worst_of(events: list[Event]) -> Stall:
+def worst_of(events: Events) -> Stall:
     """The callback that took longest; the first one where none took any."""
     best, depth, number, begun = Stall(0, 0, -1), 0, -1, 0
-    for at, it in enumerate(events):
+    clocks = events.clocks
+    for at, it in enumerate(events.said):
         if it.type == "B":
             number += 1
             if not depth:
@@ -28,16 +30,16 @@ def worst_of(events: list[Event]) -> Stall:
             depth += 1
         elif it.type == "E" and depth:
             depth -= 1
-            if not depth and NO_CLOCK not in (it.clock, events[begun].clock) and it.clock - events[begun].clock > best.took:
-                best = Stall(begun, first, it.clock - events[begun].clock)
+            if not depth and NO_CLOCK not in (clocks[at], clocks[begun]) and clocks[at] - clocks[begun] > best.took:
+                best = Stall(begun, first, clocks[at] - clocks[begun])
     return best
 
 
-def function_of(log: Log, events: list[Event], at: int) -> str:
+def function_of(log: Log, events: Events, at: int) -> str:
     """Which function of the program this callback is, in words; `` where nobody knows."""
     callback, id, *what = events[at].words.split(" ")
     wanted = what[0] if callback == "on" else callback
-    for it in reversed(events[:at]):
+    for it in reversed(events.said[:at]):
         if it.type == "C" and (words := it.words.split(" "))[0] == id and wanted in words[2:]:
             address = log.addresses.get(int(words[1]))
             source = address.source() if address else ""
@@ -45,18 +47,18 @@ def function_of(log: Log, events: list[Event], at: int) -> str:
     return ""
 
 
-def around(log: Log, events: list[Event], most: int, is_cut: bool, stall: Stall | None = None) -> tuple[list[Event], int | None, str]:
+def around(log: Log, events: Events, most: int, is_cut: bool, stall: Stall | None = None) -> tuple[Events, int | None, str]:
     """As many callbacks as are wanted, with the longest one (or this one) among them, from a place where a recording can begin; at which time of the
     loop it begins, None where that is its own beginning; and which part that is, in a sentence. Which callback is the longest is said at once. With
     `is_cut` these events aren't the loop's first ones: the recording begins where all that there was is written down, then."""
-    calls = [at for at, it in enumerate(events) if it.type == "B"]
+    calls = events.places_of("B")
     longest, stall = stall is None, stall or worst_of(events)
     took = f"{stall.took} ms at {events[stall.at].clock} ms{function_of(log, events, stall.at)}" if stall.took >= 0 else "no time that is known"
     part, begin, before = begun_near(events, stall, [most // 2, most // 10, 1] if stall.number >= most else [], most, log.form)
     if begin is None and is_cut:
         part, begin = window(events, events[starts_of(events)[0] - 1].now, log.form)
-        before = callbacks_before(part, events[stall.at].line)
-    begun = [at for at, it in enumerate(part) if it.type == "B"]
+        before = callbacks_before(part, events.lines[stall.at])
+    begun = part.places_of("B")
     # (where a recording can't begin near to it there are some more)
     count = min(len(begun), max(most, before + most // 4))
     # (said at once: to follow them takes longer)
@@ -69,21 +71,21 @@ def around(log: Log, events: list[Event], most: int, is_cut: bool, stall: Stall 
     return part[: begun[count]] if len(begun) > count else part, begin, said
 
 
-def callbacks_before(events: list[Event], line: int) -> int:
-    return sum(it.type == "B" and it.line < line for it in events)
+def callbacks_before(events: Events, line: int) -> int:
+    return sum(it.type == "B" and its < line for it, its in zip(events.said, events.lines))
 
 
-def begun_near(events: list[Event], stall: Stall, distances: list[int], most: int, form: int) -> tuple[list[Event], int | None, int]:
+def begun_near(events: Events, stall: Stall, distances: list[int], most: int, form: int) -> tuple[Events, int | None, int]:
     """The events from a place on that lies so many callbacks before this one, at first, and then nearer; all of them where no recording can begin
     there. With that the time at which it begins, and how many callbacks stand before this one then."""
-    calls = [it for it in events if it.type == "B"]
+    calls = events.places_of("B")
     part, begin, before = events, None, stall.number
     for distance in distances:
         try:
-            part, begin = window(events, calls[stall.number - distance].now, form)
+            part, begin = window(events, events.nows[calls[stall.number - distance]], form)
         except NoPart:
             continue
-        before = callbacks_before(part, events[stall.at].line)
+        before = callbacks_before(part, events.lines[stall.at])
         if before < most:
             break
     return part, begin, before
