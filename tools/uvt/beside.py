@@ -14,7 +14,8 @@ from collections.abc import Iterator
 from dataclasses import dataclass
 
 from uvt.waits import History, Wait, follow
-from uvt.walk import Took, Walk
+from uvt.took import Took
+from uvt.walk import Walk
 from uvt.causes import few, times
 from uvt.why import Why
 from uvt.why_asked import CALLS

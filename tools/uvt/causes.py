@@ -6,7 +6,8 @@ from collections.abc import Sequence
 from dataclasses import replace
 
 from uvt.spent import UNKNOWN
-from uvt.walk import Took, Walk
+from uvt.took import Took
+from uvt.walk import Walk
 
 MAIN = "the main program"
 # How many names or steps a sentence has at the most.
@@ -20,7 +21,7 @@ def few(words: Sequence[object]) -> str:
     return shown[0] if len(shown) == 1 else f"{', '.join(shown[:-1])} and {shown[-1]}"
 
 
-def steps_of(steps: list[int]) -> str:
+def steps_of(steps: Sequence[int]) -> str:
     return f"step {steps[0]}" if len(steps) == 1 else f"steps {few(steps)}"
 
 

@@ -50,7 +50,7 @@ OUT = out_folder()
 END_COMMANDS = b"back 0\n?\n"
 AT = re.compile(r"at (\d+)$")
 BAD = "bad command"
-AT_LINE = re.compile(rb"^at (\d+)$", re.M)
+AT_LINE = re.compile(rb"\nat (\d+)(?=\n)")
 # So many steps are done before the program says how many stand.
 MANY_STEPS = 10_000
 # as many bytes as every pipe holds at least
@@ -219,15 +219,14 @@ class Conversation:
         on the way."""
         parts = [packed(commands[at : at + MANY_STEPS]) for at in range(0, len(commands), MANY_STEPS)]
         writer = started(self.send_quietly, "".join(f"{it}back 0\n" for it in parts))
-        left, rest = len(parts), b""
+        left, rest = len(parts), b"\n"
         while left:
             part = self.read_some()
             if not part:
                 self.ended()
             part = rest + part
-            end = part.rfind(b"\n") + 1
-            rest = part[end:]
-            for at in AT_LINE.findall(part, 0, end):
+            rest = part[part.rfind(b"\n") :]
+            for at in AT_LINE.findall(part):
                 self.length = int(at)
                 tell(self.length)
                 left -= 1
@@ -237,7 +236,8 @@ class Conversation:
         """The lines of the standing steps, each with its step in front."""
         self.send("walk\nback 0\n")
         said = self.bytes_until(b"at ")
-        return bytes(said[: said.rfind(b"\n", 0, -1) + 1])
+        del said[said.rfind(b"\n", 0, -1) + 1 :]
+        return bytes(said)
 
     def ask_all(self, commands: list[str]) -> list[str]:
         """Asks many commands that do steps, and answers all their lines, without saying which are whose."""
@@ -316,23 +316,32 @@ class Conversation:
             yield self.read_state_behind(move)
         writer.join()
 
-    def lines_of(self, looks: list[tuple[int, str]]) -> Iterator[list[str]]:
-        """Of many numbers of steps the lines of one name each (`of_name`), asked all at once. All have to be read."""
-        moves, here = [], self.length
-        for length, name in looks:
-            moves.append(f"forward {length - here}\nstate {name}\nback 0\n" if length > here else f"back {here - length}\nstate {name}\nback 0\n")
-            here = length
-        writer = started(self.send_quietly, "".join(moves))
-        rows = self.rows()
-        for length, name in looks:
-            if not AT.match(next(rows)):
-                raise Fault(f"the program answers otherwise where {length} steps are to stand")
-            lines: list[str] = []
-            while not (line := next(rows)).startswith("at "):
-                lines.append(line)
+    def sent_at(self, looks: list[tuple[int, str]]) -> threading.Thread:
+        """Goes to where so many steps stand, and asks a command there: of many, and behind them what is no command, all at once."""
+        moves: list[str] = []
+        for length, command in looks:
+            moves.append(f"forward {length - self.length}\n{command}" if length > self.length else f"back {self.length - length}\n{command}")
             self.length = length
-            yield lines
+        return started(self.send_quietly, "\n".join([*moves, "?", ""]))
+
+    def times_at(self, lengths: list[int]) -> list[tuple[int, int]]:
+        """The loop's time and the clock where so many steps stand, of many lengths, asked all at once."""
+        writer, found = self.sent_at([(it, "state") for it in lengths]), []
+        for line in self.rows():
+            if line.startswith("steps "):
+                _, _, _, now, _, clock, *_ = line.split(" ")
+                found.append((int(now), int(clock)))
+            elif line == BAD:
+                break
         writer.join()
+        return found
+
+    def names_at(self, looks: list[tuple[int, str]]) -> str:
+        """Of many numbers of steps what is said of one name each (`of_name`), asked all at once: a line `at N`, and those of the name."""
+        writer = self.sent_at([(length, f"state {name}") for length, name in looks])
+        said = self.bytes_until(BAD.encode()).decode("ascii", "replace")
+        writer.join()
+        return said[: -len(BAD) - 1]
 
     def rows(self) -> Iterator[str]:
         """All lines, as they come."""

@@ -2,12 +2,14 @@
 
 from __future__ import annotations
 
+from collections.abc import Iterable
 from typing import TYPE_CHECKING
 
 from uvt.spent import UNKNOWN, Held
 
 if TYPE_CHECKING:
-    from uvt.walk import Took, Walk
+    from uvt.took import Took
+    from uvt.walk import Walk
 
 # A poll that ended so late, in ms, is told why.
 HELD = 2
@@ -73,12 +75,19 @@ def part(walk: Walk, took: Took, begin: int, end: int) -> int:
         if held and held.signalled and 2 * held.waited < held.late:
             return 0
         # (what came before it, and made the loop's time an earlier one, makes it wait for so much longer)
-        numbers = walk.state(took.first).numbers
-        before = [it for it in walk.causes(numbers["now"], numbers["clock"]) if it.is_callback() and it.first < took.first]
-        return min(between, (held.late + held.before if held else 0) + sum(part(walk, it, numbers["now"], numbers["clock"]) for it in before))
+        now, clock = walk.times(took.first)
+        before = [it for it in walk.causes(now, clock) if it.is_callback() and it.first < took.first]
+        return min(between, (held.late + held.before if held else 0) + sum(part(walk, it, now, clock) for it in before))
     if not took.spent or took.spent.gave == UNKNOWN:
         return 0
     return min(between, max(0, took.spent.waited), max(0, took.took() - max(0, took.processor)))
+
+
+def owns(walk: Walk, spans: Iterable[tuple[int, int]]) -> dict[tuple[int, int], int]:
+    """The same of many times, each once. (What they rest on is asked of the program at once.)"""
+    found = dict.fromkeys(spans, 0)
+    walk.ask_times({it.first for span in found for it in walk.causes(*span) if it.is_poll()})
+    return {span: own(walk, *span) for span in found}
 
 
 def own(walk: Walk, begin: int, end: int) -> int:

@@ -5,6 +5,7 @@ Each line has its step, and the last one says what to ask next. What is said of 
 
 from __future__ import annotations
 
+import functools
 from dataclasses import dataclass
 
 from uvt import machine
@@ -13,7 +14,8 @@ from uvt.beginnings import at_least
 from uvt.javascript_pieces import LEAST, at, fitted
 from uvt.places import read_place
 from uvt.waits import Wait, follow
-from uvt.walk import Took, Walk
+from uvt.took import Took
+from uvt.walk import Walk
 from uvt.causes import FIFTH, MAIN, MANY, few, in_javascript, named, one_main, sentence, times
 from uvt.why import Why
 from uvt.why_uncalled import KINDS
@@ -28,7 +30,7 @@ GROUPED = 20_000
 NAMES = 40
 
 
-@dataclass
+@dataclass(slots=True)
 class Late:
     """A call of a name, and how long it waited; and how much of that isn't the machine's."""
 
@@ -100,8 +102,18 @@ class Overview(Spins):
 
     # ---- who was late
 
+    @functools.cached_property
+    def all_called(self) -> dict[str, list[tuple[str, Wait]]]:
+        """All that was called, by what it is."""
+        found: dict[str, list[tuple[str, Wait]]] = {}
+        for name, why in self.whys.items():
+            for it in why.history.waits:
+                if it.how == "called":
+                    found.setdefault(it.what, []).append((name, it))
+        return found
+
     def called(self, what: str) -> list[tuple[str, Wait]]:
-        return [(name, it) for name, why in self.whys.items() for it in why.history.waits if it.what == what and it.how == "called"]
+        return self.all_called.get(what, [])
 
     def away(self, wait: Wait) -> int:
         return self.walk.clock(wait.end()) - self.walk.happened(wait.asked)
@@ -122,10 +134,15 @@ class Overview(Spins):
             if (took := self.walk.clock(it.end()) - it.when()) >= self.least and not self.whys[name].too_soon(it)
         ]
         if self.walk.notes.names:
+            owns = machine.owns(self.walk, map(self.span, late))
             for it in late:
-                it.own = machine.own(self.walk, it.wait.when(), self.walk.clock(it.wait.end()))
+                it.own = owns[self.span(it)]
         machines = [it for it in late if self.is_machines(it)]
         return self.by_program([it for it in late if not self.is_machines(it)]) + self.by_machine(machines)
+
+    def span(self, late: Late) -> tuple[int, int]:
+        """From when on a timer was late, and up to when."""
+        return late.wait.when(), self.walk.clock(late.wait.end())
 
     def is_machines(self, late: Late) -> bool:
         """Did the machine alone make it late: for nine tenths, or except for so little that it isn't told? (Without a recording nobody knows.)"""
@@ -156,15 +173,17 @@ class Overview(Spins):
         if len(late) <= LINES:
             return [self.told(it, "") for it in self.worst(late)]
         groups: dict[tuple[str, int], list[Late]] = {}
+        known: dict[tuple[int, int], tuple[str, int]] = {}
         for it in sorted(late, key=Late.weight, reverse=True)[:GROUPED]:
-            groups.setdefault(self.culprit(it), []).append(it)
+            if (span := self.span(it)) not in known:
+                known[span] = self.culprit(*span)
+            groups.setdefault(known[span], []).append(it)
         self.worst(late)
         least = "at least " if len(late) > GROUPED else ""
         return [self.told(it[0], "") + self.others(it[1:], least) for it in list(groups.values())[:LINES]]
 
-    def culprit(self, late: Late) -> tuple[str, int]:
+    def culprit(self, begin: int, end: int) -> tuple[str, int]:
         """Where most of the time went by that a timer was late."""
-        begin, end = late.wait.when(), self.walk.clock(late.wait.end())
         took = max(self.walk.causes(begin, end), key=lambda it: it.between(begin, end))
         return took.what, took.first
 

@@ -89,7 +89,7 @@ class Trace:
             if step in walk.calls:
                 self.close(now, 2)
                 self.callback(step, now)
-                ends = max(walk.last_op[step], self.took.get(step, 0))
+                ends = max(walk.last_of(step), self.took.get(step, 0))
             elif walk.steps[step - 1] != "loop":
                 continue
             elif word == "run":

@@ -80,7 +80,7 @@ class JavaScriptTrace:
         yield Task(0, "the main program", 0.0, times.begin(first))
         for step, (kind, name, call) in walk.calls.items():
             what = walk.notes.in_node(name, kind, call)
-            begin, end = times.begin(step), times.end(max(walk.last_op[step], took.get(step, 0)))
+            begin, end = times.begin(step), times.end(max(walk.last_of(step), took.get(step, 0)))
             yield Task(step, what.words if what else name, begin, end)
 
     def main(self) -> None:

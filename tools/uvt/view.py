@@ -14,7 +14,8 @@ from uvt.javascript_pieces import OUTSIDE
 from uvt.notes import Request
 from uvt.places import MEANT, Place, next_line, read_place
 from uvt.waits import Wait
-from uvt.walk import Took, Walk
+from uvt.took import Took
+from uvt.walk import Walk
 from uvt.overview import Overview
 from uvt.causes import FIFTH, named
 from uvt.why import Why
@@ -345,7 +346,7 @@ class Page:
                 continue
             lane = lanes.setdefault(name, Lane(name, "name", [(0, "nothing")]))
             lane.now(step, "callback")
-            lane.now(self.walk.last_op.get(step, step) + 1, "nothing")
+            lane.now(self.walk.last_of(step) + 1, "nothing")
         return list(lanes.values())
 
 

@@ -2,13 +2,16 @@
 
 from __future__ import annotations
 
+import bisect
 import collections
+from collections.abc import Sequence
 from dataclasses import dataclass, field
 from typing import Iterator
 
 from uvt.codes import REFUSED
-from uvt.state import Slot
-from uvt.walk import Look, Walk
+from uvt.looks import Look, Seen, seen_at
+from uvt.session_lines import OfName
+from uvt.walk import Walk
 
 WATCHERS = ("idle", "prepare", "check")
 # What is called again and again while it is active, from its start on.
@@ -27,7 +30,7 @@ class Wait:
     # of a timer: when it is due, by the loop's time
     due: int | None = None
     # sends and starts that came while it was asked for already
-    more: list[int] = field(default_factory=list)
+    more: Sequence[int] = ()
     # of a request: the step at which worker K took it, and that at which it was finished or cancelled
     taken: tuple[int, int] | None = None
     finished: int | None = None
@@ -57,24 +60,6 @@ class Wait:
         """When it was done: of a request that was."""
         assert self.finished is not None
         return self.finished
-
-
-@dataclass(slots=True)
-class Seen:
-    """Of a slot that was wanted what is asked of it: whose it is, whether that is active, and of a timer when it is due."""
-
-    name: str
-    is_active: bool
-    due: int | None
-
-
-def seen(slot: Slot | None, name: str) -> Seen | None:
-    """The same of a slot: of that name, as it mostly is, or of another one. (There are many of them.)"""
-    if not slot:
-        return None
-    is_active = slot.values.get("active") == "1"
-    due = int(slot.values["due"]) if is_active and "due" in slot.values else None
-    return Seen(name if slot.name == name else slot.name, is_active, due)
 
 
 @dataclass
@@ -140,31 +125,37 @@ class Follower:
 
     def looks(self) -> Iterator[Look]:
         """The slots that are wanted: of a timer that starts, or that repeats as it is called; of what may be called again and isn't."""
-        found = self.walk.of_name.get(self.name, [])
+        found, timers, last = self.walk.of_name.get(self.name, OfName()), self.walk.steps_of("timers"), self.walk.length + 1
         id = kind = ""
         repeat = "0"
         for at, (step, words) in enumerate(found):
-            if words[0] in ("init", "queue") and words[-1] not in REFUSED:
+            word = words[0]
+            if word in ("init", "queue") and words[-1] not in REFUSED:
                 id, kind, repeat = words[-1], words[2], "0"
-            repeat = repeat_of(words, repeat)
-            behind = found[at + 1] if at + 1 < len(found) else (self.walk.length + 1, [""])
-            if kind == "timer" and (words[0] in ("start", "again") and words[-1] == "ok" or words[0] == "call" and repeat != "0"):
+            elif word != "call":
+                repeat = repeat_of(words, repeat)
+            is_last = at + 1 == len(found)
+            behind = last if is_last else found.steps[at + 1]
+            if kind == "timer" and (repeat != "0" if word == "call" else word in ("start", "again") and words[-1] == "ok"):
                 # (its section may set it aside to be called, in a step without a line)
-                yield Look(self.name, id, step, max(step, min(behind[0], self.walk.next_line("timers", step)) - 1))
-            elif kind in STARTED and words[0] == "call" and behind[1][0] != "call":
-                yield Look(self.name, id, step, behind[0] - 1)
+                section = bisect.bisect_right(timers, step)
+                yield Look(self.name, id, step, max(step, min(behind, timers[section] if section < len(timers) else last) - 1))
+            elif kind in STARTED and word == "call" and (is_last or found.words[at + 1][0] != "call"):
+                yield Look(self.name, id, step, behind - 1)
 
     def follow(self, slots: dict[int, Seen | None]) -> History:
         """The slots are those that were wanted, by their steps."""
         self.slots = slots
-        for step, words in self.walk.of_name.get(self.name, []):
+        for step, words in self.walk.of_name.get(self.name, ()):
             self.see(step, words)
         return self.history
 
     def see(self, step: int, words: list[str]) -> None:
+        # (most lines are calls)
+        if words[0] == "call" and words[1] == self.name and len(words) == 3:
+            self.called(step)
+            return
         match words:
-            case ["call", self.name, _]:
-                self.called(step)
             case ["closed", self.name, _]:
                 self.end_close(step)
             case ["after", self.name, *_]:
@@ -243,8 +234,10 @@ class Follower:
 
     def ask(self, step: int) -> None:
         """A start of a watcher or of a handle of I/O, or a send: where it is asked for already nothing new begins."""
-        if self.open:
+        if self.open and isinstance(self.open.more, list):
             self.open.more.append(step)
+        elif self.open:
+            self.open.more = [step]
         else:
             self.begin(step, self.kind)
 
@@ -270,6 +263,6 @@ def follow(walk: Walk, names: list[str]) -> dict[str, History]:
     """What became of each callback of these names."""
     followers = {name: Follower(walk, name) for name in names}
     slots: dict[str, dict[int, Seen | None]] = collections.defaultdict(dict)
-    for look, slot in walk.slots_at([look for it in followers.values() for look in it.looks()]):
-        slots[look.name][look.first] = seen(slot, look.name)
+    for look, slot in seen_at(walk, [look for it in followers.values() for look in it.looks()]):
+        slots[look.name][look.first] = slot
     return {name: it.follow(slots[name]) for name, it in followers.items()}

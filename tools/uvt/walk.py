@@ -4,34 +4,27 @@ from __future__ import annotations
 
 import array
 import bisect
-import collections
 import functools
 import re
-from dataclasses import dataclass, field
+from collections.abc import Iterable, Sequence
+from dataclasses import dataclass
 from typing import Any, Callable, Iterator
 
 from uvt.conversation import Conversation, Fault, Script
-from uvt.state import Slot, State, read_slot
-from uvt.node_names import InNode
 from uvt.places import Place, next_line, read_place
 from uvt.pool import Pool
-from uvt.spent import Spent
+from uvt.session_lines import SECTIONS, Calls, Lines, OfName, looked_at, parts
+from uvt.state import State
+from uvt.took import POLL, WORDS, Took
+from uvt.unblocked import Unblocked
 
 # The commands that do a step beside `loop`. A step `io` is from outside, and is the callback itself; all that its body does is the loop's.
 OUTSIDE = ("take", "finish", "cancel", "send", "tick", "io")
 LISTS = {"call": "on", "after": "after", "closed": "closed"}
-WORDS = {"on": "the callback", "after": "the after callback", "closed": "the close callback"}
-CALLBACKS = tuple(f"{it} of " for it in WORDS.values())
-POLL = "the poll"
-# The lines of sections. What is left are the lines that the tools look at; a section is looked for where somebody asks for it.
-SECTIONS = ("timers", "pending", "idle", "prepare", "done", "async", "check", "closing")
-PASSED = f"(?:\\d+ (?:{'|'.join(SECTIONS)})\n)*"
-LOOKED_AT = re.compile(rf"{PASSED}(\d+) (.*)\n".encode())
 ANY = re.compile(rb"(\d+) (.*)\n")
 # So many lines of states are kept, and so many are asked for without waiting.
 MANY_LINES = 1_000_000
 AT_ONCE = 200
-LOOKS_AT_ONCE = 5_000
 # How the lines begin behind which a request may be done, or an async handle sent to.
 WAKES = ("send ", "out send ", "cancel ", "out cancel ", "out finish ")
 
@@ -47,71 +40,6 @@ class LeftByIo:
     woken: bool
 
 
-@dataclass(slots=True)
-class Look:
-    """A slot that is wanted as it is where so many steps stand. It is the same up to another length: nothing of it is done on the way."""
-
-    name: str
-    id: str
-    first: int
-    last: int
-
-
-# The clock has whole ms, and what is known of the processor's time may be one ms more: so less than that is no difference.
-DIFFERENCE = 3
-
-
-def processor_told(processor: int, took: int) -> str:
-    """How much of a time, in ms, a thread was on the processor, where it isn't all of it: it waited, or others had the processor."""
-    return f", {processor or 'none'} of them on the processor" if 0 <= processor <= took - DIFFERENCE else ""
-
-
-@dataclass
-class Took:
-    """Where the clock went on: in a callback, or elsewhere, from one step to another, and by which pieces of it."""
-
-    what: str
-    first: int
-    last: int
-    pieces: list[tuple[int, int]] = field(default_factory=list)
-    # of a callback the program's function, where that is known; and of one of node's what it is in node
-    function: str = ""
-    node: InNode | None = None
-    # how long its thread was on the processor, in ms; -1 where nobody knows
-    processor: int = -1
-    # what it did while it took long, where that is known
-    spent: Spent | None = None
-
-    def did(self) -> str:
-        """The same in words; `` where nothing is known."""
-        return self.spent.told(self.took(), self.processor) if self.spent and self.took() >= DIFFERENCE else ""
-
-    def on_processor(self) -> str:
-        """How much of it that was, where it isn't all of it."""
-        return processor_told(self.processor, self.took())
-
-    def is_callback(self) -> bool:
-        return self.what.startswith(CALLBACKS)
-
-    def is_poll(self) -> bool:
-        return self.what == POLL
-
-    def took(self) -> int:
-        return sum(end - begin for begin, end in self.pieces)
-
-    def between(self, begin: int, end: int) -> int:
-        """How much of it lies between two times of the clock."""
-        return sum(max(0, min(end, b) - max(begin, a)) for a, b in self.pieces)
-
-
-class Lines(dict[bytes, str]):
-    """Lines as texts: of those that are alike one is kept."""
-
-    def __missing__(self, line: bytes) -> str:
-        self[line] = text = line.decode("ascii", "replace")
-        return text
-
-
 class Walk:
     """The steps of a session, from 1, with their lines. A length is how many steps stand."""
 
@@ -123,6 +51,7 @@ class Walk:
         self.talk = Conversation(script, program)
         self.steps: list[str] = []
         self.states: dict[int, State] = {}
+        self.known_times: dict[int, tuple[int, int]] = {}
         self.kept_lines = 0
         try:
             self.go_through(steps, tell)
@@ -140,15 +69,12 @@ class Walk:
         # the lines of the steps, each behind its step; a step has none where the program prints none, and there is no step 0
         self.walked = self.talk.walk()
         self.known = Lines()
-        # (behind the last of them there is one more, so that no section stands there)
-        found = LOOKED_AT.findall(self.walked + b"0 \n")[:-1]
         # of all lines but those of sections: the steps, and their lines
-        self.told_at = array.array("i", [int(it) for it, _ in found])
-        self.told = [self.known[it] for _, it in found]
+        self.told_at, self.told = looked_at(self.walked, self.known)
         self.word_of = {it: it.split(" ", 1)[0] for it in self.known.values()}
-        self.words: dict[str, list[int]] = {it: [] for it in self.word_of.values()}
-        for step, line in zip(self.told_at, self.told):
-            self.words[self.word_of[line]].append(step)
+        self.words = {it: array.array("i") for it in self.word_of.values()}
+        for step, word in zip(self.told_at, map(self.word_of.__getitem__, self.told)):
+            self.words[word].append(step)
         self.after = self.ask_after()
         self.go_by_clock()
         self.look_through()
@@ -180,11 +106,12 @@ class Walk:
             found[int(step)] = self.known[line]
         return found
 
-    def steps_of(self, word: str) -> list[int]:
+    def steps_of(self, word: str) -> Sequence[int]:
         """The steps whose line begins with this word."""
         if word in SECTIONS and word not in self.words:
-            self.words[word] = [int(it) for it in re.findall(rb"^(\d+) %b$" % word.encode(), self.walked, re.M)]
-        return self.words.get(word, [])
+            of_section = re.compile(rb"^(\d+) %b$" % word.encode(), re.M)
+            self.words[word] = array.array("i", (int(it) for part in parts(self.walked) for it in of_section.findall(part)))
+        return self.words.get(word, ())
 
     def ask_after(self) -> str:
         """Why the loop can't go on behind the last step: `blocked` or `ended`; empty where it can."""
@@ -210,31 +137,17 @@ class Walk:
         for at in range(0, len(lengths), AT_ONCE):
             yield from zip(lengths[at : at + AT_ONCE], self.talk.states_at(lengths[at : at + AT_ONCE]))
 
-    def slots_at(self, looks: list[Look]) -> Iterator[tuple[Look, Slot | None]]:
-        """All these slots, each by its name's own lines."""
-        looks = sorted(looks, key=lambda it: it.last)
-        gone: list[Look] = []
-        for first in range(0, len(looks), LOOKS_AT_ONCE):
-            some = looks[first : first + LOOKS_AT_ONCE]
-            for look, lines in zip(some, self.talk.lines_of([(it.last, it.name) for it in some])):
-                if row := next((it for it in lines if it.startswith(f"slot {look.id} ")), ""):
-                    yield look, read_slot(row.split(" "))
-                else:
-                    gone.append(look)
-        yield from self.slots_of_states(gone)
+    def times(self, length: int) -> tuple[int, int]:
+        """The loop's time and the clock where so many steps stand."""
+        if length not in self.known_times:
+            numbers = self.state(length).numbers
+            self.known_times[length] = numbers["now"], numbers["clock"]
+        return self.known_times[length]
 
-    def slots_of_states(self, looks: list[Look]) -> Iterator[tuple[Look, Slot | None]]:
-        """The same of slots that their names don't hold any more, by as few states as there can be: one serves all looks whose lengths it lies
-        between."""
-        lengths: list[int] = []
-        for it in looks:
-            if not lengths or it.first > lengths[-1]:
-                lengths.append(it.last)
-        at = 0
-        for length, state in self.states_at(lengths):
-            while at < len(looks) and looks[at].first <= length:
-                yield looks[at], state.slot_at(looks[at].id)
-                at += 1
+    def ask_times(self, lengths: Iterable[int]) -> None:
+        """The same of many, asked without waiting for each."""
+        asked = sorted(it for it in lengths if it not in self.known_times)
+        self.known_times.update(zip(asked, self.talk.times_at(asked)))
 
     def go_by_clock(self) -> None:
         """The clock at each length, and the steps at which it goes on: a line `out tick MS` says that it does."""
@@ -266,17 +179,16 @@ class Walk:
     def look_through(self) -> None:
         """Which callback each step is in, where each tick is, and at which steps a line begins with a word."""
         # the steps that begin a callback, and those with which the loop goes on behind it
-        self.called: list[int] = []
-        self.called_until: list[int] = []
-        # by that step: the last op; and which call of its list and name it is
+        self.called, self.called_until = array.array("i"), array.array("i")
+        # by that step: the last op, where there is one; and which call of its list and name it is
         self.last_op: dict[int, int] = {}
-        self.calls: dict[int, tuple[str, str, int]] = {}
+        self.calls = Calls(self.called)
         # the callbacks of I/O that left a poll, each with the step that began that; and the step that left each poll
         self.leaving: dict[int, int] = {}
         self.left_by_step: dict[int, int] = {}
         self.tooks: list[Took] = []
         self.took_at: dict[int, Took] = {}
-        counts: collections.Counter[tuple[str, str]] = collections.Counter()
+        counts: dict[tuple[str, str], int] = {}
         kinds = {line: (kind, line.split(" ", 2)[1]) for line, word in self.word_of.items() if (kind := LISTS.get(word))}
         first, poll, runs, before = 0, 0, False, 0
         for step, line in zip(self.told_at, self.told):
@@ -295,9 +207,8 @@ class Walk:
                     self.called_until.append(step)
                 first, poll, call = step, 0, kinds[line]
                 self.called.append(step)
-                counts[call] += 1
-                self.calls[step] = *call, counts[call]
-                self.last_op[step] = step
+                counts[call] = number = counts.get(call, 0) + 1
+                self.calls.add(call, number)
             elif (word := self.word_of[line]) == "out":
                 if self.clocks[step] > self.clocks[step - 1]:
                     self.note_tick(step, first, poll, runs)
@@ -317,6 +228,10 @@ class Walk:
             self.last_op[first] = self.length
         for took in self.tooks:
             took.last = max(took.last, self.last_op.get(took.first, 0))
+
+    def last_of(self, call: int) -> int:
+        """The last op of the callback that begins at this step, or that step."""
+        return self.last_op.get(call, call)
 
     def inside(self, step: int) -> int:
         """The step that begins the callback in which a step is done, or behind whose last op it comes; 0 where there is none."""
@@ -424,10 +339,10 @@ class Walk:
             yield bool(waiting)
 
     @functools.cached_property
-    def of_name(self) -> dict[str, list[tuple[int, list[str]]]]:
+    def of_name(self) -> dict[str, OfName]:
         """Of each name the steps whose line has it, with that line's words."""
         names = set(self.script.names())
-        found: dict[str, list[tuple[int, list[str]]]] = {}
+        found: dict[str, OfName] = {}
         known: dict[str, tuple[str, list[str]] | None] = {}
         for step, line in zip(self.told_at, self.told):
             if line not in known:
@@ -435,45 +350,20 @@ class Walk:
                 name = next((it for it in words[1:4] if it in names), None)
                 known[line] = (name, words) if name else None
             if row := known[line]:
-                found.setdefault(row[0], []).append((step, row[1]))
+                if row[0] not in found:
+                    found[row[0]] = OfName()
+                found[row[0]].add(step, row[1])
         return found
-
-    @functools.cached_property
-    def unblocking(self) -> dict[str, list[tuple[int, int, str]]]:
-        """Since whom a poll doesn't wait: from which step, up to which other one, and the name. Idle handles that are active, and handles that
-        close."""
-        found: dict[str, list[tuple[int, int, str]]] = {"idle": [], "closing": []}
-        for name, rows in self.of_name.items():
-            kind, active, closing = "", 0, 0
-            for step, words in rows:
-                match words:
-                    case ["init", _, made, "=", id] if "." in id:
-                        kind = made
-                    case ["start", _, "=", "ok"] if kind == "idle":
-                        active = active or step
-                    case ["stop" | "close", _, "=", "ok"]:
-                        found["idle"] += [(active, step, name)] if active else []
-                        active, closing = 0, step if words[0] == "close" else closing
-                    case ["closed", *_]:
-                        found["closing"].append((closing, step, name))
-                        closing = 0
-            found["idle"] += [(active, self.length + 1, name)] if active else []
-            found["closing"] += [(closing, self.length + 1, name)] if closing else []
-        return found
-
-    def unblocked(self, spans: list[tuple[int, int, str]], first: int, last: int) -> Iterator[tuple[str, list[int]]]:
-        """Of each of these the polls from one step to another that didn't wait."""
-        rows = self.steps_of("poll")
-        for begin, end, name in spans:
-            a, b = max(begin, first), min(end - 1, last)
-            if a <= b and (steps := [it for it in rows[bisect.bisect_left(rows, a) : bisect.bisect_right(rows, b)] if self.line(it) == "poll 0"]):
-                yield name, steps
 
     @functools.cached_property
     def pool(self) -> Pool:
         return Pool(self)
 
-    def steps_between(self, word: str, first: int, last: int) -> list[int]:
+    @functools.cached_property
+    def unblocked(self) -> Unblocked:
+        return Unblocked(self)
+
+    def steps_between(self, word: str, first: int, last: int) -> Sequence[int]:
         """The steps from one to another whose line begins with this word."""
         rows = self.steps_of(word)
         return rows[bisect.bisect_left(rows, first) : bisect.bisect_right(rows, last)]

@@ -8,7 +8,7 @@ from uvt.causes import MANY, few, in_javascript, is_told, longest_of, named, sen
 from uvt.javascript_pieces import at
 from uvt.places import read_place
 from uvt.waits import Wait
-from uvt.walk import DIFFERENCE, Took
+from uvt.took import DIFFERENCE, Took
 from uvt.why_asked import Asked, TOO_EARLY
 
 # How many sentences that say the same of others.
@@ -106,9 +106,9 @@ class Called(Asked):
     def polls(self, wait: Wait) -> list[str]:
         """The polls that didn't wait for a timer that wasn't due, since somebody else was active or closed."""
         rows = []
-        for what, spans in self.walk.unblocking.items():
+        for what, spans in self.walk.unblocked.spans.items():
             found: dict[tuple[int, ...], list[str]] = {}
-            for name, steps in self.walk.unblocked(spans, wait.asked + 1, wait.ended or self.end):
+            for name, steps in self.walk.unblocked.polls(spans, wait.asked + 1, wait.ended or self.end):
                 if before_due := tuple(it for it in steps if self.is_before_due(it, wait.when())):
                     found.setdefault(before_due, []).append(name)
             if len(found) > FEW:

@@ -149,7 +149,7 @@ class Uncalled(Work):
 
     def gone(self, step: int) -> int:
         """The last step before this one at which the name's handle or request went."""
-        found = self.walk.steps_between("closed", 1, step - 1) + self.walk.steps_between("after", 1, step - 1)
+        found = [*self.walk.steps_between("closed", 1, step - 1), *self.walk.steps_between("after", 1, step - 1)]
         return max(at for at in found if self.walk.line(at).split(" ")[1] == self.name)
 
     def why_busy(self, it: Refusal, outcome: str) -> str:

@@ -7,7 +7,7 @@ from uvt.beginnings import at_least
 from uvt.causes import MANY, few, times, told
 from uvt.javascript_pieces import at
 from uvt.waits import Wait
-from uvt.walk import DIFFERENCE, processor_told
+from uvt.took import DIFFERENCE, processor_told
 from uvt.why_called import Called
 
 # What libuv has only a part of its workers do at a time.
