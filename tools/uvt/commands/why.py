@@ -37,8 +37,6 @@ from uvt.javascript_pieces import PLACE, fitted
 from uvt.overview import Overview
 from uvt.progress import Teller
 from uvt.record import ring
-from uvt.record.parts import Part
-from uvt.record.run import from_log
 from uvt.walk import Walk
 from uvt.ways import longest_way
 from uvt.why import why
@@ -100,6 +98,10 @@ def of_log(name: str | None, path: Path) -> list[str] | None:
 
 def of_ring(path: Path) -> Path:
     """The recording that is made of a ring, beside where we are: of its loops the one with the most in it."""
+    # (what makes recordings takes as long to load as all the rest)
+    from uvt.record.parts import Part
+    from uvt.record.run import from_log
+
     before = set(Path().glob("*.rec"))
     from_log(path, None, Part(worst=True))
     made = [it for it in Path().glob(f"{glob.escape(ring.name_of(path))}*.rec") if it not in before or it.stat().st_mtime >= path.stat().st_mtime]
