@@ -462,7 +462,7 @@ def unblocking_differences(slow: SlowWhy, walk: Walk) -> list[str]:
     """And of who was an active idle handle, or closed, at each poll."""
     found = []
     for step in walk.steps_of("poll"):
-        for word, spans in walk.unblocking.items():
+        for word, spans in walk.unblocked.spans.items():
             ours = {name for begin, end, name in spans if begin <= step < end}
             if ours != (theirs := set(slow.looks[step].rows[word])):
                 found.append(f"poll at {step}, {word}: {ours} and {theirs}")
