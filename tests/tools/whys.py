@@ -518,11 +518,12 @@ def try_many(check: Check) -> None:
     script = many_timers()
     with Walk(script, longest_way(script, ["loop 1300", *["tick 1", "loop 200"] * 10, "tick 25", *["loop 1000", "tick 1"] * 60])) as walk:
         asked: list[int] = []
-        state_at, states_at = walk.talk.state_at, walk.talk.states_at
+        state_at, states_at, times_at = walk.talk.state_at, walk.talk.states_at, walk.talk.times_at
         one = patch.object(walk.talk, "state_at", side_effect=lambda it: state_at(noted(asked, [it])[0]))
         many = patch.object(walk.talk, "states_at", side_effect=lambda rows: states_at(noted(asked, rows)))
-        one.start()
-        many.start()
+        times = patch.object(walk.talk, "times_at", side_effect=lambda rows: times_at(noted(asked, rows)))
+        for it in (one, many, times):
+            it.start()
         told = "\n".join(Overview(walk).answer("why NAME"))
         check("many timers, how many states are asked for", len(asked) < FEWEST, len(asked))
         check("many timers, what stands out", f"{2 * MANY_TIMERS + 5} callbacks, " in told and "late by 2" in told, told)
