@@ -1,4 +1,5 @@
-/* What a callback costs: `recorded idle N`, `recorded timer N`, `recorded write N` call back so often (tests/tools/unharmed --costs). */
+/* What a callback costs: `recorded idle N`, `recorded timer N`, `recorded write N` call back so often; and what a timer costs that is made, started,
+ * called and closed, with the callback of its end: `recorded life N` (tests/tools/unharmed --costs). */
 #include <stdlib.h>
 #include <uv.h>
 
@@ -15,6 +16,22 @@ static void on_idle(uv_idle_t *handle) {
 
 static void on_timer(uv_timer_t *handle) {
     if (--left) uv_timer_start(handle, on_timer, 0, 0);
+}
+
+static void begin_life(uv_loop_t *loop);
+
+static void on_closed(uv_handle_t *handle) {
+    uv_loop_t *loop = handle->loop;
+    if (--left) begin_life(loop);
+}
+
+static void on_last(uv_timer_t *handle) {
+    uv_close((uv_handle_t *)handle, on_closed);
+}
+
+static void begin_life(uv_loop_t *loop) {
+    uv_timer_init(loop, &timer);
+    uv_timer_start(&timer, on_last, 0, 0);
 }
 
 static void give_room(uv_handle_t *handle, size_t size, uv_buf_t *bytes) {
@@ -50,6 +67,9 @@ int main(int count, char **words) {
     case 't':
         uv_timer_init(loop, &timer);
         uv_timer_start(&timer, on_timer, 0, 0);
+        break;
+    case 'l':
+        begin_life(loop);
         break;
     default:
         uv_pipe(ends, UV_NONBLOCK_PIPE, UV_NONBLOCK_PIPE);

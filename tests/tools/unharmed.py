@@ -178,7 +178,7 @@ def try_libuv(check: Check, room: Room, libuv: Path) -> None:
             check(f"unharmed, libuv's {test}: what they report", not (found := room.reports()), found)
 
 
-COSTS = ("idle", "timer", "write")
+COSTS = ("idle", "timer", "write", "life")
 FEW, MANY = 2_000, 12_000
 
 
