@@ -1,5 +1,6 @@
-/* Python's lock, which each of its threads needs to go on (the GIL): the loop's thread has it in a callback, also while it stands in a call of libuv's.
- * Who looks from outside sees a thread that wants it awake each few ms. Python is asked for it by its own functions, where the process has them. */
+/* Python's lock, which each of its threads needs to go on (the GIL): the loop's thread has it in a callback, also while it stands in a call of
+ * libuv's. Who looks from outside sees a thread that wants it awake each few ms. Python is asked for it by its own functions, where the process has
+ * them. */
 #define _GNU_SOURCE
 #include "force.h"
 
