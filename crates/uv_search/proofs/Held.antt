@@ -1,14 +1,12 @@
 -- Where a move is apart from all others these may be held back: an answer behind them is one behind it.
 use Rattle.std.proofs.Common.{◌≡◌, ℕ, zero, suc, ◌+◌, ◌-◌, ◌==◌, ◌<◌, ◌≤◌, Bool, true, false, ◌||◌, ◌⊎◌, inl, inr, List, [], ◌∷◌, ◌++◌, length, refl, sym, ap, subst, ◌∙◌, Option, Some, None, arith}
 use Rattle.std.proofs.lemmas.Bool.{eq-eqb, eqb-true}
+use Rattle.uv_search.specs.Ways as ways
 use Rattle.uv_search.specs.Ways.{LeadTo, CoversMoves, CoversStep, Meet, IsApart}
 
 module _ {P : Type 0} (moves : P → ℕ) (next : P → ℕ → Option (P × Bool)) where
-  -- these moves lead on from here, and the last of them answers
   abbrev pub Ends : P → List ℕ → Type 0
-  Ends p [] = ⊥
-  Ends p (i ∷ []) = (m : P) × (i < moves p) × (next p i ≡ Some (m, true))
-  Ends p (i ∷ j ∷ js) = (m : P) × (b : Bool) × (i < moves p) × (next p i ≡ Some (m, b)) × Ends m (j ∷ js)
+  Ends p is = ways.Ends moves next p is
 
   ends_more : (p : P) (i : ℕ) (m : P) (b : Bool) (is : List ℕ) → i < moves p → next p i ≡ Some (m, b) → Ends m is → Ends p (i ∷ is)
   ends_more p i m b [] offered goes ends = absurd ends
